@@ -1,0 +1,105 @@
+ghost use Rattle.std.specs.Prelude.{◌≡◌, ℕ, Bool, false, IsTrue, IfOk, IfErr, OnOk, OnErr, None, unwrap_or, All};
+ghost use Rattle.rv_memory.specs.Extent.{IsExtent};
+ghost use Rattle.rv_memory.specs.Memory as spec;
+
+use crate::region::Region;
+use std::alloc::{AllocError, AllocFailed, Global};
+use std::error::Error;
+use std::fmt;
+
+/// The most bytes that the regions of one store may have together.
+pub const LIMIT: u64 = 17_825_792;
+
+/// What an access needs of the region that it lies in.
+#[derive(Clone, Copy, Debug, PartialEq, Eq, Hash)]
+pub enum Need {
+    Nothing,
+    Read,
+    Write,
+    ReadWrite,
+    Execute,
+}
+
+/// A growth was refused.
+#[derive(Clone, Copy, Debug, PartialEq, Eq, Hash)]
+pub struct NoMemory;
+
+/// Why a list of regions makes no store. A region ends past 2^32, two share an address, or their
+/// lengths sum to more than `LIMIT`, tested in this order; then growth was refused.
+#[derive(Clone, Copy, Debug, PartialEq, Eq, Hash)]
+pub enum MemFault {
+    NoMemory,
+    Overlap,
+    TooLarge,
+    PastEnd,
+}
+
+impl From<AllocError> for NoMemory {
+    fn from(_: AllocError) -> NoMemory {
+        NoMemory
+    }
+}
+
+impl<T: Drop> From<AllocFailed<T>> for NoMemory {
+    fn from(_: AllocFailed<T>) -> NoMemory {
+        NoMemory
+    }
+}
+
+impl fmt::Display for NoMemory {
+    fn fmt<W: fmt::Write>(&self, f: &mut fmt::Formatter<W>) -> fmt::Result {
+        f.write_str("out of memory")
+    }
+}
+
+impl Error for NoMemory {}
+
+/// The bytes of a guest, however a store keeps them. `memory` is what a store holds, as a map from
+/// addresses to bytes.
+pub trait ByteStore: Drop {
+    ghost memory: { Self → spec.Memory };
+
+    /// These bytes may be stored to without asking for memory.
+    ghost is_ready: { Self → ℕ → ℕ → Type 0 };
+
+    /// Whether the store ever asks for memory after it is made.
+    ghost can_refuse: { Bool };
+
+    /// A store of the regions: their bytes, then zeros.
+    fn make(alloc: Global, regions: &[Region]) -> Result<Self, MemFault>
+        requires { All IsExtent regions.now }
+        ensures ok { IfOk result (λ store. (spec.fault_of regions.now ≡ None)
+            × (memory store ≡ spec.memory_of regions.now)) }
+        ensures err { IfErr result (λ fault.
+            fault ≡ unwrap_or (spec.fault_of regions.now) MemFault.NoMemory) };
+
+    /// Whether the bytes lie wholly in one region that has the permissions.
+    fn permits(&self, address: u32, size: u8, need: Need) -> bool
+        ensures { result ≡ spec.permits (memory self.now) address size need };
+
+    /// The bytes as a little-endian number.
+    fn load(&self, address: u32, size: u8) -> u32
+        requires size { spec.IsSize size }
+        requires within { IsTrue (spec.permits (memory self.now) address size Need.Nothing) }
+        ensures { result ≡ spec.load (memory self.now) address size };
+
+    /// Makes the bytes ready to be stored to. The contents stay either way.
+    fn ready(&mut self, address: u32, size: u8) -> Result<(), NoMemory>
+        ensures same { memory self.new ≡ memory self.old }
+        ensures ready { OnOk result (is_ready self.new address size) }
+        ensures keeps { (a n : ℕ) → is_ready self.old a n → is_ready self.new a n }
+        ensures refused { OnErr result (IsTrue can_refuse) };
+
+    /// Stores the low bytes of the number, the least significant first.
+    fn store(&mut self, address: u32, size: u8, value: u32)
+        requires size { spec.IsSize size }
+        requires within { IsTrue (spec.permits (memory self.old) address size Need.Nothing) }
+        requires ready { is_ready self.old address size }
+        ensures stored { memory self.new ≡ spec.store (memory self.old) address size value }
+        ensures keeps { (a n : ℕ) → is_ready self.old a n → is_ready self.new a n };
+}
+
+/// A store that asks for no memory once it is made.
+pub trait Steady: ByteStore {
+    ghost never_refuses: { Self.can_refuse ≡ false };
+}
