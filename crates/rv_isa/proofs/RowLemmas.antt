@@ -1,0 +1,52 @@
+use Rattle.std.proofs.Common.{◌≡◌, ℕ, Bool, true, false, Option, Some, None, refl, sym, ap, subst, ◌∙◌, ◌↔◌, cond, eqb, rules, arith, eq-eqb}
+use Rattle.std.specs.Prelude.{bit_and, option_map}
+use Rattle.std.proofs.Math.Bool.{Bool-set}
+use Rattle.std.proofs.lemmas.Bool.Decides.{nat_tests}
+use Rattle.rv_isa.specs.Candidate.{candidate}
+use Rattle.rv_isa.specs.Decoded.{op_at, with_operands, decoded}
+use Rattle.rv_isa.specs.Instr.{Row, operands}
+use Rattle.rv_isa.specs.Operands.{Operands, are_operands}
+use Rattle.rv_isa.specs.Table.{Matches, form_of, match_of}
+use Rattle.rv_isa.specs.Form.{mask_of}
+use Rattle.rv_isa.proofs.TableLemmas.{candidate_is}
+use Rattle.rv_isa.specs.declared.instr.Instr.{Instr}
+use Rattle.rv_isa.specs.declared.op.Op.{Op}
+
+abbrev made : (op : Op) (o : Operands) → are_operands (form_of op) o ≡ true → Instr
+made op o fits = record { op = op; rd = o.rd; rs1 = o.rs1; rs2 = o.rs2; imm = o.imm; aq = o.aq; rl = o.rl; in_range = fits }
+
+made_same : (op op' : Op) → op ≡ op' → (o o' : Operands) → o ≡ o' → (h : are_operands (form_of op) o ≡ true) (h' : are_operands (form_of op') o' ≡ true) → made op o h ≡ made op' o' h'
+made_same op op' e o o' f h =
+    subst (λ (p : Op). (h' : are_operands (form_of p) o' ≡ true) → made op o h ≡ made p o' h') e
+    (subst (λ (q : Operands). (h' : are_operands (form_of op) q ≡ true) → made op o h ≡ made op q h') f
+    (λ h'. ap (made op o) (Bool-set _ _ h h')))
+
+-- Two instructions with the same operation and operands are the same.
+pub same_instr : (i j : Instr) → i.op ≡ j.op → operands i ≡ operands j → i ≡ j
+same_instr i j e f = made_same i.op j.op e (operands i) (operands j) f i.in_range j.in_range
+
+pub op_at-matches : (w : ℕ) (op : Op) → Matches w op → op_at w ≡ Some op
+unfolding op_at
+op_at-matches w op h =
+    let same : eqb (bit_and w (mask_of (form_of op))) (match_of op) ≡ true = eq-eqb _ _ h in
+    rw (candidate_is w op h, same)
+
+pub op_at-some : (w : ℕ) (op : Op) → op_at w ≡ Some op → Matches w op
+unfolding op_at
+op_at-some w op h = grind (arith, nat_tests)
+
+row_from_map : (o : Option Op) (w : ℕ) (i : Instr) → option_map (λ op. with_operands op w) o ≡ Some i → op_at w ≡ o → Row w i
+row_from_map None w i found e = cc
+row_from_map (Some op) w i found e =
+    let same : with_operands op w ≡ i = cc in
+    subst (λ (j : Instr). Row w j) same (record { matches = op_at-some w op e; operands = refl })
+
+-- A word is decoded to an instruction exactly where it has the instruction's row.
+pub decoded_row : (w : ℕ) (i : Instr) → (decoded w ≡ Some i) ↔ Row w i
+decoded_row w i = (
+  λ found. row_from_map (op_at w) w i found refl,
+  λ r. rw (op_at-matches w i.op r.matches) (ap Some (same_instr (with_operands i.op w) i refl (sym r.operands))),
+)
+
+pub decoded_row_at : (r : Option Instr) (w : ℕ) → r ≡ decoded w → (i : Instr) → (r ≡ Some i) ↔ Row w i
+decoded_row_at r w e i = rw e (decoded_row w i)

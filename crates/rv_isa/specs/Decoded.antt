@@ -1,0 +1,30 @@
+use Rattle.std.specs.Prelude.{◌≡◌, ℕ, ◌==◌, bit_and, if◌then◌else◌, Option, Some, None, option_map}
+use Rattle.rv_isa.specs.Candidate.{candidate}
+use Rattle.rv_isa.specs.Form.{mask_of}
+use Rattle.rv_isa.specs.Operands.{operands_of}
+use Rattle.rv_isa.specs.Table.{form_of, match_of}
+use Rattle.rv_isa.specs.OperandsFit.{operands_fit}
+use Rattle.rv_isa.specs.declared.instr.Instr.{Instr}
+use Rattle.rv_isa.specs.declared.op.Op.{Op}
+
+-- the operation whose row the word matches, if there is one
+unfoldable pub op_at : ℕ → Option Op
+op_at word =
+    if bit_and word (mask_of (form_of (candidate word))) == match_of (candidate word) then Some (candidate word) else None
+
+-- the operation with a word's operands in its format
+abbrev pub with_operands : Op → ℕ → Instr
+with_operands op word = record {
+  op = op;
+  rd = (operands_of (form_of op) word).rd;
+  rs1 = (operands_of (form_of op) word).rs1;
+  rs2 = (operands_of (form_of op) word).rs2;
+  imm = (operands_of (form_of op) word).imm;
+  aq = (operands_of (form_of op) word).aq;
+  rl = (operands_of (form_of op) word).rl;
+  in_range = operands_fit (form_of op) word;
+}
+
+-- the instruction that a word is, or none where it is illegal
+abbrev pub decoded : ℕ → Option Instr
+decoded word = option_map (λ op. with_operands op word) (op_at word)

@@ -1,0 +1,170 @@
+ghost use Rattle.std.specs.Prelude.{◌≡◌};
+ghost use Rattle.rv_isa.specs.Table as spec;
+
+use crate::form::Form;
+
+/// The operations of RV32I and of the extension A (RISC-V Unprivileged ISA, "RV32/64G Instruction Set
+/// Listings"), but for FENCE.I, which is none of them.
+#[derive(Clone, Copy, Debug, PartialEq, Eq, Hash)]
+pub enum Op {
+    Lui,
+    Auipc,
+    Jal,
+    Jalr,
+    Beq,
+    Bne,
+    Blt,
+    Bge,
+    Bltu,
+    Bgeu,
+    Lb,
+    Lh,
+    Lw,
+    Lbu,
+    Lhu,
+    Sb,
+    Sh,
+    Sw,
+    Addi,
+    Slti,
+    Sltiu,
+    Xori,
+    Ori,
+    Andi,
+    Slli,
+    Srli,
+    Srai,
+    Add,
+    Sub,
+    Sll,
+    Slt,
+    Sltu,
+    Xor,
+    Srl,
+    Sra,
+    Or,
+    And,
+    Fence,
+    Ecall,
+    Ebreak,
+    LrW,
+    ScW,
+    AmoswapW,
+    AmoaddW,
+    AmoxorW,
+    AmoandW,
+    AmoorW,
+    AmominW,
+    AmomaxW,
+    AmominuW,
+    AmomaxuW,
+}
+
+impl Op {
+    /// The format of the operation's words.
+    pub fn form(self) -> Form
+        ensures { result ≡ spec.form_of self }
+    {
+        match self {
+            Op::Lui | Op::Auipc => Form::U,
+            Op::Jal => Form::J,
+            Op::Jalr
+            | Op::Lb
+            | Op::Lh
+            | Op::Lw
+            | Op::Lbu
+            | Op::Lhu
+            | Op::Addi
+            | Op::Slti
+            | Op::Sltiu
+            | Op::Xori
+            | Op::Ori
+            | Op::Andi => Form::I,
+            Op::Beq | Op::Bne | Op::Blt | Op::Bge | Op::Bltu | Op::Bgeu => Form::B,
+            Op::Sb | Op::Sh | Op::Sw => Form::S,
+            Op::Slli | Op::Srli | Op::Srai => Form::Shift,
+            Op::Add
+            | Op::Sub
+            | Op::Sll
+            | Op::Slt
+            | Op::Sltu
+            | Op::Xor
+            | Op::Srl
+            | Op::Sra
+            | Op::Or
+            | Op::And => Form::R,
+            Op::Fence => Form::Fence,
+            Op::Ecall | Op::Ebreak => Form::Plain,
+            Op::LrW => Form::Lr,
+            Op::ScW
+            | Op::AmoswapW
+            | Op::AmoaddW
+            | Op::AmoxorW
+            | Op::AmoandW
+            | Op::AmoorW
+            | Op::AmominW
+            | Op::AmomaxW
+            | Op::AmominuW
+            | Op::AmomaxuW => Form::Amo,
+        }
+    }
+
+    /// The fixed bits of the operation's words, in their places.
+    pub fn fixed_bits(self) -> u32
+        ensures { result ≡ spec.match_of self }
+    {
+        match self {
+            Op::Lui => 0x0000_0037,
+            Op::Auipc => 0x0000_0017,
+            Op::Jal => 0x0000_006f,
+            Op::Jalr => 0x0000_0067,
+            Op::Beq => 0x0000_0063,
+            Op::Bne => 0x0000_1063,
+            Op::Blt => 0x0000_4063,
+            Op::Bge => 0x0000_5063,
+            Op::Bltu => 0x0000_6063,
+            Op::Bgeu => 0x0000_7063,
+            Op::Lb => 0x0000_0003,
+            Op::Lh => 0x0000_1003,
+            Op::Lw => 0x0000_2003,
+            Op::Lbu => 0x0000_4003,
+            Op::Lhu => 0x0000_5003,
+            Op::Sb => 0x0000_0023,
+            Op::Sh => 0x0000_1023,
+            Op::Sw => 0x0000_2023,
+            Op::Addi => 0x0000_0013,
+            Op::Slti => 0x0000_2013,
+            Op::Sltiu => 0x0000_3013,
+            Op::Xori => 0x0000_4013,
+            Op::Ori => 0x0000_6013,
+            Op::Andi => 0x0000_7013,
+            Op::Slli => 0x0000_1013,
+            Op::Srli => 0x0000_5013,
+            Op::Srai => 0x4000_5013,
+            Op::Add => 0x0000_0033,
+            Op::Sub => 0x4000_0033,
+            Op::Sll => 0x0000_1033,
+            Op::Slt => 0x0000_2033,
+            Op::Sltu => 0x0000_3033,
+            Op::Xor => 0x0000_4033,
+            Op::Srl => 0x0000_5033,
+            Op::Sra => 0x4000_5033,
+            Op::Or => 0x0000_6033,
+            Op::And => 0x0000_7033,
+            Op::Fence => 0x0000_000f,
+            Op::Ecall => 0x0000_0073,
+            Op::Ebreak => 0x0010_0073,
+            Op::LrW => 0x1000_202f,
+            Op::ScW => 0x1800_202f,
+            Op::AmoswapW => 0x0800_202f,
+            Op::AmoaddW => 0x0000_202f,
+            Op::AmoxorW => 0x2000_202f,
+            Op::AmoandW => 0x6000_202f,
+            Op::AmoorW => 0x4000_202f,
+            Op::AmominW => 0x8000_202f,
+            Op::AmomaxW => 0xa000_202f,
+            Op::AmominuW => 0xc000_202f,
+            Op::AmomaxuW => 0xe000_202f,
+        }
+    }
+}
