@@ -5,5 +5,6 @@
 //! none. How the bytes are kept is the store's own matter.
 #![tactic(auto)]
 
+pub mod flat;
 pub mod region;
 pub mod store;
