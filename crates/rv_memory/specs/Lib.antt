@@ -1,3 +1,4 @@
 pub mod Extent
+pub mod Flagged
 pub mod Flat
 pub mod Memory

@@ -5,6 +5,7 @@
 //! none. How the bytes are kept is the store's own matter.
 #![tactic(auto)]
 
+pub mod flagged;
 pub mod flat;
 pub mod region;
 pub mod store;
