@@ -2,3 +2,4 @@ pub mod Extent
 pub mod Flagged
 pub mod Flat
 pub mod Memory
+pub mod MemoryLaws

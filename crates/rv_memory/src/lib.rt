@@ -7,5 +7,6 @@
 
 pub mod flagged;
 pub mod flat;
+pub mod laws;
 pub mod region;
 pub mod store;
