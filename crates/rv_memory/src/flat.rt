@@ -130,7 +130,8 @@ fn find(regions: &[Region], address: u32, size: u8) -> usize
 fn number_at(bytes: &[u8], offset: usize, size: u8) -> u32
     requires size { spec.IsSize size }
     requires within { offset + size ≤ length bytes.now }
-    ensures { result ≡ number_at bytes.now offset size }
+    ensures value { result ≡ number_at bytes.now offset size }
+    ensures below { result < 256 ^ size }
 {
     match size {
         1 => u32::from(bytes[offset]),
