@@ -1,0 +1,4 @@
+pub mod NumberLemmas
+pub mod HexLemmas
+pub mod DecimalLemmas
+pub mod SpellingLemmas

@@ -1,0 +1,3 @@
+pub mod Numeral
+pub mod Hexadecimal
+pub mod Decimal
