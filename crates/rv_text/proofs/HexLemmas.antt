@@ -1,7 +1,7 @@
-use Rattle.std.proofs.Common.{◌≡◌, ℕ, ◌+◌, ◌-◌, ◌*◌, ◌/◌, ◌%◌, ◌^◌, ◌<◌, Bool, true, false, ◌||◌, Some, List, [], ◌∷◌, ◌++◌, length, refl, sym, ap, ◌∙◌, arith, zero, suc, zero-add, add-zero, append_assoc, append-nil, length-append}
-use Rattle.std.specs.List.{list_all, list_any}
+use Rattle.std.proofs.Common.{◌≡◌, ℕ, ◌+◌, ◌-◌, ◌*◌, ◌/◌, ◌%◌, ◌^◌, ◌<◌, true, false, List, [], ◌∷◌, ◌++◌, length, refl, sym, ◌∙◌, arith, zero, suc, zero-add, add-zero, append_assoc, append-nil, length-append}
+use Rattle.std.specs.List.{list_all}
 use Rattle.std.specs.Char.{is_digit, digit_value, digit_char, is_ascii_uppercase}
-use Rattle.std.specs.Str.Parse.{AllDigits, digits_value, digits_value_after}
+use Rattle.std.specs.Str.Parse.{digits_value, digits_value_after}
 use Rattle.std.proofs.Math.Nat.{pow-suc}
 use Rattle.std.proofs.lemmas.Int.Digits.{digits_value-lt, digits_value_push}
 use Rattle.std.proofs.lemmas.List.Folds.{list_all-append}
@@ -9,7 +9,7 @@ use Rattle.std.proofs.lemmas.Bool.{and_parts, and_from, or_parts}
 use Rattle.std.proofs.lemmas.Bool.Decides.{nat_tests}
 use Rattle.rv_text.specs.Numeral.{number_of, up_to}
 use Rattle.rv_text.specs.Hexadecimal.{hex_digits, word_digits, word_of, has_uppercase, WordIsReadBack, WordHasOneSpelling}
-use Rattle.rv_text.proofs.NumberLemmas.{all_digits, if_some, IsNumber, IsNumber-from_read, number_of-IsNumber}
+use Rattle.rv_text.proofs.NumberLemmas.{all_digits, if_some, IsNumber-from_read, number_of-IsNumber}
 
 -- eight digits write a word
 pub word_fits : (text : List ℕ) → length text ≡ 8 → up_to (2 ^ 32 - 1) (number_of 16 text) ≡ word_of text
@@ -33,10 +33,10 @@ written (suc places) n room =
     let more = pow-suc 16 places in
     let front = written places (n / 16) (omega (arith, room)) in
     let digit = value_of_digit (n % 16) (omega arith) in
-    let small : is_digit (digit_char (n % 16)) 16 ≡ true = grind (arith, nat_tests) in
-    ( length-append (hex_digits places (n / 16)) _ ∙ omega (arith, front.0)
-    , list_all-append (λ c. is_digit c 16) (hex_digits places (n / 16)) _ ∙ and_from _ _ front.1 (and_from _ _ small refl)
-    , digits_value_push 16 (hex_digits places (n / 16)) (digit_char (n % 16)) ∙ omega (arith, front.2, digit)
+    let small : is_digit (digit_char (n % 16)) 16 ≡ true = grind (arith, nat_tests) in (
+      length-append (hex_digits places (n / 16)) _ ∙ omega (arith, front.0),
+      list_all-append (λ c. is_digit c 16) (hex_digits places (n / 16)) _ ∙ and_from _ _ front.1 (and_from _ _ small refl),
+      digits_value_push 16 (hex_digits places (n / 16)) (digit_char (n % 16)) ∙ omega (arith, front.2, digit),
     )
 
 pub read_back : WordIsReadBack

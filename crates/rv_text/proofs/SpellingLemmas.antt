@@ -1,4 +1,4 @@
-use Rattle.std.proofs.Common.{◌≡◌, ℕ, zero, suc, refl, ◌^◌, ◌<◌, ◌≤◌, Bool, true, false, Some, List, [], ◌∷◌, length, get_or, sym, ap, ◌∙◌, subst, arith}
+use Rattle.std.proofs.Common.{◌≡◌, ℕ, zero, suc, refl, ◌^◌, ◌<◌, false, length, get_or, sym, arith}
 use Rattle.std.specs.Fmt.{decimal}
 use Rattle.std.specs.Str.Parse.{AllDigits, digits_value}
 use Rattle.std.proofs.lemmas.Str.Parse.{IsNumeralModel, numerals_by_value, tells_digits}
@@ -6,7 +6,7 @@ use Rattle.std.proofs.lemmas.Fmt.{decimal_is_IsNumeral, decimal_digit, first_dec
 use Rattle.std.proofs.lemmas.Bool.Decides.{nat_tests}
 use Rattle.rv_text.specs.Numeral.{number_of}
 use Rattle.rv_text.specs.Decimal.{has_leading_zero, decimal_of, DecimalIsReadBack, DecimalHasOneSpelling}
-use Rattle.rv_text.proofs.NumberLemmas.{all_digits, all_from_digits, unless_some, IsNumber, IsNumber-from_read, number_of-IsNumber}
+use Rattle.rv_text.proofs.NumberLemmas.{all_digits, all_from_digits, unless_some, IsNumber-from_read, number_of-IsNumber}
 
 own : IsNumeralModel (AllDigits 10) (digits_value 10)
 own = numerals_by_value (AllDigits 10) tells_digits

@@ -68,8 +68,14 @@ mod tests {
         assert_eq!(rt; Decimal::new(0).as_bytes(), b"0".as_slice());
         assert_eq!(rt; Decimal::new(9).as_bytes(), b"9".as_slice());
         assert_eq!(rt; Decimal::new(10).as_bytes(), b"10".as_slice());
-        assert_eq!(rt; Decimal::new(4_294_967_295).as_bytes(), b"4294967295".as_slice());
-        assert_eq!(rt; Decimal::new(u64::MAX).as_bytes(), b"18446744073709551615".as_slice());
+        assert_eq!(rt;
+            Decimal::new(4_294_967_295).as_bytes(),
+            b"4294967295".as_slice()
+        );
+        assert_eq!(rt;
+            Decimal::new(u64::MAX).as_bytes(),
+            b"18446744073709551615".as_slice()
+        );
     }
 
     #[test]

@@ -1,5 +1,4 @@
 use Rattle.std.proofs.Common.{◌≡◌, ◌/◌, ◌%◌, arith}
-use Rattle.std.specs.Char.{digit_char}
 use Rattle.rv_text.specs.Hexadecimal.{word_digits}
 use Rattle.rv_text.proofs.hexadecimal.word_digits.Goals as goal
 

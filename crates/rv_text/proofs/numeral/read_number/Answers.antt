@@ -1,4 +1,4 @@
-use Rattle.std.proofs.Common.{sym, arith}
+use Rattle.std.proofs.Common.{arith}
 use Rattle.std.proofs.lemmas.Grind.{common_steps}
 use Rattle.rv_text.proofs.NumberLemmas.{SoFar-more, number_passes}
 use Rattle.rv_text.proofs.numeral.read_number.Goals as goal
