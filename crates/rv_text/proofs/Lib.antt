@@ -2,3 +2,4 @@ pub mod NumberLemmas
 pub mod HexLemmas
 pub mod DecimalLemmas
 pub mod SpellingLemmas
+pub mod LineLemmas

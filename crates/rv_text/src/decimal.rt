@@ -25,6 +25,7 @@ impl Model for Decimal {
 }
 
 impl Decimal {
+    /// The digits of the number.
     pub fn new(number: u64) -> Decimal
         ensures { result ≡ decimal number }
     {
@@ -40,6 +41,7 @@ impl Decimal {
         Decimal { digits, first }
     }
 
+    /// The digits, one to twenty, the most significant first.
     pub fn as_bytes(&self) -> &[u8]
         ensures { result.now ≡ self.now }
     {
