@@ -1,13 +1,13 @@
-// A library with one function.
+//! The machine: harts that execute RV32IA over one memory, one atomic step at a time.
+//!
+//! To the layer above, `Machine::step` is the relation of `specs/Step.antt`, which knows no breakpoint,
+//! no sampler and no pause; a refused step changes nothing.
 #![tactic(auto)]
 
-ghost use Rattle.std.specs.Prelude.{◌≡◌};
-ghost use Rattle.rv_hart.specs.Echo.{echo_of};
-
-// The `ensures` clause is the contract: what `echo` returns is `echo_of` of its argument, a definition
-// in `specs/Echo.antt`, which a caller's clause can cite too.
-pub fn echo(x: usize) -> usize
-    ensures { result ≡ echo_of x }
-{
-    x
-}
+pub mod access;
+mod act;
+pub mod action;
+mod effect;
+pub mod hart;
+pub mod machine;
+pub mod write;

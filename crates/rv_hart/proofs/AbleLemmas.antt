@@ -1,0 +1,157 @@
+use Rattle.std.proofs.Common.{◌≡◌, ℕ, ◌-◌, ◌%◌, Bool, true, false, cond, List, [], ◌∷◌, Option, Some, None, refl, inl, inr}
+use Rattle.std.specs.Prelude.{◌&&◌, ◌||◌, ◌==◌, not, nat_lt, nat_le, IsTrue}
+use Rattle.std.specs.List.{list_any}
+use Rattle.rv_hart.specs.Able.{AreBytes, IsAble, HasSize}
+use Rattle.rv_hart.specs.Act.{act, action_of, branch, jump, environment_call, following, immediate, address, source_1, source_2}
+use Rattle.rv_hart.specs.Registers.{get}
+use Rattle.rv_hart.specs.Step.{action_at_word, fetched, tested, allowed, action_at}
+use Rattle.rv_hart.specs.Words as words
+use Rattle.rv_hart.specs.declared.action.Action.{Action}
+use Rattle.rv_hart.specs.declared.action.Action.TheVariants.{Trap, Set, Load, Store, Reserve, Conditional, Replace, Print, Exit}
+use Rattle.rv_hart.specs.declared.hart.Cause.{Cause}
+use Rattle.rv_hart.specs.declared.hart.Cause.TheVariants.{TargetMisaligned, FetchFault, LoadMisaligned, LoadFault, StoreMisaligned, StoreFault, UnknownCall}
+use Rattle.rv_hart.specs.declared.hart.Hart.{Hart}
+use Rattle.rv_isa.specs.Decoded.{decoded}
+use Rattle.rv_isa.specs.declared.instr.Instr.{Instr}
+use Rattle.rv_isa.specs.declared.op.Op.{Op}
+use Rattle.rv_isa.specs.declared.op.Op.TheVariants.{Lui, Auipc, Jal, Jalr, Beq, Bne, Blt, Bge, Bltu, Bgeu, Lb, Lh, Lw, Lbu, Lhu, Sb, Sh, Sw, Addi, Slti, Sltiu, Xori, Ori, Andi, Slli, Srli, Srai, Add, Sub, Sll, Slt, Sltu, Xor, Srl, Sra, Or, And, Fence, Ecall, Ebreak, LrW, ScW, AmoswapW, AmoaddW, AmoxorW, AmoandW, AmoorW, AmominW, AmomaxW, AmominuW, AmomaxuW}
+use Rattle.rv_memory.specs.Extent.{Extent}
+use Rattle.rv_memory.specs.Memory.{Memory, IsSize, holds, allows, load, permits}
+use Rattle.rv_memory.specs.declared.store.Need.{Need}
+use Rattle.rv_memory.specs.declared.store.Need.TheVariants as need
+
+-- ---- what is permitted are bytes that there are
+
+drop_need : (a b rest rest' : Bool) → (rest ≡ true → rest' ≡ true) → (a && b) || rest ≡ true → (a && true) || rest' ≡ true
+drop_need true b rest rest' f h = refl
+drop_need false b rest rest' f h = f h
+
+pub permits_bytes : (m : Memory) (address size : ℕ) (n : Need) → permits m address size n ≡ true → permits m address size need.Nothing ≡ true
+permits_bytes [] address size n h = h
+permits_bytes (e ∷ es) address size n h =
+    drop_need (holds e address size) (allows e n) (permits es address size n) (permits es address size need.Nothing) (permits_bytes es address size n) h
+
+-- ---- the sizes of what instructions access
+
+sized_jump_at : (aligned : Bool) (rd value next : ℕ) → HasSize (cond aligned (Set rd value next) (Trap TargetMisaligned))
+sized_jump_at true rd value next = tt
+sized_jump_at false rd value next = tt
+
+sized_jump : (i : Instr) (hart : Hart) (target : ℕ) → HasSize (jump i hart target)
+sized_jump i hart target = sized_jump_at (target % 4 == 0) i.rd (following hart) target
+
+sized_branch_at : (taken aligned : Bool) (next after : ℕ) → HasSize (cond taken (cond aligned (Set 0 0 next) (Trap TargetMisaligned)) (Set 0 0 after))
+sized_branch_at true true next after = tt
+sized_branch_at true false next after = tt
+sized_branch_at false aligned next after = tt
+
+sized_branch : (i : Instr) (hart : Hart) (taken : Bool) → HasSize (branch i hart taken)
+sized_branch i hart taken =
+    sized_branch_at taken (words.plus hart.pc (immediate i) % 4 == 0) (words.plus hart.pc (immediate i)) (following hart)
+
+sized_call_at : (exits prints : Bool) (code byte : ℕ) → HasSize (cond exits (Exit code) (cond prints (Print byte) (Trap UnknownCall)))
+sized_call_at true prints code byte = tt
+sized_call_at false true code byte = tt
+sized_call_at false false code byte = tt
+
+sized_call : (hart : Hart) → HasSize (environment_call hart)
+sized_call hart =
+    sized_call_at (get hart.registers 17 == 93) (get hart.registers 17 == 1) (get hart.registers 10) (get hart.registers 10 % 256)
+
+sized_act : (op : Op) (i : Instr) (hart : Hart) → HasSize (act op i hart)
+sized_act Lui i hart = tt
+sized_act Auipc i hart = tt
+sized_act Jal i hart = sized_jump i hart (words.plus hart.pc (immediate i))
+sized_act Jalr i hart = sized_jump i hart (address i hart - address i hart % 2)
+sized_act Beq i hart = sized_branch i hart (source_1 i hart == source_2 i hart)
+sized_act Bne i hart = sized_branch i hart (not (source_1 i hart == source_2 i hart))
+sized_act Blt i hart = sized_branch i hart (words.less_signed (source_1 i hart) (source_2 i hart))
+sized_act Bge i hart = sized_branch i hart (not (words.less_signed (source_1 i hart) (source_2 i hart)))
+sized_act Bltu i hart = sized_branch i hart (nat_lt (source_1 i hart) (source_2 i hart))
+sized_act Bgeu i hart = sized_branch i hart (not (nat_lt (source_1 i hart) (source_2 i hart)))
+sized_act Lb i hart = inl refl
+sized_act Lh i hart = inr (inl refl)
+sized_act Lw i hart = inr (inr refl)
+sized_act Lbu i hart = inl refl
+sized_act Lhu i hart = inr (inl refl)
+sized_act Sb i hart = inl refl
+sized_act Sh i hart = inr (inl refl)
+sized_act Sw i hart = inr (inr refl)
+sized_act Addi i hart = tt
+sized_act Slti i hart = tt
+sized_act Sltiu i hart = tt
+sized_act Xori i hart = tt
+sized_act Ori i hart = tt
+sized_act Andi i hart = tt
+sized_act Slli i hart = tt
+sized_act Srli i hart = tt
+sized_act Srai i hart = tt
+sized_act Add i hart = tt
+sized_act Sub i hart = tt
+sized_act Sll i hart = tt
+sized_act Slt i hart = tt
+sized_act Sltu i hart = tt
+sized_act Xor i hart = tt
+sized_act Srl i hart = tt
+sized_act Sra i hart = tt
+sized_act Or i hart = tt
+sized_act And i hart = tt
+sized_act Fence i hart = tt
+sized_act Ecall i hart = sized_call hart
+sized_act Ebreak i hart = tt
+sized_act LrW i hart = tt
+sized_act ScW i hart = tt
+sized_act AmoswapW i hart = tt
+sized_act AmoaddW i hart = tt
+sized_act AmoxorW i hart = tt
+sized_act AmoandW i hart = tt
+sized_act AmoorW i hart = tt
+sized_act AmominW i hart = tt
+sized_act AmomaxW i hart = tt
+sized_act AmominuW i hart = tt
+sized_act AmomaxuW i hart = tt
+
+sized_word : (o : Option Instr) (hart : Hart) → HasSize (action_at_word o hart)
+sized_word None hart = tt
+sized_word (Some i) hart = sized_act i.op i hart
+
+sized_fetch_at : (b : Bool) (action : Action) → HasSize action → HasSize (cond b action (Trap FetchFault))
+sized_fetch_at true action h = h
+sized_fetch_at false action h = tt
+
+pub sized_fetched : (m : Memory) (hart : Hart) → HasSize (fetched m hart)
+sized_fetched m hart =
+    sized_fetch_at (permits m hart.pc 4 need.Execute) (action_at_word (decoded (load m hart.pc 4)) hart) (sized_word (decoded (load m hart.pc 4)) hart)
+
+-- ---- what passed the tests is able
+
+able_if : (m : Memory) (action : Action) (misaligned fault : Cause) (b c : Bool) → (c ≡ true → IsAble m action) → IsAble m (cond b (cond c action (Trap fault)) (Trap misaligned))
+able_if m action misaligned fault true true f = f refl
+able_if m action misaligned fault true false f = tt
+able_if m action misaligned fault false c f = tt
+
+able_tested : (m : Memory) (address size : ℕ) (n : Need) (misaligned fault : Cause) (action : Action) → (permits m address size n ≡ true → IsAble m action) → IsAble m (tested m address size n misaligned fault action)
+able_tested m address size n misaligned fault action f =
+    able_if m action misaligned fault (address % size == 0) (permits m address size n) f
+
+able_bytes : (m : Memory) (address size : ℕ) (n : Need) → IsSize size → permits m address size n ≡ true → AreBytes m address size
+able_bytes m address size n sized h = record { sized = sized; within = permits_bytes m address size n h }
+
+able_allowed : (m : Memory) (action : Action) → HasSize action → IsAble m (allowed m action)
+able_allowed m (Load rd address size signed) h =
+    able_tested m address size need.Read LoadMisaligned LoadFault (Load rd address size signed) (able_bytes m address size need.Read h)
+able_allowed m (Store address size value) h =
+    able_tested m address size need.Write StoreMisaligned StoreFault (Store address size value) (able_bytes m address size need.Write h)
+able_allowed m (Reserve rd address) h =
+    able_tested m address 4 need.Read LoadMisaligned LoadFault (Reserve rd address) (able_bytes m address 4 need.Read (inr (inr refl)))
+able_allowed m (Conditional rd address value) h =
+    able_tested m address 4 need.Write StoreMisaligned StoreFault (Conditional rd address value) (able_bytes m address 4 need.Write (inr (inr refl)))
+able_allowed m (Replace rd address combine value) h =
+    able_tested m address 4 need.ReadWrite StoreMisaligned StoreFault (Replace rd address combine value) (able_bytes m address 4 need.ReadWrite (inr (inr refl)))
+able_allowed m (Trap cause) h = tt
+able_allowed m (Set rd value next) h = tt
+able_allowed m (Print byte) h = tt
+able_allowed m (Exit code) h = tt
+
+pub able_action : (m : Memory) (hart : Hart) → IsAble m (action_at m hart)
+able_action m hart = able_allowed m (fetched m hart) (sized_fetched m hart)

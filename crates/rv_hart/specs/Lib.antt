@@ -1,0 +1,10 @@
+pub mod Able
+pub mod Act
+pub mod Conflict
+pub mod Harts
+pub mod Machine
+pub mod Next
+pub mod Registers
+pub mod State
+pub mod Step
+pub mod Words

@@ -1,0 +1,101 @@
+use Rattle.std.specs.Prelude.{◌≡◌, ℕ, Bool, true, false, ◌&&◌, ◌==◌, nat_lt, nat_le, not, Option, Some, None, if◌then◌else◌, IsTrue, length, slice_get}
+use Rattle.rv_hart.specs.State.{State, Guest, is_running}
+use Rattle.rv_hart.specs.Step.{step_of, action_at, access_of}
+use Rattle.rv_hart.specs.declared.access.Access.{Access}
+use Rattle.rv_hart.specs.declared.access.Event.{Event}
+use Rattle.rv_hart.specs.declared.access.Event.TheVariants as event
+use Rattle.rv_hart.specs.declared.action.Action.{Action}
+use Rattle.rv_hart.specs.declared.action.Action.TheVariants.{Trap, Set, Load, Store, Reserve, Conditional, Replace, Print, Exit}
+use Rattle.rv_hart.specs.declared.hart.Hart.{Hart}
+use Rattle.rv_isa.specs.Decoded.{op_at}
+use Rattle.rv_isa.specs.Shape.{shape_of}
+use Rattle.rv_isa.specs.declared.op.Op.{Op}
+use Rattle.rv_isa.specs.declared.shape.Shape.{Shape}
+use Rattle.rv_isa.specs.declared.shape.Shape.TheVariants as shape
+use Rattle.rv_memory.specs.Memory.{Memory, load}
+
+-- the access of an event, if it made one
+abbrev pub accessed : Event → Option Access
+accessed (event.Moved access) = access
+accessed (event.Exited code) = None
+accessed (event.Stopped cause) = None
+
+abbrev pub access_of_step : Option (Event × State) → Option Access
+access_of_step None = None
+access_of_step (Some (e, t)) = accessed e
+
+-- the access that a step of hart h would make now, or none
+unfoldable pub next_access : State → ℕ → Option Access
+next_access s h = access_of_step (step_of s h)
+
+-- the same of the hart itself
+abbrev pub hart_access : Memory → Hart → Option Access
+hart_access m hart = if is_running hart.status then access_of hart (action_at m hart) else None
+
+abbrev pub is_plain : Shape → Bool
+is_plain (shape.PlainLoad size) = true
+is_plain (shape.PlainStore size) = true
+is_plain shape.Lr = false
+is_plain shape.Sc = false
+is_plain shape.Amo = false
+is_plain shape.Other = false
+
+abbrev pub is_plain_op : Option Op → Bool
+is_plain_op None = false
+is_plain_op (Some op) = is_plain (shape_of op)
+
+-- the word at the hart's pc is a plain load or store
+abbrev pub at_plain : Memory → Option Hart → Bool
+at_plain m None = false
+at_plain m (Some hart) = is_plain_op (op_at (load m hart.pc 4))
+
+-- the same where the word at pc is a plain load or store, else none
+unfoldable pub next_plain : State → ℕ → Option Access
+next_plain s h = if at_plain s.memory (slice_get s.harts h) then next_access s h else None
+
+-- the same of the hart's action
+abbrev pub plain_access : Hart → Action → Option Access
+plain_access hart (Load rd address size signed) = access_of hart (Load rd address size signed)
+plain_access hart (Store address size value) = access_of hart (Store address size value)
+plain_access hart (Trap cause) = None
+plain_access hart (Set rd value next) = None
+plain_access hart (Reserve rd address) = None
+plain_access hart (Conditional rd address value) = None
+plain_access hart (Replace rd address combine value) = None
+plain_access hart (Print byte) = None
+plain_access hart (Exit code) = None
+
+abbrev pub hart_plain : Memory → Hart → Option Access
+hart_plain m hart = if is_running hart.status then plain_access hart (action_at m hart) else None
+
+-- ---- when a step is refused
+
+abbrev pub is_running_hart : Option Hart → Bool
+is_running_hart None = false
+is_running_hart (Some hart) = is_running hart.status
+
+abbrev pub is_print : Action → Bool
+is_print (Print byte) = true
+is_print (Trap cause) = false
+is_print (Set rd value next) = false
+is_print (Load rd address size signed) = false
+is_print (Store address size value) = false
+is_print (Reserve rd address) = false
+is_print (Conditional rd address value) = false
+is_print (Replace rd address combine value) = false
+is_print (Exit code) = false
+
+-- a step of the hart would print a byte
+abbrev pub prints : Memory → Option Hart → Bool
+prints m None = false
+prints m (Some hart) = is_running hart.status && is_print (action_at m hart)
+
+-- there is a hart of the number, and it does not run
+pub record IsIdle (s : State) (h : ℕ) : Type 0 where
+  pub within : IsTrue (nat_lt h (length s.harts))
+  pub idle : IsTrue (not (is_running_hart (slice_get s.harts h)))
+
+-- a step of the hart would print a byte that the output has no room for
+pub record HasNoRoom (g : Guest) (h : ℕ) : Type 0 where
+  pub prints : IsTrue (prints g.state.memory (slice_get g.state.harts h))
+  pub full : IsTrue (nat_le g.limit (length g.state.output))

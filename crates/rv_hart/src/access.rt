@@ -1,0 +1,39 @@
+ghost use Rattle.std.specs.Prelude.{◌≡◌, ◌↔◌, IsTrue};
+
+use crate::hart::Cause;
+
+/// An access to memory that an instruction makes: the instruction's address, the first of `size` bytes
+/// (1, 2 or 4), and whether it reads and writes them.
+#[derive(Clone, Copy, Debug, PartialEq, Eq, Hash)]
+pub struct Access {
+    pub pc: u32,
+    pub first: u32,
+    pub size: u8,
+    pub read: bool,
+    pub write: bool,
+}
+
+/// What a step of a hart was: an instruction, with the access that it made if it made one; its exit with
+/// a code; or its stop.
+#[derive(Clone, Copy, Debug, PartialEq, Eq, Hash)]
+pub enum Event {
+    Moved(Option<Access>),
+    Exited(u32),
+    Stopped(Cause),
+}
+
+impl Access {
+    ghost use Rattle.rv_hart.specs.Conflict.{conflicts, Conflict};
+
+    /// Whether the two accesses conflict: their bytes overlap and at least one of them writes. (This
+    /// project's own definition; accesses of LR, SC and AMO count as others do.)
+    pub fn conflicts(&self, other: &Access) -> bool
+        ensures value { result ≡ conflicts self.now other.now }
+        ensures meaning { IsTrue result ↔ Conflict self.now other.now }
+    {
+        let end = u64::from(self.first) + u64::from(self.size);
+        let other_end = u64::from(other.first) + u64::from(other.size);
+        let meet = u64::from(self.first) < other_end && u64::from(other.first) < end;
+        meet && (self.write || other.write)
+    }
+}

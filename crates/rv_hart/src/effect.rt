@@ -1,0 +1,333 @@
+//! What an action does, one function a component of `specs/Step.antt`.
+ghost use Rattle.std.specs.Prelude.{◌≡◌, ◌<◌, ◌+◌, ◌++◌, vec_len, vec_capacity, Some, IsTrue, OnOk, OnErr, length, map};
+ghost use Rattle.rv_hart.specs.Able.{HasSize, IsAble, IsAbleWrite, IsReady, Fits};
+ghost use Rattle.rv_hart.specs.Harts.{HartsAfter};
+ghost use Rattle.rv_hart.specs.Next as next;
+ghost use Rattle.rv_hart.specs.Registers as registers;
+ghost use Rattle.rv_hart.specs.Step as spec;
+
+use crate::access::{Access, Event};
+use crate::act::{act, combined, extended};
+use crate::action::Action;
+use crate::hart::{Cause, Hart, Status};
+use crate::write::Write;
+use rv_isa::codec::decode;
+use rv_memory::store::{ByteStore, Need, NoMemory};
+
+/// The action that a hart takes next, with its access tested.
+pub fn action_at<S: ByteStore>(store: &S, hart: &Hart) -> Action
+    ensures value { result ≡ spec.action_at (S.memory store.now) hart.now }
+    ensures able { IsAble (S.memory store.now) result }
+{
+    allowed(store, fetched(store, hart))
+}
+
+#[tactic(auto, using(crate::proofs::AbleLemmas::permits_bytes))]
+fn fetched<S: ByteStore>(store: &S, hart: &Hart) -> Action
+    ensures { result ≡ spec.fetched (S.memory store.now) hart.now }
+{
+    if !store.permits(hart.pc, 4, Need::Execute) {
+        return Action::Trap(Cause::FetchFault);
+    }
+    match decode(store.load(hart.pc, 4)) {
+        None => Action::Trap(Cause::Illegal),
+        Some(instr) => act(&instr, hart),
+    }
+}
+
+/// The action, or the trap of an access that is misaligned or not permitted.
+fn allowed<S: ByteStore>(store: &S, action: Action) -> Action
+    requires { HasSize action }
+    ensures { result ≡ spec.allowed (S.memory store.now) action }
+{
+    match action {
+        Action::Load { address, size, .. } => tested_load(store, address, size, action),
+        Action::Reserve { address, .. } => tested_load(store, address, 4, action),
+        Action::Store { address, size, .. } => {
+            tested_store(store, address, size, Need::Write, action)
+        }
+        Action::Conditional { address, .. } => {
+            tested_store(store, address, 4, Need::Write, action)
+        }
+        Action::Replace { address, .. } => {
+            tested_store(store, address, 4, Need::ReadWrite, action)
+        }
+        _ => action,
+    }
+}
+
+fn tested_load<S: ByteStore>(store: &S, address: u32, size: u8, action: Action) -> Action
+    requires { 0 < size }
+    ensures { result ≡ spec.tested (S.memory store.now) address size Need.Read
+        Cause.LoadMisaligned Cause.LoadFault action }
+{
+    if address % u32::from(size) != 0 {
+        Action::Trap(Cause::LoadMisaligned)
+    } else if store.permits(address, size, Need::Read) {
+        action
+    } else {
+        Action::Trap(Cause::LoadFault)
+    }
+}
+
+fn tested_store<S: ByteStore>(
+    store: &S,
+    address: u32,
+    size: u8,
+    need: Need,
+    action: Action,
+) -> Action
+    requires { 0 < size }
+    ensures { result ≡ spec.tested (S.memory store.now) address size need
+        Cause.StoreMisaligned Cause.StoreFault action }
+{
+    if address % u32::from(size) != 0 {
+        Action::Trap(Cause::StoreMisaligned)
+    } else if store.permits(address, size, need) {
+        action
+    } else {
+        Action::Trap(Cause::StoreFault)
+    }
+}
+
+/// What the action loads.
+pub fn loaded_by<S: ByteStore>(store: &S, action: Action) -> u32
+    requires { IsAble (S.memory store.now) action }
+    ensures value { result ≡ spec.loaded_by (S.memory store.now) action }
+    ensures fits { Fits result action }
+{
+    match action {
+        Action::Load { address, size, .. } => store.load(address, size),
+        Action::Reserve { address, .. } | Action::Replace { address, .. } => store.load(address, 4),
+        _ => 0,
+    }
+}
+
+fn reserves(reservation: Option<u32>, address: u32) -> bool
+    ensures { result ≡ spec.reserves reservation address }
+{
+    match reservation {
+        None => false,
+        Some(reserved) => reserved == address,
+    }
+}
+
+/// What the action writes.
+pub fn written_by(loaded: u32, hart: &Hart, action: Action) -> Option<Write>
+    ensures value { result ≡ spec.written_by loaded hart.now action }
+{
+    match action {
+        Action::Store {
+            address,
+            size,
+            value,
+        } => Some(Write {
+            address,
+            size,
+            value,
+        }),
+        Action::Conditional { address, value, .. } => {
+            reserves(hart.reservation, address).then_some(Write {
+                address,
+                size: 4,
+                value,
+            })
+        }
+        Action::Replace {
+            address,
+            combine,
+            value,
+            ..
+        } => Some(Write {
+            address,
+            size: 4,
+            value: combined(combine, loaded, value),
+        }),
+        _ => None,
+    }
+}
+
+fn access(hart: &Hart, first: u32, size: u8, read: bool, write: bool) -> Access
+    ensures { result ≡ record { pc = hart.now.pc; first = first; size = size; read = read; write = write } }
+{
+    Access {
+        pc: hart.pc,
+        first,
+        size,
+        read,
+        write,
+    }
+}
+
+/// The access that the action makes.
+pub fn access_of(hart: &Hart, action: Action) -> Option<Access>
+    ensures { result ≡ spec.access_of hart.now action }
+{
+    match action {
+        Action::Load { address, size, .. } => Some(access(hart, address, size, true, false)),
+        Action::Store { address, size, .. } => Some(access(hart, address, size, false, true)),
+        Action::Reserve { address, .. } => Some(access(hart, address, 4, true, false)),
+        Action::Conditional { address, .. } => {
+            reserves(hart.reservation, address).then_some(access(hart, address, 4, false, true))
+        }
+        Action::Replace { address, .. } => Some(access(hart, address, 4, true, true)),
+        _ => None,
+    }
+}
+
+/// The event of the action.
+pub fn event_of(hart: &Hart, action: Action) -> Event
+    ensures { result ≡ spec.event_of hart.now action }
+{
+    match action {
+        Action::Trap(cause) => Event::Stopped(cause),
+        Action::Exit(code) => Event::Exited(code),
+        _ => Event::Moved(access_of(hart, action)),
+    }
+}
+
+/// Sets a register, but for x0.
+#[inline]
+fn set_register(hart: &mut Hart, register: u8, value: u32)
+    ensures { hart.new ≡ record hart.old { registers = registers.set hart.old.registers register value } }
+{
+    if 0 < register && register < 32 {
+        hart.registers[register as usize] = value;
+    }
+}
+
+/// What the action does to the hart itself.
+pub fn advance(hart: &mut Hart, loaded: u32, action: Action)
+    requires { Fits loaded action }
+    ensures { hart.new ≡ spec.hart_after loaded hart.old action }
+{
+    let following = hart.pc.wrapping_add(4);
+    match action {
+        Action::Trap(cause) => hart.status = Status::Stopped(cause),
+        Action::Exit(code) => hart.status = Status::Exited(code),
+        Action::Set { rd, value, next } => {
+            set_register(hart, rd, value);
+            hart.pc = next;
+        }
+        Action::Load {
+            rd,
+            size,
+            signed,
+            ..
+        } => {
+            set_register(hart, rd, extended(signed, size, loaded));
+            hart.pc = following;
+        }
+        Action::Reserve { rd, address } => {
+            set_register(hart, rd, loaded);
+            hart.pc = following;
+            hart.reservation = Some(address);
+        }
+        Action::Conditional { rd, address, .. } => {
+            let failed = !reserves(hart.reservation, address);
+            set_register(hart, rd, u32::from(failed));
+            hart.pc = following;
+            hart.reservation = None;
+        }
+        Action::Replace { rd, .. } => {
+            set_register(hart, rd, loaded);
+            hart.pc = following;
+        }
+        Action::Store { .. } | Action::Print(_) => hart.pc = following,
+    }
+}
+
+/// What is left of a hart's reservation after another hart's write.
+fn kept(write: &Write, reservation: Option<u32>) -> Option<u32>
+    ensures { result ≡ spec.kept (Some write.now) reservation }
+{
+    match reservation {
+        None => None,
+        Some(reserved) => {
+            let end = u64::from(write.address) + u64::from(write.size);
+            let meet = u64::from(write.address) < u64::from(reserved) + 4
+                && u64::from(reserved) < end;
+            if meet { None } else { Some(reserved) }
+        }
+    }
+}
+
+/// Ends each reservation that a write meets.
+#[tactic(auto, using(std::proofs::lemmas::List::Edits::map_over_more))]
+pub fn see_write(harts: &mut [Hart], write: &Write)
+    ensures { harts.new ≡ map (spec.seen_by (Some write.now)) harts.old }
+{
+    for hart in harts.iter_mut() {
+        see(hart, write);
+    }
+}
+
+fn see(hart: &mut Hart, write: &Write)
+    ensures { hart.new ≡ spec.seen_by (Some write.now) hart.old }
+{
+    hart.reservation = kept(write, hart.reservation);
+}
+
+/// Makes the bytes of a write ready; where that is refused nothing has changed.
+pub fn ready<S: ByteStore>(store: &mut S, write: Option<Write>) -> Result<(), NoMemory>
+    ensures same { S.memory store.new ≡ S.memory store.old }
+    ensures ready { OnOk result (IsReady S.is_ready store.new write) }
+    ensures refused { OnErr result (IsTrue S.can_refuse) }
+{
+    match write {
+        None => Ok(()),
+        Some(write) => store.ready(write.address, write.size),
+    }
+}
+
+/// Writes the bytes.
+pub fn put<S: ByteStore>(store: &mut S, write: Option<Write>)
+    requires able { IsAbleWrite (S.memory store.old) write }
+    requires ready { IsReady S.is_ready store.old write }
+    ensures { S.memory store.new ≡ spec.memory_after (S.memory store.old) write }
+{
+    if let Some(write) = write {
+        store.store(write.address, write.size, write.value);
+    }
+}
+
+/// The harts after one of them took its action: each has seen the write, and that one has moved on.
+pub fn see_and_advance(harts: &mut [Hart], h: u8, loaded: u32, action: Action, write: Option<Write>)
+    requires hart { h < length harts.old }
+    requires fits { Fits loaded action }
+    ensures { HartsAfter harts.old harts.new h loaded action write }
+{
+    let own = harts[h as usize].reservation;
+    see_all(harts, write);
+    move_on(&mut harts[h as usize], own, loaded, action);
+}
+
+#[tactic(auto, using(crate::proofs::HartsLemmas::none_seen))]
+fn see_all(harts: &mut [Hart], write: Option<Write>)
+    ensures { harts.new ≡ map (spec.seen_by write) harts.old }
+{
+    if let Some(write) = write {
+        see_write(harts, &write);
+    }
+}
+
+/// Advances a hart whose own write has ended no reservation of its own.
+fn move_on(hart: &mut Hart, own: Option<u32>, loaded: u32, action: Action)
+    requires { Fits loaded action }
+    ensures { hart.new ≡ spec.hart_after loaded (record hart.old { reservation = own }) action }
+{
+    hart.reservation = own;
+    advance(hart, loaded, action);
+}
+
+/// Appends the byte that the action prints.
+pub fn print(output: &mut Vec<u8>, action: Action)
+    requires { IsTrue (next.is_print action) → vec_len output.old < vec_capacity output.old }
+    ensures items { output.new.items ≡ output.old.items ++ spec.printed action }
+    ensures len { vec_len output.new ≡ vec_len output.old + length (spec.printed action) }
+    ensures capacity { vec_capacity output.new ≡ vec_capacity output.old }
+{
+    if let Action::Print(byte) = action {
+        output.push_reserved(byte);
+    }
+}

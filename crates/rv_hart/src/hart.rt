@@ -1,0 +1,42 @@
+/// Why a hart stopped. The numbers, in this order from 0, are this project's own; what a hart does to be
+/// stopped so is the RISC-V Unprivileged ISA's "exception" of the chapters RV32I and A.
+#[derive(Clone, Copy, Debug, PartialEq, Eq, Hash)]
+pub enum Cause {
+    /// A taken branch or a jump to an address that is no multiple of 4.
+    TargetMisaligned,
+    /// The four bytes at pc do not lie in an executable region.
+    FetchFault,
+    /// The word at pc is no instruction.
+    Illegal,
+    /// EBREAK.
+    Breakpoint,
+    /// A load or LR at an address that is no multiple of its size.
+    LoadMisaligned,
+    /// A load or LR of bytes that do not lie in a readable region.
+    LoadFault,
+    /// A store, SC or AMO at an address that is no multiple of its size.
+    StoreMisaligned,
+    /// A store or SC to bytes that do not lie in a writable region, or an AMO to bytes that do not lie in
+    /// one both readable and writable.
+    StoreFault,
+    /// An environment call that there is not.
+    UnknownCall,
+}
+
+/// Whether a hart runs, and else how it ended.
+#[derive(Clone, Copy, Debug, PartialEq, Eq, Hash)]
+pub enum Status {
+    Running,
+    Exited(u32),
+    Stopped(Cause),
+}
+
+/// One hart: its 32 registers (x0 is read as 0 whatever stands here), the address of its next
+/// instruction, its status, and the address of the word that its last LR reserved, if it still holds it.
+#[derive(Clone, Copy, Debug)]
+pub struct Hart {
+    pub registers: [u32; 32],
+    pub pc: u32,
+    pub status: Status,
+    pub reservation: Option<u32>,
+}

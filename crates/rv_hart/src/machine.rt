@@ -1,0 +1,262 @@
+ghost use Rattle.std.specs.Prelude.{◌≡◌, ◌≢◌, ℕ, ◌<◌, ◌≤◌, ◌%◌, ◌↔◌, ◌+◌, Some, None, length, IsTrue, IfOk, IfErr, OnOk, OnErr, unwrap_or, slice_get, All};
+ghost use Rattle.rv_hart.specs.Able.{IsAble};
+ghost use Rattle.rv_hart.specs.Machine as machine;
+ghost use Rattle.rv_hart.specs.Next as next;
+ghost use Rattle.rv_hart.specs.Registers.{get};
+ghost use Rattle.rv_hart.specs.State as state;
+ghost use Rattle.rv_hart.specs.Step.{step_of};
+ghost use Rattle.rv_memory.specs.Extent.{IsExtent};
+ghost use Rattle.rv_memory.specs.Memory as memory;
+
+use crate::access::{Access, Event};
+use crate::act::register;
+use crate::action::Action;
+use crate::effect::{
+    access_of, action_at, event_of, loaded_by, print, put, ready, see_and_advance, written_by,
+};
+use crate::hart::{Hart, Status};
+use rv_memory::laws::{bytes_stand_where_covered, memory_is_sound};
+use rv_memory::store::{ByteStore, Need};
+use std::marker::Model;
+
+/// The most bytes that a machine may be made to print.
+pub const OUTPUT_LIMIT: u32 = 1_000_000;
+
+/// Why a step is refused, tested in this order: there is no hart of the number; it exited or stopped; it
+/// would print a byte that the output has no room for; the store was refused memory.
+#[derive(Clone, Copy, Debug, PartialEq, Eq, Hash)]
+pub enum StepFault {
+    NoHart,
+    NotRunning,
+    OutputFull,
+    NoMemory,
+}
+
+/// 1 to 16 harts over one memory. `S` keeps the memory's bytes; over a store that is `Steady` a step asks
+/// for no memory.
+#[derive(Drop)]
+pub struct Machine<S: ByteStore> {
+    harts: Vec<Hart>,
+    store: S,
+    output: Vec<u8>,
+    limit: u32,
+}
+
+impl<S: ByteStore> Model for Machine<S> {
+    ghost use Rattle.rv_hart.specs.State.{Guest};
+    ghost use Rattle.rv_hart.specs.Machine.{IsMachine};
+
+    ghost Value = { Guest };
+
+    ghost view = { λ m. record {
+      state = record { harts = m.harts.items; memory = S.memory m.store; output = m.output.items };
+      limit = m.limit;
+    } };
+
+    ghost invariant = { λ m. IsMachine m.harts (S.memory m.store) m.output m.limit };
+}
+
+impl<S: ByteStore> Machine<S> {
+    /// How many harts there are: 1 to 16.
+    pub fn harts(&self) -> u8
+        ensures value { result ≡ length self.now.state.harts }
+        ensures some { 1 ≤ result }
+        ensures within { result ≤ 16 }
+    {
+        self.harts.len() as u8
+    }
+
+    /// The address of a hart's next instruction.
+    pub fn pc(&self, h: u8) -> u32
+        requires { h < length self.now.state.harts }
+        ensures { machine.SomeHart (λ hart. result ≡ hart.pc) self.now.state h }
+    {
+        self.harts[h as usize].pc
+    }
+
+    /// A hart's register, 0 to 31.
+    pub fn register(&self, h: u8, r: u8) -> u32
+        requires hart { h < length self.now.state.harts }
+        requires register { r ≤ 31 }
+        ensures { machine.SomeHart (λ hart. result ≡ get hart.registers r) self.now.state h }
+    {
+        register(&self.harts[h as usize], r)
+    }
+
+    /// Whether a hart runs, and else how it ended.
+    pub fn status(&self, h: u8) -> Status
+        requires { h < length self.now.state.harts }
+        ensures { machine.SomeHart (λ hart. result ≡ hart.status) self.now.state h }
+    {
+        self.harts[h as usize].status
+    }
+
+    /// The address of the word that a hart holds a reservation of.
+    pub fn reservation(&self, h: u8) -> Option<u32>
+        requires { h < length self.now.state.harts }
+        ensures { machine.SomeHart (λ hart. result ≡ hart.reservation) self.now.state h }
+    {
+        self.harts[h as usize].reservation
+    }
+
+    /// The byte at an address, or None outside of every region.
+    pub fn byte(&self, address: u32) -> Option<u8>
+        ensures { result ≡ memory.byte self.now.state.memory address }
+    {
+        bytes_stand_where_covered();
+        if self.store.permits(address, 1, Need::Nothing) {
+            Some(self.store.load(address, 1) as u8)
+        } else {
+            None
+        }
+    }
+
+    /// The bytes printed so far.
+    pub fn output(&self) -> &[u8]
+        ensures { result.now ≡ self.now.state.output }
+    {
+        &self.output
+    }
+
+    /// Hands out the bytes printed.
+    pub fn into_output(self) -> Vec<u8>
+        ensures { result.items ≡ self.state.output }
+    {
+        self.output
+    }
+
+    /// The access that a step of the hart would make now; None where it does not run, would trap, or
+    /// would access nothing.
+    pub fn next_access(&self, h: u8) -> Option<Access>
+        requires { h < length self.now.state.harts }
+        ensures { result ≡ next.next_access self.now.state h }
+    {
+        hart_access(&self.store, self.hart(h))
+    }
+
+    /// The same where the instruction is a plain load or store, else None.
+    pub fn next_plain(&self, h: u8) -> Option<Access>
+        requires { h < length self.now.state.harts }
+        ensures { result ≡ next.next_plain self.now.state h }
+    {
+        hart_plain(&self.store, self.hart(h))
+    }
+
+    /// One step of a hart: its instruction, an exit, or a stop. A refused step changes nothing.
+    pub fn step(&mut self, h: u8) -> Result<Event, StepFault>
+        ensures step { IfOk result (λ event.
+            step_of self.old.state h ≡ Some (event, self.new.state)) }
+        ensures limit { self.new.limit ≡ self.old.limit }
+        ensures no_hart { (result ≡ Err StepFault.NoHart) ↔ (length self.old.state.harts ≤ h) }
+        ensures not_running { (result ≡ Err StepFault.NotRunning) ↔ next.IsIdle self.old.state h }
+        ensures output_full { (result ≡ Err StepFault.OutputFull) ↔ next.HasNoRoom self.old h }
+        ensures no_memory { (result ≡ Err StepFault.NoMemory) → IsTrue S.can_refuse }
+        ensures refused { OnErr result (self.new ≡ self.old) }
+    {
+        let action = self.tested(h)?;
+        self.take(h, action)
+    }
+
+    /// What the hart does next, where nothing but memory refuses it.
+    fn tested(&self, h: u8) -> Result<Action, StepFault>
+        ensures ok { IfOk result (λ action. machine.Takes self.now.state h action) }
+        ensures hart { OnOk result (h < length self.now.state.harts) }
+        ensures able { IfOk result (λ action. IsAble self.now.state.memory action) }
+        ensures no_hart { (result ≡ Err StepFault.NoHart) ↔ (length self.now.state.harts ≤ h) }
+        ensures not_running { (result ≡ Err StepFault.NotRunning) ↔ next.IsIdle self.now.state h }
+        ensures output_full { (result ≡ Err StepFault.OutputFull) ↔ next.HasNoRoom self.now h }
+        ensures room { IfOk result (λ action. IsTrue (next.is_print action)
+            → length self.now.state.output < self.now.limit) }
+        ensures memory { result ≢ Err StepFault.NoMemory }
+    {
+        if h as usize >= self.harts.len() {
+            return Err(StepFault::NoHart);
+        }
+        let hart = &self.harts[h as usize];
+        if !is_running(hart.status) {
+            return Err(StepFault::NotRunning);
+        }
+        let action = action_at(&self.store, hart);
+        if is_print(action) && self.output.len() >= self.limit as usize {
+            return Err(StepFault::OutputFull);
+        }
+        Ok(action)
+    }
+
+    /// Takes the action, or changes nothing where the store is refused memory.
+    #[tactic(auto, using(crate::proofs::StepLemmas::able_write))]
+    fn take(&mut self, h: u8, action: Action) -> Result<Event, StepFault>
+        requires takes { machine.Takes self.old.state h action }
+        requires hart { h < length self.old.state.harts }
+        requires able { IsAble self.old.state.memory action }
+        requires room { IsTrue (next.is_print action) → length self.old.state.output < self.old.limit }
+        ensures step { IfOk result (λ event.
+            step_of self.old.state h ≡ Some (event, self.new.state)) }
+        ensures limit { self.new.limit ≡ self.old.limit }
+        ensures err { IfErr result (λ fault. fault ≡ StepFault.NoMemory) }
+        ensures no_memory { OnErr result (IsTrue S.can_refuse) }
+        ensures refused { OnErr result (self.new ≡ self.old) }
+    {
+        memory_is_sound();
+        let hart = &self.harts[h as usize];
+        let loaded = loaded_by(&self.store, action);
+        let write = written_by(loaded, hart, action);
+        let event = event_of(hart, action);
+        if ready(&mut self.store, write).is_err() {
+            return Err(StepFault::NoMemory);
+        }
+        put(&mut self.store, write);
+        see_and_advance(&mut self.harts, h, loaded, action, write);
+        print(&mut self.output, action);
+        Ok(event)
+    }
+
+    fn hart(&self, h: u8) -> &Hart
+        requires { h < length self.now.state.harts }
+        ensures { slice_get self.now.state.harts h ≡ Some result.now }
+    {
+        &self.harts[h as usize]
+    }
+}
+
+fn hart_access<S: ByteStore>(store: &S, hart: &Hart) -> Option<Access>
+    ensures { result ≡ next.hart_access (S.memory store.now) hart.now }
+{
+    match hart.status {
+        Status::Running => access_of(hart, action_at(store, hart)),
+        Status::Exited(_) | Status::Stopped(_) => None,
+    }
+}
+
+fn hart_plain<S: ByteStore>(store: &S, hart: &Hart) -> Option<Access>
+    ensures { result ≡ next.hart_plain (S.memory store.now) hart.now }
+{
+    match hart.status {
+        Status::Running => plain_access(hart, action_at(store, hart)),
+        Status::Exited(_) | Status::Stopped(_) => None,
+    }
+}
+
+fn plain_access(hart: &Hart, action: Action) -> Option<Access>
+    ensures { result ≡ next.plain_access hart.now action }
+{
+    match action {
+        Action::Load { .. } | Action::Store { .. } => access_of(hart, action),
+        _ => None,
+    }
+}
+
+fn is_running(status: Status) -> bool
+    ensures { result ≡ state.is_running status }
+{
+    match status {
+        Status::Running => true,
+        Status::Exited(_) | Status::Stopped(_) => false,
+    }
+}
+
+fn is_print(action: Action) -> bool
+    ensures { result ≡ next.is_print action }
+{
+    matches!(action, Action::Print(_))
+}
