@@ -266,3 +266,6 @@ fn fill_all(alloc: Global, regions: &[Region]) -> Result<Vec<Region>, NoMemory>
     }
     Ok(all)
 }
+
+#[cfg(test)]
+mod tests;
