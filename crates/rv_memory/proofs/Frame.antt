@@ -68,10 +68,6 @@ put_at_keeps bytes place (suc size) value other before =
     put_at_keeps (set bytes place (value % 256)) (place + 1) size (value / 256) other (omega arith)
     ∙ get_or-set_other bytes place other (value % 256) 0 (omega arith)
 
-length-put_at : (bytes : List ℕ) (place size value : ℕ) → length (put_at bytes place size value) ≡ length bytes
-length-put_at bytes place zero value = refl
-length-put_at bytes place (suc size) value = length-put_at (set bytes place (value % 256)) (place + 1) size (value / 256) ∙ length-set bytes place (value % 256)
-
 pow_some : (size : ℕ) → 0 < 256 ^ size
 pow_some zero = omega arith
 pow_some (suc size) = rw (pow-suc 256 size) (omega (arith, pow_some size))

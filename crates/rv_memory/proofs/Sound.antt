@@ -1,8 +1,8 @@
 -- Memory as a store makes it is sound, and stays so.
-use Rattle.std.proofs.Common.{◌≡◌, ℕ, ◌+◌, ◌-◌, ◌/◌, ◌%◌, zero, suc, true, false, cond, List, [], ◌∷◌, set, All, None, ◌∙◌, arith, length-append}
-use Rattle.std.proofs.lemmas.List.{length-set, length-replicate}
-use Rattle.std.proofs.lemmas.List.Elements.{All-cons, All-head, All-tail, All-map, All-weaker}
-use Rattle.rv_memory.specs.Extent.{Extent, IsExtent, IsFull, filled}
+use Rattle.std.proofs.Common.{map, ap, length, sym, get_or, ◌<◌, subst, ◌≡◌, ℕ, ◌+◌, ◌-◌, ◌/◌, ◌%◌, zero, suc, true, false, cond, List, [], ◌∷◌, set, All, None, ◌∙◌, arith, length-append}
+use Rattle.std.proofs.lemmas.List.{map-set, get_or-map, set-get_or, length-set, length-replicate}
+use Rattle.std.proofs.lemmas.List.Elements.{All-cons, All-head, All-tail, All-map, All-set, All-weaker}
+use Rattle.rv_memory.specs.Extent.{Extent, IsExtent, IsFull, filled, span}
 use Rattle.rv_memory.specs.Memory.{Memory, covers, fault_of, set_byte, store, memory_of}
 use Rattle.rv_memory.specs.Flat.{IsSound}
 use Rattle.rv_memory.proofs.Spans.{same_fault, spans-set_byte, spans-memory_of}
@@ -39,3 +39,14 @@ sound_made es extents sound =
       full = All-map IsFull filled es (All-weaker IsExtent (λ e. IsFull (filled e)) full_filled es extents);
       no_fault = same_fault (memory_of es) es (spans-memory_of es) ∙ sound;
     }
+
+-- other bytes, as many, in one of the extents
+pub sound_set : (m : Memory) (place : ℕ) (old new : Extent) → IsSound m → place < length m → old ≡ get_or m place old → span new ≡ span old → length new.bytes ≡ length old.bytes → IsSound (set m place new)
+sound_set m place old new sound below is spans lengths =
+    let was : IsFull old = subst IsFull (sym is) (sound.full place old below) in
+    let len : new.len ≡ old.len = ap (λ e. e.len) spans in
+    let full : IsFull new = record { some = rw len was.some; whole = rw (lengths, len) was.whole } in
+    let same : map span (set m place new) ≡ map span m =
+    map-set span m place new ∙ ap (λ e. set (map span m) place e) (spans ∙ ap span is ∙ sym (get_or-map span m place old (span old) below))
+    ∙ set-get_or (map span m) place (span old) in
+    record { full = All-set IsFull m place new full sound.full; no_fault = same_fault (set m place new) m same ∙ sound.no_fault }

@@ -36,6 +36,16 @@ impl<T> Flagged<T> {
         self.failed
     }
 
+    /// Notes whether what the device answered is a failure.
+    fn note(&mut self, failure: bool)
+        ensures device { flag.device self.new ≡ flag.device self.old }
+        ensures failed { flag.has_failed self.new ≡ (flag.has_failed self.old || failure) }
+    {
+        if failure {
+            self.failed = true;
+        }
+    }
+
     pub fn into_inner(self) -> T
         ensures { result ≡ flag.device self }
     {
@@ -51,9 +61,9 @@ impl<R: Read> Read for Flagged<R> {
         ensures bytes { ReadConsumes (R.remaining (flag.device self.old)) (R.remaining (flag.device self.new)) result buf.new }
         ensures failed { flag.has_failed self.new ≡ (flag.has_failed self.old || is_err result) }
     {
-        let answer = self.device.read(buf);
-        self.failed = self.failed || answer.is_err();
-        answer
+        let read = self.device.read(buf);
+        self.note(read.is_err());
+        read
     }
 }
 
@@ -65,22 +75,22 @@ impl<W: Write> Write for Flagged<W> {
         ensures bytes { WriteAppends (W.contents (flag.device self.old)) (W.contents (flag.device self.new)) result buf.now }
         ensures failed { flag.has_failed self.new ≡ (flag.has_failed self.old || flag.is_refused result buf.now) }
     {
-        let answer = self.device.write(buf);
-        let refused = match &answer {
+        let written = self.device.write(buf);
+        let refused = match &written {
             Ok(count) => *count == 0 && !buf.is_empty(),
             Err(_) => true,
         };
-        self.failed = self.failed || refused;
-        answer
+        self.note(refused);
+        written
     }
 
     fn flush(&mut self) -> io::Result<()>
         ensures bytes { Keeps (W.contents (flag.device self.old)) (W.contents (flag.device self.new)) }
         ensures failed { flag.has_failed self.new ≡ (flag.has_failed self.old || is_err result) }
     {
-        let answer = self.device.flush();
-        self.failed = self.failed || answer.is_err();
-        answer
+        let flushed = self.device.flush();
+        self.note(flushed.is_err());
+        flushed
     }
 }
 
@@ -155,3 +165,6 @@ pub fn flush<W: Write>(writer: &mut Flagged<W>) -> Result<(), WriteFault>
         Err(_) => Err(WriteFault),
     }
 }
+
+#[cfg(test)]
+mod tests;

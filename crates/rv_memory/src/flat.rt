@@ -1,6 +1,6 @@
 ghost use Rattle.std.specs.Prelude.{◌≡◌, ◌+◌, ◌-◌, ◌^◌, ◌<◌, ◌≤◌, false, ⊤, refl, IsTrue, IfOk, All, HoldsAt, length, map, nat_lt, sum_by};
 ghost use Rattle.std.specs.List.{list_any};
-ghost use Rattle.rv_memory.specs.Extent.{IsExtent, filled, end_of as spec_end_of};
+ghost use Rattle.rv_memory.specs.Extent.{IsExtent, span, filled, end_of as spec_end_of};
 ghost use Rattle.rv_memory.specs.Memory as spec;
 ghost use Rattle.rv_memory.specs.Flat.{number_at, put_at};
 
@@ -168,7 +168,9 @@ fn put(region: &mut Region, address: u32, size: u8, value: u32)
     requires size { spec.IsSize size }
     requires start { region.old.start ≤ address }
     requires end { address - region.old.start + size ≤ length region.old.bytes }
-    ensures { region.new ≡ record region.old { bytes = put_at region.old.bytes (address - region.old.start) size value } }
+    ensures put { region.new ≡ record region.old { bytes = put_at region.old.bytes (address - region.old.start) size value } }
+    ensures span { span region.new ≡ span region.old }
+    ensures length { length region.new.bytes ≡ length region.old.bytes }
 {
     let offset = (address - region.start) as usize;
     put_at(&mut region.bytes, offset, size, value);
@@ -266,3 +268,6 @@ fn fill_all(alloc: Global, regions: &[Region]) -> Result<Vec<Region>, NoMemory>
     }
     Ok(all)
 }
+
+#[cfg(test)]
+mod tests;

@@ -1,8 +1,10 @@
-//! The guest's memory: regions with permissions, and the stores that keep their bytes.
+//! The guest's memory: regions with permissions, and the stores that keep their bytes. Beside them the
+//! readers and writers that remember a failure, by which all input and output goes.
 //!
 //! To the layer above, a store is a finite map from addresses to bytes with a list of regions, as
 //! `specs/Memory.antt` has it: `load` reads the map, `store` changes just its bytes, `ready` changes
-//! none. How the bytes are kept is the store's own matter.
+//! none. How the bytes are kept is the store's own matter. A `Flagged` reader or writer tells by
+//! `failed` whether its device has failed, and what is read or written whole is all of the bytes.
 #![tactic(auto)]
 
 pub mod flagged;

@@ -40,3 +40,28 @@ impl Region {
         })
     }
 }
+
+#[cfg(test)]
+mod tests {
+    use super::*;
+    use std::test::Fail;
+
+    #[test]
+    fn copies(rt: HostRuntime) -> Result<(), Fail> {
+        let alloc = rt.alloc();
+        let region = Region {
+            start: 0xFFFF_FFF0,
+            bytes: Vec::from_slice(alloc, &[1, 2, 3])?,
+            len: 16,
+            r: true,
+            w: false,
+            x: true,
+        };
+        let copy = region.copy(alloc)?;
+        drop(region);
+        assert_eq!(rt; (copy.start, copy.len), (0xFFFF_FFF0, 16));
+        assert_eq!(rt; copy.bytes.as_slice(), [1, 2, 3].as_slice());
+        assert_eq!(rt; (copy.r, copy.w, copy.x), (true, false, true));
+        Ok(())
+    }
+}

@@ -1,4 +1,4 @@
-ghost use Rattle.std.specs.Prelude.{◌≡◌, ℕ, ◌^◌, ◌<◌, Bool, false, IsTrue, IfOk, IfErr, OnOk, OnErr, None, unwrap_or, All};
+ghost use Rattle.std.specs.Prelude.{◌≡◌, ℕ, ◌^◌, ◌<◌, Bool, false, IsTrue, IfOk, IfErr, OnOk, OnErr, None, Some, codes, unwrap_or, All};
 ghost use Rattle.rv_memory.specs.Extent.{IsExtent};
 ghost use Rattle.rv_memory.specs.Memory as spec;
 
@@ -47,6 +47,8 @@ impl<T: Drop> From<AllocFailed<T>> for NoMemory {
 }
 
 impl fmt::Display for NoMemory {
+    ghost output = { λ fault. Some (codes "out of memory") };
+
     fn fmt<W: fmt::Write>(&self, f: &mut fmt::Formatter<W>) -> fmt::Result {
         f.write_str("out of memory")
     }
