@@ -1,4 +1,4 @@
-use Rattle.std.specs.Prelude.{◌≡◌, ℕ, ◌+◌, ◌-◌, ◌≤◌, Bool, List, ◌++◌, length, replicate}
+use Rattle.std.specs.Prelude.{◌≡◌, ℕ, ◌+◌, ◌-◌, ◌≤◌, Bool, List, [], ◌++◌, length, replicate}
 
 -- A stretch of addresses from `start` on, `len` bytes long: `bytes`, then zeros. `r`, `w` and `x` say
 -- whether it may be read, written and executed.
@@ -22,3 +22,12 @@ end_of e = e.start + e.len
 -- the same extent with its zeros written out
 abbrev pub filled : Extent → Extent
 filled e = record e { bytes = e.bytes ++ replicate (e.len - length e.bytes) 0 }
+
+-- an extent with all of its bytes, of which it has some
+pub record IsFull (e : Extent) : Type 0 where
+  pub some : 1 ≤ e.len
+  pub whole : length e.bytes ≡ e.len
+
+-- the addresses and permissions of an extent, without its bytes
+abbrev pub span : Extent → Extent
+span e = record e { bytes = [] }

@@ -1,2 +1,5 @@
 pub mod Extent
+pub mod Flagged
+pub mod Flat
 pub mod Memory
+pub mod MemoryLaws

@@ -5,5 +5,8 @@
 //! none. How the bytes are kept is the store's own matter.
 #![tactic(auto)]
 
+pub mod flagged;
+pub mod flat;
+pub mod laws;
 pub mod region;
 pub mod store;

@@ -1,4 +1,4 @@
-ghost use Rattle.std.specs.Prelude.{◌≡◌, ℕ, Bool, false, IsTrue, IfOk, IfErr, OnOk, OnErr, None, unwrap_or, All};
+ghost use Rattle.std.specs.Prelude.{◌≡◌, ℕ, ◌^◌, ◌<◌, Bool, false, IsTrue, IfOk, IfErr, OnOk, OnErr, None, unwrap_or, All};
 ghost use Rattle.rv_memory.specs.Extent.{IsExtent};
 ghost use Rattle.rv_memory.specs.Memory as spec;
 
@@ -81,7 +81,8 @@ pub trait ByteStore: Drop {
     fn load(&self, address: u32, size: u8) -> u32
         requires size { spec.IsSize size }
         requires within { IsTrue (spec.permits (memory self.now) address size Need.Nothing) }
-        ensures { result ≡ spec.load (memory self.now) address size };
+        ensures value { result ≡ spec.load (memory self.now) address size }
+        ensures below { result < 256 ^ size };
 
     /// Makes the bytes ready to be stored to. The contents stay either way.
     fn ready(&mut self, address: u32, size: u8) -> Result<(), NoMemory>

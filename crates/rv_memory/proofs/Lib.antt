@@ -1,0 +1,5 @@
+pub mod Frame
+pub mod Places
+pub mod Sound
+pub mod Spans
+pub mod Written

@@ -1,0 +1,19 @@
+use Rattle.std.specs.Prelude.{◌≡◌, ℕ, ◌+◌, ◌*◌, ◌/◌, ◌%◌, List, slice_index, slice_set, None, All, zero, suc}
+use Rattle.rv_memory.specs.Extent.{IsFull}
+use Rattle.rv_memory.specs.Memory.{Memory, fault_of}
+
+-- memory as a store makes it: each extent has all of its bytes, none ends past 2 ^ 32, no two meet,
+-- and together they are within the limit
+pub record IsSound (m : Memory) : Type 0 where
+  pub full : All IsFull m
+  pub no_fault : fault_of m ≡ None
+
+-- `size` bytes of a list from a place on as a number, the least significant byte first
+abbrev pub number_at : List ℕ → ℕ → ℕ → ℕ
+number_at bytes place zero = 0
+number_at bytes place (suc size) = slice_index bytes place + 256 * number_at bytes (place + 1) size
+
+-- the low `size` bytes of a number put into a list from a place on, the least significant first
+abbrev pub put_at : List ℕ → ℕ → ℕ → ℕ → List ℕ
+put_at bytes place zero value = bytes
+put_at bytes place (suc size) value = put_at (slice_set bytes place (value % 256)) (place + 1) size (value / 256)

@@ -1,0 +1,268 @@
+ghost use Rattle.std.specs.Prelude.{◌≡◌, ◌+◌, ◌-◌, ◌^◌, ◌<◌, ◌≤◌, false, ⊤, refl, IsTrue, IfOk, All, HoldsAt, length, map, nat_lt, sum_by};
+ghost use Rattle.std.specs.List.{list_any};
+ghost use Rattle.rv_memory.specs.Extent.{IsExtent, filled, end_of as spec_end_of};
+ghost use Rattle.rv_memory.specs.Memory as spec;
+ghost use Rattle.rv_memory.specs.Flat.{number_at, put_at};
+
+use crate::region::Region;
+use crate::store::{ByteStore, LIMIT, MemFault, Need, NoMemory, Steady};
+use std::alloc::Global;
+use std::marker::Model;
+
+/// The store that keeps every byte of its regions, the zeros too. It takes its memory when it is
+/// made, and none after.
+#[derive(Debug, Drop)]
+pub struct Flat {
+    regions: Vec<Region>,
+}
+
+impl Model for Flat {
+    ghost use Rattle.rv_memory.specs.Memory.{Memory};
+    ghost use Rattle.rv_memory.specs.Flat.{IsSound};
+
+    ghost Value = { Memory };
+
+    ghost view = { λ a. a.regions.items };
+
+    ghost invariant = { λ a. IsSound a.regions.items };
+}
+
+impl ByteStore for Flat {
+    ghost memory = { λ s. s };
+
+    ghost is_ready = { λ s address size. ⊤ };
+
+    ghost can_refuse = { false };
+
+    fn make(alloc: Global, regions: &[Region]) -> Result<Flat, MemFault> {
+        if let Some(fault) = fault_of(regions) {
+            return Err(fault);
+        }
+        match fill_all(alloc, regions) {
+            Ok(regions) => Ok(Flat { regions }),
+            Err(NoMemory) => Err(MemFault::NoMemory),
+        }
+    }
+
+    #[inline]
+    fn permits(&self, address: u32, size: u8, need: Need) -> bool {
+        permits(&self.regions, address, size, need)
+    }
+
+    #[inline]
+    #[tactic(auto, using(crate::proofs::Places::load_found))]
+    fn load(&self, address: u32, size: u8) -> u32 {
+        let region = find(&self.regions, address, size);
+        let region = &self.regions[region];
+        number_at(&region.bytes, (address - region.start) as usize, size)
+    }
+
+    #[inline]
+    fn ready(&mut self, _address: u32, _size: u8) -> Result<(), NoMemory> {
+        Ok(())
+    }
+
+    #[inline]
+    #[tactic(auto, using(crate::proofs::Places::store_found))]
+    fn store(&mut self, address: u32, size: u8, value: u32) {
+        let region = find(&self.regions, address, size);
+        put(&mut self.regions[region], address, size, value);
+    }
+}
+
+impl Steady for Flat {
+    ghost never_refuses = { refl };
+}
+
+/// The address that follows the region's last one.
+#[inline]
+fn end_of(region: &Region) -> u64
+    ensures { result ≡ region.now.start + region.now.len }
+{
+    u64::from(region.start) + u64::from(region.len)
+}
+
+/// Whether the bytes lie wholly within the region.
+#[inline]
+fn holds(region: &Region, address: u32, size: u8) -> bool
+    ensures { result ≡ spec.holds region.now address size }
+{
+    region.start <= address && u64::from(address) + u64::from(size) <= end_of(region)
+}
+
+#[inline]
+fn allows(region: &Region, need: Need) -> bool
+    ensures { result ≡ spec.allows region.now need }
+{
+    match need {
+        Need::Nothing => true,
+        Need::Read => region.r,
+        Need::Write => region.w,
+        Need::ReadWrite => region.r && region.w,
+        Need::Execute => region.x,
+    }
+}
+
+#[inline]
+fn permits(regions: &[Region], address: u32, size: u8, need: Need) -> bool
+    ensures { result ≡ spec.permits regions.now address size need }
+{
+    regions.iter().any(|region| holds(region, address, size) && allows(region, need))
+}
+
+/// The place of a region that the bytes lie in.
+#[inline]
+fn find(regions: &[Region], address: u32, size: u8) -> usize
+    requires { IsTrue (spec.permits regions.now address size Need.Nothing) }
+    ensures within { result < length regions.now }
+    ensures holds { HoldsAt (λ e. IsTrue (spec.holds e address size)) regions.now result }
+{
+    for (place, region) in regions.iter().enumerate() {
+        if holds(region, address, size) {
+            return place;
+        }
+    }
+    0
+}
+
+/// The `size` bytes at `offset` as a little-endian number.
+#[inline]
+fn number_at(bytes: &[u8], offset: usize, size: u8) -> u32
+    requires size { spec.IsSize size }
+    requires within { offset + size ≤ length bytes.now }
+    ensures value { result ≡ number_at bytes.now offset size }
+    ensures below { result < 256 ^ size }
+{
+    match size {
+        1 => u32::from(bytes[offset]),
+        2 => u32::from(bytes[offset]) + (u32::from(bytes[offset + 1]) << 8),
+        _ => {
+            u32::from(bytes[offset])
+                + (u32::from(bytes[offset + 1]) << 8)
+                + (u32::from(bytes[offset + 2]) << 16)
+                + (u32::from(bytes[offset + 3]) << 24)
+        }
+    }
+}
+
+/// Puts the low `size` bytes of the number at `offset`, the least significant first.
+#[inline]
+fn put_at(bytes: &mut [u8], offset: usize, size: u8, value: u32)
+    requires size { spec.IsSize size }
+    requires within { offset + size ≤ length bytes.old }
+    ensures { bytes.new ≡ put_at bytes.old offset size value }
+{
+    bytes[offset] = (value % 256) as u8;
+    if size > 1 {
+        bytes[offset + 1] = (value / 256 % 256) as u8;
+    }
+    if size > 2 {
+        bytes[offset + 2] = (value / 65_536 % 256) as u8;
+        bytes[offset + 3] = (value / 16_777_216) as u8;
+    }
+}
+
+/// Puts the low `size` bytes of the number from the address on.
+#[inline]
+fn put(region: &mut Region, address: u32, size: u8, value: u32)
+    requires size { spec.IsSize size }
+    requires start { region.old.start ≤ address }
+    requires end { address - region.old.start + size ≤ length region.old.bytes }
+    ensures { region.new ≡ record region.old { bytes = put_at region.old.bytes (address - region.old.start) size value } }
+{
+    let offset = (address - region.start) as usize;
+    put_at(&mut region.bytes, offset, size, value);
+}
+
+/// The first test that the regions fail.
+fn fault_of(regions: &[Region]) -> Option<MemFault>
+    ensures { result ≡ spec.fault_of regions.now }
+{
+    if one_ends_past(regions) {
+        return Some(MemFault::PastEnd);
+    }
+    if overlap(regions) {
+        return Some(MemFault::Overlap);
+    }
+    if are_too_large(regions) {
+        return Some(MemFault::TooLarge);
+    }
+    None
+}
+
+/// Whether some region ends past 2^32.
+fn one_ends_past(regions: &[Region]) -> bool
+    ensures { result ≡ list_any (λ e. nat_lt (2 ^ 32) (spec_end_of e)) regions.now }
+{
+    regions.iter().any(|region| 1 << 32 < end_of(region))
+}
+
+fn meets(a: &Region, b: &Region) -> bool
+    ensures { result ≡ spec.meets a.now b.now }
+{
+    u64::from(a.start) < end_of(b) && u64::from(b.start) < end_of(a)
+}
+
+fn meets_some(first: &Region, others: &[Region]) -> bool
+    ensures { result ≡ list_any (spec.meets first.now) others.now }
+{
+    others.iter().any(|other| meets(first, other))
+}
+
+/// Whether some two of the regions share an address.
+fn overlap(regions: &[Region]) -> bool
+    ensures { result ≡ spec.overlaps regions.now }
+{
+    let mut rest = regions;
+    while let [first, after @ ..] = rest {
+        if meets_some(first, after) {
+            return true;
+        }
+        rest = after;
+    }
+    false
+}
+
+/// Whether the lengths sum to more than `LIMIT`.
+fn are_too_large(regions: &[Region]) -> bool
+    ensures { result ≡ nat_lt LIMIT (sum_by (λ e. e.len) regions.now) }
+{
+    let mut sum = 0;
+    for region in regions {
+        sum += u64::from(region.len);
+        if sum > LIMIT {
+            return true;
+        }
+    }
+    false
+}
+
+/// The region with its zeros written out.
+fn fill(alloc: Global, region: &Region) -> Result<Region, NoMemory>
+    requires { IsExtent region.now }
+    ensures { IfOk result (λ full. full ≡ filled region.now) }
+{
+    let len = region.len as usize;
+    let mut bytes = Vec::with_capacity(alloc, len)?;
+    bytes.extend_from_slice(&region.bytes)?;
+    bytes.resize(len, 0)?;
+    Ok(Region {
+        start: region.start,
+        bytes,
+        len: region.len,
+        r: region.r,
+        w: region.w,
+        x: region.x,
+    })
+}
+
+fn fill_all(alloc: Global, regions: &[Region]) -> Result<Vec<Region>, NoMemory>
+    requires { All IsExtent regions.now }
+    ensures { IfOk result (λ all. all.items ≡ map filled regions.now) }
+{
+    let mut all = Vec::with_capacity(alloc, regions.len())?;
+    for region in regions {
+        all.push(fill(alloc, region)?)?;
+    }
+    Ok(all)
+}

@@ -1,0 +1,5 @@
+pub mod NumberLemmas
+pub mod HexLemmas
+pub mod DecimalLemmas
+pub mod SpellingLemmas
+pub mod LineLemmas

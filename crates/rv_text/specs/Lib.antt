@@ -1,0 +1,5 @@
+pub mod Numeral
+pub mod Hexadecimal
+pub mod Decimal
+pub mod Lines
+pub mod Pieces
