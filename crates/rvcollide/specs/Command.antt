@@ -1,13 +1,18 @@
-use Rattle.std.specs.Prelude.{ℕ, Bool, true, List, [], ◌∷◌, Option, Some, None, option_map, option_and_then, codes, if◌then◌else◌, nat_le}
+use Rattle.std.specs.Prelude.{ℕ, Bool, true, false, not, ◌&&◌, List, [], ◌∷◌, Option, Some, None, option_map, option_and_then, codes, if◌then◌else◌, nat_le}
+use Rattle.std.specs.List.{list_all, list_any}
 use Rattle.std.specs.Str.{bytes_eq}
 use Rattle.clap.specs.Words.{App, Row, Rule, Shape, Text, first_of, new_app, new_rule, subcommand_of, with_subcommand}
 use Rattle.clap.specs.Walk.{is_empty}
 use Rattle.clap.specs.Simple.{new_shape, on_top}
 use Rattle.clap.specs.Faults.{fault_of}
+use Rattle.clap.specs.declared.error.kind.ErrorKind.{ErrorKind}
+use Rattle.clap.specs.declared.error.kind.ErrorKind.TheVariants as kind
 use Rattle.rv_text.specs.Numeral.{number_of, up_to}
 use Rattle.rv_text.specs.Hexadecimal.{word_of}
 use Rattle.rvcollide.specs.declared.command.Job.{Job}
 use Rattle.rvcollide.specs.declared.command.Job.TheVariants.{Words, Hunt}
+use Rattle.rvcollide.specs.declared.command.Notice.{Notice}
+use Rattle.rvcollide.specs.declared.command.Notice.TheVariants.{Answer, Refusal}
 
 -- ---- the commands, as `clap` reads them
 
@@ -61,3 +66,22 @@ is_accepted words = is_empty (fault_of program words)
 -- number is outside its range
 unfoldable pub job_of : List Text → Option Job
 job_of words = if is_accepted words then option_and_then job_at (subcommand_of program words) else None
+
+-- ---- what is written of a line that gives no job
+
+abbrev pub is_request : ErrorKind → Bool
+is_request kind.DisplayHelp = true
+is_request kind.DisplayVersion = true
+is_request _ = false
+
+-- among what `clap` may answer to the words is the help or the version
+abbrev pub asks : List Text → Bool
+asks words = list_any is_request (fault_of program words)
+
+-- it is nothing else
+abbrev pub only_asks : List Text → Bool
+only_asks words = not (is_accepted words) && list_all is_request (fault_of program words)
+
+abbrev pub is_answer : Notice → Bool
+is_answer (Answer text) = true
+is_answer (Refusal text) = false

@@ -1,6 +1,8 @@
 //! The command line: which job its words ask for. `clap` reads the words, and this module says which
 //! commands there are, and reads the numbers.
-ghost use Rattle.std.specs.Prelude.{◌≡◌, ◌⊎◌, ◌≢◌, IfOk, MatchResult, Some, None, true, false, map, option_and_then, option_map};
+ghost use Rattle.std.specs.Prelude.{◌≡◌, ◌⊎◌, ◌≢◌, IfErr, IfOk, MatchResult, Some, None, true, false, map, option_and_then, option_map};
+ghost use Rattle.clap.specs.Faults.{fault_of};
+ghost use Rattle.clap.specs.Kinds.{FailsBy};
 ghost use Rattle.clap.specs.Matches.{found_of};
 ghost use Rattle.clap.specs.Simple.{app_of, shape_of, subcommand_of, subcommand_rows_of};
 ghost use Rattle.clap.specs.Values.{kind_of};
@@ -13,6 +15,7 @@ use clap::{Arg, ArgMatches, Command, Error};
 use rv_text::hexadecimal::read_word;
 use rv_text::numeral::read_number;
 use std::alloc::{AllocError, Global};
+use std::fmt::Display;
 
 /// What a command line asks for.
 #[derive(Clone, Copy, Debug, PartialEq, Eq)]
@@ -32,6 +35,15 @@ pub enum LineFault {
     NoMemory,
 }
 
+/// What the program writes where a line gives no job.
+#[derive(Debug)]
+pub enum Notice {
+    /// The help or the version, which the line asks for. It goes to the standard output.
+    Answer(String),
+    /// Why the line is refused. It goes to the standard error.
+    Refusal(String),
+}
+
 /// The job that the words of a command line ask for, the program's name first.
 #[tactic(auto, unfolding(crate::specs::Command::job_of))]
 pub fn command_of<'a>(alloc: Global, words: &'a [&'a str]) -> Result<Job, LineFault>
@@ -42,6 +54,39 @@ pub fn command_of<'a>(alloc: Global, words: &'a [&'a str]) -> Result<Job, LineFa
         Ok(matches) => job_in(&matches).ok_or(LineFault::Line),
         Err(error) => Err(line_fault(&error)),
     }
+}
+
+/// What to write of a line that `command_of` refuses. The words are the same, and the text is `clap`'s.
+pub fn notice_of<'a>(alloc: Global, words: &'a [&'a str]) -> Result<Notice, LineFault>
+    ensures answer { IfOk result (λ n. spec.is_answer n ≡ true → spec.asks (map (λ w. w.now) words.entry.now) ≡ true) }
+    ensures refusal { IfOk result (λ n. spec.is_answer n ≡ false → spec.only_asks (map (λ w. w.now) words.entry.now) ≡ false) }
+    ensures memory { IfErr result (λ e. e ≡ LineFault.NoMemory) }
+{
+    match read_line(alloc, words) {
+        Ok(_) => Ok(Notice::Refusal(text(alloc, &NUMBER_REFUSED)?)),
+        Err(error) => shown(alloc, &error),
+    }
+}
+
+fn shown(alloc: Global, error: &Error) -> Result<Notice, LineFault>
+    ensures notice { IfOk result (λ n. (spec.is_answer n ≡ spec.is_request (kind_of error.now))
+        × (kind_of error.now ≢ ErrorKind.OutOfMemory)) }
+    ensures memory { IfErr result (λ e. e ≡ LineFault.NoMemory) }
+{
+    match error.kind() {
+        ErrorKind::OutOfMemory => Err(LineFault::NoMemory),
+        ErrorKind::DisplayHelp | ErrorKind::DisplayVersion => Ok(Notice::Answer(text(alloc, error)?)),
+        _ => Ok(Notice::Refusal(text(alloc, error)?)),
+    }
+}
+
+/// Of a line that `clap` accepts.
+const NUMBER_REFUSED: &str = "error: a number is outside its range\n\nFor more information, try '--help'.\n";
+
+fn text<T: Display>(alloc: Global, shown: &T) -> Result<String, LineFault>
+    ensures { IfErr result (λ e. e ≡ LineFault.NoMemory) }
+{
+    format!(in alloc; "{shown}").map_err(|_| LineFault::NoMemory)
 }
 
 fn line_fault(error: &Error) -> LineFault
@@ -58,6 +103,7 @@ fn line_fault(error: &Error) -> LineFault
 fn read_line<'a>(alloc: Global, words: &'a [&'a str]) -> Result<ArgMatches<'a>, Error>
     ensures command { IfOk result (λ m.
         subcommand_rows_of m ≡ subcommand_of spec.program (map (λ w. w.now) words.entry.now)) }
+    ensures kinds { FailsBy (fault_of spec.program (map (λ w. w.now) words.entry.now)) result }
     ensures faults { MatchResult result (λ _. spec.is_accepted (map (λ w. w.now) words.entry.now) ≡ true)
         (λ e. (kind_of e ≡ ErrorKind.OutOfMemory) ⊎ (spec.is_accepted (map (λ w. w.now) words.entry.now) ≡ false)) }
 {
@@ -141,3 +187,6 @@ fn text_of<'a>(given: &ArgMatches<'a>, name: &str) -> Option<&'a str>
 {
     given.get_str(name)
 }
+
+#[cfg(test)]
+mod tests;
