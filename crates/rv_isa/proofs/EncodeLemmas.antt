@@ -1,17 +1,14 @@
-use Rattle.std.proofs.Common.{◌≡◌, ℕ, ◌+◌, ◌-◌, ◌*◌, ◌/◌, ◌%◌, ◌^◌, ◌<◌, Bool, true, false, ℤ, pos, negsuc, refl, sym, ap, ◌∙◌, subst, cond, arith}
-use Rattle.std.specs.Prelude.{bit_and, ◌&&◌, ◌==◌, nat_lt, not, unsigned_abs}
+use Rattle.std.proofs.Common.{◌≡◌, ℕ, ◌+◌, ◌*◌, ◌/◌, ◌%◌, ◌^◌, ◌<◌, Bool, true, false, ℤ, pos, negsuc, refl, ap, ◌∙◌, arith}
+use Rattle.std.specs.Prelude.{bit_and, ◌&&◌, ◌==◌, not, unsigned_abs}
 use Rattle.std.specs.Int.{cast_unsigned, w32}
-use Rattle.std.proofs.Math.Nat.{div-add-mod, mod-mod}
+use Rattle.std.proofs.Math.Nat.{div-add-mod}
 use Rattle.std.proofs.lemmas.Nat.{and_block, and_mask}
 use Rattle.std.proofs.lemmas.Int.{ints}
 use Rattle.std.proofs.lemmas.Bool.Decides.{nat_tests}
-use Rattle.rv_isa.specs.Encoded.{assembled, scattered}
-use Rattle.rv_isa.specs.Fields as fields
-use Rattle.rv_isa.specs.Fields.{field, signed}
-use Rattle.rv_isa.specs.Form.{mask_of, has_rd, has_rs1, has_rs2, has_ordering}
-use Rattle.rv_isa.specs.Operands.{Operands, operands_of, are_operands, is_register, is_immediate, is_ordering, is_within, is_even}
+use Rattle.rv_isa.specs.Fields.{signed}
+use Rattle.rv_isa.specs.Form.{has_rd, has_rs1, has_rs2, has_ordering}
+use Rattle.rv_isa.specs.Operands.{Operands, are_operands, is_register, is_immediate, is_ordering, is_within, is_even}
 use Rattle.rv_isa.specs.declared.form.Form.{Form}
-use Rattle.rv_isa.specs.declared.form.Form.TheVariants as form
 
 -- ---- what a mask keeps of a word
 

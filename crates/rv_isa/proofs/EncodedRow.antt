@@ -1,20 +1,19 @@
-use Rattle.std.proofs.Common.{◌≡◌, ℕ, ◌+◌, ◌-◌, ◌*◌, ◌/◌, ◌%◌, ◌^◌, ◌<◌, Bool, true, false, ℤ, pos, refl, sym, ap, ◌∙◌, cond, arith}
+use Rattle.std.proofs.Common.{◌≡◌, ℕ, ◌+◌, ◌*◌, ◌^◌, ◌<◌, refl, sym, ap, ◌∙◌, cond, arith}
 use Rattle.std.specs.Prelude.{bit_and, ◌==◌}
-use Rattle.std.specs.Int.{cast_unsigned, w32}
 use Rattle.std.proofs.lemmas.Bool.Decides.{nat_tests}
 use Rattle.rv_isa.specs.Encoded.{assembled}
-use Rattle.rv_isa.specs.Fields.{field, bit, signed}
+use Rattle.rv_isa.specs.Fields.{field}
 use Rattle.rv_isa.specs.Form.{mask_of}
 use Rattle.rv_isa.specs.Instr.{Row, operands}
 use Rattle.rv_isa.specs.Operands.{operands_of}
-use Rattle.rv_isa.specs.Table.{Matches, form_of, match_of}
+use Rattle.rv_isa.specs.Table.{form_of, match_of}
 use Rattle.rv_isa.specs.declared.form.Form.{Form}
 use Rattle.rv_isa.specs.declared.form.Form.TheVariants as form
 use Rattle.rv_isa.specs.declared.instr.Instr.{Instr}
 use Rattle.rv_isa.specs.declared.op.Op.{Op}
 use Rattle.rv_isa.specs.declared.op.Op.TheVariants.{Lui, Auipc, Jal, Jalr, Beq, Bne, Blt, Bge, Bltu, Bgeu, Lb, Lh, Lw, Lbu, Lhu, Sb, Sh, Sw, Addi, Slti, Sltiu, Xori, Ori, Andi, Slli, Srli, Srai, Add, Sub, Sll, Slt, Sltu, Xor, Srl, Sra, Or, And, Fence, Ecall, Ebreak, LrW, ScW, AmoswapW, AmoaddW, AmoxorW, AmoandW, AmoorW, AmominW, AmomaxW, AmominuW, AmomaxuW}
 use Rattle.rv_isa.proofs.EncodeLemmas.{and_opcode, and_funct3, and_funct5, and_funct7, and_lr, and_all, signed_12_bits, signed_13_bits, signed_21_bits}
-use Rattle.rv_isa.proofs.ReadsBack.{ReadsBack, reads_back}
+use Rattle.rv_isa.proofs.ReadsBack.{reads_back}
 
 -- an ordering bit of a word, as a number in its place
 bit_in_place : (b place : ℕ) → b < 2 → cond (b == 1) place 0 ≡ b * place

@@ -1,7 +1,6 @@
-use Rattle.std.proofs.Common.{◌≡◌, ℕ, ◌^◌, ◌<◌, Some, sym, ◌∙◌}
-use Rattle.rv_isa.specs.Decoded.{op_at, decoded}
+use Rattle.std.proofs.Common.{◌≡◌, Some, sym, ◌∙◌}
+use Rattle.rv_isa.specs.Decoded.{decoded}
 use Rattle.rv_isa.specs.TableLaws.{OneRowPerWord, OneInstructionPerWord, OneWordPerInstruction, FunctionsOfTheTable}
-use Rattle.rv_isa.specs.declared.instr.Instr.{Instr}
 use Rattle.rv_isa.proofs.EncodedRow.{encoded_only}
 use Rattle.rv_isa.proofs.RowLemmas.{decoded_row, op_at-matches, op_at-some}
 use Rattle.rv_isa.proofs.TableLemmas.{candidate_is}

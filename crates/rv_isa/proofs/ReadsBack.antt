@@ -1,9 +1,9 @@
-use Rattle.std.proofs.Common.{◌≡◌, ℕ, ◌+◌, ◌-◌, ◌*◌, ◌/◌, ◌%◌, ◌^◌, ◌<◌, Bool, true, false, ℤ, pos, negsuc, refl, sym, ap, ◌∙◌, subst, cond, arith}
-use Rattle.std.specs.Prelude.{bit_and, ◌&&◌, ◌==◌, nat_lt, not, unsigned_abs}
+use Rattle.std.proofs.Common.{◌≡◌, ℕ, ◌+◌, ◌*◌, ◌/◌, ◌%◌, ◌^◌, ◌<◌, Bool, true, false, ℤ, pos, refl, ap, ◌∙◌, cond, arith}
+use Rattle.std.specs.Prelude.{bit_and, ◌==◌, nat_lt}
 use Rattle.std.specs.Int.{cast_unsigned, w32}
 use Rattle.std.proofs.lemmas.Bool.Decides.{nat_tests}
-use Rattle.rv_isa.specs.Encoded.{assembled, scattered}
-use Rattle.rv_isa.specs.Fields.{field, bit, signed}
+use Rattle.rv_isa.specs.Encoded.{assembled}
+use Rattle.rv_isa.specs.Fields.{field, signed}
 use Rattle.rv_isa.specs.Form.{mask_of}
 use Rattle.rv_isa.specs.Operands.{Operands, operands_of, are_operands, is_immediate}
 use Rattle.rv_isa.specs.declared.form.Form.{Form}

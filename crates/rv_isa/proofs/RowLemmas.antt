@@ -1,8 +1,7 @@
-use Rattle.std.proofs.Common.{◌≡◌, ℕ, Bool, true, false, Option, Some, None, refl, sym, ap, subst, ◌∙◌, ◌↔◌, cond, eqb, rules, arith, eq-eqb}
+use Rattle.std.proofs.Common.{◌≡◌, ℕ, true, Option, Some, None, refl, sym, ap, subst, ◌↔◌, eqb, arith, eq-eqb}
 use Rattle.std.specs.Prelude.{bit_and, option_map}
 use Rattle.std.proofs.Math.Bool.{Bool-set}
 use Rattle.std.proofs.lemmas.Bool.Decides.{nat_tests}
-use Rattle.rv_isa.specs.Candidate.{candidate}
 use Rattle.rv_isa.specs.Decoded.{op_at, with_operands, decoded}
 use Rattle.rv_isa.specs.Instr.{Row, operands}
 use Rattle.rv_isa.specs.Operands.{Operands, are_operands}

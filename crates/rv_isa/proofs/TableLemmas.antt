@@ -1,8 +1,8 @@
-use Rattle.std.proofs.Common.{◌≡◌, ℕ, ◌-◌, ◌/◌, ◌%◌, ◌^◌, refl, sym, ap, ◌∙◌, arith}
+use Rattle.std.proofs.Common.{◌≡◌, ℕ, ◌-◌, ◌/◌, ◌%◌, ◌^◌, refl, sym, ap, ◌∙◌}
 use Rattle.std.specs.Prelude.{bit_and}
 use Rattle.std.proofs.Math.Nat.{mod-mod}
 use Rattle.std.proofs.lemmas.Nat.{and_shr, and_mod, and_mask}
-use Rattle.rv_isa.specs.Fields.{field, opcode, funct3, funct7, rs2}
+use Rattle.rv_isa.specs.Fields.{field, funct3, funct7, rs2}
 use Rattle.rv_isa.specs.Candidate.{candidate, by_fields}
 use Rattle.rv_isa.specs.Table.{Matches}
 use Rattle.rv_isa.specs.declared.op.Op.{Op}

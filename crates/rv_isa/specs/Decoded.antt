@@ -1,4 +1,4 @@
-use Rattle.std.specs.Prelude.{◌≡◌, ℕ, ◌==◌, bit_and, if◌then◌else◌, Option, Some, None, option_map}
+use Rattle.std.specs.Prelude.{ℕ, ◌==◌, bit_and, if◌then◌else◌, Option, Some, None, option_map}
 use Rattle.rv_isa.specs.Candidate.{candidate}
 use Rattle.rv_isa.specs.Form.{mask_of}
 use Rattle.rv_isa.specs.Operands.{operands_of}

@@ -1,4 +1,4 @@
-use Rattle.std.specs.Prelude.{ℕ, ℤ, pos, negsuc, unsigned_abs, int_le, ◌%◌, ◌^◌, Bool, true, false, not, ◌&&◌, ◌==◌, nat_lt, if◌then◌else◌}
+use Rattle.std.specs.Prelude.{ℕ, ℤ, pos, negsuc, unsigned_abs, int_le, ◌%◌, Bool, true, not, ◌&&◌, ◌==◌, nat_lt, if◌then◌else◌}
 use Rattle.rv_isa.specs.Fields as fields
 use Rattle.rv_isa.specs.Form.{has_rd, has_rs1, has_rs2, has_ordering}
 use Rattle.rv_isa.specs.declared.form.Form.{Form}

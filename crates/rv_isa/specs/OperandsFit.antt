@@ -1,10 +1,9 @@
-use Rattle.std.proofs.Common.{◌≡◌, ℕ, ◌+◌, ◌-◌, ◌*◌, ◌/◌, ◌%◌, ◌^◌, ◌<◌, Bool, true, false, pos, negsuc, refl, arith}
-use Rattle.std.specs.Prelude.{◌&&◌, IsTrue, nat_lt}
+use Rattle.std.proofs.Common.{◌≡◌, ℕ, ◌+◌, ◌*◌, ◌^◌, ◌<◌, true, pos, negsuc, refl, arith}
+use Rattle.std.specs.Prelude.{◌&&◌, nat_lt}
 use Rattle.std.proofs.lemmas.Int.{ints}
 use Rattle.std.proofs.lemmas.Bool.Decides.{nat_tests}
 use Rattle.rv_isa.specs.Fields as fields
-use Rattle.rv_isa.specs.Form.{has_rd, has_rs1, has_rs2, has_ordering}
-use Rattle.rv_isa.specs.Operands.{is_register, is_immediate, is_ordering, is_within, is_even, immediate_of, operands_of, are_operands}
+use Rattle.rv_isa.specs.Operands.{is_immediate, is_within, is_even, immediate_of, operands_of, are_operands}
 use Rattle.rv_isa.specs.declared.form.Form.{Form}
 use Rattle.rv_isa.specs.declared.form.Form.TheVariants.{R, I, S, B, U, J, Shift, Fence, Plain, Lr, Amo}
 

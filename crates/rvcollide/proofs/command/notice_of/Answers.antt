@@ -1,0 +1,12 @@
+use Rattle.std.proofs.lemmas.Result.{IfOk-weaker}
+use Rattle.rvcollide.specs.Command.{is_answer}
+use Rattle.rvcollide.proofs.LineLemmas.{answer_asked, refusal_told}
+use Rattle.rvcollide.proofs.command.notice_of.Goals as goal
+
+pub returns-clause-answer : goal.returns-clause-answer
+returns-clause-answer c =
+    IfOk-weaker c.shown.result _ _ (λ n told. answer_asked _ c.in-Err.error (is_answer n) c.in-Err.ensures.kinds told.1 told.0) c.shown.ensures.notice
+
+pub returns-clause-refusal : goal.returns-clause-refusal
+returns-clause-refusal c =
+    IfOk-weaker c.shown.result _ _ (λ n told. refusal_told _ c.in-Err.error (is_answer n) c.in-Err.ensures.kinds told.1 told.0) c.shown.ensures.notice

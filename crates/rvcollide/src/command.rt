@@ -1,0 +1,192 @@
+//! The command line: which job its words ask for. `clap` reads the words, and this module says which
+//! commands there are, and reads the numbers.
+ghost use Rattle.std.specs.Prelude.{◌≡◌, ◌⊎◌, ◌≢◌, IfErr, IfOk, MatchResult, Some, None, true, false, map, option_and_then, option_map};
+ghost use Rattle.clap.specs.Faults.{fault_of};
+ghost use Rattle.clap.specs.Kinds.{FailsBy};
+ghost use Rattle.clap.specs.Matches.{found_of};
+ghost use Rattle.clap.specs.Simple.{app_of, shape_of, subcommand_of, subcommand_rows_of};
+ghost use Rattle.clap.specs.Values.{kind_of};
+ghost use Rattle.clap.specs.Walk.{first_of, rows_of, rule_of};
+ghost use Rattle.clap.specs.declared.builder.command.Command.TheViews.{out-Command as fields_of};
+ghost use Rattle.rvcollide.specs.Command as spec;
+
+use clap::error::ErrorKind;
+use clap::{Arg, ArgMatches, Command, Error};
+use rv_text::hexadecimal::read_word;
+use rv_text::numeral::read_number;
+use std::alloc::{AllocError, Global};
+use std::fmt::Display;
+
+/// What a command line asks for.
+#[derive(Clone, Copy, Debug, PartialEq, Eq)]
+pub enum Job {
+    /// `words`: run the words of the standard input.
+    Words,
+    /// `hunt PC PAUSE`: the same, with one pause of `pause` steps (1 to 65,535) before an access at `pc`.
+    Hunt { pc: u32, pause: u32 },
+}
+
+/// Why a command line gives no job.
+#[derive(Clone, Copy, Debug, PartialEq, Eq)]
+pub enum LineFault {
+    /// The words are no command with its arguments, or a number is outside its range.
+    Line,
+    /// There is no memory.
+    NoMemory,
+}
+
+/// What the program writes where a line gives no job.
+#[derive(Debug)]
+pub enum Notice {
+    /// The help or the version, which the line asks for. It goes to the standard output.
+    Answer(String),
+    /// Why the line is refused. It goes to the standard error.
+    Refusal(String),
+}
+
+/// The job that the words of a command line ask for, the program's name first.
+#[tactic(auto, unfolding(crate::specs::Command::job_of))]
+pub fn command_of<'a>(alloc: Global, words: &'a [&'a str]) -> Result<Job, LineFault>
+    ensures { MatchResult result (λ job. spec.job_of (map (λ w. w.now) words.entry.now) ≡ Some job)
+        (λ e. (e ≡ LineFault.NoMemory) ⊎ (spec.job_of (map (λ w. w.now) words.entry.now) ≡ None)) }
+{
+    match read_line(alloc, words) {
+        Ok(matches) => job_in(&matches).ok_or(LineFault::Line),
+        Err(error) => Err(line_fault(&error)),
+    }
+}
+
+/// What to write of a line that `command_of` refuses. The words are the same, and the text is `clap`'s.
+pub fn notice_of<'a>(alloc: Global, words: &'a [&'a str]) -> Result<Notice, LineFault>
+    ensures answer { IfOk result (λ n. spec.is_answer n ≡ true → spec.asks (map (λ w. w.now) words.entry.now) ≡ true) }
+    ensures refusal { IfOk result (λ n. spec.is_answer n ≡ false → spec.only_asks (map (λ w. w.now) words.entry.now) ≡ false) }
+    ensures memory { IfErr result (λ e. e ≡ LineFault.NoMemory) }
+{
+    match read_line(alloc, words) {
+        Ok(_) => Ok(Notice::Refusal(text(alloc, &NUMBER_REFUSED)?)),
+        Err(error) => shown(alloc, &error),
+    }
+}
+
+fn shown(alloc: Global, error: &Error) -> Result<Notice, LineFault>
+    ensures notice { IfOk result (λ n. (spec.is_answer n ≡ spec.is_request (kind_of error.now))
+        × (kind_of error.now ≢ ErrorKind.OutOfMemory)) }
+    ensures memory { IfErr result (λ e. e ≡ LineFault.NoMemory) }
+{
+    match error.kind() {
+        ErrorKind::OutOfMemory => Err(LineFault::NoMemory),
+        ErrorKind::DisplayHelp | ErrorKind::DisplayVersion => Ok(Notice::Answer(text(alloc, error)?)),
+        _ => Ok(Notice::Refusal(text(alloc, error)?)),
+    }
+}
+
+/// Of a line that `clap` accepts.
+const NUMBER_REFUSED: &str = "error: a number is outside its range\n\nFor more information, try '--help'.\n";
+
+fn text<T: Display>(alloc: Global, shown: &T) -> Result<String, LineFault>
+    ensures { IfErr result (λ e. e ≡ LineFault.NoMemory) }
+{
+    format!(in alloc; "{shown}").map_err(|_| LineFault::NoMemory)
+}
+
+fn line_fault(error: &Error) -> LineFault
+    ensures memory { kind_of error.now ≡ ErrorKind.OutOfMemory → result ≡ LineFault.NoMemory }
+    ensures line { kind_of error.now ≢ ErrorKind.OutOfMemory → result ≡ LineFault.Line }
+{
+    match error.kind() {
+        ErrorKind::OutOfMemory => LineFault::NoMemory,
+        _ => LineFault::Line,
+    }
+}
+
+/// What `clap` finds in the words.
+fn read_line<'a>(alloc: Global, words: &'a [&'a str]) -> Result<ArgMatches<'a>, Error>
+    ensures command { IfOk result (λ m.
+        subcommand_rows_of m ≡ subcommand_of spec.program (map (λ w. w.now) words.entry.now)) }
+    ensures kinds { FailsBy (fault_of spec.program (map (λ w. w.now) words.entry.now)) result }
+    ensures faults { MatchResult result (λ _. spec.is_accepted (map (λ w. w.now) words.entry.now) ≡ true)
+        (λ e. (kind_of e ≡ ErrorKind.OutOfMemory) ⊎ (spec.is_accepted (map (λ w. w.now) words.entry.now) ≡ false)) }
+{
+    program(alloc)?.try_get_matches_from(words)
+}
+
+/// The program with all its commands.
+fn program<'a>(alloc: Global) -> Result<Command<'a>, AllocError>
+    ensures { IfOk result (λ c. app_of c ≡ spec.program) }
+{
+    Command::new(alloc, "rvcollide")
+        .version("0.1.0")
+        .about("Hunts data races in RV32IA programs.")
+        .subcommand_required(true)
+        .subcommand(words_command(alloc))?
+        .subcommand(hunt_command(alloc)?)
+}
+
+fn words_command<'a>(alloc: Global) -> Command<'a>
+    ensures shape { shape_of result ≡ spec.words_shape }
+    ensures local { (fields_of result).has_globals ≡ false }
+{
+    Command::new(alloc, "words").about("Runs the words of the standard input")
+}
+
+fn hunt_command<'a>(alloc: Global) -> Result<Command<'a>, AllocError>
+    ensures { IfOk result (λ c. (shape_of c ≡ spec.hunt_shape) × ((fields_of c).has_globals ≡ false)) }
+{
+    Command::new(alloc, "hunt")
+        .about("Runs them with one pause before an access")
+        .arg(required_word(alloc, "PC").help("Address of the instruction, eight hexadecimal digits"))?
+        .arg(required_word(alloc, "PAUSE").help("Steps that the pause lasts, 1 to 65535"))
+}
+
+/// An argument that has to stand at its place.
+fn required_word<'a>(alloc: Global, name: &'a str) -> Arg<'a>
+    ensures rule { rule_of result ≡ spec.required_word name.entry.now }
+    ensures local { result.global ≡ false }
+{
+    Arg::new(alloc, name).required(true)
+}
+
+/// The job that `clap` found.
+fn job_in(matches: &ArgMatches<'_>) -> Option<Job>
+    ensures { result ≡ option_and_then spec.job_at (subcommand_rows_of matches.now) }
+{
+    let (name, given) = matches.subcommand()?;
+    job_at(name, given)
+}
+
+/// The job of the command of this name.
+fn job_at(name: &str, given: &ArgMatches<'_>) -> Option<Job>
+    ensures { result ≡ spec.job_at (name.now, rows_of (found_of given.now)) }
+{
+    match name {
+        "words" => Some(Job::Words),
+        "hunt" => hunt_of(given),
+        _ => None,
+    }
+}
+
+fn hunt_of(given: &ArgMatches<'_>) -> Option<Job>
+    ensures { result ≡ spec.hunt_of (rows_of (found_of given.now)) }
+{
+    let pc = read_word(text_of(given, "PC")?.as_bytes())?;
+    let pause = read_pause(text_of(given, "PAUSE")?)?;
+    Some(Job::Hunt { pc, pause })
+}
+
+fn read_pause(text: &str) -> Option<u32>
+    ensures { result ≡ spec.pause_of text.now }
+{
+    let pause = read_number(text.as_bytes(), 10, 65_535)?;
+    if pause >= 1 { Some(pause) } else { None }
+}
+
+/// The word that was given for an argument.
+#[tactic(auto, using(crate::proofs::LineLemmas::text_found))]
+fn text_of<'a>(given: &ArgMatches<'a>, name: &str) -> Option<&'a str>
+    ensures { option_map (λ s. s.now) result ≡ first_of name.now (rows_of (found_of given.now)) }
+{
+    given.get_str(name)
+}
+
+#[cfg(test)]
+mod tests;
