@@ -1,0 +1,4 @@
+pub mod Prefix
+pub mod HartsLine
+pub mod StepsLine
+pub mod WordsInput

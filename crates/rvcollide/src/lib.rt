@@ -1,0 +1,6 @@
+//! The commands of `rvcollide`, as engines over readers and writers.
+//!
+//! Each engine writes the text that `specs/` states of the bytes that it reads, and nothing else.
+#![tactic(auto)]
+
+pub mod words;
