@@ -1,1 +1,2 @@
 pub mod InputSoFar
+pub mod ReadBack

@@ -176,10 +176,24 @@ mod tests {
     #[test]
     fn reads_inputs(rt: HostRuntime) {
         let alloc = rt.alloc();
-        assert_reads(&rt, alloc, b"harts 1\nsteps 0\n00500093\n", 1, &[0], &[0x0050_0093]);
+        assert_reads(
+            &rt,
+            alloc,
+            b"harts 1\nsteps 0\n00500093\n",
+            1,
+            &[0],
+            &[0x0050_0093],
+        );
         assert_reads(&rt, alloc, b"harts 2\nsteps\n", 2, &[], &[]);
         assert_reads(&rt, alloc, b"harts 2\nsteps", 2, &[], &[]);
-        assert_reads(&rt, alloc, b"harts 1\nsteps 0 0\n002000ef", 1, &[0, 0], &[0x0020_00ef]);
+        assert_reads(
+            &rt,
+            alloc,
+            b"harts 1\nsteps 0 0\n002000ef",
+            1,
+            &[0, 0],
+            &[0x0020_00ef],
+        );
         assert_reads(
             &rt,
             alloc,
@@ -209,7 +223,11 @@ mod tests {
             b"Harts 1\nsteps\n",
             b"harts 0\nsteps 16\nx\n",
         ] {
-            assert_eq!(rt; fault_of(alloc, text), Some(InputFault::Line(1)), "at {text:?}");
+            assert_eq!(rt;
+                fault_of(alloc, text),
+                Some(InputFault::Line(1)),
+                "at {text:?}"
+            );
         }
     }
 
@@ -233,7 +251,11 @@ mod tests {
             b"harts 1\nstep 0\n",
             b"harts 1\nsteps 16\nx\n",
         ] {
-            assert_eq!(rt; fault_of(alloc, text), Some(InputFault::Line(2)), "at {text:?}");
+            assert_eq!(rt;
+                fault_of(alloc, text),
+                Some(InputFault::Line(2)),
+                "at {text:?}"
+            );
         }
     }
 
@@ -252,7 +274,11 @@ mod tests {
             (b"harts 1\nsteps\n00500093\n\n00000073\n", 4),
             (b"harts 1\nsteps\n00500093\nx\ny\n", 4),
         ] {
-            assert_eq!(rt; fault_of(alloc, text), Some(InputFault::Line(line)), "at {text:?}");
+            assert_eq!(rt;
+                fault_of(alloc, text),
+                Some(InputFault::Line(line)),
+                "at {text:?}"
+            );
         }
     }
 
