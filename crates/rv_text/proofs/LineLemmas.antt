@@ -1,9 +1,10 @@
-use Rattle.std.proofs.Common.{◌≡◌, ℕ, ◌<◌, ◌==◌, eqb, Bool, true, false, List, [], ◌∷◌, ◌++◌, All, cond, length, refl, sym, ap, ◌∙◌, arith}
-use Rattle.std.specs.List.{onto_first}
+use Rattle.std.proofs.Common.{◌≡◌, ℕ, ◌<◌, ◌==◌, true, false, List, [], ◌∷◌, ◌++◌, All, length, append_assoc, refl, ap, ◌∙◌, arith}
+use Rattle.std.specs.List.{onto_first, list_any}
+use Rattle.std.proofs.lemmas.Bool.{or_parts}
 use Rattle.std.proofs.lemmas.Bool.Decides.{nat_tests}
 use Rattle.std.proofs.lemmas.List.Elements.{All-head, All-tail}
 use Rattle.std.proofs.lemmas.List.Splits.{slice_split_at, slice_split_none}
-use Rattle.rv_text.specs.Lines.{lines_of}
+use Rattle.rv_text.specs.Lines.{lines_of, text_of_lines, has_line_feed, LinesAreReadBack}
 use Rattle.rv_text.specs.Pieces.{pieces_of}
 
 -- no byte of the text is this one
@@ -33,3 +34,15 @@ pieces_of-cut separator text piece rest lacks is =
 
 pub pieces_of-last : (separator : ℕ) (text : List ℕ) → Lacks separator text → pieces_of separator text ≡ text ∷ []
 pieces_of-last separator text lacks = slice_split_none (λ b. b == separator) text lacks
+
+line_then : (line rest : List ℕ) → has_line_feed line ≡ false → lines_of (line ++ 10 ∷ rest) ≡ line ∷ lines_of rest
+line_then [] rest lacks = refl
+line_then (b ∷ line) rest lacks =
+    let parts = or_parts (b == 10) (has_line_feed line) lacks in
+    onward b (line ++ 10 ∷ rest) parts.0 ∙ ap (onto_first b) (line_then line rest parts.1)
+
+pub read_back : LinesAreReadBack
+read_back [] lacks = refl
+read_back (line ∷ lines) lacks =
+    let parts = or_parts (has_line_feed line) (list_any has_line_feed lines) lacks in
+    ap lines_of (append_assoc line (10 ∷ []) (text_of_lines lines)) ∙ line_then line (text_of_lines lines) parts.0 ∙ ap (λ rest. line ∷ rest) (read_back lines parts.1)

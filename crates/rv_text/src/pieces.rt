@@ -52,7 +52,7 @@ impl<'a> Pieces<'a> {
 pub(crate) fn cut(text: &[u8], separator: u8) -> Option<(&[u8], &[u8])>
     ensures { MatchOption result (All (λ b. (b == separator) ≡ false) text.now)
         (λ parts. (All (λ b. (b == separator) ≡ false) parts.0.now)
-            × (text.now ≡ parts.0.now ++ separator ∷ parts.1.now)) }
+        × (text.now ≡ parts.0.now ++ separator ∷ parts.1.now)) }
 {
     let at = text.iter().position(|byte| *byte == separator)?;
     Some((&text[..at], &text[at + 1..]))

@@ -1,1 +1,3 @@
+pub mod InputSoFar
 pub mod LineLemmas
+pub mod ReadBack

@@ -1,1 +1,6 @@
 pub mod Command
+pub mod HartsLine
+pub mod Prefix
+pub mod StepsLine
+pub mod WordsInput
+pub mod WordsText

@@ -1,6 +1,7 @@
-//! The program's parts that are no machine: its command line.
+//! The commands of `rvcollide`, as engines over readers and writers, and its command line.
 //!
-//! To `main`, `command_of` is the job that a command line asks for.
+//! Each engine writes the text that `specs/` states of the bytes that it reads, and nothing else.
 #![tactic(auto)]
 
 pub mod command;
+pub mod words;

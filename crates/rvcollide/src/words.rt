@@ -1,0 +1,4 @@
+//! The command `words`: harts stepped over a list of instruction words.
+
+pub mod input;
+pub mod laws;
