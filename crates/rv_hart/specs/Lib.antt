@@ -5,6 +5,7 @@ pub mod Harts
 pub mod Machine
 pub mod Next
 pub mod Registers
+pub mod Run
 pub mod State
 pub mod Step
 pub mod Words
