@@ -3,4 +3,6 @@ pub mod ByteLemmas
 pub mod HartsLemmas
 pub mod NextLemmas
 pub mod StartLemmas
+pub mod LawLemmas
 pub mod StepLemmas
+pub mod WordsLemmas

@@ -39,7 +39,7 @@ some_hart None h = absurd h
 some_hart (Some hart) h = (hart, refl, h)
 
 -- The parts of a step, put together.
-step_parts : (s : State) (h : ℕ) (hart : Hart) (action : Action) → slice_get s.harts h ≡ Some hart → RunsTo s.memory hart action →
+pub step_parts : (s : State) (h : ℕ) (hart : Hart) (action : Action) → slice_get s.harts h ≡ Some hart → RunsTo s.memory hart action →
     step_of s h ≡ Some (step_by s h hart action)
 unfolding step_of
 step_parts s h hart action found runs = rw (found, runs.running, runs.next)

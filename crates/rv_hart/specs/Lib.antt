@@ -8,4 +8,5 @@ pub mod Registers
 pub mod Run
 pub mod State
 pub mod Step
+pub mod StepLaws
 pub mod Words

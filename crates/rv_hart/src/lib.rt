@@ -9,6 +9,9 @@ mod act;
 pub mod action;
 mod effect;
 pub mod hart;
+pub mod laws;
 pub mod machine;
 mod start;
+#[cfg(test)]
+mod tests;
 pub mod write;

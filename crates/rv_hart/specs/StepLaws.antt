@@ -1,0 +1,155 @@
+use Rattle.std.specs.Prelude.{◌≡◌, ◌≢◌, ℕ, ◌+◌, ◌*◌, ◌/◌, ◌^◌, ◌<◌, ◌<ℤ◌, ◌↔◌, ◌⊎◌, Bool, true, false, not, ◌&&◌, nat_le, nat_lt, IsTrue, Option, Some, None, List, [], ◌∷◌, ◌++◌, length, map, slice_get, slice_set}
+use Rattle.std.specs.Int.{int_shr}
+use Rattle.rv_hart.specs.Act.{following}
+use Rattle.rv_hart.specs.Machine.{SomeHart}
+use Rattle.rv_hart.specs.Next.{accessed}
+use Rattle.rv_hart.specs.Registers.{get, set}
+use Rattle.rv_hart.specs.State.{State, is_running}
+use Rattle.rv_hart.specs.Step.{step_of, action_at, reserves, seen_by}
+use Rattle.rv_hart.specs.Words.{integer, less_signed, shift_left, shift_right, shift_right_signed, combined, extended}
+use Rattle.rv_hart.specs.declared.access.Access.{Access}
+use Rattle.rv_hart.specs.declared.access.Event.{Event}
+use Rattle.rv_hart.specs.declared.access.Event.TheVariants as event
+use Rattle.rv_hart.specs.declared.action.Action.{Action}
+use Rattle.rv_hart.specs.declared.action.Action.TheVariants.{Trap, Set, Load, Store, Reserve, Conditional, Replace, Print, Exit}
+use Rattle.rv_hart.specs.declared.action.Combine.{Combine}
+use Rattle.rv_hart.specs.declared.hart.Cause.{Cause}
+use Rattle.rv_hart.specs.declared.hart.Hart.{Hart}
+use Rattle.rv_hart.specs.declared.hart.Status.TheVariants as status
+use Rattle.rv_hart.specs.declared.write.Write.{Write}
+use Rattle.rv_memory.specs.Memory.{byte, load, store}
+
+-- hart h runs, it is `hart`, and this is what it does next
+pub record Acts (s : State) (h : ℕ) (hart : Hart) (action : Action) : Type 0 where
+  pub there : slice_get s.harts h ≡ Some hart
+  pub running : IsTrue (is_running hart.status)
+  pub next : action_at s.memory hart ≡ action
+
+-- hart h has become another, and all else stays
+abbrev pub with_hart : State → ℕ → Hart → State
+with_hart s h hart = record s { harts = slice_set s.harts h hart }
+
+-- hart h has become another and has written: each other hart has seen it, and the output stays
+abbrev pub with_write : State → ℕ → Hart → Write → State
+with_write s h hart w =
+    record s { harts = slice_set (map (seen_by (Some w)) s.harts) h hart; memory = store s.memory w.address w.size w.value }
+
+abbrev reads : Hart → ℕ → ℕ → Access
+reads hart first size = record { pc = hart.pc; first = first; size = size; read = true; write = false }
+
+abbrev writes : Hart → ℕ → ℕ → Access
+writes hart first size = record { pc = hart.pc; first = first; size = size; read = false; write = true }
+
+abbrev both : Hart → ℕ → ℕ → Access
+both hart first size = record { pc = hart.pc; first = first; size = size; read = true; write = true }
+
+abbrev write : ℕ → ℕ → ℕ → Write
+write address size value = record { address = address; size = size; value = value }
+
+-- ---- what a step of each class changes; all else stays
+
+-- a trap changes the hart's status alone
+abbrev pub TrapLaw : Type 0
+TrapLaw =
+    (s : State) (h : ℕ) (hart : Hart) (cause : Cause) → Acts s h hart (Trap cause) → step_of s h ≡ Some (event.Stopped cause, with_hart s h (record hart { status = status.Stopped cause }))
+
+-- so does an exit
+abbrev pub ExitLaw : Type 0
+ExitLaw =
+    (s : State) (h : ℕ) (hart : Hart) (code : ℕ) → Acts s h hart (Exit code) → step_of s h ≡ Some (event.Exited code, with_hart s h (record hart { status = status.Exited code }))
+
+-- a computation, a jump or a branch sets one register and the pc
+abbrev pub SetLaw : Type 0
+SetLaw =
+    (s : State) (h : ℕ) (hart : Hart) (rd value next : ℕ) → Acts s h hart (Set rd value next) → step_of s h ≡ Some (event.Moved None, with_hart s h (record hart { registers = set hart.registers rd value; pc = next }))
+
+-- a load sets one register to the bytes, extended, and goes on
+abbrev pub LoadLaw : Type 0
+LoadLaw =
+    (s : State) (h : ℕ) (hart : Hart) (rd address size : ℕ) (signed : Bool) → Acts s h hart (Load rd address size signed) → step_of s h ≡ Some (event.Moved (Some (reads hart address size)), with_hart s h (record hart { registers = set hart.registers rd (extended signed size (load s.memory address size)); pc = following hart }))
+
+-- a store writes its bytes and goes on
+abbrev pub StoreLaw : Type 0
+StoreLaw =
+    (s : State) (h : ℕ) (hart : Hart) (address size value : ℕ) → Acts s h hart (Store address size value) → step_of s h ≡ Some (event.Moved (Some (writes hart address size)), with_write s h (record hart { pc = following hart }) (write address size value))
+
+-- LR sets one register to the word and reserves it, in the place of what was reserved before
+abbrev pub ReserveLaw : Type 0
+ReserveLaw =
+    (s : State) (h : ℕ) (hart : Hart) (rd address : ℕ) → Acts s h hart (Reserve rd address) → step_of s h ≡ Some (event.Moved (Some (reads hart address 4)), with_hart s h (record hart { registers = set hart.registers rd (load s.memory address 4); pc = following hart; reservation = Some address }))
+
+-- SC succeeds where its hart holds a reservation of its word: it writes the word and sets rd to 0. The
+-- reservation ends.
+abbrev pub ScSucceedsLaw : Type 0
+ScSucceedsLaw =
+    (s : State) (h : ℕ) (hart : Hart) (rd address value : ℕ) → Acts s h hart (Conditional rd address value) → hart.reservation ≡ Some address → step_of s h ≡ Some (event.Moved (Some (writes hart address 4)), with_write s h (record hart { registers = set hart.registers rd 0; pc = following hart; reservation = None }) (write address 4 value))
+
+-- else it accesses nothing and sets rd to 1; the reservation ends too
+abbrev pub ScFailsLaw : Type 0
+ScFailsLaw =
+    (s : State) (h : ℕ) (hart : Hart) (rd address value : ℕ) → Acts s h hart (Conditional rd address value) → hart.reservation ≢ Some address → step_of s h ≡ Some (event.Moved None, with_hart s h (record hart { registers = set hart.registers rd 1; pc = following hart; reservation = None }))
+
+-- an AMO sets one register to the old word and stores its operation
+abbrev pub AmoLaw : Type 0
+AmoLaw =
+    (s : State) (h : ℕ) (hart : Hart) (rd address value : ℕ) (combine : Combine) → Acts s h hart (Replace rd address combine value) → step_of s h ≡ Some (event.Moved (Some (both hart address 4)), with_write s h (record hart { registers = set hart.registers rd (load s.memory address 4); pc = following hart }) (write address 4 (combined combine (load s.memory address 4) value)))
+
+-- a byte that is printed goes to the end of the output
+abbrev pub PrintLaw : Type 0
+PrintLaw =
+    (s : State) (h : ℕ) (hart : Hart) (byte : ℕ) → Acts s h hart (Print byte) → step_of s h ≡ Some (event.Moved None, record (with_hart s h (record hart { pc = following hart })) { output = s.output ++ byte ∷ [] })
+
+-- ---- what no step does
+
+-- the two harts differ at most in their reservations
+pub record SameButReservation (a b : Hart) : Type 0 where
+  pub registers : b.registers ≡ a.registers
+  pub pc : b.pc ≡ a.pc
+  pub status : b.status ≡ a.status
+
+-- a step of one hart changes no other hart's registers, pc or status
+abbrev pub OtherHartsStay : Type 0
+OtherHartsStay =
+    (s t : State) (h : ℕ) (e : Event) → step_of s h ≡ Some (e, t) → (j : ℕ) → j ≢ h → (other : Hart) → slice_get s.harts j ≡ Some other → SomeHart (SameButReservation other) t j
+
+-- the event's access writes the byte at the address
+abbrev pub access_writes : Option Access → ℕ → Bool
+access_writes None address = false
+access_writes (Some a) address = a.write && (nat_le a.first address && nat_lt address (a.first + a.size))
+
+-- a step changes only bytes that its own access writes
+abbrev pub OtherBytesStay : Type 0
+OtherBytesStay =
+    (s t : State) (h : ℕ) (e : Event) → step_of s h ≡ Some (e, t) → (address : ℕ) → access_writes (accessed e) address ≡ false → byte t.memory address ≡ byte s.memory address
+
+-- the event's access writes a byte of the word at the address
+abbrev pub access_meets : Option Access → ℕ → Bool
+access_meets None word = false
+access_meets (Some a) word = a.write && (nat_lt a.first (word + 4) && nat_lt word (a.first + a.size))
+
+-- another hart's reservation after a step is one that it held before, and the step did not write to it
+abbrev pub OthersReservations : Type 0
+OthersReservations =
+    (s t : State) (h : ℕ) (e : Event) → step_of s h ≡ Some (e, t) → (j word : ℕ) → j ≢ h → SomeHart (λ hart. hart.reservation ≡ Some word) t j → SomeHart (λ hart. hart.reservation ≡ Some word) s j × (access_meets (accessed e) word ≡ false)
+
+-- the hart's own reservation after its step is one that its LR made, or that it held before
+abbrev pub OwnReservation : Type 0
+OwnReservation =
+    (s t : State) (h : ℕ) (e : Event) (hart : Hart) → step_of s h ≡ Some (e, t) → slice_get s.harts h ≡ Some hart → (word : ℕ) → SomeHart (λ after. after.reservation ≡ Some word) t h → ((rd : ℕ) × (action_at s.memory hart ≡ Reserve rd word)) ⊎ (hart.reservation ≡ Some word)
+
+-- ---- registers and words
+
+-- x0 is read as 0 whatever stands there; a register that is set is read back, and no other changes
+pub record RegistersLaw : Type 0 where
+  pub zero : (registers : List ℕ) → get registers 0 ≡ 0
+  pub zero_stays : (registers : List ℕ) (value : ℕ) → set registers 0 value ≡ registers
+  pub read_back : (registers : List ℕ) (r value : ℕ) → 0 < r → r < length registers → get (set registers r value) r ≡ value
+  pub others : (registers : List ℕ) (r other value : ℕ) → other ≢ r → get (set registers r value) other ≡ get registers other
+
+-- Compares and shifts agree with the numbers that the words stand for; SRA rounds down, as a shift of
+-- the integer does.
+pub record WordsLaw : Type 0 where
+  pub less : (a b : ℕ) → IsTrue (less_signed a b) ↔ (integer a <ℤ integer b)
+  pub left : (a amount : ℕ) → (carried : ℕ) × (a * 2 ^ amount ≡ shift_left a amount + carried * 2 ^ 32)
+  pub right : (a amount : ℕ) → (lost : ℕ) × (lost < 2 ^ amount) × (a ≡ shift_right a amount * 2 ^ amount + lost)
+  pub right_signed : (a amount : ℕ) → a < 2 ^ 32 → integer (shift_right_signed a amount) ≡ int_shr (integer a) amount

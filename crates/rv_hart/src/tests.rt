@@ -1,0 +1,78 @@
+//! Steps with expected values worked out from the RISC-V Unprivileged ISA.
+ghost use Rattle.std.specs.Prelude.{IfOk, All};
+ghost use Rattle.rv_memory.specs.Extent.{IsExtent};
+
+use crate::access::{Access, Event};
+use crate::hart::{Cause, Status};
+use crate::machine::{Machine, StepFault};
+use rv_memory::flat::Flat;
+use rv_memory::region::Region;
+use rv_memory::store::MemFault;
+use std::alloc::Global;
+use std::process::Abort;
+use std::test::Fail;
+
+mod atomics;
+mod causes;
+mod operations;
+
+/// Words as a region from an address on.
+fn region(
+    rt: &impl Abort,
+    alloc: Global,
+    start: u32,
+    words: &[u32],
+    w: bool,
+) -> Result<Region, Fail>
+    ensures { IfOk result IsExtent }
+{
+    let mut bytes = Vec::new(alloc);
+    for word in words {
+        bytes.extend_from_slice(&word.to_le_bytes())?;
+    }
+    let len = bytes.len();
+    assert!(rt; 1 <= len && len <= 65_536);
+    Ok(Region {
+        start,
+        bytes,
+        len: len as u32,
+        r: true,
+        w,
+        x: !w,
+    })
+}
+
+/// A machine that runs words from 00010000 on, with 4,096 bytes from 00020000 on that begin with data.
+fn machine(
+    rt: &impl Abort,
+    alloc: Global,
+    words: &[u32],
+    data: &[u32],
+    harts: u8,
+) -> Result<Machine<Flat>, Fail> {
+    assert!(rt; 1 <= harts && harts <= 16);
+    let text = region(rt, alloc, 0x10000, words, false)?;
+    let mut data = region(rt, alloc, 0x20000, data, true)?;
+    assert!(rt; data.bytes.len() <= 4096);
+    data.len = 4096;
+    let regions = two(alloc, text, data)?;
+    Ok(Machine::new(alloc, regions, 0x10000, harts, 8)?)
+}
+
+fn two(alloc: Global, first: Region, second: Region) -> Result<Vec<Region>, Fail>
+    requires first { IsExtent first }
+    requires second { IsExtent second }
+    ensures { IfOk result (λ all. All IsExtent all.items) }
+{
+    let mut all = Vec::new(alloc);
+    all.push(first)?;
+    all.push(second)?;
+    Ok(all)
+}
+
+/// Steps of the harts in turn, each of which is made.
+fn run(rt: &impl Abort, machine: &mut Machine<Flat>, steps: &[u8]) {
+    for h in steps {
+        assert!(rt; machine.step(*h).is_ok(), "step of hart {h}");
+    }
+}
