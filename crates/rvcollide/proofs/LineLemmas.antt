@@ -13,7 +13,7 @@ use Rattle.std.specs.List.{list_all, list_any}
 use Rattle.clap.specs.declared.parser.matches.Found.{Found}
 use Rattle.clap.proofs.OnLiterals.{clap_on_literals}
 use Rattle.clap.proofs.WalkLemmas.{first_value-rows}
-use Rattle.rvcollide.specs.Command.{is_request, program}
+use Rattle.rvcollide.specs.Reading.{is_request, program}
 
 -- `clap` says exactly what it makes of the program's words
 pub is_exact : is_simple_and_free program ≡ true

@@ -9,6 +9,7 @@ ghost use Rattle.clap.specs.Values.{kind_of};
 ghost use Rattle.clap.specs.Walk.{first_of, rows_of, rule_of};
 ghost use Rattle.clap.specs.declared.builder.command.Command.TheViews.{out-Command as fields_of};
 ghost use Rattle.rvcollide.specs.Command as spec;
+ghost use Rattle.rvcollide.specs.Reading as reading;
 
 use clap::error::ErrorKind;
 use clap::{Arg, ArgMatches, Command, Error};
@@ -45,7 +46,7 @@ pub enum Notice {
 }
 
 /// The job that the words of a command line ask for, the program's name first.
-#[tactic(auto, unfolding(crate::specs::Command::job_of))]
+#[tactic(auto, using(crate::proofs::ReadsLine::reads_line), unfolding(crate::specs::Reading::job_read))]
 pub fn command_of<'a>(alloc: Global, words: &'a [&'a str]) -> Result<Job, LineFault>
     ensures { MatchResult result (λ job. spec.job_of (map (λ w. w.now) words.entry.now) ≡ Some job)
         (λ e. (e ≡ LineFault.NoMemory) ⊎ (spec.job_of (map (λ w. w.now) words.entry.now) ≡ None)) }
@@ -58,8 +59,8 @@ pub fn command_of<'a>(alloc: Global, words: &'a [&'a str]) -> Result<Job, LineFa
 
 /// What to write of a line that `command_of` refuses. The words are the same, and the text is `clap`'s.
 pub fn notice_of<'a>(alloc: Global, words: &'a [&'a str]) -> Result<Notice, LineFault>
-    ensures answer { IfOk result (λ n. spec.is_answer n ≡ true → spec.asks (map (λ w. w.now) words.entry.now) ≡ true) }
-    ensures refusal { IfOk result (λ n. spec.is_answer n ≡ false → spec.only_asks (map (λ w. w.now) words.entry.now) ≡ false) }
+    ensures answer { IfOk result (λ n. reading.is_answer n ≡ true → reading.asks (map (λ w. w.now) words.entry.now) ≡ true) }
+    ensures refusal { IfOk result (λ n. reading.is_answer n ≡ false → reading.only_asks (map (λ w. w.now) words.entry.now) ≡ false) }
     ensures memory { IfErr result (λ e. e ≡ LineFault.NoMemory) }
 {
     match read_line(alloc, words) {
@@ -69,7 +70,7 @@ pub fn notice_of<'a>(alloc: Global, words: &'a [&'a str]) -> Result<Notice, Line
 }
 
 fn shown(alloc: Global, error: &Error) -> Result<Notice, LineFault>
-    ensures notice { IfOk result (λ n. (spec.is_answer n ≡ spec.is_request (kind_of error.now))
+    ensures notice { IfOk result (λ n. (reading.is_answer n ≡ reading.is_request (kind_of error.now))
         × (kind_of error.now ≢ ErrorKind.OutOfMemory)) }
     ensures memory { IfErr result (λ e. e ≡ LineFault.NoMemory) }
 {
@@ -102,17 +103,17 @@ fn line_fault(error: &Error) -> LineFault
 /// What `clap` finds in the words.
 fn read_line<'a>(alloc: Global, words: &'a [&'a str]) -> Result<ArgMatches<'a>, Error>
     ensures command { IfOk result (λ m.
-        subcommand_rows_of m ≡ subcommand_of spec.program (map (λ w. w.now) words.entry.now)) }
-    ensures kinds { FailsBy (fault_of spec.program (map (λ w. w.now) words.entry.now)) result }
-    ensures faults { MatchResult result (λ _. spec.is_accepted (map (λ w. w.now) words.entry.now) ≡ true)
-        (λ e. (kind_of e ≡ ErrorKind.OutOfMemory) ⊎ (spec.is_accepted (map (λ w. w.now) words.entry.now) ≡ false)) }
+        subcommand_rows_of m ≡ subcommand_of reading.program (map (λ w. w.now) words.entry.now)) }
+    ensures kinds { FailsBy (fault_of reading.program (map (λ w. w.now) words.entry.now)) result }
+    ensures faults { MatchResult result (λ _. reading.is_accepted (map (λ w. w.now) words.entry.now) ≡ true)
+        (λ e. (kind_of e ≡ ErrorKind.OutOfMemory) ⊎ (reading.is_accepted (map (λ w. w.now) words.entry.now) ≡ false)) }
 {
     program(alloc)?.try_get_matches_from(words)
 }
 
 /// The program with all its commands.
 fn program<'a>(alloc: Global) -> Result<Command<'a>, AllocError>
-    ensures { IfOk result (λ c. app_of c ≡ spec.program) }
+    ensures { IfOk result (λ c. app_of c ≡ reading.program) }
 {
     Command::new(alloc, "rvcollide")
         .version("0.1.0")
@@ -123,14 +124,14 @@ fn program<'a>(alloc: Global) -> Result<Command<'a>, AllocError>
 }
 
 fn words_command<'a>(alloc: Global) -> Command<'a>
-    ensures shape { shape_of result ≡ spec.words_shape }
+    ensures shape { shape_of result ≡ reading.words_shape }
     ensures local { (fields_of result).has_globals ≡ false }
 {
     Command::new(alloc, "words").about("Runs the words of the standard input")
 }
 
 fn hunt_command<'a>(alloc: Global) -> Result<Command<'a>, AllocError>
-    ensures { IfOk result (λ c. (shape_of c ≡ spec.hunt_shape) × ((fields_of c).has_globals ≡ false)) }
+    ensures { IfOk result (λ c. (shape_of c ≡ reading.hunt_shape) × ((fields_of c).has_globals ≡ false)) }
 {
     Command::new(alloc, "hunt")
         .about("Runs them with one pause before an access")
@@ -140,7 +141,7 @@ fn hunt_command<'a>(alloc: Global) -> Result<Command<'a>, AllocError>
 
 /// An argument that has to stand at its place.
 fn required_word<'a>(alloc: Global, name: &'a str) -> Arg<'a>
-    ensures rule { rule_of result ≡ spec.required_word name.entry.now }
+    ensures rule { rule_of result ≡ reading.required_word name.entry.now }
     ensures local { result.global ≡ false }
 {
     Arg::new(alloc, name).required(true)
@@ -148,7 +149,7 @@ fn required_word<'a>(alloc: Global, name: &'a str) -> Arg<'a>
 
 /// The job that `clap` found.
 fn job_in(matches: &ArgMatches<'_>) -> Option<Job>
-    ensures { result ≡ option_and_then spec.job_at (subcommand_rows_of matches.now) }
+    ensures { result ≡ option_and_then reading.job_in (subcommand_rows_of matches.now) }
 {
     let (name, given) = matches.subcommand()?;
     job_at(name, given)
@@ -156,7 +157,7 @@ fn job_in(matches: &ArgMatches<'_>) -> Option<Job>
 
 /// The job of the command of this name.
 fn job_at(name: &str, given: &ArgMatches<'_>) -> Option<Job>
-    ensures { result ≡ spec.job_at (name.now, rows_of (found_of given.now)) }
+    ensures { result ≡ reading.job_in (name.now, rows_of (found_of given.now)) }
 {
     match name {
         "words" => Some(Job::Words),
@@ -166,7 +167,7 @@ fn job_at(name: &str, given: &ArgMatches<'_>) -> Option<Job>
 }
 
 fn hunt_of(given: &ArgMatches<'_>) -> Option<Job>
-    ensures { result ≡ spec.hunt_of (rows_of (found_of given.now)) }
+    ensures { result ≡ reading.hunt_in (rows_of (found_of given.now)) }
 {
     let pc = read_word(text_of(given, "PC")?.as_bytes())?;
     let pause = read_pause(text_of(given, "PAUSE")?)?;
