@@ -1,11 +1,11 @@
 -- What `clap` makes of the words after a command's name.
-use Rattle.std.proofs.Common.{eqb-true, ◌≡◌, ◌∙◌, ℕ, refl, ap, ap₂, sym, subst, true, false, true≢false, List, Option, Some, None, [], ◌∷◌, ◌++◌, inl, inr, arith, cond, length, codes, fold}
-use Rattle.std.specs.Prelude.{nat_lt, Bool, ⊤, ◌==◌, ◌||◌, ◌&&◌, slice_get, unwrap_or, if◌then◌else◌}
+use Rattle.std.proofs.Common.{eqb-true, ◌≡◌, ◌∙◌, ℕ, refl, ap, ap₂, sym, subst, true, false, true≢false, List, Option, Some, None, [], ◌∷◌, inl, inr, cond, length, codes, fold}
+use Rattle.std.specs.Prelude.{nat_lt, Bool, ◌==◌, ◌||◌, ◌&&◌, slice_get, unwrap_or, if◌then◌else◌}
 use Rattle.std.specs.Str.{bytes_eq}
-use Rattle.clap.specs.Faults.{check_fault, defaults_fault, settle_fault, step_fault, turn_fault, walk_fault}
+use Rattle.clap.specs.Faults.{check_fault, defaults_fault, settle_fault, turn_fault, walk_fault}
 use Rattle.clap.specs.Kinds.{Kinds, or_else}
-use Rattle.clap.specs.Simple.{App, Shape, built, new_rule, new_shape}
-use Rattle.clap.specs.Walk.{Row, Rule, Text, Walk, finished, idle, is_empty, settled, walked}
+use Rattle.clap.specs.Simple.{Shape, built, new_shape}
+use Rattle.clap.specs.Walk.{Row, Rule, Text, Walk, finished, is_empty, settled, walked}
 use Rattle.clap.specs.declared.builder.value_parser.Reading.TheVariants.{AsWritten}
 use Rattle.clap.specs.declared.parser.matches.ValueSource.TheVariants.{CommandLine}
 use Rattle.clap.proofs.OnLiterals.{clap_on_literals}
@@ -13,7 +13,7 @@ use Rattle.std.proofs.lemmas.Slice.Eq.{bytes_eq-Decides}
 use Rattle.rv_text.specs.Hexadecimal.{word_of}
 use Rattle.rv_text.specs.Numeral.{number_of}
 use Rattle.rvcollide.proofs.WordLemmas.{IsRequestOr, Requests, first_stays, has_hyphen, stand, turn_is}
-use Rattle.rvcollide.specs.Command.{arguments, at_place, hunt_of, pause_of, words_of}
+use Rattle.rvcollide.specs.Command.{arguments, at_place, hunt_of, words_of}
 use Rattle.rvcollide.specs.Reading.{hunt_in, program}
 use Rattle.rvcollide.specs.declared.command.Job.{Job}
 use Rattle.rvcollide.specs.declared.command.Job.TheVariants.{Words}

@@ -1,4 +1,4 @@
-pub mod LineLemmas
 pub mod WordLemmas
 pub mod LeafLemmas
 pub mod ReadsLine
+pub mod LineLemmas

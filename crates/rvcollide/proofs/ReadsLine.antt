@@ -1,10 +1,10 @@
-use Rattle.std.proofs.Common.{◌≡◌, ◌∙◌, refl, ap, subst, ap₂, sym, true, false, List, Option, Some, None, [], ◌∷◌, inl, inr, arith, fold, ◌++◌, codes, cond}
+use Rattle.std.proofs.Common.{◌≡◌, ◌∙◌, refl, ap, subst, ap₂, sym, true, false, List, Some, None, [], ◌∷◌, inl, inr, fold, codes}
 use Rattle.std.proofs.lemmas.Slice.Eq.{bytes_eq-Decides}
 use Rattle.std.specs.Prelude.{Bool, ◌==◌, ◌||◌, if◌then◌else◌, option_and_then, is_some}
 use Rattle.std.specs.Str.{bytes_eq}
-use Rattle.clap.specs.Faults.{check_fault, defaults_fault, entered_fault, fault_of, level_fault, settle_fault, turn_fault, walk_fault}
+use Rattle.clap.specs.Faults.{check_fault, defaults_fault, entered_fault, fault_of, level_fault, settle_fault, turn_fault}
 use Rattle.clap.specs.Kinds.{Kinds, or_else}
-use Rattle.clap.specs.Simple.{App, Shape, built, entered, names_of, new_shape, subcommand_of}
+use Rattle.clap.specs.Simple.{App, built, entered, names_of}
 use Rattle.clap.specs.Walk.{Text, Walk, finished, idle, is_empty, subcommand_met, nothing_held, settled, walk_from, walked}
 use Rattle.clap.proofs.OnLiterals.{clap_on_literals}
 use Rattle.clap.proofs.FaultLemmas.{stopped_fault}
@@ -13,7 +13,6 @@ use Rattle.rvcollide.proofs.WordLemmas.{Requests, first_stays, turn_is}
 use Rattle.rvcollide.proofs.LeafLemmas.{hunt_leaf, hunt_outcome, if_false, is_dashes, leaf, outcome, request_or, words_at, words_job, words_leaf, words_outcome}
 use Rattle.rvcollide.specs.Command.{command_job, job_of}
 use Rattle.rvcollide.specs.Reading.{hunt_in, job_in, job_read, program}
-use Rattle.rvcollide.specs.declared.command.Job.{Job}
 
 abbrev Built : App
 Built = built program

@@ -1,5 +1,5 @@
 -- What `clap` makes of one more word, where the only options are requests for help or the version.
-use Rattle.std.proofs.Common.{◌≡◌, ◌∙◌, ℕ, zero, suc, refl, ap, ap₂, sym, subst, true, false, true≢false, List, Option, Some, None, [], ◌∷◌, inl, inr, arith, cond, length, codes}
+use Rattle.std.proofs.Common.{◌≡◌, ◌∙◌, ℕ, suc, refl, ap, ap₂, sym, subst, true, false, true≢false, List, Option, Some, None, [], ◌∷◌, inl, inr, arith, length, codes}
 use Rattle.std.proofs.lemmas.Bool.Decides.{nat_tests}
 use Rattle.std.specs.Prelude.{Bool, ⊤, ◌⊎◌, ◌==◌, slice_get}
 use Rattle.std.specs.Option.{option_map_or}
@@ -8,7 +8,7 @@ use Rattle.clap.specs.Lexer.{long_of, short_of}
 use Rattle.clap.specs.Faults.{bundle_fault, flags_fault, flag_word_fault, long_fault, other_fault, settle_fault, short_fault, step_fault, turn_fault, use_fault}
 use Rattle.clap.specs.Kinds.{Kinds, or_else}
 use Rattle.clap.specs.Simple.{Shape}
-use Rattle.clap.specs.Walk.{Held, Names, Outcome, Row, Rule, Step, Text, Walk, after_flag, after_step, arg_by_long, arg_by_short, bundle, bundle_met, idle, is_empty, long_or_other, plain, short_or_plain, subcommand_met, subcommand_or_other, takes_values, value, walked}
+use Rattle.clap.specs.Walk.{Held, Names, Outcome, Row, Rule, Step, Text, Walk, after_flag, after_step, arg_by_long, arg_by_short, bundle, idle, is_empty, long_or_other, plain, short_or_plain, subcommand_met, subcommand_or_other, takes_values, value, walked}
 use Rattle.clap.proofs.WalkLemmas.{bundle_ends}
 
 -- ---- faults in turn

@@ -9,7 +9,7 @@ use Rattle.clap.specs.declared.error.kind.ErrorKind.{ErrorKind}
 use Rattle.clap.specs.declared.error.kind.ErrorKind.TheVariants as kind
 use Rattle.rvcollide.specs.Command.{at_place, pause_of}
 use Rattle.rvcollide.specs.declared.command.Job.{Job}
-use Rattle.rvcollide.specs.declared.command.Job.TheVariants.{Words, Hunt}
+use Rattle.rvcollide.specs.declared.command.Job.TheVariants.{Words}
 use Rattle.rvcollide.specs.declared.command.Notice.{Notice}
 use Rattle.rvcollide.specs.declared.command.Notice.TheVariants.{Answer, Refusal}
 use Rattle.rv_text.specs.Hexadecimal.{word_of}

@@ -46,7 +46,6 @@ pub enum Notice {
 }
 
 /// The job that the words of a command line ask for, the program's name first.
-#[tactic(auto, using(crate::proofs::ReadsLine::reads_line), unfolding(crate::specs::Reading::job_read))]
 pub fn command_of<'a>(alloc: Global, words: &'a [&'a str]) -> Result<Job, LineFault>
     ensures { MatchResult result (λ job. spec.job_of (map (λ w. w.now) words.entry.now) ≡ Some job)
         (λ e. (e ≡ LineFault.NoMemory) ⊎ (spec.job_of (map (λ w. w.now) words.entry.now) ≡ None)) }
@@ -102,11 +101,10 @@ fn line_fault(error: &Error) -> LineFault
 
 /// What `clap` finds in the words.
 fn read_line<'a>(alloc: Global, words: &'a [&'a str]) -> Result<ArgMatches<'a>, Error>
-    ensures command { IfOk result (λ m.
-        subcommand_rows_of m ≡ subcommand_of reading.program (map (λ w. w.now) words.entry.now)) }
+    ensures job { MatchResult result
+        (λ m. option_and_then reading.job_in (subcommand_rows_of m) ≡ spec.job_of (map (λ w. w.now) words.entry.now))
+        (λ e. (kind_of e ≡ ErrorKind.OutOfMemory) ⊎ (spec.job_of (map (λ w. w.now) words.entry.now) ≡ None)) }
     ensures kinds { FailsBy (fault_of reading.program (map (λ w. w.now) words.entry.now)) result }
-    ensures faults { MatchResult result (λ _. reading.is_accepted (map (λ w. w.now) words.entry.now) ≡ true)
-        (λ e. (kind_of e ≡ ErrorKind.OutOfMemory) ⊎ (reading.is_accepted (map (λ w. w.now) words.entry.now) ≡ false)) }
 {
     program(alloc)?.try_get_matches_from(words)
 }
