@@ -127,8 +127,8 @@ words_outcome (word ∷ rest) = go (bytes_eq word (codes "--")) refl
         (goes_on words_leaf words_job (words_at false) (words_at true) (codes "--") rest refl refl ∙ words_trailing rest)
     go false other =
         let met : outcome words_leaf words_job (words_at false) (word ∷ rest) ≡ words_of (word ∷ arguments rest) = elim (turn_is words_leaf [] word [] None 1 words_requests refl other) [
-      | inl fault ↦ refused words_leaf words_job (words_at false) word rest fault.1
-      | inr taken ↦ refused words_leaf words_job (words_at false) word rest (ap is_empty taken.0)
+          | inl fault ↦ refused words_leaf words_job (words_at false) word rest fault.1
+          | inr taken ↦ refused words_leaf words_job (words_at false) word rest (ap is_empty taken.0)
         ] in
         met ∙ ap (words_of) (other_argument word rest other)
 
@@ -184,8 +184,8 @@ from_2 pc pause (word ∷ rest) = go (bytes_eq word (codes "--")) refl
         (goes_on hunt_leaf hunt_in (at_2 pc pause false) (at_2 pc pause true) (codes "--") rest refl refl ∙ trailing_2 pc pause rest)
     go false other =
         let met : hunted (at_2 pc pause false) (word ∷ rest) ≡ hunt_of (pc ∷ pause ∷ word ∷ arguments rest) = elim (turn_is hunt_leaf [] word (row pc ∷ []) (Some (codes "PAUSE", pause ∷ [])) 3 hunt_requests refl other) [
-      | inl fault ↦ refused hunt_leaf hunt_in (at_2 pc pause false) word rest fault.1
-      | inr taken ↦ refused hunt_leaf hunt_in (at_2 pc pause false) word rest (ap is_empty taken.0)
+          | inl fault ↦ refused hunt_leaf hunt_in (at_2 pc pause false) word rest fault.1
+          | inr taken ↦ refused hunt_leaf hunt_in (at_2 pc pause false) word rest (ap is_empty taken.0)
         ] in
         met ∙ ap (λ (given : List Text). hunt_of (pc ∷ pause ∷ given)) (other_argument word rest other)
 
@@ -199,8 +199,8 @@ from_1 pc (word ∷ rest) = go (bytes_eq word (codes "--")) refl
         (goes_on hunt_leaf hunt_in (at_1 pc false) (at_1 pc true) (codes "--") rest refl refl ∙ trailing_1 pc rest)
     go false other =
         let met : hunted (at_1 pc false) (word ∷ rest) ≡ hunt_of (pc ∷ word ∷ arguments rest) = elim (turn_is hunt_leaf [] word [] (Some (codes "PC", pc ∷ [])) 2 hunt_requests refl other) [
-      | inl fault ↦ refused hunt_leaf hunt_in (at_1 pc false) word rest fault.1 ∙ sym (no_pause pc word (arguments rest) fault.0)
-      | inr taken ↦ goes_on hunt_leaf hunt_in (at_1 pc false) (at_2 pc word false) word rest taken.0 taken.1 ∙ from_2 pc word rest
+          | inl fault ↦ refused hunt_leaf hunt_in (at_1 pc false) word rest fault.1 ∙ sym (no_pause pc word (arguments rest) fault.0)
+          | inr taken ↦ goes_on hunt_leaf hunt_in (at_1 pc false) (at_2 pc word false) word rest taken.0 taken.1 ∙ from_2 pc word rest
         ] in
         met ∙ ap (λ (given : List Text). hunt_of (pc ∷ given)) (other_argument word rest other)
 
@@ -214,7 +214,7 @@ hunt_outcome (word ∷ rest) = go (bytes_eq word (codes "--")) refl
         (goes_on hunt_leaf hunt_in (at_0 false) (at_0 true) (codes "--") rest refl refl ∙ trailing_0 rest)
     go false other =
         let met : hunted (at_0 false) (word ∷ rest) ≡ hunt_of (word ∷ arguments rest) = elim (turn_is hunt_leaf [] word [] None 1 hunt_requests refl other) [
-      | inl fault ↦ refused hunt_leaf hunt_in (at_0 false) word rest fault.1 ∙ sym (no_pc word (arguments rest) fault.0)
-      | inr taken ↦ goes_on hunt_leaf hunt_in (at_0 false) (at_1 word false) word rest taken.0 taken.1 ∙ from_1 word rest
+          | inl fault ↦ refused hunt_leaf hunt_in (at_0 false) word rest fault.1 ∙ sym (no_pc word (arguments rest) fault.0)
+          | inr taken ↦ goes_on hunt_leaf hunt_in (at_0 false) (at_1 word false) word rest taken.0 taken.1 ∙ from_1 word rest
         ] in
         met ∙ ap (hunt_of) (other_argument word rest other)

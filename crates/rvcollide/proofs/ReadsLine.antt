@@ -103,19 +103,23 @@ reads_line (n ∷ word ∷ rest) = by_words (bytes_eq (codes "words") word) refl
   where
     Same : Text → Type 0
     Same w = job_read (n ∷ w ∷ rest) ≡ command_job w rest
+
     by_dashes : (b : Bool) → bytes_eq (codes "words") word ≡ false → bytes_eq (codes "hunt") word ≡ false → bytes_eq (codes "help") word ≡ false
         → bytes_eq word (codes "--") ≡ b → job_read (n ∷ word ∷ rest) ≡ None
     by_dashes true no_words no_hunt no_help dashes = subst (λ (w : Text). job_read (n ∷ w ∷ rest) ≡ None) (is_dashes word dashes) (dashes_are_none n rest)
     by_dashes false no_words no_hunt no_help other = other_is_none n word rest no_words no_hunt no_help other
+
     by_help : (b : Bool) → bytes_eq (codes "words") word ≡ false → bytes_eq (codes "hunt") word ≡ false → bytes_eq (codes "help") word ≡ b
         → job_read (n ∷ word ∷ rest) ≡ None
     by_help true no_words no_hunt help = subst (λ (w : Text). job_read (n ∷ w ∷ rest) ≡ None) (is_word (codes "help") word help) (help_is_none n rest)
     by_help false no_words no_hunt no_help = by_dashes (bytes_eq word (codes "--")) no_words no_hunt no_help refl
+
     by_hunt : (b : Bool) → bytes_eq (codes "words") word ≡ false → bytes_eq (codes "hunt") word ≡ b → Same word
     by_hunt true no_words hunt = subst Same (is_word (codes "hunt") word hunt) (hunt_job n rest ∙ hunt_outcome rest)
     by_hunt false no_words no_hunt =
         let nothing : None ≡ command_job word rest = rw (no_words, no_hunt) refl in
         by_help (bytes_eq (codes "help") word) no_words no_hunt refl ∙ nothing
+
     by_words : (b : Bool) → bytes_eq (codes "words") word ≡ b → Same word
     by_words true words = subst Same (is_word (codes "words") word words) (words_job_is n rest ∙ words_outcome rest)
     by_words false no_words = by_hunt (bytes_eq (codes "hunt") word) no_words refl

@@ -75,8 +75,10 @@ bundle_is s word y ys h requests skip same (Some x) first =
     inl (refl, rw skip (flags_refused s.rules s.args_override_self (length ys) (y ∷ ys) _ x first (requests.short x)))
 bundle_is s word y ys h requests skip same None none =
     let ends : (record h { skip = 0 }, plain) ≡ bundle s.rules (y ∷ ys) h = bundle_ends s.rules _ (y ∷ ys) h.skip plain _ (sym none) in
-    inr (rw skip (no_flags s.rules s.args_override_self (length ys) (y ∷ ys) _ none),
-    ap (λ (p : Held × Outcome). after_flag s.rules idle word p.0 p.1) (sym ends) ∙ ap (λ (k : Held). (k, value)) same)
+    inr (
+      rw skip (no_flags s.rules s.args_override_self (length ys) (y ∷ ys) _ none),
+      ap (λ (p : Held × Outcome). after_flag s.rules idle word p.0 p.1) (sym ends) ∙ ap (λ (k : Held). (k, value)) same,
+    )
 
 abbrev flag_fault : Shape → Text → Held → Option (Text × Option Text) → Kinds
 flag_fault s word h long = flag_word_fault s.rules s.args_override_self long word h
@@ -97,12 +99,15 @@ word_is s (x ∷ xs) rows pending position requests other = rw other (first (x =
   where
     h : Held
     h = held rows pending
+
     Met : Bool → Text → Type 0
     Met hyphen word = IsRefusedOrValue hyphen (flag_fault s word h (long_of word)) (long_or_other s.rules idle word (long_of word) h) h
+
     second : (y : ℕ) (ys : Text) (b : Bool) → (x == 45) ≡ true → (y == 45) ≡ b → bytes_eq (x ∷ y ∷ ys) (codes "--") ≡ false → Met true (x ∷ y ∷ ys)
     second y [] true t u other = absurd (true≢false (rw (t, u) at other))
     second y (z ∷ zs) true t u other = rw (t, u) (inl (refl, long_refused s.rules s.args_override_self _ _ h (requests.long _)))
     second y ys false t u other = by_short s (x ∷ y ∷ ys) h true (Some (y ∷ ys)) (rw (t, u) refl) (rw (t, u) refl) (bundle_is s (x ∷ y ∷ ys) y ys h requests refl refl _ refl)
+
     first : (b : Bool) (rest : Text) → (x == 45) ≡ b → bytes_eq (x ∷ rest) (codes "--") ≡ false → Met (x == 45) (x ∷ rest)
     first false rest t other = by_short s (x ∷ rest) h (x == 45) None (rw t refl) (rw t refl) (inr (refl, refl))
     first true [] t other = by_short s (x ∷ []) h (x == 45) None (rw t refl) (rw t refl) (inr (refl, refl))
@@ -122,6 +127,8 @@ pub turn_is : (s : Shape) (names : Names) (word : Text) (rows : List Row) (pendi
 unfolding walked
 turn_is s names word rows pending position requests unmet other = rw unmet (elim (word_is s word rows pending position requests other) [
   | inl refused ↦ inl (refused.0, first_stays _ _ refused.1)
-  | inr taken ↦ inr (ap₂ (λ (fault : Kinds) (met : Held × Step). or_else fault (step_fault s position met.0 met.1)) taken.0 taken.1,
-    ap (λ (met : Held × Step). after_step s.rules word (stand rows pending position false) met.0 met.1) taken.1)
+  | inr taken ↦ inr (
+    ap₂ (λ (fault : Kinds) (met : Held × Step). or_else fault (step_fault s position met.0 met.1)) taken.0 taken.1,
+    ap (λ (met : Held × Step). after_step s.rules word (stand rows pending position false) met.0 met.1) taken.1,
+  )
 ])

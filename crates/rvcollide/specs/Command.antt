@@ -1,4 +1,6 @@
-use Rattle.std.specs.Prelude.{ℕ, List, [], ◌∷◌, Option, Some, None, option_map, option_and_then, codes, if◌then◌else◌, nat_le}
+use Rattle.std.specs.Prelude.{◌≡◌, ◌≤◌, ℕ, drop, slice_get, List, [], ◌∷◌, map, Option, Some, None, option_map, option_and_then, codes, if◌then◌else◌, nat_le}
+use Rattle.std.specs.Borrow.{Bor}
+use Rattle.std.specs.List.{Any}
 use Rattle.std.specs.Str.{bytes_eq}
 use Rattle.rv_text.specs.Numeral.{number_of, up_to}
 use Rattle.rv_text.specs.Hexadecimal.{word_of}
@@ -6,6 +8,9 @@ use Rattle.rvcollide.specs.declared.command.Job.{Job}
 use Rattle.rvcollide.specs.declared.command.Job.TheVariants.{Words, Hunt}
 
 -- Which job a command line asks for. A word is the list of its bytes.
+
+abbrev pub texts : List (Bor (List ℕ)) → List (List ℕ)
+texts words = map (λ word. word.now) words
 
 -- the number, if it is at least the limit
 abbrev pub from : ℕ → Option ℕ → Option ℕ
@@ -43,3 +48,10 @@ command_job name rest =
 unfoldable pub job_of : List (List ℕ) → Option Job
 job_of (name ∷ command ∷ rest) = command_job command rest
 job_of _ = None
+
+-- each required word of the job stands in the line, and each number lies in its range
+abbrev pub IsGiven : List (List ℕ) → Job → Type 0
+IsGiven words Words = slice_get words 1 ≡ Some (codes "words")
+IsGiven words (Hunt pc pause) = (slice_get words 1 ≡ Some (codes "hunt"))
+    × Any (λ word. word_of word ≡ Some pc) (drop 2 words) × Any (λ word. pause_of word ≡ Some pause) (drop 2 words)
+    × (1 ≤ pause) × (pause ≤ 65535)

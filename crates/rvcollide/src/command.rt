@@ -47,8 +47,9 @@ pub enum Notice {
 
 /// The job that the words of a command line ask for, the program's name first.
 pub fn command_of<'a>(alloc: Global, words: &'a [&'a str]) -> Result<Job, LineFault>
-    ensures { MatchResult result (λ job. spec.job_of (map (λ w. w.now) words.entry.now) ≡ Some job)
-        (λ e. (e ≡ LineFault.NoMemory) ⊎ (spec.job_of (map (λ w. w.now) words.entry.now) ≡ None)) }
+    ensures job { IfOk result (λ job. spec.job_of (spec.texts words.entry.now) ≡ Some job) }
+    ensures given { IfOk result (spec.IsGiven (spec.texts words.entry.now)) }
+    ensures line { IfErr result (λ e. e ≡ LineFault.Line → spec.job_of (spec.texts words.entry.now) ≡ None) }
 {
     match read_line(alloc, words) {
         Ok(matches) => job_in(&matches).ok_or(LineFault::Line),
@@ -58,8 +59,8 @@ pub fn command_of<'a>(alloc: Global, words: &'a [&'a str]) -> Result<Job, LineFa
 
 /// What to write of a line that `command_of` refuses. The words are the same, and the text is `clap`'s.
 pub fn notice_of<'a>(alloc: Global, words: &'a [&'a str]) -> Result<Notice, LineFault>
-    ensures answer { IfOk result (λ n. reading.is_answer n ≡ true → reading.asks (map (λ w. w.now) words.entry.now) ≡ true) }
-    ensures refusal { IfOk result (λ n. reading.is_answer n ≡ false → reading.only_asks (map (λ w. w.now) words.entry.now) ≡ false) }
+    ensures answer { IfOk result (λ n. reading.is_answer n ≡ true → reading.asks (spec.texts words.entry.now) ≡ true) }
+    ensures refusal { IfOk result (λ n. reading.is_answer n ≡ false → reading.only_asks (spec.texts words.entry.now) ≡ false) }
     ensures memory { IfErr result (λ e. e ≡ LineFault.NoMemory) }
 {
     match read_line(alloc, words) {
@@ -75,13 +76,16 @@ fn shown(alloc: Global, error: &Error) -> Result<Notice, LineFault>
 {
     match error.kind() {
         ErrorKind::OutOfMemory => Err(LineFault::NoMemory),
-        ErrorKind::DisplayHelp | ErrorKind::DisplayVersion => Ok(Notice::Answer(text(alloc, error)?)),
+        ErrorKind::DisplayHelp | ErrorKind::DisplayVersion => Ok(Notice::Answer(text(
+            alloc, error,
+        )?)),
         _ => Ok(Notice::Refusal(text(alloc, error)?)),
     }
 }
 
 /// Of a line that `clap` accepts.
-const NUMBER_REFUSED: &str = "error: a number is outside its range\n\nFor more information, try '--help'.\n";
+const NUMBER_REFUSED: &str =
+    "error: a number is outside its range\n\nFor more information, try '--help'.\n";
 
 fn text<T: Display>(alloc: Global, shown: &T) -> Result<String, LineFault>
     ensures { IfErr result (λ e. e ≡ LineFault.NoMemory) }
@@ -102,9 +106,9 @@ fn line_fault(error: &Error) -> LineFault
 /// What `clap` finds in the words.
 fn read_line<'a>(alloc: Global, words: &'a [&'a str]) -> Result<ArgMatches<'a>, Error>
     ensures job { MatchResult result
-        (λ m. option_and_then reading.job_in (subcommand_rows_of m) ≡ spec.job_of (map (λ w. w.now) words.entry.now))
-        (λ e. (kind_of e ≡ ErrorKind.OutOfMemory) ⊎ (spec.job_of (map (λ w. w.now) words.entry.now) ≡ None)) }
-    ensures kinds { FailsBy (fault_of reading.program (map (λ w. w.now) words.entry.now)) result }
+        (λ m. option_and_then reading.job_in (subcommand_rows_of m) ≡ spec.job_of (spec.texts words.entry.now))
+        (λ e. (kind_of e ≡ ErrorKind.OutOfMemory) ⊎ (spec.job_of (spec.texts words.entry.now) ≡ None)) }
+    ensures kinds { FailsBy (fault_of reading.program (spec.texts words.entry.now)) result }
 {
     program(alloc)?.try_get_matches_from(words)
 }
@@ -133,7 +137,9 @@ fn hunt_command<'a>(alloc: Global) -> Result<Command<'a>, AllocError>
 {
     Command::new(alloc, "hunt")
         .about("Runs them with one pause before an access")
-        .arg(required_word(alloc, "PC").help("Address of the instruction, eight hexadecimal digits"))?
+        .arg(required_word(alloc, "PC").help(
+            "Address of the instruction, eight hexadecimal digits",
+        ))?
         .arg(required_word(alloc, "PAUSE").help("Steps that the pause lasts, 1 to 65535"))
 }
 
