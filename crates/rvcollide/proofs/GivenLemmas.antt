@@ -66,10 +66,12 @@ job_given (n ∷ name ∷ rest) = by_words (bytes_eq (codes "words") name) refl
   where
     Given : Text → Option Job → Type 0
     Given w o = IfSome o (IsGiven (n ∷ w ∷ rest))
+
     by_hunt : (b : Bool) → bytes_eq (codes "words") name ≡ false → bytes_eq (codes "hunt") name ≡ b → Given name (command_job name rest)
     by_hunt true no_words hunt = subst (λ (w : Text). Given w (command_job w rest)) ((bytes_eq-Decides (codes "hunt") name).0 hunt)
         (hunt_given n rest (arguments rest) (λ P. argument_stands P rest))
     by_hunt false no_words no_hunt = rw (no_words, no_hunt) tt
+
     by_words : (b : Bool) → bytes_eq (codes "words") name ≡ b → Given name (command_job name rest)
     by_words true words = subst (λ (w : Text). Given w (command_job w rest)) ((bytes_eq-Decides (codes "words") name).0 words) (words_given n rest (arguments rest))
     by_words false no_words = by_hunt (bytes_eq (codes "hunt") name) no_words refl
