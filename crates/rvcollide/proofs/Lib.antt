@@ -1,3 +1,7 @@
+pub mod GivenLemmas
 pub mod InputSoFar
+pub mod LeafLemmas
 pub mod LineLemmas
 pub mod ReadBack
+pub mod ReadsLine
+pub mod WordLemmas

@@ -1,10 +1,12 @@
-use Rattle.std.proofs.Common.{sym, ◌∙◌, ◌≡◌, refl, ap, arith, true, Result, Ok, Err, inl, inr, [], ◌∷◌, false}
+use Rattle.std.proofs.Common.{sym, ◌∙◌, ◌≡◌, refl, ap, arith, true, List, None, Result, Ok, Err, inl, inr, [], ◌∷◌, false}
 use Rattle.std.proofs.lemmas.Bool.Decides.{nat_tests}
-use Rattle.std.specs.Prelude.{◌≢◌, not, ◌||◌, ◌&&◌, Bool, ◌⊎◌, MatchResult}
-use Rattle.clap.specs.Faults.{is_simple_and_free}
+use Rattle.std.specs.Prelude.{IfOk, option_and_then, if◌then◌else◌, ◌≢◌, not, ◌||◌, ◌&&◌, Bool, ◌⊎◌, MatchResult}
+use Rattle.clap.specs.Faults.{fault_of, is_simple_and_free}
 use Rattle.clap.specs.Kinds.{FailsBy, HasKind, IsAmong, Kinds}
 use Rattle.clap.specs.Matches.{first_value}
+use Rattle.clap.specs.Simple.{is_simple, subcommand_of, subcommand_rows_of}
 use Rattle.clap.specs.Values.{kind_of}
+use Rattle.clap.specs.declared.parser.matches.ArgMatches.{ArgMatches}
 use Rattle.clap.specs.Walk.{Text, first_of, is_empty, rows_of}
 use Rattle.clap.specs.declared.error.Error.{Error}
 use Rattle.clap.specs.declared.error.kind.ErrorKind.{ErrorKind}
@@ -13,20 +15,39 @@ use Rattle.std.specs.List.{list_all, list_any}
 use Rattle.clap.specs.declared.parser.matches.Found.{Found}
 use Rattle.clap.proofs.OnLiterals.{clap_on_literals}
 use Rattle.clap.proofs.WalkLemmas.{first_value-rows}
-use Rattle.rvcollide.specs.Command.{is_request, program}
+use Rattle.rvcollide.specs.Command.{job_of}
+use Rattle.rvcollide.specs.Reading.{is_request, job_in, job_read, program}
+use Rattle.rvcollide.proofs.LeafLemmas.{if_false}
+use Rattle.rvcollide.proofs.ReadsLine.{reads_line}
 
 -- `clap` says exactly what it makes of the program's words
 pub is_exact : is_simple_and_free program ≡ true
 unfolding clap_on_literals
 is_exact = refl
 
--- a parse succeeds only where the words have no fault, and fails for want of memory or for a fault
-pub faults_tell : {X : Type 0} (kinds : Kinds) (r : Result X Error) → FailsBy kinds r
-    → MatchResult r (λ _. is_empty kinds ≡ true) (λ e. (kind_of e ≡ kind.OutOfMemory) ⊎ (is_empty kinds ≡ false))
-faults_tell kinds (Ok m) none = ap is_empty none
-faults_tell kinds (Err e) (inl memory) = inl memory
-faults_tell [] (Err e) (inr among) = absurd among
-faults_tell (k ∷ ks) (Err e) (inr among) = inr (grind (arith, nat_tests))
+pub is_simple_program : is_simple program ≡ true
+unfolding clap_on_literals
+is_simple_program = refl
+
+accepted : (words : List Text) → fault_of program words ≡ [] → job_read words ≡ option_and_then job_in (subcommand_of program words)
+unfolding job_read
+accepted words none = ap (λ (kinds : Kinds). if is_empty kinds then option_and_then job_in (subcommand_of program words) else None) none
+
+among_some : (k : ErrorKind) (kinds : Kinds) → IsAmong k kinds → is_empty kinds ≡ false
+among_some k [] among = absurd among
+among_some k (x ∷ xs) among = grind (arith, nat_tests)
+
+refused : (words : List Text) → is_empty (fault_of program words) ≡ false → job_read words ≡ None
+unfolding job_read
+refused words some = if_false _ _ _ some
+
+-- a parse finds the job that the words spell, and fails for want of memory or where there is none
+pub job_told : (words : List Text) (r : Result ArgMatches Error) → FailsBy (fault_of program words) r
+    → IfOk r (λ m. subcommand_rows_of m ≡ subcommand_of program words)
+    → MatchResult r (λ m. option_and_then job_in (subcommand_rows_of m) ≡ job_of words) (λ e. (kind_of e ≡ kind.OutOfMemory) ⊎ (job_of words ≡ None))
+job_told words (Ok m) none rows = ap (option_and_then job_in) rows ∙ sym (accepted words none) ∙ reads_line words
+job_told words (Err e) (inl memory) rows = inl memory
+job_told words (Err e) (inr among) rows = inr (sym (reads_line words) ∙ refused words (among_some (kind_of e) _ among))
 
 pub text_found : (f : Found) (name : Text) → first_value f name ≡ first_of name (rows_of f)
 text_found f name = first_value-rows f name

@@ -1,40 +1,16 @@
-use Rattle.std.specs.Prelude.{ℕ, Bool, true, false, not, ◌&&◌, List, [], ◌∷◌, Option, Some, None, option_map, option_and_then, codes, if◌then◌else◌, nat_le}
-use Rattle.std.specs.List.{list_all, list_any}
+use Rattle.std.specs.Prelude.{◌≡◌, ◌≤◌, ℕ, drop, slice_get, List, [], ◌∷◌, map, Option, Some, None, option_map, option_and_then, codes, if◌then◌else◌, nat_le}
+use Rattle.std.specs.Borrow.{Bor}
+use Rattle.std.specs.List.{Any}
 use Rattle.std.specs.Str.{bytes_eq}
-use Rattle.clap.specs.Words.{App, Row, Rule, Shape, Text, first_of, new_app, new_rule, subcommand_of, with_subcommand}
-use Rattle.clap.specs.Walk.{is_empty}
-use Rattle.clap.specs.Simple.{new_shape, on_top}
-use Rattle.clap.specs.Faults.{fault_of}
-use Rattle.clap.specs.declared.error.kind.ErrorKind.{ErrorKind}
-use Rattle.clap.specs.declared.error.kind.ErrorKind.TheVariants as kind
 use Rattle.rv_text.specs.Numeral.{number_of, up_to}
 use Rattle.rv_text.specs.Hexadecimal.{word_of}
 use Rattle.rvcollide.specs.declared.command.Job.{Job}
 use Rattle.rvcollide.specs.declared.command.Job.TheVariants.{Words, Hunt}
-use Rattle.rvcollide.specs.declared.command.Notice.{Notice}
-use Rattle.rvcollide.specs.declared.command.Notice.TheVariants.{Answer, Refusal}
 
--- ---- the commands, as `clap` reads them
+-- Which job a command line asks for. A word is the list of its bytes.
 
--- a word that has to stand at its place after the command's name
-abbrev pub required_word : Text → Rule
-required_word name = record (new_rule name) { required = true }
-
-abbrev pub words_shape : Shape
-words_shape = new_shape (codes "words")
-
-abbrev pub hunt_shape : Shape
-hunt_shape = record (new_shape (codes "hunt")) {
-  rules = required_word (codes "PC") ∷ required_word (codes "PAUSE") ∷ [];
-}
-
-abbrev pub without_commands : App
-without_commands = on_top (λ s. record s { has_version = true; subcommand_required = true }) (new_app (codes "rvcollide"))
-
-abbrev pub program : App
-program = with_subcommand (with_subcommand without_commands words_shape) hunt_shape
-
--- ---- the numbers
+abbrev pub texts : List (Bor (List ℕ)) → List (List ℕ)
+texts words = map (λ word. word.now) words
 
 -- the number, if it is at least the limit
 abbrev pub from : ℕ → Option ℕ → Option ℕ
@@ -42,46 +18,40 @@ from least None = None
 from least (Some n) = if nat_le least n then Some n else None
 
 -- a pause's length: 1 to 65,535 in decimal digits, with no sign
-abbrev pub pause_of : Text → Option ℕ
+abbrev pub pause_of : List ℕ → Option ℕ
 pause_of text = from 1 (up_to 65535 (number_of 10 text))
 
--- ---- the job
+abbrev pub at_place : Option ℕ → Option ℕ → Option Job
+at_place pc pause = option_and_then (λ address. option_map (λ length. Hunt address length) pause) pc
 
-abbrev pub hunt_of : List Row → Option Job
-hunt_of rows =
-    option_and_then (λ pc. option_map (λ pause. Hunt pc pause) (option_and_then pause_of (first_of (codes "PAUSE") rows)))
-    (option_and_then word_of (first_of (codes "PC") rows))
+-- the words after a command's name, without a first `--`, which only says that no option follows
+abbrev pub arguments : List (List ℕ) → List (List ℕ)
+arguments [] = []
+arguments (word ∷ rest) = if bytes_eq word (codes "--") then rest else word ∷ arguments rest
 
-abbrev pub job_at : Text × List Row → Option Job
-job_at p =
-    if bytes_eq p.0 (codes "words") then Some Words
-    else (if bytes_eq p.0 (codes "hunt") then hunt_of p.1
+abbrev pub words_of : List (List ℕ) → Option Job
+words_of [] = Some Words
+words_of _ = None
+
+abbrev pub hunt_of : List (List ℕ) → Option Job
+hunt_of (pc ∷ pause ∷ []) = at_place (word_of pc) (pause_of pause)
+hunt_of _ = None
+
+-- the job of the command of this name with these words after it
+abbrev pub command_job : List ℕ → List (List ℕ) → Option Job
+command_job name rest =
+    if bytes_eq (codes "words") name then words_of (arguments rest)
+    else (if bytes_eq (codes "hunt") name then hunt_of (arguments rest)
     else None)
 
--- `clap` finds no fault in the words
-abbrev pub is_accepted : List Text → Bool
-is_accepted words = is_empty (fault_of program words)
+-- the job that a line asks for: the program's name, the command's, and the command's words
+unfoldable pub job_of : List (List ℕ) → Option Job
+job_of (name ∷ command ∷ rest) = command_job command rest
+job_of _ = None
 
--- the job that the words ask for, the program's name first; none where `clap` refuses the line or a
--- number is outside its range
-unfoldable pub job_of : List Text → Option Job
-job_of words = if is_accepted words then option_and_then job_at (subcommand_of program words) else None
-
--- ---- what is written of a line that gives no job
-
-abbrev pub is_request : ErrorKind → Bool
-is_request kind.DisplayHelp = true
-is_request kind.DisplayVersion = true
-is_request _ = false
-
--- among what `clap` may answer to the words is the help or the version
-abbrev pub asks : List Text → Bool
-asks words = list_any is_request (fault_of program words)
-
--- it is nothing else
-abbrev pub only_asks : List Text → Bool
-only_asks words = not (is_accepted words) && list_all is_request (fault_of program words)
-
-abbrev pub is_answer : Notice → Bool
-is_answer (Answer text) = true
-is_answer (Refusal text) = false
+-- each required word of the job stands in the line, and each number lies in its range
+abbrev pub IsGiven : List (List ℕ) → Job → Type 0
+IsGiven words Words = slice_get words 1 ≡ Some (codes "words")
+IsGiven words (Hunt pc pause) = (slice_get words 1 ≡ Some (codes "hunt"))
+    × Any (λ word. word_of word ≡ Some pc) (drop 2 words) × Any (λ word. pause_of word ≡ Some pause) (drop 2 words)
+    × (1 ≤ pause) × (pause ≤ 65535)

@@ -1,6 +1,7 @@
 pub mod Command
 pub mod HartsLine
 pub mod Prefix
+pub mod Reading
 pub mod StepsLine
 pub mod WordsInput
 pub mod WordsText

@@ -9,6 +9,7 @@ ghost use Rattle.clap.specs.Values.{kind_of};
 ghost use Rattle.clap.specs.Walk.{first_of, rows_of, rule_of};
 ghost use Rattle.clap.specs.declared.builder.command.Command.TheViews.{out-Command as fields_of};
 ghost use Rattle.rvcollide.specs.Command as spec;
+ghost use Rattle.rvcollide.specs.Reading as reading;
 
 use clap::error::ErrorKind;
 use clap::{Arg, ArgMatches, Command, Error};
@@ -45,10 +46,10 @@ pub enum Notice {
 }
 
 /// The job that the words of a command line ask for, the program's name first.
-#[tactic(auto, unfolding(crate::specs::Command::job_of))]
 pub fn command_of<'a>(alloc: Global, words: &'a [&'a str]) -> Result<Job, LineFault>
-    ensures { MatchResult result (λ job. spec.job_of (map (λ w. w.now) words.entry.now) ≡ Some job)
-        (λ e. (e ≡ LineFault.NoMemory) ⊎ (spec.job_of (map (λ w. w.now) words.entry.now) ≡ None)) }
+    ensures job { IfOk result (λ job. spec.job_of (spec.texts words.entry.now) ≡ Some job) }
+    ensures given { IfOk result (spec.IsGiven (spec.texts words.entry.now)) }
+    ensures line { IfErr result (λ e. e ≡ LineFault.Line → spec.job_of (spec.texts words.entry.now) ≡ None) }
 {
     match read_line(alloc, words) {
         Ok(matches) => job_in(&matches).ok_or(LineFault::Line),
@@ -58,8 +59,8 @@ pub fn command_of<'a>(alloc: Global, words: &'a [&'a str]) -> Result<Job, LineFa
 
 /// What to write of a line that `command_of` refuses. The words are the same, and the text is `clap`'s.
 pub fn notice_of<'a>(alloc: Global, words: &'a [&'a str]) -> Result<Notice, LineFault>
-    ensures answer { IfOk result (λ n. spec.is_answer n ≡ true → spec.asks (map (λ w. w.now) words.entry.now) ≡ true) }
-    ensures refusal { IfOk result (λ n. spec.is_answer n ≡ false → spec.only_asks (map (λ w. w.now) words.entry.now) ≡ false) }
+    ensures answer { IfOk result (λ n. reading.is_answer n ≡ true → reading.asks (spec.texts words.entry.now) ≡ true) }
+    ensures refusal { IfOk result (λ n. reading.is_answer n ≡ false → reading.only_asks (spec.texts words.entry.now) ≡ false) }
     ensures memory { IfErr result (λ e. e ≡ LineFault.NoMemory) }
 {
     match read_line(alloc, words) {
@@ -69,19 +70,22 @@ pub fn notice_of<'a>(alloc: Global, words: &'a [&'a str]) -> Result<Notice, Line
 }
 
 fn shown(alloc: Global, error: &Error) -> Result<Notice, LineFault>
-    ensures notice { IfOk result (λ n. (spec.is_answer n ≡ spec.is_request (kind_of error.now))
+    ensures notice { IfOk result (λ n. (reading.is_answer n ≡ reading.is_request (kind_of error.now))
         × (kind_of error.now ≢ ErrorKind.OutOfMemory)) }
     ensures memory { IfErr result (λ e. e ≡ LineFault.NoMemory) }
 {
     match error.kind() {
         ErrorKind::OutOfMemory => Err(LineFault::NoMemory),
-        ErrorKind::DisplayHelp | ErrorKind::DisplayVersion => Ok(Notice::Answer(text(alloc, error)?)),
+        ErrorKind::DisplayHelp | ErrorKind::DisplayVersion => Ok(Notice::Answer(text(
+            alloc, error,
+        )?)),
         _ => Ok(Notice::Refusal(text(alloc, error)?)),
     }
 }
 
 /// Of a line that `clap` accepts.
-const NUMBER_REFUSED: &str = "error: a number is outside its range\n\nFor more information, try '--help'.\n";
+const NUMBER_REFUSED: &str =
+    "error: a number is outside its range\n\nFor more information, try '--help'.\n";
 
 fn text<T: Display>(alloc: Global, shown: &T) -> Result<String, LineFault>
     ensures { IfErr result (λ e. e ≡ LineFault.NoMemory) }
@@ -101,18 +105,17 @@ fn line_fault(error: &Error) -> LineFault
 
 /// What `clap` finds in the words.
 fn read_line<'a>(alloc: Global, words: &'a [&'a str]) -> Result<ArgMatches<'a>, Error>
-    ensures command { IfOk result (λ m.
-        subcommand_rows_of m ≡ subcommand_of spec.program (map (λ w. w.now) words.entry.now)) }
-    ensures kinds { FailsBy (fault_of spec.program (map (λ w. w.now) words.entry.now)) result }
-    ensures faults { MatchResult result (λ _. spec.is_accepted (map (λ w. w.now) words.entry.now) ≡ true)
-        (λ e. (kind_of e ≡ ErrorKind.OutOfMemory) ⊎ (spec.is_accepted (map (λ w. w.now) words.entry.now) ≡ false)) }
+    ensures job { MatchResult result
+        (λ m. option_and_then reading.job_in (subcommand_rows_of m) ≡ spec.job_of (spec.texts words.entry.now))
+        (λ e. (kind_of e ≡ ErrorKind.OutOfMemory) ⊎ (spec.job_of (spec.texts words.entry.now) ≡ None)) }
+    ensures kinds { FailsBy (fault_of reading.program (spec.texts words.entry.now)) result }
 {
     program(alloc)?.try_get_matches_from(words)
 }
 
 /// The program with all its commands.
 fn program<'a>(alloc: Global) -> Result<Command<'a>, AllocError>
-    ensures { IfOk result (λ c. app_of c ≡ spec.program) }
+    ensures { IfOk result (λ c. app_of c ≡ reading.program) }
 {
     Command::new(alloc, "rvcollide")
         .version("0.1.0")
@@ -123,24 +126,26 @@ fn program<'a>(alloc: Global) -> Result<Command<'a>, AllocError>
 }
 
 fn words_command<'a>(alloc: Global) -> Command<'a>
-    ensures shape { shape_of result ≡ spec.words_shape }
+    ensures shape { shape_of result ≡ reading.words_shape }
     ensures local { (fields_of result).has_globals ≡ false }
 {
     Command::new(alloc, "words").about("Runs the words of the standard input")
 }
 
 fn hunt_command<'a>(alloc: Global) -> Result<Command<'a>, AllocError>
-    ensures { IfOk result (λ c. (shape_of c ≡ spec.hunt_shape) × ((fields_of c).has_globals ≡ false)) }
+    ensures { IfOk result (λ c. (shape_of c ≡ reading.hunt_shape) × ((fields_of c).has_globals ≡ false)) }
 {
     Command::new(alloc, "hunt")
         .about("Runs them with one pause before an access")
-        .arg(required_word(alloc, "PC").help("Address of the instruction, eight hexadecimal digits"))?
+        .arg(required_word(alloc, "PC").help(
+            "Address of the instruction, eight hexadecimal digits",
+        ))?
         .arg(required_word(alloc, "PAUSE").help("Steps that the pause lasts, 1 to 65535"))
 }
 
 /// An argument that has to stand at its place.
 fn required_word<'a>(alloc: Global, name: &'a str) -> Arg<'a>
-    ensures rule { rule_of result ≡ spec.required_word name.entry.now }
+    ensures rule { rule_of result ≡ reading.required_word name.entry.now }
     ensures local { result.global ≡ false }
 {
     Arg::new(alloc, name).required(true)
@@ -148,7 +153,7 @@ fn required_word<'a>(alloc: Global, name: &'a str) -> Arg<'a>
 
 /// The job that `clap` found.
 fn job_in(matches: &ArgMatches<'_>) -> Option<Job>
-    ensures { result ≡ option_and_then spec.job_at (subcommand_rows_of matches.now) }
+    ensures { result ≡ option_and_then reading.job_in (subcommand_rows_of matches.now) }
 {
     let (name, given) = matches.subcommand()?;
     job_at(name, given)
@@ -156,7 +161,7 @@ fn job_in(matches: &ArgMatches<'_>) -> Option<Job>
 
 /// The job of the command of this name.
 fn job_at(name: &str, given: &ArgMatches<'_>) -> Option<Job>
-    ensures { result ≡ spec.job_at (name.now, rows_of (found_of given.now)) }
+    ensures { result ≡ reading.job_in (name.now, rows_of (found_of given.now)) }
 {
     match name {
         "words" => Some(Job::Words),
@@ -166,7 +171,7 @@ fn job_at(name: &str, given: &ArgMatches<'_>) -> Option<Job>
 }
 
 fn hunt_of(given: &ArgMatches<'_>) -> Option<Job>
-    ensures { result ≡ spec.hunt_of (rows_of (found_of given.now)) }
+    ensures { result ≡ reading.hunt_in (rows_of (found_of given.now)) }
 {
     let pc = read_word(text_of(given, "PC")?.as_bytes())?;
     let pause = read_pause(text_of(given, "PAUSE")?)?;

@@ -1,5 +1,5 @@
 use Rattle.std.proofs.lemmas.Result.{IfOk-weaker}
-use Rattle.rvcollide.specs.Command.{is_answer}
+use Rattle.rvcollide.specs.Reading.{is_answer}
 use Rattle.rvcollide.proofs.LineLemmas.{answer_asked, refusal_told}
 use Rattle.rvcollide.proofs.command.notice_of.Goals as goal
 
