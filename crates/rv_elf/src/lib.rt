@@ -1,0 +1,19 @@
+//! ELF32 images for RV32IA guests: read, tested, written and read back.
+//!
+//! To the layer above, an `Image` is its entry, its segments and its symbols, with every fact that
+//! `load` tests (`specs/Contents.antt`), and `load` is `loaded` of the file's bytes
+//! (`specs/Loaded.antt`).
+#![tactic(auto)]
+
+mod fault;
+mod header;
+mod headers;
+mod layout;
+mod names;
+mod segments;
+mod stretch;
+mod symbol;
+mod symbols;
+
+pub use fault::LoadFault;
+pub use symbol::Symbol;
