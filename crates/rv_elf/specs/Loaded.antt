@@ -158,8 +158,9 @@ symbol_named s (Some name) = if is_utf8 name && nat_le 1 (length name) then Some
 abbrev pub kept : List ℕ → SymbolEntry → Option Named
 kept strings s = if is_candidate s then symbol_named s (name_of strings s) else None
 
-unfoldable pub entries_of : SymbolTable → List SymbolEntry
-entries_of t = records symbol_entry 16 (length t.symbols / 16) t.symbols
+-- the entries of a symbol table
+unfoldable pub entries_of : List ℕ → List SymbolEntry
+entries_of symbols = records symbol_entry 16 (length symbols / 16) symbols
 
 -- the symbols of the entries, in their order
 unfoldable pub symbols_among : List ℕ → List SymbolEntry → List Named
@@ -181,7 +182,7 @@ loaded bytes = do
   let segments = map (segment bytes) headers
   _ ← segments_test header.e_entry segments
   table ← symbol_table header bytes
-  let entries = entries_of table
+  let entries = entries_of table.symbols
   _ ← entries_test 67_108_864 table.strings entries
   Ok (record { entry = header.e_entry; segments = segments; symbols = symbols_among table.strings entries })
 

@@ -1,5 +1,5 @@
 //! The segments of a file, from its program headers.
-ghost use Rattle.std.specs.Prelude.{◌≡◌, ◌*◌, ◌+◌, ◌≤◌, map, length};
+ghost use Rattle.std.specs.Prelude.{◌≡◌, ◌*◌, ◌≤◌, map, length, take, drop, IfOk};
 ghost use Rattle.std.specs.List.{filter, list_any};
 ghost use Rattle.rv_elf.specs.Layout as layout_spec;
 ghost use Rattle.rv_elf.specs.Loaded as spec;
@@ -7,10 +7,17 @@ ghost use Rattle.rv_elf.specs.Loaded as spec;
 use crate::fault::LoadFault;
 use crate::headers::Headers;
 use crate::layout::{FileHeader, PROGRAM_HEADER_SIZE, ProgramHeader, part};
+use rv_memory::region::Region;
+use rv_memory::store::NoMemory;
+use std::alloc::Global;
 
 const PT_LOAD: u32 = 1;
 const PT_DYNAMIC: u32 = 2;
 const PT_INTERP: u32 = 3;
+
+const PF_X: u32 = 1;
+const PF_W: u32 = 2;
+const PF_R: u32 = 4;
 
 fn is_dynamic(header: &ProgramHeader) -> bool
     ensures { result ≡ spec.is_dynamic header.now }
@@ -103,4 +110,42 @@ pub fn each_segment_test(bytes: &[u8], headers: &[ProgramHeader]) -> Result<(), 
         segment_test(bytes, header)?;
     }
     Ok(())
+}
+
+/// The `size` bytes from `offset` on, as far as there are any.
+fn bytes_at(bytes: &[u8], offset: u32, size: u32) -> &[u8]
+    ensures { result.now ≡ take size (drop offset bytes.now) }
+{
+    let (_, after) = bytes.split_at(bytes.len().min(offset as usize));
+    let (found, _) = after.split_at(after.len().min(size as usize));
+    found
+}
+
+/// The segment that a program header describes.
+fn segment(alloc: Global, bytes: &[u8], header: &ProgramHeader) -> Result<Region, NoMemory>
+    ensures { IfOk result (λ region. region ≡ spec.segment bytes.now header.now) }
+{
+    Ok(Region {
+        start: header.p_vaddr,
+        bytes: Vec::from_slice(alloc, bytes_at(bytes, header.p_offset, header.p_filesz))?,
+        len: header.p_memsz,
+        r: header.p_flags & PF_R != 0,
+        w: header.p_flags & PF_W != 0,
+        x: header.p_flags & PF_X != 0,
+    })
+}
+
+/// The segments that the program headers describe.
+pub fn segments(
+    alloc: Global,
+    bytes: &[u8],
+    headers: &[ProgramHeader],
+) -> Result<Vec<Region>, NoMemory>
+    ensures { IfOk result (λ segments. segments.items ≡ map (spec.segment bytes.now) headers.now) }
+{
+    let mut segments = Vec::new(alloc);
+    for header in headers {
+        segments.push(segment(alloc, bytes, header)?)?;
+    }
+    Ok(segments)
 }

@@ -1,6 +1,6 @@
 //! The symbol table of a file.
-ghost use Rattle.std.specs.Prelude.{◌≡◌, ◌*◌, ◌≤◌, ◌==◌, length, slice_get, IfOk};
-ghost use Rattle.std.specs.List.{find};
+ghost use Rattle.std.specs.Prelude.{◌≡◌, ◌*◌, ◌≤◌, ◌==◌, ◌++◌, [], length, slice_get, IfOk, OnOk};
+ghost use Rattle.std.specs.List.{find, cons_option};
 ghost use Rattle.rv_elf.specs.Layout as layout_spec;
 ghost use Rattle.rv_elf.specs.Loaded as spec;
 
@@ -31,6 +31,22 @@ impl<'a> Model for SymbolTable<'a> {
     ghost Value = { SymbolTable };
 
     ghost view = { λ t. record { symbols = t.symbols.now; strings = t.strings.now } };
+}
+
+impl SymbolTable<'_> {
+    /// What is wanted of the entries.
+    pub fn test(&self) -> Result<(), LoadFault>
+        ensures { result ≡ spec.entries_test 67_108_864 self.now.strings (spec.entries_of self.now.symbols) }
+    {
+        entries_test(self.symbols, self.strings)
+    }
+
+    /// The symbols, in order.
+    pub fn symbols(&self, alloc: Global) -> Result<Vec<Symbol>, NoMemory>
+        ensures { IfOk result (λ found. found.items ≡ spec.symbols_among self.now.strings (spec.entries_of self.now.symbols)) }
+    {
+        symbols_among(alloc, self.symbols, self.strings)
+    }
 }
 
 /// The header of the section of that index, if there is one.
@@ -113,4 +129,72 @@ pub fn symbol_table<'a>(header: &FileHeader, bytes: &'a [u8]) -> Result<SymbolTa
         }),
         Some(table) => linked_table(bytes, sections, header.e_shnum, &table),
     }
+}
+
+/// Whether each candidate's name ends within the strings, and the symbols have room.
+#[tactic(auto, unfolding(crate::specs::Loaded::entries_of))]
+fn entries_test(symbols: &[u8], strings: &[u8]) -> Result<(), LoadFault>
+    ensures { result ≡ spec.entries_test 67_108_864 strings.now (spec.entries_of symbols.now) }
+{
+    let count = symbols.len() / SYMBOL_ENTRY_SIZE;
+    let mut room = ROOM;
+    let mut rest = symbols;
+    for _ in 0..count {
+        let entry = SymbolEntry::read(rest);
+        room = room_with(room, strings, &entry)?;
+        let (_, after) = rest.split_at(SYMBOL_ENTRY_SIZE);
+        rest = after;
+    }
+    Ok(())
+}
+
+/// The symbol that an entry stands for, if it stands for one.
+fn symbol_of(
+    alloc: Global,
+    strings: &[u8],
+    entry: &SymbolEntry,
+) -> Result<Option<Symbol>, NoMemory>
+    ensures { IfOk result (λ found. found ≡ spec.kept strings.now entry.now) }
+{
+    if !is_candidate(entry) {
+        return Ok(None);
+    }
+    let Some(name) = name_of(strings, entry) else {
+        return Ok(None);
+    };
+    let Some(text) = text_of(name) else {
+        return Ok(None);
+    };
+    Ok(Some(Symbol {
+        name: String::from_str(alloc, text)?,
+        value: entry.st_value,
+        size: entry.st_size,
+        kind: entry.st_info % 16,
+    }))
+}
+
+fn push_some(found: &mut Vec<Symbol>, symbol: Option<Symbol>) -> Result<(), NoMemory>
+    ensures { OnOk result (found.new.items ≡ found.old.items ++ cons_option symbol []) }
+{
+    if let Some(symbol) = symbol {
+        found.push(symbol)?;
+    }
+    Ok(())
+}
+
+/// The symbols that the entries stand for, in order.
+#[tactic(auto, unfolding(crate::specs::Loaded::entries_of))]
+fn symbols_among(alloc: Global, symbols: &[u8], strings: &[u8]) -> Result<Vec<Symbol>, NoMemory>
+    ensures { IfOk result (λ found. found.items ≡ spec.symbols_among strings.now (spec.entries_of symbols.now)) }
+{
+    let count = symbols.len() / SYMBOL_ENTRY_SIZE;
+    let mut found = Vec::new(alloc);
+    let mut rest = symbols;
+    for _ in 0..count {
+        let entry = SymbolEntry::read(rest);
+        push_some(&mut found, symbol_of(alloc, strings, &entry)?)?;
+        let (_, after) = rest.split_at(SYMBOL_ENTRY_SIZE);
+        rest = after;
+    }
+    Ok(found)
 }
