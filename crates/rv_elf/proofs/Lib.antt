@@ -1,4 +1,6 @@
 pub mod Entries
+pub mod Facts
+pub mod Stages
 pub mod Stretches
 pub mod Tables
 pub mod Texts

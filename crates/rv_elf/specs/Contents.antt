@@ -18,6 +18,9 @@ pub record Contents : Type 0 where
   pub segments : List Extent
   pub symbols : List Named
 
+abbrev pub contents : ℕ → List Extent → List Named → Contents
+contents entry segments symbols = record { entry = entry; segments = segments; symbols = symbols }
+
 -- the addresses that are kept for the harts' stacks, from 0xC0000000 up to below 0xC0100000
 abbrev pub stacks : Extent
 stacks = record { start = 0xc000_0000; bytes = []; len = 0x10_0000; r = true; w = true; x = false }

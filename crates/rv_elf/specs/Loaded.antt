@@ -13,7 +13,7 @@ use Rattle.rv_elf.specs.declared.layout.ProgramHeader.{ProgramHeader}
 use Rattle.rv_elf.specs.declared.layout.SectionHeader.{SectionHeader}
 use Rattle.rv_elf.specs.declared.layout.SymbolEntry.{SymbolEntry}
 use Rattle.rv_elf.specs.Layout.{file_header, program_header, section_header, symbol_entry, part, records}
-use Rattle.rv_elf.specs.Contents.{Named, Contents, stacks, need_of}
+use Rattle.rv_elf.specs.Contents.{Named, Contents, contents, stacks, need_of}
 
 infixl 10 ◌>>=◌
 abbrev pub ◌>>=◌ : {A B : Type 0} → Result A LoadFault → (A → Result B LoadFault) → Result B LoadFault
@@ -184,7 +184,7 @@ loaded bytes = do
   table ← symbol_table header bytes
   let entries = entries_of table.symbols
   _ ← entries_test 67_108_864 table.strings entries
-  Ok (record { entry = header.e_entry; segments = segments; symbols = symbols_among table.strings entries })
+  Ok (contents header.e_entry segments (symbols_among table.strings entries))
 
 -- why no image was made: the test that failed, or else want of memory
 abbrev pub refusal : Result Contents LoadFault → LoadFault

@@ -8,7 +8,9 @@
 mod fault;
 mod header;
 mod headers;
+mod image;
 mod layout;
+mod loading;
 mod names;
 mod segments;
 mod stretch;
@@ -16,4 +18,6 @@ mod symbol;
 mod symbols;
 
 pub use fault::LoadFault;
+pub use image::Image;
+pub use loading::load;
 pub use symbol::Symbol;

@@ -1,6 +1,6 @@
 //! The segments of a file, from its program headers.
-ghost use Rattle.std.specs.Prelude.{◌≡◌, ◌*◌, ◌≤◌, map, length, take, drop, IfOk};
-ghost use Rattle.std.specs.List.{filter, list_any};
+ghost use Rattle.std.specs.Prelude.{◌≡◌, ◌*◌, ◌≤◌, map, length, take, drop, IsTrue, IfOk};
+ghost use Rattle.std.specs.List.{All, filter, list_any};
 ghost use Rattle.rv_elf.specs.Layout as layout_spec;
 ghost use Rattle.rv_elf.specs.Loaded as spec;
 
@@ -56,7 +56,8 @@ fn headers_in(table: &[u8], count: u16) -> Headers
 /// Those of the headers that describe a segment with a byte of memory.
 fn loaded(headers: &[ProgramHeader]) -> Headers
     requires { length headers.now ≤ 64 }
-    ensures { result ≡ filter spec.is_loaded headers.now }
+    ensures those { result ≡ filter spec.is_loaded headers.now }
+    ensures each { All (λ h. IsTrue (spec.is_loaded h)) result }
 {
     let mut loaded = Headers::new();
     for header in headers {
@@ -70,7 +71,8 @@ fn loaded(headers: &[ProgramHeader]) -> Headers
 /// The program headers of the file's segments, in order.
 #[tactic(auto, unfolding(crate::specs::Loaded::loaded_headers))]
 pub fn loaded_headers(header: &FileHeader, bytes: &[u8]) -> Result<Headers, LoadFault>
-    ensures { result ≡ spec.loaded_headers header.now bytes.now }
+    ensures value { result ≡ spec.loaded_headers header.now bytes.now }
+    ensures each { IfOk result (λ found. All (λ h. IsTrue (spec.is_loaded h)) found) }
 {
     if header.e_phnum > 64 {
         return Err(LoadFault::TooManySegments);

@@ -1,6 +1,8 @@
 //! The symbol table of a file.
 ghost use Rattle.std.specs.Prelude.{◌≡◌, ◌*◌, ◌≤◌, ◌==◌, ◌++◌, [], length, slice_get, IfOk, OnOk};
-ghost use Rattle.std.specs.List.{find, cons_option};
+ghost use Rattle.std.specs.List.{All, find, cons_option};
+ghost use Rattle.std.specs.Option.{ForSome};
+ghost use Rattle.rv_elf.specs.Contents.{IsSymbol};
 ghost use Rattle.rv_elf.specs.Layout as layout_spec;
 ghost use Rattle.rv_elf.specs.Loaded as spec;
 
@@ -43,7 +45,8 @@ impl SymbolTable<'_> {
 
     /// The symbols, in order.
     pub fn symbols(&self, alloc: Global) -> Result<Vec<Symbol>, NoMemory>
-        ensures { IfOk result (λ found. found.items ≡ spec.symbols_among self.now.strings (spec.entries_of self.now.symbols)) }
+        ensures those { IfOk result (λ found. found.items ≡ spec.symbols_among self.now.strings (spec.entries_of self.now.symbols)) }
+        ensures sound { IfOk result (λ found. All IsSymbol found.items) }
     {
         symbols_among(alloc, self.symbols, self.strings)
     }
@@ -154,7 +157,8 @@ fn symbol_of(
     strings: &[u8],
     entry: &SymbolEntry,
 ) -> Result<Option<Symbol>, NoMemory>
-    ensures { IfOk result (λ found. found ≡ spec.kept strings.now entry.now) }
+    ensures value { IfOk result (λ found. found ≡ spec.kept strings.now entry.now) }
+    ensures sound { IfOk result (λ found. ForSome found IsSymbol) }
 {
     if !is_candidate(entry) {
         return Ok(None);
@@ -165,16 +169,18 @@ fn symbol_of(
     let Some(text) = text_of(name) else {
         return Ok(None);
     };
+    let (value, size) = (entry.st_value, entry.st_size);
     Ok(Some(Symbol {
         name: String::from_str(alloc, text)?,
-        value: entry.st_value,
-        size: entry.st_size,
+        value,
+        size,
         kind: entry.st_info % 16,
     }))
 }
 
 fn push_some(found: &mut Vec<Symbol>, symbol: Option<Symbol>) -> Result<(), NoMemory>
-    ensures { OnOk result (found.new.items ≡ found.old.items ++ cons_option symbol []) }
+    ensures pushed { OnOk result (found.new.items ≡ found.old.items ++ cons_option symbol []) }
+    ensures sound { ForSome symbol IsSymbol → All IsSymbol found.old.items → OnOk result (All IsSymbol found.new.items) }
 {
     if let Some(symbol) = symbol {
         found.push(symbol)?;
@@ -185,7 +191,8 @@ fn push_some(found: &mut Vec<Symbol>, symbol: Option<Symbol>) -> Result<(), NoMe
 /// The symbols that the entries stand for, in order.
 #[tactic(auto, unfolding(crate::specs::Loaded::entries_of))]
 fn symbols_among(alloc: Global, symbols: &[u8], strings: &[u8]) -> Result<Vec<Symbol>, NoMemory>
-    ensures { IfOk result (λ found. found.items ≡ spec.symbols_among strings.now (spec.entries_of symbols.now)) }
+    ensures those { IfOk result (λ found. found.items ≡ spec.symbols_among strings.now (spec.entries_of symbols.now)) }
+    ensures sound { IfOk result (λ found. All IsSymbol found.items) }
 {
     let count = symbols.len() / SYMBOL_ENTRY_SIZE;
     let mut found = Vec::new(alloc);
