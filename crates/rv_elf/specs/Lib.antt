@@ -2,3 +2,4 @@ pub mod Layout
 pub mod Contents
 pub mod Loaded
 pub mod Steps
+pub mod Written

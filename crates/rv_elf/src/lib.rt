@@ -12,10 +12,13 @@ mod image;
 mod layout;
 mod loading;
 mod names;
+mod places;
+mod put;
 mod segments;
 mod stretch;
 mod symbol;
 mod symbols;
+mod writing;
 
 pub use fault::LoadFault;
 pub use image::Image;
