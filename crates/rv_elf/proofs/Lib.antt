@@ -1,5 +1,6 @@
 pub mod Entries
 pub mod Facts
+pub mod Sizes
 pub mod Stages
 pub mod Stretches
 pub mod Tables

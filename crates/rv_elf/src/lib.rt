@@ -24,3 +24,4 @@ pub use fault::LoadFault;
 pub use image::Image;
 pub use loading::load;
 pub use symbol::Symbol;
+pub use writing::write;

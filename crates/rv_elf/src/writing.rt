@@ -1,6 +1,7 @@
 //! Writing: the one file of an image.
 ghost use Rattle.std.specs.Prelude.{◌≡◌, ◌+◌, ◌*◌, ◌≤◌, ◌^◌, ◌<◌, ◌++◌, length, IfOk, OnOk};
 ghost use Rattle.std.specs.List.{All, flat_map, sum_by};
+ghost use Rattle.rv_elf.specs.Contents.{AreSegments, AreSymbols};
 ghost use Rattle.rv_elf.specs.Written as spec;
 
 use crate::header;
@@ -272,4 +273,45 @@ fn put_tables(
     put_section_names(out)?;
     put_padding(out, places.names + SECTION_NAMES_SIZE)?;
     put_sections(out, places)
+}
+
+const NO_SECTIONS: Sections = Sections {
+    offset: 0,
+    count: 0,
+    names: 0,
+};
+
+/// The file of parts that make an image.
+fn write_parts(
+    alloc: Global,
+    entry: u32,
+    segments: &[Region],
+    symbols: &[Symbol],
+) -> Result<Vec<u8>, NoMemory>
+    requires segments { AreSegments entry segments.now }
+    requires symbols { AreSymbols symbols.now }
+    ensures { IfOk result (λ bytes. bytes.items ≡ spec.written_parts entry segments.now symbols.now) }
+{
+    let mut out = Vec::new(alloc);
+    if symbols.is_empty() {
+        put_front(&mut out, entry, segments, NO_SECTIONS)?;
+        return Ok(out);
+    }
+    let places = places_of(segments, symbols);
+    let sections = Sections {
+        offset: places.sections,
+        count: 4,
+        names: 3,
+    };
+    put_front(&mut out, entry, segments, sections)?;
+    put_tables(&mut out, data_end(segments), symbols, places)?;
+    Ok(out)
+}
+
+/// The file of an image (System V ABI, ELF32), which loads as the image.
+#[tactic(auto, unfolding(crate::specs::Written::written))]
+pub fn write(alloc: Global, image: &Image) -> Result<Vec<u8>, NoMemory>
+    ensures file { IfOk result (λ bytes. bytes.items ≡ spec.written image.now) }
+{
+    write_parts(alloc, image.entry(), image.segments(), image.symbols())
 }
