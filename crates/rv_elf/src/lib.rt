@@ -25,3 +25,6 @@ pub use image::Image;
 pub use loading::load;
 pub use symbol::Symbol;
 pub use writing::write;
+
+#[cfg(test)]
+mod tests;
