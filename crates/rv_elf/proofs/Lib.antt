@@ -1,6 +1,8 @@
 pub mod Entries
 pub mod Facts
 pub mod Sizes
+pub mod ReadBack
+pub mod SegmentsBack
 pub mod Stages
 pub mod Stretches
 pub mod Tables
