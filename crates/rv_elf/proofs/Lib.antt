@@ -3,6 +3,7 @@ pub mod Facts
 pub mod Sizes
 pub mod ReadBack
 pub mod SegmentsBack
+pub mod SymbolsBack
 pub mod Stages
 pub mod Stretches
 pub mod Tables
