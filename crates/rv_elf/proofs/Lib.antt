@@ -4,6 +4,7 @@ pub mod Sizes
 pub mod ReadBack
 pub mod SegmentsBack
 pub mod SymbolsBack
+pub mod LoadsAgain
 pub mod Stages
 pub mod Stretches
 pub mod Tables

@@ -116,11 +116,11 @@ all_loaded (s ∷ ss) offset are =
     let not_empty : eqb s.len 0 ≡ false = ne_eqb s.len 0 (λ e. absurd (omega (arith, e, some))) in
     rw (not_empty, all_loaded ss (offset + length s.bytes) are.1) refl
 
-headers_count : (segments : List Extent) (offset : ℕ) → length (headers_from offset segments) ≡ length segments
+pub headers_count : (segments : List Extent) (offset : ℕ) → length (headers_from offset segments) ≡ length segments
 headers_count [] offset = refl
 headers_count (s ∷ ss) offset = ap suc (headers_count ss (offset + length s.bytes))
 
-table_len : (hs : List ProgramHeader) → length (flat_map program_header_bytes hs) ≡ 32 * length hs
+pub table_len : (hs : List ProgramHeader) → length (flat_map program_header_bytes hs) ≡ 32 * length hs
 table_len [] = refl
 table_len (h ∷ hs) = omega (arith, table_len hs, program_header_len h, length-append (program_header_bytes h) (flat_map program_header_bytes hs))
 

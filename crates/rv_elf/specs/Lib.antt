@@ -3,3 +3,4 @@ pub mod Contents
 pub mod Loaded
 pub mod Steps
 pub mod Written
+pub mod Laws
