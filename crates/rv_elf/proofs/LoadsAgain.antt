@@ -1,6 +1,6 @@
 -- The file of an image loads as the image.
 use Rattle.std.proofs.Common.{◌≡◌, ℕ, zero, suc, ◌+◌, ◌-◌, ◌*◌, ◌/◌, ◌%◌, ◌^◌, ◌<◌, ◌≤◌, Bool, true, false, ◌&&◌, ◌||◌, cond, eqb, leb, Option, Some, None, List, [], ◌∷◌, ◌++◌, map, length, take, drop, replicate, Result, Ok, Err, All, refl, sym, ap, ◌∙◌, append_assoc, arith, inl, inr}
-use Rattle.std.specs.List.{AllByRecursion, flat_map, list_any, sum_by}
+use Rattle.std.specs.List.{AllByRecursion, find, flat_map, list_any, sum_by}
 use Rattle.std.proofs.lemmas.Bool.{and_parts, eq-eqb, le-leb, leb-true, ne_eqb, or_cases}
 use Rattle.std.proofs.lemmas.List.{append-nil, length-append, length-replicate}
 use Rattle.std.proofs.lemmas.List.Concat.{length-flat_map}
@@ -17,8 +17,8 @@ use Rattle.rv_elf.specs.declared.places.Places.{Places}
 use Rattle.rv_elf.specs.declared.writing.Sections.{Sections}
 use Rattle.rv_elf.specs.Contents.{Named, Contents, contents, IsSegment, AreSegments, AreSymbols, IsImage}
 use Rattle.rv_elf.specs.Layout.{file_header, section_header, part, records}
-use Rattle.rv_elf.specs.Loaded.{◌>>=◌, want, header_test, header_of, loaded_headers, segment, each_segment_test, segments_test, SymbolTable, no_table, linked_table, symbol_table, entries_of, entries_test, symbols_among, loaded}
-use Rattle.rv_elf.specs.Written.{file_header_bytes, program_header_bytes, section_header_bytes, no_sections, header_for, headers_from, data_start, front, symbol_bytes, string_table, section_names, aligned, padding, data_end, strings_len, places_of, symbol_section, sections_of, tables, written_with, written_parts, written}
+use Rattle.rv_elf.specs.Loaded.{◌>>=◌, want, table_among, header_test, header_of, loaded_headers, segment, each_segment_test, segments_test, SymbolTable, no_table, linked_table, symbol_table, entries_of, entries_test, symbols_among, loaded}
+use Rattle.rv_elf.specs.Written.{file_header_bytes, program_header_bytes, section_header_bytes, no_sections, header_for, headers_from, data_start, front, symbol_bytes, string_table, section_names, aligned, padding, data_end, strings_len, places_of, symbol_section, string_section, sections_of, tables, written_with, written_parts, written}
 use Rattle.rv_elf.specs.Laws.{LoadsAgain}
 use Rattle.rv_elf.proofs.Facts.{AreApart, test_from_apart}
 use Rattle.rv_elf.proofs.ReadBack.{FileHeaderFits, SectionHeaderFits, part_at, records_back, file_header_back, file_header_len, section_header_back, section_header_len}
@@ -115,3 +115,171 @@ front_loads entry segments sections rest t are fit table entries =
     let fourth : map (segment (((hb ++ pb) ++ db) ++ rest)) hs ≡ segments = ap (λ file. map (segment file) hs) (front_data hb pb db rest) ∙ segments_back segments (hb ++ pb) rest (data_start segments) start in
     let fifth = test_from_apart entry segments (record { apart = are.apart; small = are.small; aligned = are.aligned; executable = are.executable }) in
     stages_back (((hb ++ pb) ++ db) ++ rest) h hs segments t first second third fourth fifth table entries
+
+-- ---- the tables behind it
+
+-- where the tables lie
+record ArePlaced (end : ℕ) (named : List Named) (p : Places) : Type 0 where
+  symbols : p.symbols ≡ aligned end
+  strings : p.strings ≡ p.symbols + 16 * (1 + length named)
+  names : p.names ≡ p.strings + strings_len named
+  sections : p.sections ≡ aligned (p.names + 27)
+  some : 52 ≤ p.sections
+  small : p.sections < 2 ^ 32
+
+placed_symbols : (f p s n x q h : List ℕ) → f ++ (((((p ++ s) ++ n) ++ x) ++ q) ++ h) ≡ (f ++ p) ++ (s ++ (n ++ (x ++ (q ++ h))))
+placed_symbols f p s n x q h = simp append_assoc
+
+placed_strings : (f p s n x q h : List ℕ) → f ++ (((((p ++ s) ++ n) ++ x) ++ q) ++ h) ≡ (f ++ (p ++ s)) ++ (n ++ (x ++ (q ++ h)))
+placed_strings f p s n x q h = simp append_assoc
+
+placed_sections : (f p s n x q h : List ℕ) → f ++ (((((p ++ s) ++ n) ++ x) ++ q) ++ h) ≡ (f ++ ((((p ++ s) ++ n) ++ x) ++ q)) ++ (h ++ [])
+placed_sections f p s n x q h = rw (append-nil h) (sym (append_assoc f ((((p ++ s) ++ n) ++ x) ++ q) h))
+
+padding_len : (n : ℕ) → length (padding n) ≡ aligned n - n
+padding_len n = length-replicate (aligned n - n) 0
+
+section_names_len : length section_names ≡ 27
+unfolding section_names
+section_names_len = refl
+
+sections_len : (hs : List SectionHeader) → length (flat_map section_header_bytes hs) ≡ 40 * length hs
+sections_len [] = refl
+sections_len (h ∷ hs) = omega (arith, sections_len hs, section_header_len h, length-append (section_header_bytes h) (flat_map section_header_bytes hs))
+
+null_fits : SectionHeaderFits (record { sh_name = 0; sh_type = 0; sh_flags = 0; sh_addr = 0; sh_offset = 0; sh_size = 0; sh_link = 0; sh_info = 0; sh_addralign = 0; sh_entsize = 0 })
+null_fits = record { name = omega arith; type = omega arith; flags = omega arith; addr = omega arith; offset = omega arith; size = omega arith; link = omega arith; info = omega arith; addralign = omega arith; entsize = omega arith }
+
+sections_fit : (end : ℕ) (symbols : List Named) (p : Places) → ArePlaced end symbols p → AllByRecursion SectionHeaderFits (sections_of p)
+sections_fit end symbols p at =
+    let a = at.strings in
+    let b = at.names in
+    let d = at.sections in
+    let e = at.small in
+    let table : SectionHeaderFits (symbol_section p) = record { name = omega arith; type = omega arith; flags = omega arith; addr = omega arith; offset = omega arith; size = omega arith; link = omega arith; info = omega arith; addralign = omega arith; entsize = omega arith } in
+    let strings : SectionHeaderFits (string_section 9 p.strings (p.names - p.strings)) = record { name = omega arith; type = omega arith; flags = omega arith; addr = omega arith; offset = omega arith; size = omega arith; link = omega arith; info = omega arith; addralign = omega arith; entsize = omega arith } in
+    let section_strings : SectionHeaderFits (string_section 17 p.names 27) = record { name = omega arith; type = omega arith; flags = omega arith; addr = omega arith; offset = omega arith; size = omega arith; link = omega arith; info = omega arith; addralign = omega arith; entsize = omega arith } in
+    (null_fits, (table, (strings, (section_strings, tt))))
+
+-- the symbol table that is found
+abbrev table_of : List Named → SymbolTable
+table_of symbols = record { symbols = symbol_bytes symbols; strings = string_table symbols }
+
+-- what the file has at the places
+record HasTables (file : List ℕ) (named : List Named) (p : Places) : Type 0 where
+  symbols : part p.symbols (p.strings - p.symbols) file ≡ Some (symbol_bytes named)
+  strings : part p.strings (p.names - p.strings) file ≡ Some (string_table named)
+  sections : part p.sections 160 file ≡ Some (flat_map section_header_bytes (sections_of p))
+
+has_tables : (before : List ℕ) (end : ℕ) (symbols : List Named) (p : Places) → length before ≡ end → ArePlaced end symbols p → HasTables (before ++ tables end symbols p) symbols p
+unfolding tables
+has_tables before end symbols p len at =
+    let pad = padding end in
+    let s = symbol_bytes symbols in
+    let n = string_table symbols in
+    let x = section_names in
+    let q = padding (p.names + 27) in
+    let h = flat_map section_header_bytes (sections_of p) in
+    let a = at.symbols in
+    let b = at.strings in
+    let d = at.names in
+    let e = at.sections in
+    let pad_len = padding_len end in
+    let s_len = symbol_bytes_len symbols in
+    let n_len = string_table_len symbols in
+    let x_len = section_names_len in
+    let q_len = padding_len (p.names + 27) in
+    let one : length (before ++ pad) ≡ p.symbols = omega (arith, length-append before pad) in
+    let two : length (before ++ (pad ++ s)) ≡ p.strings = omega (arith, length-append before (pad ++ s), length-append pad s) in
+    let three : length (before ++ ((((pad ++ s) ++ n) ++ x) ++ q)) ≡ p.sections = omega (arith, length-append before ((((pad ++ s) ++ n) ++ x) ++ q), length-append (((pad ++ s) ++ n) ++ x) q, length-append ((pad ++ s) ++ n) x, length-append (pad ++ s) n, length-append pad s) in
+    record {
+      symbols = ap (part p.symbols (p.strings - p.symbols)) (placed_symbols before pad s n x q h) ∙ part_at (before ++ pad) s (n ++ (x ++ (q ++ h))) p.symbols (p.strings - p.symbols) one (omega arith);
+      strings = ap (part p.strings (p.names - p.strings)) (placed_strings before pad s n x q h) ∙ part_at (before ++ (pad ++ s)) n (x ++ (q ++ h)) p.strings (p.names - p.strings) two (omega arith);
+      sections = ap (part p.sections 160) (placed_sections before pad s n x q h) ∙ part_at (before ++ ((((pad ++ s) ++ n) ++ x) ++ q)) h [] p.sections 160 three (sections_len (sections_of p));
+    }
+
+linked_back : (file : List ℕ) (end : ℕ) (symbols : List Named) (p : Places) → ArePlaced end symbols p → HasTables file symbols p
+    → linked_table (symbol_section p) (sections_of p) file ≡ Ok (table_of symbols)
+unfolding linked_table
+linked_back file end symbols p at has =
+    let b = at.strings in
+    let whole : eqb ((p.strings - p.symbols) % 16) 0 ≡ true = eq-eqb _ 0 (omega arith) in
+    rw (whole, has.symbols, has.strings) refl
+
+abbrev with_sections : Places → Sections
+with_sections p = record { offset = p.sections; count = 4; names = 3 }
+
+table_back : (entry count : ℕ) (file : List ℕ) (end : ℕ) (symbols : List Named) (p : Places) → ArePlaced end symbols p → HasTables file symbols p
+    → symbol_table (header_for entry count (with_sections p)) file ≡ Ok (table_of symbols)
+unfolding symbol_table
+table_back entry count file end symbols p at has =
+    let some = at.some in
+    let not_zero : eqb p.sections 0 ≡ false = ne_eqb p.sections 0 (λ z. absurd (omega (arith, z, some))) in
+    let read : records section_header 40 4 (flat_map section_header_bytes (sections_of p)) ≡ sections_of p = records_back section_header section_header_bytes SectionHeaderFits 40 section_header_back section_header_len (sections_of p) (sections_fit end symbols p at) in
+    rw (not_zero, has.sections) (ap (λ ss. table_among ss file (find (λ s. eqb s.sh_type 2) ss)) read ∙ linked_back file end symbols p at has)
+
+-- ---- the whole
+
+entries_found : (symbols : List Named) → AreSymbols symbols → symbols_among (string_table symbols) (entries_of (symbol_bytes symbols)) ≡ symbols
+entries_found symbols are = ap (symbols_among (string_table symbols)) (entries_back symbols are) ∙ found_back symbols are
+
+entries_tested : (symbols : List Named) → AreSymbols symbols → entries_test 67_108_864 (string_table symbols) (entries_of (symbol_bytes symbols)) ≡ passed
+entries_tested symbols are = ap (entries_test 67_108_864 (string_table symbols)) (entries_back symbols are) ∙ entries_pass symbols are
+
+are_placed : (entry : ℕ) (segments : List Extent) (symbols : List Named) → AreSegments entry segments → AreSymbols symbols → ArePlaced (data_end segments) symbols (places_of segments symbols)
+unfolding places_of
+are_placed entry segments symbols are are_symbols =
+    let order = places_in_order entry segments symbols are are_symbols in
+    let a = order.symbols in
+    let b = order.strings in
+    let d = order.names in
+    let e = order.sections in
+    let f = order.small in
+    record { symbols = refl; strings = refl; names = refl; sections = refl; some = omega arith; small = omega arith }
+
+front_len : (entry : ℕ) (segments : List Extent) (sections : Sections) → length (front entry segments sections) ≡ data_end segments
+unfolding front
+front_len entry segments sections =
+    let h : FileHeader = header_for entry (length segments) sections in
+    let hs : List ProgramHeader = headers_from (data_start segments) segments in
+    omega (arith, length-append (file_header_bytes h ++ flat_map program_header_bytes hs) (data_of segments), length-append (file_header_bytes h) (flat_map program_header_bytes hs), file_header_len h, table_len hs, headers_count segments (data_start segments), length-flat_map (λ (s : Extent). s.bytes) segments)
+
+with_back : (entry : ℕ) (segments : List Extent) (symbols : List Named) → AreSegments entry segments → AreSymbols symbols
+    → loaded (written_with entry segments symbols (places_of segments symbols)) ≡ Ok (contents entry segments symbols)
+with_back entry segments symbols are are_symbols =
+    let p = places_of segments symbols in
+    let at = are_placed entry segments symbols are are_symbols in
+    let before = front entry segments (with_sections p) in
+    let has = has_tables before (data_end segments) symbols p (front_len entry segments (with_sections p)) at in
+    let file = before ++ tables (data_end segments) symbols p in
+    let table = table_back entry (length segments) file (data_end segments) symbols p at has in
+    front_loads entry segments (with_sections p) (tables (data_end segments) symbols p) (table_of symbols) are (record { offset = at.small; count = omega arith; names = omega arith }) table (entries_tested symbols are_symbols)
+    ∙ ap (λ found. Ok (contents entry segments found)) (entries_found symbols are_symbols)
+
+none_tested : entries_test 67_108_864 [] (entries_of []) ≡ passed
+unfolding entries_test entries_of symbols_among
+none_tested = refl
+
+none_found : symbols_among [] (entries_of []) ≡ []
+unfolding entries_of symbols_among
+none_found = refl
+
+no_table_found : (entry count : ℕ) (file : List ℕ) → symbol_table (header_for entry count no_sections) file ≡ Ok no_table
+unfolding symbol_table
+no_table_found entry count file = refl
+
+without_back : (entry : ℕ) (segments : List Extent) → AreSegments entry segments → loaded (front entry segments no_sections) ≡ Ok (contents entry segments [])
+without_back entry segments are =
+    let fit : SectionsFit no_sections = record { offset = omega arith; count = omega arith; names = omega arith } in
+    ap loaded (sym (append-nil (front entry segments no_sections)))
+    ∙ front_loads entry segments no_sections [] no_table are fit (no_table_found entry (length segments) _) none_tested
+    ∙ ap (λ found. Ok (contents entry segments found)) none_found
+
+pub parts_back : (entry : ℕ) (segments : List Extent) (symbols : List Named) → AreSegments entry segments → AreSymbols symbols
+    → loaded (written_parts entry segments symbols) ≡ Ok (contents entry segments symbols)
+parts_back entry segments [] are are_symbols = without_back entry segments are
+parts_back entry segments (s ∷ ss) are are_symbols = with_back entry segments (s ∷ ss) are are_symbols
+
+pub loads_again_lem : LoadsAgain
+unfolding written
+loads_again_lem image is = parts_back image.entry image.segments image.symbols is.segments is.symbols

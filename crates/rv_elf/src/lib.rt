@@ -24,7 +24,7 @@ pub use fault::LoadFault;
 pub use image::Image;
 pub use loading::load;
 pub use symbol::Symbol;
-pub use writing::write;
+pub use writing::{loads_again, write};
 
 #[cfg(test)]
 mod tests;

@@ -1,7 +1,9 @@
 //! Writing: the one file of an image.
-ghost use Rattle.std.specs.Prelude.{◌≡◌, ◌+◌, ◌*◌, ◌≤◌, ◌^◌, ◌<◌, ◌++◌, length, IfOk, OnOk};
+ghost use Rattle.std.specs.Prelude.{◌≡◌, ◌+◌, ◌*◌, ◌≤◌, ◌^◌, ◌<◌, ◌++◌, length, IfOk, OnOk, Ok};
 ghost use Rattle.std.specs.List.{All, flat_map, sum_by};
 ghost use Rattle.rv_elf.specs.Contents.{AreSegments, AreSymbols};
+ghost use Rattle.rv_elf.specs.Laws.{LoadsAgain};
+ghost use Rattle.rv_elf.specs.Loaded.{loaded};
 ghost use Rattle.rv_elf.specs.Written as spec;
 
 use crate::header;
@@ -312,6 +314,13 @@ fn write_parts(
 #[tactic(auto, unfolding(crate::specs::Written::written))]
 pub fn write(alloc: Global, image: &Image) -> Result<Vec<u8>, NoMemory>
     ensures file { IfOk result (λ bytes. bytes.items ≡ spec.written image.now) }
+    ensures loads_again { IfOk result (λ bytes. loaded bytes.items ≡ Ok image.now) }
 {
     write_parts(alloc, image.entry(), image.segments(), image.symbols())
+}
+
+/// The file of every image loads as the image.
+pub fn loads_again()
+    ensures { LoadsAgain }
+{
 }
