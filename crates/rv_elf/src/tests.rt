@@ -20,6 +20,15 @@ fn patched(alloc: Global, file: &[u8], at: usize, new: &[u8]) -> Result<Vec<u8>,
     Ok(out)
 }
 
+/// The file with `len` bytes of ones from `at` on.
+fn with_ones(alloc: Global, file: &[u8], at: usize, len: usize) -> Result<Vec<u8>, Fail> {
+    let mut out = Vec::new(alloc);
+    for (i, byte) in file.iter().enumerate() {
+        out.push(if i >= at && i - at < len { 0xff } else { *byte })?;
+    }
+    Ok(out)
+}
+
 fn fault_of(alloc: Global, file: &[u8]) -> Option<LoadFault> {
     load(alloc, file).err()
 }
@@ -51,7 +60,6 @@ fn cut_files(rt: HostRuntime) {
 /// Each field of the plain file set to all ones, and some to other values.
 #[test]
 fn changed_fields(rt: HostRuntime) -> Result<(), Fail> {
-    let ones = [0xff; 9];
     for (at, len, want) in [
         (0, 4, Some(LoadFault::NotElf)),
         (4, 1, Some(LoadFault::NotElf32Little)),
@@ -80,8 +88,7 @@ fn changed_fields(rt: HostRuntime) -> Result<(), Fail> {
         (76, 4, None),
         (80, 4, None),
     ] {
-        let new = if len <= 9 { &ones[..len] } else { &ones };
-        let file = patched(rt.alloc(), &PLAIN, at, new)?;
+        let file = with_ones(rt.alloc(), &PLAIN, at, len)?;
         assert_eq!(rt; fault_of(rt.alloc(), &file), want, "at {at}");
     }
     let file = patched(rt.alloc(), &PLAIN, 24, &[2, 0, 1, 0])?;
