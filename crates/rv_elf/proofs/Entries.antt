@@ -1,5 +1,5 @@
 -- Steps of the loops over the entries of a symbol table.
-use Rattle.std.proofs.Common.{◌≡◌, ℕ, suc, ◌+◌, ◌-◌, ◌<◌, ◌≤◌, Bool, true, false, ◌&&◌, not, cond, eqb, leb, Option, Some, None, List, [], ◌∷◌, ◌++◌, length, drop, Result, Ok, Err, refl, sym, ap, ◌∙◌, arith, append_assoc, inl, inr}
+use Rattle.std.proofs.Common.{◌≡◌, ℕ, ◌+◌, ◌-◌, ◌<◌, ◌≤◌, Bool, true, false, ◌&&◌, cond, leb, Option, Some, None, List, [], ◌∷◌, ◌++◌, length, drop, Result, Ok, Err, refl, sym, ap, ◌∙◌, arith, append_assoc, inl, inr}
 use Rattle.std.specs.Prelude.{is_some}
 use Rattle.std.specs.List.{filter, filter_map, cons_option, list_all, sum_by}
 use Rattle.std.specs.Str.{is_utf8}
@@ -28,11 +28,11 @@ fits_after : (need first room : ℕ) → verdict true (first + need) room ≡ (c
 fits_after need first room =
     elim (cases_lt room first) [
       | inl lt ↦ let a : leb first room ≡ false = grind (arith, nat_tests) in
-        let b : leb (first + need) room ≡ false = grind (arith, nat_tests) in
-        rw (a, b) refl
+          let b : leb (first + need) room ≡ false = grind (arith, nat_tests) in
+          rw (a, b) refl
       | inr le ↦ let a : leb first room ≡ true = grind (arith, nat_tests) in
-        let b : leb (first + need) room ≡ leb need (room - first) = grind (arith, nat_tests) in
-        rw (a, b) refl
+          let b : leb (first + need) room ≡ leb need (room - first) = grind (arith, nat_tests) in
+          rw (a, b) refl
     ]
 
 -- one more symbol takes its room

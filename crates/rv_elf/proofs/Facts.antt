@@ -1,13 +1,13 @@
 -- What tests that passed say.
-use Rattle.std.proofs.Common.{◌≡◌, ℕ, zero, suc, ◌+◌, ◌-◌, ◌%◌, ◌^◌, ◌<◌, ◌≤◌, Bool, true, false, ◌&&◌, not, cond, eqb, leb, ltb, Option, Some, None, List, [], ◌∷◌, map, length, take, drop, All, Result, Ok, Err, refl, sym, ap, subst, inl, inr, ◌∙◌, arith}
+use Rattle.std.proofs.Common.{◌≡◌, ℕ, ◌+◌, ◌-◌, ◌%◌, ◌^◌, ◌<◌, ◌≤◌, Bool, true, false, ◌&&◌, not, cond, eqb, leb, ltb, Option, Some, None, List, [], ◌∷◌, map, length, drop, All, Result, Ok, Err, refl, sym, ap, subst, inl, inr, ◌∙◌, arith}
 use Rattle.std.specs.Prelude.{IsTrue, is_some, is_ok}
-use Rattle.std.specs.List.{AllByRecursion, filter, list_all, list_any, sum_by}
-use Rattle.std.specs.Option.{option_map, ok_or}
+use Rattle.std.specs.List.{AllByRecursion, filter, list_all, sum_by}
+use Rattle.std.specs.Option.{option_map}
 use Rattle.std.specs.Str.{is_utf8}
 use Rattle.std.proofs.lemmas.List.Elements.{All-from_recursion, recursion_from_All}
 use Rattle.std.proofs.lemmas.Bool.{cases_lt, lt-leb, and_from, and_parts, eq-eqb, eqb-true, eqb-false, le-leb, leb-true, not-true, lt-ltb}
 use Rattle.std.proofs.lemmas.List.{length-take, map-id}
-use Rattle.rv_memory.specs.Extent.{Extent, end_of}
+use Rattle.rv_memory.specs.Extent.{Extent}
 use Rattle.rv_memory.specs.Memory.{overlaps, permits}
 use Rattle.rv_memory.specs.declared.store.Need.TheVariants.{Execute}
 use Rattle.rv_elf.specs.declared.fault.LoadFault.{LoadFault}
@@ -171,5 +171,5 @@ room_left room left name e =
     elim (cases_lt room (17 + length name)) [
       | inl lt ↦ let short : room_after room name ≡ Err BadSymbols = ap (λ b. cond b (Ok (room - (17 + length name))) (Err BadSymbols)) (lt-leb (17 + length name) room lt) in absurd (ok_is_err left (e ∙ short))
       | inr le ↦ let fits : room_after room name ≡ Ok (room - (17 + length name)) = ap (λ b. cond b (Ok (room - (17 + length name))) (Err BadSymbols)) (le-leb (17 + length name) room le) in
-        let is = same_ok left (room - (17 + length name)) (e ∙ fits) in omega arith
+          let is = same_ok left (room - (17 + length name)) (e ∙ fits) in omega arith
     ]

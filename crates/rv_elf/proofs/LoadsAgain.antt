@@ -1,6 +1,6 @@
 -- The file of an image loads as the image.
-use Rattle.std.proofs.Common.{◌≡◌, ℕ, zero, suc, ◌+◌, ◌-◌, ◌*◌, ◌/◌, ◌%◌, ◌^◌, ◌<◌, ◌≤◌, Bool, true, false, ◌&&◌, ◌||◌, cond, eqb, leb, Option, Some, None, List, [], ◌∷◌, ◌++◌, map, length, take, drop, replicate, Result, Ok, Err, All, refl, sym, ap, ◌∙◌, append_assoc, arith, inl, inr}
-use Rattle.std.specs.List.{AllByRecursion, find, flat_map, list_any, sum_by}
+use Rattle.std.proofs.Common.{◌≡◌, ℕ, ◌+◌, ◌-◌, ◌*◌, ◌%◌, ◌^◌, ◌<◌, ◌≤◌, Bool, true, false, ◌&&◌, ◌||◌, eqb, leb, Some, List, [], ◌∷◌, ◌++◌, map, length, Result, Ok, refl, sym, ap, ◌∙◌, append_assoc, arith, inl, inr}
+use Rattle.std.specs.List.{AllByRecursion, find, flat_map}
 use Rattle.std.proofs.lemmas.Bool.{and_parts, eq-eqb, le-leb, leb-true, ne_eqb, or_cases}
 use Rattle.std.proofs.lemmas.List.{append-nil, length-append, length-replicate}
 use Rattle.std.proofs.lemmas.List.Concat.{length-flat_map}
@@ -15,16 +15,16 @@ use Rattle.rv_elf.specs.declared.layout.ProgramHeader.{ProgramHeader}
 use Rattle.rv_elf.specs.declared.layout.SectionHeader.{SectionHeader}
 use Rattle.rv_elf.specs.declared.places.Places.{Places}
 use Rattle.rv_elf.specs.declared.writing.Sections.{Sections}
-use Rattle.rv_elf.specs.Contents.{Named, Contents, contents, IsSegment, AreSegments, AreSymbols, IsImage}
-use Rattle.rv_elf.specs.Layout.{file_header, section_header, part, records}
-use Rattle.rv_elf.specs.Loaded.{◌>>=◌, want, table_among, header_test, header_of, loaded_headers, segment, each_segment_test, segments_test, SymbolTable, no_table, linked_table, symbol_table, entries_of, entries_test, symbols_among, loaded}
+use Rattle.rv_elf.specs.Contents.{Named, contents, IsSegment, AreSegments, AreSymbols}
+use Rattle.rv_elf.specs.Layout.{section_header, part, records}
+use Rattle.rv_elf.specs.Loaded.{want, table_among, header_test, header_of, loaded_headers, segment, each_segment_test, segments_test, SymbolTable, no_table, linked_table, symbol_table, entries_of, entries_test, symbols_among, loaded}
 use Rattle.rv_elf.specs.Written.{file_header_bytes, program_header_bytes, section_header_bytes, no_sections, header_for, headers_from, data_start, front, symbol_bytes, string_table, section_names, aligned, padding, data_end, strings_len, places_of, symbol_section, string_section, sections_of, tables, written_with, written_parts, written}
 use Rattle.rv_elf.specs.Laws.{LoadsAgain}
-use Rattle.rv_elf.proofs.Facts.{AreApart, test_from_apart}
+use Rattle.rv_elf.proofs.Facts.{test_from_apart}
 use Rattle.rv_elf.proofs.ReadBack.{FileHeaderFits, SectionHeaderFits, part_at, records_back, file_header_back, file_header_len, section_header_back, section_header_len}
 use Rattle.rv_elf.proofs.SegmentsBack.{segments_back, each_back, headers_back, headers_count, table_len}
 use Rattle.rv_elf.proofs.SymbolsBack.{found_back, entries_pass, entries_back, symbol_bytes_len, string_table_len}
-use Rattle.rv_elf.proofs.Sizes.{AreInOrder, data_len, data_small, places_in_order}
+use Rattle.rv_elf.proofs.Sizes.{data_small, places_in_order}
 
 abbrev passed : Result (Unit {0}) LoadFault
 passed = Ok tt
@@ -55,9 +55,9 @@ entry_small entry [] are h = absurd cc
 entry_small entry (s ∷ ss) are h =
     elim (or_cases (holds s entry 4 && s.x) (permits ss entry 4 Execute) h) [
       | inl here ↦ let held = and_parts (holds s entry 4) s.x here in
-        let within = and_parts (leb s.start entry) (leb (entry + 4) (end_of s)) held.0 in
-        let ends = are.0.ends in
-        omega (arith, leb-true (entry + 4) (end_of s) within.1, ends)
+          let within = and_parts (leb s.start entry) (leb (entry + 4) (end_of s)) held.0 in
+          let ends = are.0.ends in
+          omega (arith, leb-true (entry + 4) (end_of s) within.1, ends)
       | inr there ↦ entry_small entry ss are.1 there
     ]
 
@@ -70,10 +70,20 @@ header_fits : (entry : ℕ) (segments : List Extent) (sections : Sections) → A
 header_fits entry segments sections are fit =
     let few = are.few in
     record {
-      ei_mag = omega arith; type = omega arith; machine = omega arith; version = omega arith;
+      ei_mag = omega arith;
+      type = omega arith;
+      machine = omega arith;
+      version = omega arith;
       entry = entry_small entry segments (recursion_from_All IsSegment segments are.each) are.executable;
-      phoff = omega arith; shoff = fit.offset; flags = omega arith; ehsize = omega arith; phentsize = omega arith; phnum = omega arith;
-      shentsize = omega arith; shnum = fit.count; shstrndx = fit.names;
+      phoff = omega arith;
+      shoff = fit.offset;
+      flags = omega arith;
+      ehsize = omega arith;
+      phentsize = omega arith;
+      phnum = omega arith;
+      shentsize = omega arith;
+      shnum = fit.count;
+      shstrndx = fit.names;
     }
 
 header_back : (entry : ℕ) (segments : List Extent) (sections : Sections) (rest : List ℕ) → AreSegments entry segments → SectionsFit sections

@@ -1,5 +1,5 @@
 -- Records that are read where they were written.
-use Rattle.std.proofs.Common.{◌≡◌, ℕ, zero, suc, ◌+◌, ◌*◌, ◌^◌, ◌<◌, true, eqb, leb, List, [], ◌∷◌, ◌++◌, length, take, drop, Option, Some, None, refl, sym, ap, ◌∙◌, append_assoc, arith, inl, inr}
+use Rattle.std.proofs.Common.{◌≡◌, ℕ, ◌+◌, ◌*◌, ◌^◌, ◌<◌, true, eqb, leb, List, [], ◌∷◌, ◌++◌, length, Some, refl, ◌∙◌, arith, inl, inr}
 use Rattle.std.specs.List.{AllByRecursion, flat_map}
 use Rattle.std.proofs.lemmas.Bool.{cases_Bool, eqb-true, le-leb}
 use Rattle.std.proofs.lemmas.List.{take_at, drop_at, length-append, nil_from_length}
@@ -19,7 +19,7 @@ part_at a b c offset size at len =
     elim (cases_Bool (eqb size 0)) [
       | inl t ↦ rw (t, nil_from_length b (len ∙ eqb-true size 0 t)) refl
       | inr f ↦ let fits : leb (offset + size) (length (a ++ (b ++ c))) ≡ true = le-leb _ _ (omega (arith, length-append a (b ++ c), length-append b c)) in
-        rw (f, fits, drop_at a (b ++ c) offset at, take_at b c size len) refl
+          rw (f, fits, drop_at a (b ++ c) offset at, take_at b c size len) refl
     ]
 
 -- the records of a table

@@ -1,20 +1,19 @@
 -- The segments of a written file are those that were written.
-use Rattle.std.proofs.Common.{◌≡◌, ℕ, zero, suc, ◌+◌, ◌*◌, ◌^◌, ◌<◌, ◌≤◌, Bool, true, false, ◌||◌, ◌&&◌, not, cond, eqb, leb, Some, List, [], ◌∷◌, ◌++◌, map, length, take, drop, Result, Ok, Err, All, refl, sym, ap, ◌∙◌, append_assoc, arith}
-use Rattle.std.specs.Prelude.{bit_and, is_some}
+use Rattle.std.proofs.Common.{◌≡◌, ℕ, suc, ◌+◌, ◌*◌, ◌^◌, ◌<◌, ◌≤◌, Bool, true, false, not, cond, eqb, leb, List, [], ◌∷◌, ◌++◌, map, length, take, drop, Result, Ok, All, refl, sym, ap, ◌∙◌, append_assoc, arith}
+use Rattle.std.specs.Prelude.{bit_and}
 use Rattle.std.specs.List.{AllByRecursion, filter, flat_map, list_any, sum_by}
 use Rattle.std.proofs.lemmas.Bool.{ne_eqb, le-leb}
-use Rattle.std.proofs.lemmas.List.{take_at, drop_at, length-append, length-map}
-use Rattle.std.proofs.lemmas.List.Concat.{length-flat_map}
+use Rattle.std.proofs.lemmas.List.{take_at, drop_at, length-append}
 use Rattle.std.proofs.lemmas.List.Elements.{recursion_from_All}
 use Rattle.std.proofs.lemmas.List.Sums.{sum_by-cons}
-use Rattle.rv_memory.specs.Extent.{Extent, end_of}
+use Rattle.rv_memory.specs.Extent.{Extent}
 use Rattle.rv_elf.specs.declared.fault.LoadFault.{LoadFault}
 use Rattle.rv_elf.specs.declared.layout.FileHeader.{FileHeader}
 use Rattle.rv_elf.specs.declared.layout.ProgramHeader.{ProgramHeader}
 use Rattle.rv_elf.specs.Contents.{IsSegment, AreSegments}
-use Rattle.rv_elf.specs.Layout.{program_header, part, records}
-use Rattle.rv_elf.specs.Loaded.{◌>>=◌, want, is_dynamic, is_loaded, has_flag, loaded_headers, segment, segment_test, each_segment_test}
-use Rattle.rv_elf.specs.Written.{program_header_bytes, flags_of, header_at, headers_from}
+use Rattle.rv_elf.specs.Layout.{program_header, records}
+use Rattle.rv_elf.specs.Loaded.{is_dynamic, is_loaded, loaded_headers, segment, segment_test, each_segment_test}
+use Rattle.rv_elf.specs.Written.{program_header_bytes, header_at, headers_from}
 use Rattle.rv_elf.proofs.ReadBack.{ProgramHeaderFits, part_at, records_back, program_header_back, program_header_len}
 
 abbrev passed : Result (Unit {0}) LoadFault
@@ -99,10 +98,9 @@ headers_fit (s ∷ ss) offset are small len =
     let lens = sum_by-cons (λ (e : Extent). e.len) s ss in
     let start : s.start < 2 ^ 32 = omega (arith, are.0.some, are.0.ends) in
     let filesz : length s.bytes < 2 ^ 32 = omega (arith, bytes, small) in
-    let memsz : s.len < 2 ^ 32 = omega (arith, lens, len) in
-    (
+    let memsz : s.len < 2 ^ 32 = omega (arith, lens, len) in (
       record { type = omega arith; offset = omega arith; vaddr = start; paddr = start; filesz = filesz; memsz = memsz; flags = flags_small s.r s.w s.x; align = omega arith },
-      headers_fit ss (offset + length s.bytes) are.1 (omega (arith, bytes, small)) (omega (arith, lens, len))
+      headers_fit ss (offset + length s.bytes) are.1 (omega (arith, bytes, small)) (omega (arith, lens, len)),
     )
 
 none_dynamic : (segments : List Extent) (offset : ℕ) → list_any is_dynamic (headers_from offset segments) ≡ false

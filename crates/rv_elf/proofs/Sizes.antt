@@ -1,12 +1,12 @@
 -- How large the parts of a written file are.
-use Rattle.std.proofs.Common.{◌≡◌, ℕ, ◌+◌, ◌*◌, ◌≤◌, All, List, [], ◌∷◌, length, refl, sym, ap, ◌∙◌, arith}
+use Rattle.std.proofs.Common.{◌≡◌, ℕ, ◌+◌, ◌*◌, ◌≤◌, All, List, [], ◌∷◌, length, refl, arith}
 use Rattle.std.specs.List.{AllByRecursion, sum_by}
 use Rattle.std.proofs.lemmas.List.Elements.{All-weaker, recursion_from_All}
 use Rattle.std.proofs.lemmas.List.Sums.{sum_by-cons}
 use Rattle.rv_memory.specs.Extent.{Extent}
 use Rattle.rv_elf.specs.declared.places.Places.{Places}
 use Rattle.rv_elf.specs.Contents.{Named, need_of, IsSegment, AreSegments, IsSymbol, AreSymbols}
-use Rattle.rv_elf.specs.Written.{aligned, data_end, strings_len, places_of}
+use Rattle.rv_elf.specs.Written.{data_end, places_of}
 
 abbrev pub data_len : List Extent → ℕ
 data_len segments = sum_by (λ s. length s.bytes) segments
@@ -25,7 +25,7 @@ data_small entry segments h = omega (arith, h.small, data_within segments (recur
 -- the room that symbols need is that of their entries and their strings
 needs_are : (symbols : List Named) → sum_by need_of symbols ≡ 16 * length symbols + names_len symbols
 needs_are [] = refl
-needs_are (s ∷ ss) = 
+needs_are (s ∷ ss) =
     omega (arith, needs_are ss, sum_by-cons need_of s ss, sum_by-cons (λ (s : Named). length s.name + 1) s ss)
 
 pub tables_small : (symbols : List Named) → AreSymbols symbols → 16 * length symbols + names_len symbols ≤ 67_108_864

@@ -2,13 +2,12 @@
 use Rattle.std.proofs.Common.{◌≤◌, All, arith, length, ◌≡◌, ◌+◌, ◌&&◌, ℕ, Bool, List, [], ◌∷◌, map, Result, Ok, Err, refl, sym, ap, ◌∙◌}
 use Rattle.std.specs.Prelude.{IsTrue}
 use Rattle.std.proofs.lemmas.List.{length-map}
-use Rattle.std.specs.List.{list_any, sum_by, fold}
+use Rattle.std.specs.List.{list_any, sum_by}
 use Rattle.std.proofs.lemmas.List.Sums.{sum_by-cons}
 use Rattle.rv_memory.specs.Extent.{Extent}
-use Rattle.rv_memory.specs.Memory.{meets, overlaps, permits, holds, allows}
+use Rattle.rv_memory.specs.Memory.{meets, overlaps, holds, allows}
 use Rattle.rv_memory.specs.declared.store.Need.TheVariants.{Execute}
 use Rattle.rv_elf.specs.declared.fault.LoadFault.{LoadFault}
-use Rattle.rv_elf.specs.declared.fault.LoadFault.TheVariants.{NoMemory}
 use Rattle.rv_elf.specs.declared.layout.FileHeader.{FileHeader}
 use Rattle.rv_elf.specs.declared.layout.ProgramHeader.{ProgramHeader}
 use Rattle.rv_elf.specs.declared.layout.SymbolEntry.{SymbolEntry}

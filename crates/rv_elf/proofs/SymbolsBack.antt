@@ -1,24 +1,18 @@
 -- The symbols of a written file are those that were written.
-use Rattle.std.proofs.Common.{◌≡◌, ℕ, zero, suc, ◌+◌, ◌-◌, ◌*◌, ◌/◌, ◌%◌, ◌^◌, ◌<◌, ◌≤◌, Bool, true, false, ◌&&◌, not, cond, eqb, leb, ltb, Option, Some, None, List, [], ◌∷◌, ◌++◌, length, take, drop, Result, Ok, Err, All, refl, sym, ap, ◌∙◌, append_assoc, arith}
-use Rattle.std.specs.Prelude.{is_some, slice_get}
-use Rattle.std.specs.List.{AllByRecursion, cons_option, filter, filter_map, find, flat_map, list_all, sum_by}
-use Rattle.std.specs.Option.{option_map}
-use Rattle.std.specs.Str.{is_utf8}
-use Rattle.std.proofs.lemmas.Bool.{and_parts, eq-eqb, eqb-false, le-leb, ltb-true, ne_eqb}
+use Rattle.std.proofs.Common.{◌≡◌, ℕ, suc, ◌+◌, ◌*◌, ◌/◌, ◌%◌, ◌^◌, ◌<◌, ◌≤◌, true, false, eqb, leb, ltb, Some, List, [], ◌∷◌, ◌++◌, length, Result, Ok, refl, sym, ap, ◌∙◌, append_assoc, arith}
+use Rattle.std.specs.Prelude.{is_some}
+use Rattle.std.specs.List.{AllByRecursion, filter, flat_map, list_all, sum_by}
+use Rattle.std.proofs.lemmas.Bool.{and_parts, le-leb, ltb-true, ne_eqb}
 use Rattle.std.proofs.lemmas.List.{append-nil, drop_at, length-append}
-use Rattle.std.proofs.lemmas.List.Concat.{length-flat_map}
 use Rattle.std.proofs.lemmas.List.Elements.{recursion_from_All}
 use Rattle.std.proofs.lemmas.List.Sums.{sum_by-cons}
 use Rattle.rv_elf.specs.declared.fault.LoadFault.{LoadFault}
-use Rattle.rv_elf.specs.declared.layout.FileHeader.{FileHeader}
-use Rattle.rv_elf.specs.declared.layout.SectionHeader.{SectionHeader}
 use Rattle.rv_elf.specs.declared.layout.SymbolEntry.{SymbolEntry}
-use Rattle.rv_elf.specs.declared.places.Places.{Places}
 use Rattle.rv_elf.specs.Contents.{Named, need_of, IsSymbol, AreSymbols}
-use Rattle.rv_elf.specs.Layout.{symbol_entry, section_header, part, records}
-use Rattle.rv_elf.specs.Loaded.{◌>>=◌, want, SymbolTable, linked_table, symbol_table, is_candidate, text, name_of, symbol, symbol_named, kept, symbols_among, entries_of, entries_test}
-use Rattle.rv_elf.specs.Written.{symbol_entry_bytes, section_header_bytes, entry_at, entries_from, null_entry, symbol_bytes, terminated, string_table, sections_of}
-use Rattle.rv_elf.proofs.ReadBack.{SymbolEntryFits, SectionHeaderFits, part_at, records_back, symbol_entry_back, symbol_entry_len, section_header_back, section_header_len}
+use Rattle.rv_elf.specs.Layout.{symbol_entry, records}
+use Rattle.rv_elf.specs.Loaded.{is_candidate, text, name_of, symbol, kept, symbols_among, entries_of, entries_test}
+use Rattle.rv_elf.specs.Written.{symbol_entry_bytes, entry_at, entries_from, null_entry, symbol_bytes, terminated, string_table}
+use Rattle.rv_elf.proofs.ReadBack.{SymbolEntryFits, records_back, symbol_entry_back, symbol_entry_len}
 use Rattle.rv_elf.proofs.Sizes.{names_len, tables_small}
 
 abbrev passed : Result (Unit {0}) LoadFault
@@ -114,10 +108,9 @@ entries_pass symbols are =
 entries_fit : (symbols : List Named) (name : ℕ) → AllByRecursion IsSymbol symbols → name + names_len symbols < 2 ^ 32 → AllByRecursion SymbolEntryFits (entries_from name symbols)
 entries_fit [] name are small = tt
 entries_fit (s ∷ ss) name are small =
-    let more = sum_by-cons (λ (t : Named). length t.name + 1) s ss in
-    (
+    let more = sum_by-cons (λ (t : Named). length t.name + 1) s ss in (
       record { name = omega arith; value = are.0.value; size = are.0.size; shndx = omega arith },
-      entries_fit ss (name + (length s.name + 1)) are.1 (omega (arith, more, small))
+      entries_fit ss (name + (length s.name + 1)) are.1 (omega (arith, more, small)),
     )
 
 entries_count : (symbols : List Named) (name : ℕ) → length (entries_from name symbols) ≡ length symbols

@@ -1,9 +1,9 @@
 -- The image that an ELF32 file describes, or the first test that the file fails.
-use Rattle.std.specs.Prelude.{ℕ, zero, suc, ◌+◌, ◌*◌, ◌/◌, ◌%◌, ◌^◌, Bool, true, false, not, ◌&&◌, ◌||◌, ◌==◌, nat_le, nat_lt, if◌then◌else◌, bit_and, List, [], ◌∷◌, map, length, take, drop, slice_get, Option, Some, None, is_some, Result, Ok, Err}
+use Rattle.std.specs.Prelude.{ℕ, ◌+◌, ◌*◌, ◌/◌, ◌%◌, ◌^◌, Bool, not, ◌&&◌, ◌||◌, ◌==◌, nat_le, if◌then◌else◌, bit_and, List, [], ◌∷◌, map, length, take, drop, slice_get, Option, Some, None, is_some, Result, Ok, Err}
 use Rattle.std.specs.List.{filter, find, filter_map, list_any, list_all, sum_by}
 use Rattle.std.specs.Option.{ok_or, option_map}
 use Rattle.std.specs.Str.{is_utf8}
-use Rattle.rv_memory.specs.Extent.{Extent, end_of}
+use Rattle.rv_memory.specs.Extent.{Extent}
 use Rattle.rv_memory.specs.Memory.{overlaps, permits}
 use Rattle.rv_memory.specs.declared.store.Need.TheVariants.{Execute}
 use Rattle.rv_elf.specs.declared.fault.LoadFault.{LoadFault}
@@ -89,13 +89,13 @@ has_flag flag h = not (bit_and h.p_flags flag == 0)
 -- the segment of a program header: `p_filesz` bytes of the file, then zeros, `p_memsz` bytes in all
 abbrev pub segment : List ℕ → ProgramHeader → Extent
 segment bytes h = record {
-    start = h.p_vaddr;
-    bytes = take h.p_filesz (drop h.p_offset bytes);
-    len = h.p_memsz;
-    r = has_flag 4 h;
-    w = has_flag 2 h;
-    x = has_flag 1 h;
-  }
+  start = h.p_vaddr;
+  bytes = take h.p_filesz (drop h.p_offset bytes);
+  len = h.p_memsz;
+  r = has_flag 4 h;
+  w = has_flag 2 h;
+  x = has_flag 1 h;
+}
 
 -- what is wanted of the segments together
 unfoldable pub segments_test : ℕ → List Extent → Result (Unit {0}) LoadFault
@@ -130,9 +130,9 @@ table_among sections bytes (Some table) = linked_table table sections bytes
 
 -- the first symbol table among the sections; a file without sections has none
 unfoldable pub symbol_table : FileHeader → List ℕ → Result SymbolTable LoadFault
-symbol_table h bytes = 
+symbol_table h bytes =
     if h.e_shoff == 0 || h.e_shnum == 0 then Ok no_table else (ok_or (part h.e_shoff (40 * h.e_shnum) bytes) BadSymbols >>= λ table.
-        let sections = records section_header 40 h.e_shnum table in table_among sections bytes (find (λ s. s.sh_type == 2) sections))
+    let sections = records section_header 40 h.e_shnum table in table_among sections bytes (find (λ s. s.sh_type == 2) sections))
 
 -- STT_NOTYPE, STT_OBJECT or STT_FUNC, in a section, with a name
 abbrev pub is_candidate : SymbolEntry → Bool

@@ -1,9 +1,8 @@
 -- What single steps of the reader give, which the contracts of private functions cite.
-use Rattle.std.specs.Prelude.{ℕ, ◌+◌, ◌-◌, ◌*◌, ◌&&◌, nat_le, if◌then◌else◌, List, length, Option, Some, None, Result, Ok, Err}
+use Rattle.std.specs.Prelude.{ℕ, ◌+◌, ◌-◌, ◌&&◌, nat_le, if◌then◌else◌, List, length, Option, Some, None, Result, Ok, Err}
 use Rattle.std.specs.Str.{is_utf8}
 use Rattle.rv_elf.specs.declared.fault.LoadFault.{LoadFault}
 use Rattle.rv_elf.specs.declared.fault.LoadFault.TheVariants.{BadSymbols}
-use Rattle.rv_elf.specs.declared.layout.SectionHeader.{SectionHeader}
 use Rattle.rv_elf.specs.declared.layout.SymbolEntry.{SymbolEntry}
 use Rattle.rv_elf.specs.Loaded.{is_candidate, name_of}
 

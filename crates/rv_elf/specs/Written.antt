@@ -1,5 +1,5 @@
 -- The one file that is written for an image.
-use Rattle.std.specs.Prelude.{ℕ, ◌+◌, ◌-◌, ◌*◌, ◌/◌, Bool, cond, codes, List, [], ◌∷◌, ◌++◌, length, replicate}
+use Rattle.std.specs.Prelude.{ℕ, ◌+◌, ◌-◌, ◌*◌, ◌/◌, cond, codes, List, [], ◌∷◌, ◌++◌, length, replicate}
 use Rattle.std.specs.List.{flat_map, sum_by}
 use Rattle.byteorder.specs.Endian.{little_bytes}
 use Rattle.rv_memory.specs.Extent.{Extent}
@@ -46,24 +46,24 @@ no_sections = record { offset = 0; count = 0; names = 0 }
 
 abbrev pub header_for : ℕ → ℕ → Sections → FileHeader
 header_for entry segments sections = record {
-    ei_mag = 0x464c_457f;
-    ei_class = 1;
-    ei_data = 1;
-    ei_version = 1;
-    e_type = 2;
-    e_machine = 243;
-    e_version = 1;
-    e_entry = entry;
-    e_phoff = 52;
-    e_shoff = sections.offset;
-    e_flags = 0;
-    e_ehsize = 52;
-    e_phentsize = 32;
-    e_phnum = segments;
-    e_shentsize = 40;
-    e_shnum = sections.count;
-    e_shstrndx = sections.names;
-  }
+  ei_mag = 0x464c_457f;
+  ei_class = 1;
+  ei_data = 1;
+  ei_version = 1;
+  e_type = 2;
+  e_machine = 243;
+  e_version = 1;
+  e_entry = entry;
+  e_phoff = 52;
+  e_shoff = sections.offset;
+  e_flags = 0;
+  e_ehsize = 52;
+  e_phentsize = 32;
+  e_phnum = segments;
+  e_shentsize = 40;
+  e_shnum = sections.count;
+  e_shstrndx = sections.names;
+}
 
 -- PF_R is 4, PF_W is 2, PF_X is 1
 abbrev pub flags_of : Extent → ℕ
@@ -72,15 +72,15 @@ flags_of s = cond s.r 4 0 + cond s.w 2 0 + cond s.x 1 0
 -- a PT_LOAD header for a segment whose bytes lie at `offset`
 abbrev pub header_at : ℕ → Extent → ProgramHeader
 header_at offset s = record {
-    p_type = 1;
-    p_offset = offset;
-    p_vaddr = s.start;
-    p_paddr = s.start;
-    p_filesz = length s.bytes;
-    p_memsz = s.len;
-    p_flags = flags_of s;
-    p_align = 1;
-  }
+  p_type = 1;
+  p_offset = offset;
+  p_vaddr = s.start;
+  p_paddr = s.start;
+  p_filesz = length s.bytes;
+  p_memsz = s.len;
+  p_flags = flags_of s;
+  p_align = 1;
+}
 
 -- the bytes of the segments lie one directly after another
 abbrev pub headers_from : ℕ → List Extent → List ProgramHeader
@@ -103,13 +103,13 @@ front entry segments sections =
 -- STB_GLOBAL in the high bits, and the absolute section
 abbrev pub entry_at : ℕ → Named → SymbolEntry
 entry_at name s = record {
-    st_name = name;
-    st_value = s.value;
-    st_size = s.size;
-    st_info = 16 + s.kind;
-    st_other = 0;
-    st_shndx = 0xfff1;
-  }
+  st_name = name;
+  st_value = s.value;
+  st_size = s.size;
+  st_info = 16 + s.kind;
+  st_other = 0;
+  st_shndx = 0xfff1;
+}
 
 abbrev pub null_entry : SymbolEntry
 null_entry = record { st_name = 0; st_value = 0; st_size = 0; st_info = 0; st_other = 0; st_shndx = 0 }

@@ -9,10 +9,13 @@ use crate::layout::{FILE_HEADER_SIZE, FileHeader};
 pub const ELF_MAGIC: u32 = 0x464c_457f;
 /// ELFCLASS32, ELFDATA2LSB and EV_CURRENT.
 pub const CLASS_32: u8 = 1;
+
 pub const DATA_LITTLE: u8 = 1;
+
 pub const VERSION_CURRENT: u8 = 1;
 /// ET_EXEC and EM_RISCV.
 pub const EXECUTABLE: u16 = 2;
+
 pub const RISCV: u16 = 243;
 
 fn is_elf32_little(header: &FileHeader) -> bool

@@ -65,7 +65,7 @@ impl Image {
         ensures value { result.now ≡ self.now.segments }
         ensures valid { IsImage self.now }
     {
-        &self.segments
+        self.segments.as_slice()
     }
 
     /// The symbols, in the file's order.
@@ -73,17 +73,22 @@ impl Image {
         ensures value { result.now ≡ self.now.symbols }
         ensures valid { IsImage self.now }
     {
-        &self.symbols
+        self.symbols.as_slice()
     }
 
     /// An equal image with segments and symbols of its own.
     pub fn copy(&self, alloc: Global) -> Result<Image, NoMemory>
         ensures { IfOk result (λ copy. copy ≡ self.now) }
     {
-        let segments = copies_of_regions(alloc, &self.segments)?;
-        let symbols = copies_of_symbols(alloc, &self.symbols)?;
+        let Image {
+            entry,
+            segments,
+            symbols,
+        } = self;
+        let segments = copies_of_regions(alloc, segments)?;
+        let symbols = copies_of_symbols(alloc, symbols)?;
         Ok(Image {
-            entry: self.entry,
+            entry: *entry,
             segments,
             symbols,
         })

@@ -7,8 +7,11 @@ use byteorder::{ByteOrder, LittleEndian};
 
 /// How many bytes each record takes.
 pub const FILE_HEADER_SIZE: usize = 52;
+
 pub const PROGRAM_HEADER_SIZE: usize = 32;
+
 pub const SECTION_HEADER_SIZE: usize = 40;
+
 pub const SYMBOL_ENTRY_SIZE: usize = 16;
 
 /// The ELF header, without the bytes that are the same in every file that is written and are never

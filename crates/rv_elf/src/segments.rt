@@ -12,11 +12,15 @@ use rv_memory::store::NoMemory;
 use std::alloc::Global;
 
 const PT_LOAD: u32 = 1;
+
 const PT_DYNAMIC: u32 = 2;
+
 const PT_INTERP: u32 = 3;
 
 const PF_X: u32 = 1;
+
 const PF_W: u32 = 2;
+
 const PF_R: u32 = 4;
 
 fn is_dynamic(header: &ProgramHeader) -> bool

@@ -13,6 +13,7 @@ use rv_memory::region::Region;
 
 /// The addresses that are kept for the harts' stacks: from the first up to below the second.
 const STACKS_START: u64 = 0xc000_0000;
+
 const STACKS_END: u64 = 0xc010_0000;
 
 /// The most bytes that the segments of an image have together.
@@ -88,9 +89,7 @@ fn meets_some<S: Stretch>(first: &S, others: &[S]) -> bool
 fn meets_stacks<S: Stretch>(stretches: &[S]) -> bool
     ensures { result ≡ list_any (λ s. meets stacks (S.extent s)) stretches.now }
 {
-    stretches
-        .iter()
-        .any(|s| STACKS_START < s.end() && u64::from(s.start()) < STACKS_END)
+    stretches.iter().any(|s| STACKS_START < s.end() && u64::from(s.start()) < STACKS_END)
 }
 
 fn meet<S: Stretch>(stretches: &[S]) -> bool

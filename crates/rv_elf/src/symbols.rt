@@ -7,7 +7,9 @@ ghost use Rattle.rv_elf.specs.Layout as layout_spec;
 ghost use Rattle.rv_elf.specs.Loaded as spec;
 
 use crate::fault::LoadFault;
-use crate::layout::{FileHeader, SECTION_HEADER_SIZE, SYMBOL_ENTRY_SIZE, SectionHeader, SymbolEntry, part};
+use crate::layout::{
+    FileHeader, SECTION_HEADER_SIZE, SYMBOL_ENTRY_SIZE, SectionHeader, SymbolEntry, part,
+};
 use crate::names::{is_candidate, name_of, room_with, text_of};
 use crate::symbol::Symbol;
 use rv_memory::store::NoMemory;
@@ -15,6 +17,7 @@ use std::alloc::Global;
 use std::marker::Model;
 
 const SHT_SYMTAB: u32 = 2;
+
 const SHT_STRTAB: u32 = 3;
 
 /// How much room the symbols of an image need at most: 17 bytes and the bytes of its name for each.
@@ -152,11 +155,7 @@ fn entries_test(symbols: &[u8], strings: &[u8]) -> Result<(), LoadFault>
 }
 
 /// The symbol that an entry stands for, if it stands for one.
-fn symbol_of(
-    alloc: Global,
-    strings: &[u8],
-    entry: &SymbolEntry,
-) -> Result<Option<Symbol>, NoMemory>
+fn symbol_of(alloc: Global, strings: &[u8], entry: &SymbolEntry) -> Result<Option<Symbol>, NoMemory>
     ensures value { IfOk result (λ found. found ≡ spec.kept strings.now entry.now) }
     ensures sound { IfOk result (λ found. ForSome found IsSymbol) }
 {

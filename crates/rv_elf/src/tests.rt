@@ -40,7 +40,10 @@ fn plain_file(rt: HostRuntime) -> Result<(), Fail> {
     assert_eq!(rt; image.segments().len(), 1);
     for segment in image.segments() {
         assert_eq!(rt; segment.start, 0x10000);
-        assert_eq!(rt; segment.bytes.as_slice(), [0x93, 0x00, 0x50, 0x00].as_slice());
+        assert_eq!(rt;
+            segment.bytes.as_slice(),
+            [0x93, 0x00, 0x50, 0x00].as_slice()
+        );
         assert_eq!(rt; segment.len, 4);
         assert!(rt; segment.r && !segment.w && segment.x);
     }
@@ -53,7 +56,11 @@ fn plain_file(rt: HostRuntime) -> Result<(), Fail> {
 #[test]
 fn cut_files(rt: HostRuntime) {
     for end in 0..88 {
-        assert_eq!(rt; fault_of(rt.alloc(), &PLAIN[..end]), Some(LoadFault::Truncated), "at {end}");
+        assert_eq!(rt;
+            fault_of(rt.alloc(), &PLAIN[..end]),
+            Some(LoadFault::Truncated),
+            "at {end}"
+        );
     }
 }
 
@@ -122,7 +129,10 @@ fn second_program_header(rt: HostRuntime) -> Result<(), Fail> {
     for (header, want) in [
         // up to the last address, and one past it
         ([1, 0, 0xffff_f000, 0, 0, 0x1000, 6, 1], None),
-        ([1, 0, 0xffff_f000, 0, 0, 0x1001, 6, 1], Some(LoadFault::PastEnd)),
+        (
+            [1, 0, 0xffff_f000, 0, 0, 0x1001, 6, 1],
+            Some(LoadFault::PastEnd),
+        ),
         // dynamic, interpreted, and a note
         ([2, 0, 0, 0, 0, 0, 0, 1], Some(LoadFault::NotStatic)),
         ([3, 0, 0, 0, 0, 0, 0, 1], Some(LoadFault::NotStatic)),
@@ -140,15 +150,27 @@ fn second_program_header(rt: HostRuntime) -> Result<(), Fail> {
         // a segment without memory is no segment, whatever it says of the file
         ([1, 0xffff_ffff, 0x1_0000, 0, 8, 0, 6, 1], None),
         // more in the file than in memory comes before past the file's end, and that before the end
-        ([1, 0xffff_ffff, 0xffff_ffff, 0, 9, 8, 6, 1], Some(LoadFault::FileLongerThanMemory)),
-        ([1, 0xffff_ffff, 0xffff_ffff, 0, 8, 8, 6, 1], Some(LoadFault::Truncated)),
-        ([1, 117, 0x2_0000, 0, 4, 8, 6, 1], Some(LoadFault::Truncated)),
+        (
+            [1, 0xffff_ffff, 0xffff_ffff, 0, 9, 8, 6, 1],
+            Some(LoadFault::FileLongerThanMemory),
+        ),
+        (
+            [1, 0xffff_ffff, 0xffff_ffff, 0, 8, 8, 6, 1],
+            Some(LoadFault::Truncated),
+        ),
+        (
+            [1, 117, 0x2_0000, 0, 4, 8, 6, 1],
+            Some(LoadFault::Truncated),
+        ),
         ([1, 116, 0x2_0000, 0, 4, 8, 6, 1], None),
         // no bytes lie anywhere
         ([1, 0xffff_ffff, 0x2_0000, 0, 0, 8, 6, 1], None),
         // 16,777,216 bytes together, and one more
         ([1, 0, 0x2_0000, 0, 0, 16_777_212, 6, 1], None),
-        ([1, 0, 0x2_0000, 0, 0, 16_777_213, 6, 1], Some(LoadFault::TooLarge)),
+        (
+            [1, 0, 0x2_0000, 0, 0, 16_777_213, 6, 1],
+            Some(LoadFault::TooLarge),
+        ),
     ] {
         let file = with_header(rt.alloc(), header)?;
         assert_eq!(rt; fault_of(rt.alloc(), &file), want, "with {header:?}");
@@ -188,7 +210,10 @@ fn linked_file(rt: HostRuntime) -> Result<(), Fail> {
     for segment in image.segments() {
         lens.push((segment.start, segment.bytes.len(), segment.len))?;
     }
-    assert_eq!(rt; lens.as_slice(), [(0x10000, 24, 24), (0x20000, 4, 12)].as_slice());
+    assert_eq!(rt;
+        lens.as_slice(),
+        [(0x10000, 24, 24), (0x20000, 4, 12)].as_slice()
+    );
     let wanted = [
         ("$xrv32i2p1_a2p1", 0x10000, 0, 0),
         ("_start", 0x10000, 24, 2),
@@ -243,7 +268,12 @@ fn changed_symbols(rt: HostRuntime) -> Result<(), Fail> {
         assert_eq!(rt; got, want, "at {at:#x}");
     }
     // a symbol table of no bytes, past the file's end
-    let file = patched(rt.alloc(), &LINKED, 0x22c, &[0xff, 0xff, 0xff, 0xff, 0, 0, 0, 0])?;
+    let file = patched(
+        rt.alloc(),
+        &LINKED,
+        0x22c,
+        &[0xff, 0xff, 0xff, 0xff, 0, 0, 0, 0],
+    )?;
     let got = load(rt.alloc(), &file).map(|image| image.symbols().len());
     assert_eq!(rt; got, Ok(0));
     Ok(())
@@ -290,7 +320,11 @@ fn parts_of_images(rt: HostRuntime) -> Result<(), Fail> {
         let mut symbols = Vec::new(alloc);
         symbols.push(symbol(alloc, name, kind)?)?;
         let made = Image::new(entry, segments, symbols);
-        assert_eq!(rt; made.is_some(), want, "{entry:#x} {start:#x} {len} {name} {kind}");
+        assert_eq!(rt;
+            made.is_some(),
+            want,
+            "{entry:#x} {start:#x} {len} {name} {kind}"
+        );
     }
     let copy = symbol(alloc, "ab", 1)?.copy(alloc)?;
     assert!(rt; is_symbol(&copy, "ab", 7, 8, 1));

@@ -6,12 +6,11 @@ ghost use Rattle.rv_elf.specs.Laws.{LoadsAgain};
 ghost use Rattle.rv_elf.specs.Loaded.{loaded};
 ghost use Rattle.rv_elf.specs.Written as spec;
 
-use crate::header;
 use crate::image::Image;
 use crate::layout::{FileHeader, ProgramHeader, SectionHeader, SymbolEntry};
 use crate::places::{Places, SECTION_NAMES_SIZE, aligned, data_end, places_of};
-use crate::put;
 use crate::symbol::Symbol;
+use crate::{header, put};
 use rv_memory::region::Region;
 use rv_memory::store::NoMemory;
 use std::alloc::Global;
@@ -322,5 +321,4 @@ pub fn write(alloc: Global, image: &Image) -> Result<Vec<u8>, NoMemory>
 /// The file of every image loads as the image.
 pub fn loads_again()
     ensures { LoadsAgain }
-{
-}
+{}

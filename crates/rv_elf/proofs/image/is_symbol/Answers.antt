@@ -1,4 +1,4 @@
-use Rattle.std.proofs.Common.{◌≡◌, ◌<◌, ◌^◌, length, ap, sym, ◌∙◌, subst, arith}
+use Rattle.std.proofs.Common.{length, ap, sym, ◌∙◌, subst, arith}
 use Rattle.std.specs.List.{list_all}
 use Rattle.std.specs.Prelude.{nat_lt}
 use Rattle.std.proofs.lemmas.Bool.{eqb-false}
@@ -10,8 +10,7 @@ use Rattle.rv_elf.proofs.image.is_symbol.Goals as goal
 pub returns : goal.returns
 returns c =
     let some = eqb-false (length c.as_str-name.result.now) 0 (sym c.is_empty.ensures ∙ c.if-is_empty.false) in
-    let name = c.as_bytes.ensures.value ∙ c.as_str-name.ensures.value in
-    (
+    let name = c.as_bytes.ensures.value ∙ c.as_str-name.ensures.value in (
       λ yes. subst IsSymbol c.symbol.view_is (record {
         kind = c.if-symbol-gt2.false;
         some = omega (arith, some, ap length c.as_str-name.ensures.value);
@@ -20,5 +19,5 @@ returns c =
         value = omega arith;
         size = omega arith;
       }),
-      λ is. c.is_unbroken.ensures ∙ ap (list_all (λ b. nat_lt 0 b)) (name ∙ ap (λ s. s.name) c.symbol.view_is) ∙ is.unbroken
+      λ is. c.is_unbroken.ensures ∙ ap (list_all (λ b. nat_lt 0 b)) (name ∙ ap (λ s. s.name) c.symbol.view_is) ∙ is.unbroken,
     )

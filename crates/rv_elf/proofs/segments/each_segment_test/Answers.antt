@@ -1,4 +1,4 @@
-use Rattle.std.proofs.Common.{sym, ◌∙◌}
+use Rattle.std.proofs.Common.{sym}
 use Rattle.std.proofs.lemmas.Result.{err_from_is_err_and}
 use Rattle.rv_elf.proofs.Tables.{each_passed, each_failed, each_done}
 use Rattle.rv_elf.proofs.segments.each_segment_test.Goals as goal

@@ -1,4 +1,4 @@
-use Rattle.std.proofs.Common.{◌≡◌, ◌+◌, true, false, drop, sym, ◌∙◌, subst}
+use Rattle.std.proofs.Common.{◌≡◌, ◌+◌, true, false, drop, sym, ◌∙◌}
 use Rattle.std.specs.List.{list_any}
 use Rattle.rv_memory.specs.Memory.{meets}
 use Rattle.rv_elf.proofs.Stretches.{meet_found, meet_passed}

@@ -1,4 +1,4 @@
-use Rattle.std.proofs.Common.{◌≡◌, ◌/◌, length, arith, sym, ◌∙◌, ap, Ok, Err}
+use Rattle.std.proofs.Common.{◌/◌, length, arith, sym, ◌∙◌, ap}
 use Rattle.std.proofs.lemmas.Result.{err_from_is_err_and}
 use Rattle.rv_elf.specs.Loaded.{entries_of}
 use Rattle.rv_elf.specs.Steps.{room_with}

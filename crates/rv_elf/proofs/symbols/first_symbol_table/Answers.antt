@@ -10,6 +10,6 @@ returns-then-section-eq-SHT_SYMTAB c =
 pub loop-preserved : goal.loop-preserved
 loop-preserved c = record {
   first =
-    find_miss (λ s. s.sh_type == 2) section_header 40 c.args.count c.loop.counter c.loop.rest.now c.split_at.result.1.now c.read-section.result _ c.loop-test.true c.read-section.ensures (search rules) c.split_at.ensures.back c.loop.invariant.first;
+      find_miss (λ s. s.sh_type == 2) section_header 40 c.args.count c.loop.counter c.loop.rest.now c.split_at.result.1.now c.read-section.result _ c.loop-test.true c.read-section.ensures (search rules) c.split_at.ensures.back c.loop.invariant.first;
   size = omega (arith, c.split_at.ensures.back_len);
 }

@@ -1,4 +1,4 @@
-use Rattle.std.proofs.Common.{◌*◌, Some, drop, ap, sym, ◌∙◌, arith}
+use Rattle.std.proofs.Common.{Some, ap, sym, ◌∙◌, arith}
 use Rattle.rv_elf.specs.Layout.{section_header}
 use Rattle.rv_elf.proofs.Tables.{record_at, record_past}
 use Rattle.rv_elf.proofs.symbols.section_at.Goals as goal

@@ -1,4 +1,4 @@
-use Rattle.std.proofs.Common.{◌≡◌, ◌/◌, length, arith, sym, ◌∙◌, ap}
+use Rattle.std.proofs.Common.{◌/◌, length, arith, ◌∙◌, ap}
 use Rattle.rv_elf.specs.Loaded.{entries_of, kept}
 use Rattle.rv_elf.proofs.Entries.{symbol_found, symbols_done}
 use Rattle.rv_elf.proofs.symbols.symbols_among.Goals as goal

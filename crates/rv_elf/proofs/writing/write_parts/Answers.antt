@@ -1,6 +1,6 @@
-use Rattle.std.proofs.Common.{◌≡◌, sym, ap, subst, arith}
+use Rattle.std.proofs.Common.{sym, subst, arith}
 use Rattle.rv_elf.specs.Written.{data_end}
-use Rattle.rv_elf.proofs.Sizes.{AreInOrder, data_small, tables_small, kinds_are, places_in_order}
+use Rattle.rv_elf.proofs.Sizes.{AreInOrder, data_small, tables_small, places_in_order}
 use Rattle.rv_elf.proofs.writing.write_parts.Goals as goal
 
 pub put_front-requires-clause-small : goal.put_front-requires-clause-small
