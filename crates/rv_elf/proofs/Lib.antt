@@ -1,0 +1,11 @@
+pub mod Entries
+pub mod Facts
+pub mod Sizes
+pub mod ReadBack
+pub mod SegmentsBack
+pub mod SymbolsBack
+pub mod LoadsAgain
+pub mod Stages
+pub mod Stretches
+pub mod Tables
+pub mod Texts

@@ -1,0 +1,6 @@
+use Rattle.std.proofs.Common.{◌≡◌, ◌++◌, take}
+use Rattle.rv_elf.specs.Written.{words}
+use Rattle.rv_elf.proofs.put.words.Given as goal
+
+abbrev pub invariant-loop-value : goal.invariant-loop-value
+invariant-loop-value l = l.out.items ≡ l.initial.out.items ++ words (take l.value-index l.values)
