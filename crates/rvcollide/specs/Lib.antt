@@ -1,5 +1,6 @@
 pub mod Command
 pub mod HartsLine
+pub mod Hunt
 pub mod Prefix
 pub mod Reading
 pub mod StepsLine

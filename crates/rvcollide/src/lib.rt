@@ -4,4 +4,5 @@
 #![tactic(auto)]
 
 pub mod command;
+mod hunt;
 pub mod words;
