@@ -1,4 +1,5 @@
 pub mod GivenLemmas
+pub mod HuntLemmas
 pub mod InputSoFar
 pub mod LeafLemmas
 pub mod LineLemmas

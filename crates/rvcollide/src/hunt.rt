@@ -1,6 +1,6 @@
 //! A first pause, under a weak contract: a report names two accesses of different harts that conflict, each
 //! at some place of the run. It does not say that the second came while the first was paused.
-ghost use Rattle.std.specs.Prelude.{◌≡◌, ◌≢◌, ◌≤◌, ◌<◌, ◌+◌, Some, IfOk, IfErr, IfSome, OnOk, OnErr, IsErr, vec_len, vec_capacity, length};
+ghost use Rattle.std.specs.Prelude.{◌≡◌, ◌≢◌, ◌≤◌, ◌<◌, ◌+◌, ◌^◌, Some, IfOk, IfErr, IfSome, OnOk, OnErr, IsErr, vec_len, vec_capacity, length};
 ghost use Rattle.rv_hart.specs.Next.{next_access, accessed};
 ghost use Rattle.rv_hart.specs.Run.{run};
 ghost use Rattle.rv_hart.specs.State.{State};
