@@ -1,3 +1,4 @@
 pub mod InputSoFar
 pub mod LineLemmas
 pub mod ReadBack
+pub mod Written
