@@ -10,4 +10,5 @@ pub mod action;
 mod effect;
 pub mod hart;
 pub mod machine;
+mod start;
 pub mod write;

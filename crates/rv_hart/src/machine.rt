@@ -15,8 +15,11 @@ use crate::effect::{
     access_of, action_at, event_of, loaded_by, print, put, ready, see_and_advance, written_by,
 };
 use crate::hart::{Hart, Status};
+use crate::start::{first_harts, with_stacks};
 use rv_memory::laws::{bytes_stand_where_covered, memory_is_sound};
-use rv_memory::store::{ByteStore, Need};
+use rv_memory::region::Region;
+use rv_memory::store::{ByteStore, MemFault, Need};
+use std::alloc::Global;
 use std::marker::Model;
 
 /// The most bytes that a machine may be made to print.
@@ -57,6 +60,43 @@ impl<S: ByteStore> Model for Machine<S> {
 }
 
 impl<S: ByteStore> Machine<S> {
+    /// A machine of so many harts (1 to 16) with these regions and the harts' stacks, each hart at the
+    /// entry, a multiple of 4. It may print `out_limit` bytes, up to 1,000,000. The regions and the stacks
+    /// are tested together, as a store tests its regions, before memory is asked for.
+    pub fn new(
+        alloc: Global,
+        regions: Vec<Region>,
+        entry: u32,
+        harts: u8,
+        out_limit: u32,
+    ) -> Result<Machine<S>, MemFault>
+        requires regions { All IsExtent regions.items }
+        requires entry { entry % 4 ≡ 0 }
+        requires some { 1 ≤ harts }
+        requires within { harts ≤ 16 }
+        requires limit { out_limit ≤ OUTPUT_LIMIT }
+        ensures ok { IfOk result (λ m. m ≡ record {
+          state = state.start regions.items entry harts;
+          limit = out_limit;
+        }) }
+        ensures fits { OnOk result
+            (memory.fault_of (state.with_stacks regions.items harts) ≡ None) }
+        ensures err { IfErr result (λ fault. fault
+            ≡ unwrap_or (memory.fault_of (state.with_stacks regions.items harts)) MemFault.NoMemory) }
+    {
+        memory_is_sound();
+        let regions = with_stacks(alloc, regions, harts)?;
+        let store = S::make(alloc, &regions)?;
+        let output = Vec::with_capacity(alloc, out_limit as usize)?;
+        let harts = first_harts(alloc, entry, harts)?;
+        Ok(Machine {
+            harts,
+            store,
+            output,
+            limit: out_limit,
+        })
+    }
+
     /// How many harts there are: 1 to 16.
     pub fn harts(&self) -> u8
         ensures value { result ≡ length self.now.state.harts }

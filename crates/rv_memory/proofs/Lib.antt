@@ -1,3 +1,4 @@
+pub mod Both
 pub mod Frame
 pub mod Places
 pub mod Sound

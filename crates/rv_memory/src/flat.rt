@@ -4,8 +4,9 @@ ghost use Rattle.rv_memory.specs.Extent.{IsExtent, span, filled, end_of as spec_
 ghost use Rattle.rv_memory.specs.Memory as spec;
 ghost use Rattle.rv_memory.specs.Flat.{number_at, put_at};
 
+use crate::fit::{end_of, fault_of};
 use crate::region::Region;
-use crate::store::{ByteStore, LIMIT, MemFault, Need, NoMemory, Steady};
+use crate::store::{ByteStore, MemFault, Need, NoMemory, Steady};
 use std::alloc::Global;
 use std::marker::Model;
 
@@ -72,14 +73,6 @@ impl ByteStore for Flat {
 
 impl Steady for Flat {
     ghost never_refuses = { refl };
-}
-
-/// The address that follows the region's last one.
-#[inline]
-fn end_of(region: &Region) -> u64
-    ensures { result ≡ region.now.start + region.now.len }
-{
-    u64::from(region.start) + u64::from(region.len)
 }
 
 /// Whether the bytes lie wholly within the region.
@@ -174,69 +167,6 @@ fn put(region: &mut Region, address: u32, size: u8, value: u32)
 {
     let offset = (address - region.start) as usize;
     put_at(&mut region.bytes, offset, size, value);
-}
-
-/// The first test that the regions fail.
-fn fault_of(regions: &[Region]) -> Option<MemFault>
-    ensures { result ≡ spec.fault_of regions.now }
-{
-    if one_ends_past(regions) {
-        return Some(MemFault::PastEnd);
-    }
-    if overlap(regions) {
-        return Some(MemFault::Overlap);
-    }
-    if are_too_large(regions) {
-        return Some(MemFault::TooLarge);
-    }
-    None
-}
-
-/// Whether some region ends past 2^32.
-fn one_ends_past(regions: &[Region]) -> bool
-    ensures { result ≡ list_any (λ e. nat_lt (2 ^ 32) (spec_end_of e)) regions.now }
-{
-    regions.iter().any(|region| 1 << 32 < end_of(region))
-}
-
-fn meets(a: &Region, b: &Region) -> bool
-    ensures { result ≡ spec.meets a.now b.now }
-{
-    u64::from(a.start) < end_of(b) && u64::from(b.start) < end_of(a)
-}
-
-fn meets_some(first: &Region, others: &[Region]) -> bool
-    ensures { result ≡ list_any (spec.meets first.now) others.now }
-{
-    others.iter().any(|other| meets(first, other))
-}
-
-/// Whether some two of the regions share an address.
-fn overlap(regions: &[Region]) -> bool
-    ensures { result ≡ spec.overlaps regions.now }
-{
-    let mut rest = regions;
-    while let [first, after @ ..] = rest {
-        if meets_some(first, after) {
-            return true;
-        }
-        rest = after;
-    }
-    false
-}
-
-/// Whether the lengths sum to more than `LIMIT`.
-fn are_too_large(regions: &[Region]) -> bool
-    ensures { result ≡ nat_lt LIMIT (sum_by (λ e. e.len) regions.now) }
-{
-    let mut sum = 0;
-    for region in regions {
-        sum += u64::from(region.len);
-        if sum > LIMIT {
-            return true;
-        }
-    }
-    false
 }
 
 /// The region with its zeros written out.

@@ -7,6 +7,7 @@
 //! `failed` whether its device has failed, and what is read or written whole is all of the bytes.
 #![tactic(auto)]
 
+pub mod fit;
 pub mod flagged;
 pub mod flat;
 pub mod laws;

@@ -1,6 +1,7 @@
 ghost use Rattle.std.specs.Prelude.{◌≡◌, ℕ, ◌^◌, ◌<◌, Bool, false, IsTrue, IfOk, IfErr, OnOk, OnErr, None, Some, codes, unwrap_or, All};
 ghost use Rattle.rv_memory.specs.Extent.{IsExtent};
 ghost use Rattle.rv_memory.specs.Memory as spec;
+ghost use Rattle.rv_memory.specs.declared.store.MemFault.TheVariants.{NoMemory as OutOfMemory};
 
 use crate::region::Region;
 use std::alloc::{AllocError, AllocFailed, Global};
@@ -43,6 +44,22 @@ impl From<AllocError> for NoMemory {
 impl<T: Drop> From<AllocFailed<T>> for NoMemory {
     fn from(_: AllocFailed<T>) -> NoMemory {
         NoMemory
+    }
+}
+
+impl From<AllocError> for MemFault {
+    ghost from_gives = { λ _ fault. fault ≡ OutOfMemory };
+
+    fn from(_: AllocError) -> MemFault {
+        MemFault::NoMemory
+    }
+}
+
+impl<T: Drop> From<AllocFailed<T>> for MemFault {
+    ghost from_gives = { λ _ fault. fault ≡ OutOfMemory };
+
+    fn from(_: AllocFailed<T>) -> MemFault {
+        MemFault::NoMemory
     }
 }
 

@@ -1,7 +1,7 @@
 -- a region that was looked at meets none of those after it
 use Rattle.std.proofs.Common.{◌≡◌, length}
 use Rattle.rv_memory.specs.Memory.{overlaps}
-use Rattle.rv_memory.proofs.flat.overlap.Given as goal
+use Rattle.rv_memory.proofs.fit.overlap.Given as goal
 
 abbrev pub invariant-loop-rest : goal.invariant-loop-rest
 invariant-loop-rest l = overlaps l.regions ≡ overlaps l.rest

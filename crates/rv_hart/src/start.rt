@@ -1,0 +1,134 @@
+//! The state that a machine begins in.
+ghost use Rattle.std.specs.Prelude.{◌≡◌, ◌≤◌, ◌<◌, None, All, IfOk, IfErr, OnOk, map, unwrap_or, vec_len};
+ghost use Rattle.std.specs.List.{range_with_len};
+ghost use Rattle.rv_hart.specs.State as state;
+ghost use Rattle.rv_memory.specs.Extent.{IsExtent};
+ghost use Rattle.rv_memory.specs.Memory.{fault_of};
+
+use crate::hart::{Hart, Status};
+use rv_memory::fit::fault_of_both;
+use rv_memory::region::Region;
+use rv_memory::store::MemFault;
+use std::alloc::{AllocError, Global};
+
+/// The first address of hart 0's stack; the other harts' follow it.
+const STACKS: u32 = 0xc000_0000;
+
+/// The bytes of a stack.
+const STACK_LEN: u32 = 0x1_0000;
+
+fn stack(alloc: Global, h: u8) -> Region
+    requires { h < 16 }
+    ensures { result ≡ state.stack h }
+{
+    Region {
+        start: STACKS + u32::from(h) * STACK_LEN,
+        bytes: Vec::new(alloc),
+        len: STACK_LEN,
+        r: true,
+        w: true,
+        x: false,
+    }
+}
+
+/// The stacks of 16 harts. They are empty regions, which take no memory.
+fn all_stacks(alloc: Global) -> [Region; 16]
+    ensures { result ≡ state.stacks 16 }
+{
+    [
+        stack(alloc, 0),
+        stack(alloc, 1),
+        stack(alloc, 2),
+        stack(alloc, 3),
+        stack(alloc, 4),
+        stack(alloc, 5),
+        stack(alloc, 6),
+        stack(alloc, 7),
+        stack(alloc, 8),
+        stack(alloc, 9),
+        stack(alloc, 10),
+        stack(alloc, 11),
+        stack(alloc, 12),
+        stack(alloc, 13),
+        stack(alloc, 14),
+        stack(alloc, 15),
+    ]
+}
+
+/// The first test that the regions and the stacks fail together, found before anything is allocated.
+#[tactic(auto, using(crate::proofs::StartLemmas::some_stacks))]
+fn fault_with_stacks(alloc: Global, regions: &[Region], count: u8) -> Option<MemFault>
+    requires { count ≤ 16 }
+    ensures { result ≡ fault_of (state.with_stacks regions.now count) }
+{
+    let stacks = all_stacks(alloc);
+    fault_of_both(regions, &stacks[..count as usize])
+}
+
+/// The regions with the stacks of so many harts, if a store can be made of them.
+pub fn with_stacks(alloc: Global, regions: Vec<Region>, count: u8) -> Result<Vec<Region>, MemFault>
+    requires count { count ≤ 16 }
+    requires extents { All IsExtent regions.items }
+    ensures ok { IfOk result (λ all. all.items ≡ state.with_stacks regions.items count) }
+    ensures extents { IfOk result (λ all. All IsExtent all.items) }
+    ensures fits { OnOk result (fault_of (state.with_stacks regions.items count) ≡ None) }
+    ensures err { IfErr result (λ fault.
+        fault ≡ unwrap_or (fault_of (state.with_stacks regions.items count)) MemFault.NoMemory) }
+{
+    if let Some(fault) = fault_with_stacks(alloc, &regions, count) {
+        return Err(fault);
+    }
+    match push_stacks(alloc, regions, count) {
+        Ok(all) => Ok(all),
+        Err(_) => Err(MemFault::NoMemory),
+    }
+}
+
+#[tactic(auto, using(crate::proofs::StartLemmas::stacks_more))]
+fn push_stacks(
+    alloc: Global,
+    mut regions: Vec<Region>,
+    count: u8,
+) -> Result<Vec<Region>, AllocError>
+    requires count { count ≤ 16 }
+    requires extents { All IsExtent regions.items }
+    ensures ok { IfOk result (λ all. all.items ≡ state.with_stacks regions.items count) }
+    ensures extents { IfOk result (λ all. All IsExtent all.items) }
+{
+    for h in 0..count {
+        regions.push(stack(alloc, h))?;
+    }
+    Ok(regions)
+}
+
+/// A hart as it begins.
+fn first_hart(entry: u32, count: u8, h: u8) -> Hart
+    requires { h < 16 }
+    ensures { result ≡ state.first_hart entry count h }
+{
+    let mut registers = [0; 32];
+    registers[2] = STACKS + (u32::from(h) + 1) * STACK_LEN;
+    registers[10] = u32::from(h);
+    registers[11] = u32::from(count);
+    Hart {
+        registers,
+        pc: entry,
+        status: Status::Running,
+        reservation: None,
+    }
+}
+
+/// So many harts as they begin.
+#[tactic(auto, using(crate::proofs::StartLemmas::harts_more))]
+pub fn first_harts(alloc: Global, entry: u32, count: u8) -> Result<Vec<Hart>, AllocError>
+    requires { count ≤ 16 }
+    ensures harts { IfOk result (λ harts.
+        harts.items ≡ map (state.first_hart entry count) (range_with_len 0 count)) }
+    ensures count { IfOk result (λ harts. vec_len harts ≡ count) }
+{
+    let mut harts = Vec::with_capacity(alloc, count as usize)?;
+    for h in 0..count {
+        harts.push(first_hart(entry, count, h))?;
+    }
+    Ok(harts)
+}
