@@ -1,5 +1,5 @@
 -- Texts written piece by piece, into a writer whose bytes may be known.
-use Rattle.std.proofs.Common.{◌≡◌, ◌<◌, ℕ, ◌+◌, List, [], ◌∷◌, ◌++◌, take, length, get_or, Option, None, Some, ap, refl, sym, ◌∙◌, append-nil, subst, zero, suc, zero-add, add-zero, arith}
+use Rattle.std.proofs.Common.{◌≡◌, ℕ, ◌+◌, List, [], ◌∷◌, ◌++◌, take, length, Option, None, Some, ap, refl, sym, ◌∙◌, append-nil, subst, zero, suc, zero-add, add-zero, arith}
 use Rattle.std.specs.Prelude.{slice_get, IsSomeAnd}
 use Rattle.std.specs.List.{flat_map, range_with_len}
 use Rattle.std.specs.Io.KnownBytes.{Appends}

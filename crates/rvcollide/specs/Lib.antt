@@ -1,7 +1,10 @@
 pub mod Command
+pub mod FaultText
 pub mod HartsLine
 pub mod Prefix
 pub mod StepsLine
 pub mod Texts
+pub mod Words
+pub mod WordsFault
 pub mod WordsInput
 pub mod WordsText

@@ -1,4 +1,5 @@
-use Rattle.std.specs.Prelude.{◌≡◌, ℕ, ◌+◌, ◌*◌, ◌/◌, ◌%◌, Bool, true, false, ⊤, nat_lt, if◌then◌else◌, Option, Some, None, Result, Ok, Err, List, [], ◌∷◌, length}
+use Rattle.std.specs.Prelude.{ℕ, ◌+◌, ◌*◌, true, false, nat_lt, if◌then◌else◌, Result, Ok, Err, List, [], ◌∷◌, length}
+use Rattle.std.specs.Int.{to_le_bytes, w32}
 use Rattle.std.specs.List.{flat_map}
 use Rattle.std.specs.Option.{ok_or}
 use Rattle.rv_memory.specs.Extent.{Extent}
@@ -10,7 +11,7 @@ use Rattle.rv_memory.specs.declared.flagged.TheConstants.{INPUT_LIMIT}
 use Rattle.rvcollide.specs.Texts.{state_text}
 use Rattle.rvcollide.specs.WordsInput.{WordsInput, input_of}
 use Rattle.rvcollide.specs.declared.words.fault.WordsFault.{WordsFault}
-use Rattle.rvcollide.specs.declared.words.fault.WordsFault.TheVariants.{Line, Step, TooLong, Read, Write, NoMemory}
+use Rattle.rvcollide.specs.declared.words.fault.WordsFault.TheVariants.{Line, Step, TooLong}
 use Rattle.rvcollide.specs.declared.words.guest.TheConstants.{TEXT_START, DATA_START, DATA_LENGTH}
 
 infixl 10 ◌>>=◌
@@ -20,14 +21,10 @@ abbrev pub ◌>>=◌ : {A B : Type 0} → Result A WordsFault → (A → Result 
 
 -- ---- the guest
 
--- a word's four bytes, the least significant first
-abbrev pub bytes_of_word : ℕ → List ℕ
-bytes_of_word word = word % 256 ∷ word / 256 % 256 ∷ word / 65536 % 256 ∷ word / 16777216 % 256 ∷ []
-
 -- the instruction words: readable, executable, and exactly these
 abbrev pub text_region : List ℕ → Extent
 text_region words =
-    record { start = TEXT_START; bytes = flat_map bytes_of_word words; len = 4 * length words; r = true; w = false; x = true }
+    record { start = TEXT_START; bytes = flat_map (to_le_bytes w32) words; len = 4 * length words; r = true; w = false; x = true }
 
 -- zeros to read and write
 abbrev pub data_region : Extent
@@ -61,38 +58,20 @@ abbrev pub told : {A : Type 0} → Result A ℕ → Result A WordsFault
 told (Ok a) = Ok a
 told (Err line) = Err (Line line)
 
+-- the bytes, unless they are more than an input may have
 abbrev pub unless_long : List ℕ → Result (List ℕ) WordsFault
 unless_long bytes = if nat_lt INPUT_LIMIT (length bytes) then Err TooLong else Ok bytes
 
--- the state after the steps of an input, or why it is refused: its first malformed line, and else its
--- first step that is refused
+-- The state after the steps of an input, or why it is refused: it is too long, and else its first
+-- malformed line, and else its first step that is refused.
 unfoldable pub state_of : List ℕ → Result State WordsFault
 state_of bytes = do
-  input ← told (input_of bytes)
+  whole ← unless_long bytes
+  input ← told (input_of whole)
   stepped 0 (start_of input) input.steps
 
 -- what is written for an input, or why it is refused
 unfoldable pub words_text : List ℕ → Result (List ℕ) WordsFault
 words_text bytes = do
-  whole ← unless_long bytes
-  state ← state_of whole
+  state ← state_of bytes
   Ok (state_text state)
-
--- the fault is the input's; that a device failed or memory is out says nothing of the input
-abbrev pub IsFaultOf : {A : Type 0} → Result A WordsFault → WordsFault → Type 0
-IsFaultOf said (Line number) = said ≡ Err (Line number)
-IsFaultOf said (Step number fault) = said ≡ Err (Step number fault)
-IsFaultOf said TooLong = said ≡ Err TooLong
-IsFaultOf said Read = ⊤
-IsFaultOf said Write = ⊤
-IsFaultOf said NoMemory = ⊤
-
-abbrev pub is_read : {A : Type 0} → Result A WordsFault → Bool
-is_read (Ok a) = false
-is_read (Err Read) = true
-is_read (Err _) = false
-
-abbrev pub is_write : {A : Type 0} → Result A WordsFault → Bool
-is_write (Ok a) = false
-is_write (Err Write) = true
-is_write (Err _) = false

@@ -75,13 +75,16 @@ fn shown(alloc: Global, error: &Error) -> Result<Notice, LineFault>
 {
     match error.kind() {
         ErrorKind::OutOfMemory => Err(LineFault::NoMemory),
-        ErrorKind::DisplayHelp | ErrorKind::DisplayVersion => Ok(Notice::Answer(text(alloc, error)?)),
+        ErrorKind::DisplayHelp | ErrorKind::DisplayVersion => Ok(Notice::Answer(text(
+            alloc, error,
+        )?)),
         _ => Ok(Notice::Refusal(text(alloc, error)?)),
     }
 }
 
 /// Of a line that `clap` accepts.
-const NUMBER_REFUSED: &str = "error: a number is outside its range\n\nFor more information, try '--help'.\n";
+const NUMBER_REFUSED: &str =
+    "error: a number is outside its range\n\nFor more information, try '--help'.\n";
 
 fn text<T: Display>(alloc: Global, shown: &T) -> Result<String, LineFault>
     ensures { IfErr result (λ e. e ≡ LineFault.NoMemory) }
@@ -134,7 +137,9 @@ fn hunt_command<'a>(alloc: Global) -> Result<Command<'a>, AllocError>
 {
     Command::new(alloc, "hunt")
         .about("Runs them with one pause before an access")
-        .arg(required_word(alloc, "PC").help("Address of the instruction, eight hexadecimal digits"))?
+        .arg(required_word(alloc, "PC").help(
+            "Address of the instruction, eight hexadecimal digits",
+        ))?
         .arg(required_word(alloc, "PAUSE").help("Steps that the pause lasts, 1 to 65535"))
 }
 

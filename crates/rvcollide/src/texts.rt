@@ -52,7 +52,10 @@ fn write_register<W: Write>(writer: &mut Flagged<W>, r: u8, value: u32) -> Resul
         return write_whole(writer, b"");
     }
     let number = Decimal::new(u64::from(r));
-    write_pieces(writer, &[b" x", number.as_bytes(), b" ", &word_digits(value)])
+    write_pieces(
+        writer,
+        &[b" x", number.as_bytes(), b" ", &word_digits(value)],
+    )
 }
 
 fn write_registers<S: ByteStore, W: Write>(

@@ -11,5 +11,8 @@ fn reads_each_command(rt: HostRuntime) {
         pc: 0x1_0004,
         pause: 1,
     };
-    assert_eq!(rt; job_of(&rt, &["rvcollide", "hunt", "00010004", "1"]), Ok(hunt));
+    assert_eq!(rt;
+        job_of(&rt, &["rvcollide", "hunt", "00010004", "1"]),
+        Ok(hunt)
+    );
 }
