@@ -1,3 +1,4 @@
+pub mod Fits
 pub mod GivenLemmas
 pub mod HuntLemmas
 pub mod InputSoFar
@@ -5,4 +6,6 @@ pub mod LeafLemmas
 pub mod LineLemmas
 pub mod ReadBack
 pub mod ReadsLine
+pub mod StepLemmas
 pub mod WordLemmas
+pub mod Written

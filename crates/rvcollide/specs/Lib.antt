@@ -1,8 +1,12 @@
 pub mod Command
+pub mod FaultText
 pub mod HartsLine
 pub mod Hunt
 pub mod Prefix
 pub mod Reading
 pub mod StepsLine
+pub mod Texts
+pub mod Words
+pub mod WordsFault
 pub mod WordsInput
 pub mod WordsText

@@ -52,14 +52,14 @@ pub enum HuntFault {
 }
 
 /// Makes the steps of the list, with one pause: the first hart whose pc is `pc` and which would make a plain
-/// load or store is paused in place of that step. Its numbers in the list are dropped until `length` steps
+/// load or store is paused in place of that step. Its numbers in the list are dropped until `pause` steps
 /// of others were made, or the list ends.
 pub fn hunt<S: ByteStore>(
     alloc: Global,
     machine: &mut Machine<S>,
     steps: &[u8],
     pc: u32,
-    length: u32,
+    pause: u32,
 ) -> Result<Hunted, HuntFault>
     requires { length steps.now < 2 ^ 32 }
     ensures machine { IfOk result (λ hunted.
@@ -73,7 +73,7 @@ pub fn hunt<S: ByteStore>(
     };
     let mut watch = Watch {
         pc,
-        length,
+        length: pause,
         pause: Pause::Awaited,
         report: None,
     };

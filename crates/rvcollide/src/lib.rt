@@ -5,4 +5,5 @@
 
 pub mod command;
 mod hunt;
+pub mod texts;
 pub mod words;
