@@ -39,7 +39,9 @@ impl Model for Image {
 impl Image {
     /// The image of these parts, where they make one. It takes no memory.
     pub fn new(entry: u32, segments: Vec<Region>, symbols: Vec<Symbol>) -> Option<Image>
-        ensures { SomeIff result (IsImage (contents entry segments.items symbols.items)) (contents entry segments.items symbols.items) }
+        ensures { SomeIff result
+            (IsImage (contents entry segments.items symbols.items))
+            (contents entry segments.items symbols.items) }
     {
         if are_segments(entry, &segments) && are_symbols(&symbols) {
             Some(Image {
