@@ -32,7 +32,7 @@ pub enum Pause {
 #[derive(Clone, Copy, Debug)]
 pub struct Watch {
     pub pc: u32,
-    pub length: u32,
+    pub lasting: u32,
     pub pause: Pause,
     pub report: Option<Report>,
 }
@@ -73,7 +73,7 @@ pub fn hunt<S: ByteStore>(
     };
     let mut watch = Watch {
         pc,
-        length: pause,
+        lasting: pause,
         pause: Pause::Awaited,
         report: None,
     };
@@ -109,7 +109,7 @@ fn turn<S: ByteStore>(
         watch.pause = Pause::Open {
             hart: h,
             access,
-            left: watch.length,
+            left: watch.lasting,
         };
         return Ok(());
     }
