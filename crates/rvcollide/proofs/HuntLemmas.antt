@@ -1,5 +1,7 @@
-use Rattle.std.proofs.Common.{◌≡◌, ◌≢◌, ℕ, ◌+◌, ◌-◌, ◌<◌, ◌≤◌, Bool, true, false, cond, List, [], ◌∷◌, ◌++◌, Option, Some, None, length, take, refl, sym, ap, subst, ◌∙◌, arith, length-append}
-use Rattle.std.specs.Prelude.{zero, suc, ◌&&◌, ◌||◌, ◌==◌, not, nat_le, nat_lt, slice_get, option_and_then, IfSome, IsTrue}
+use Rattle.std.proofs.Common.{◌≡◌, ◌≢◌, ℕ, ◌+◌, ◌-◌, ◌<◌, ◌≤◌, Bool, true, false, cond, List, [], ◌∷◌, ◌++◌, Option, Some, None, length, take, refl, sym, ap, subst, ◌∙◌, arith, length-append, append-nil}
+use Rattle.std.specs.Prelude.{zero, suc, ◌&&◌, ◌||◌, ◌==◌, not, nat_le, nat_lt, slice_get, option_and_then, IfSome, IsTrue, codes}
+use Rattle.std.specs.Io.KnownBytes.{Appends, Keeps}
+use Rattle.std.proofs.KnownBytes.{Appends-trans, Appends-kept}
 use Rattle.std.proofs.lemmas.Bool.Decides.{nat_tests}
 use Rattle.std.proofs.lemmas.Grind.{common_steps}
 use Rattle.std.proofs.lemmas.List.{take-append-le}
@@ -10,7 +12,9 @@ use Rattle.rv_hart.specs.State.{State}
 use Rattle.rv_hart.specs.Step.{step_of}
 use Rattle.rv_hart.specs.declared.access.Access.{Access}
 use Rattle.rv_hart.specs.declared.access.Event.{Event}
-use Rattle.rvcollide.specs.Hunt.{AtPlace, WouldAccess, DidAccess, IsReport, IsPaused, IsHunt, pause_after, report_of, report_in, first_report, watch_after}
+use Rattle.rv_text.specs.Lines.{text_of_lines}
+use Rattle.rvcollide.specs.Texts.{access_text, state_text}
+use Rattle.rvcollide.specs.Hunt.{side_text, report_lines, hunt_text, Hunts, WritesHunt, AtPlace, WouldAccess, DidAccess, IsReport, IsPaused, IsHunt, pause_after, report_of, report_in, first_report, watch_after}
 use Rattle.rvcollide.specs.declared.hunt.Pause.{Pause}
 use Rattle.rvcollide.specs.declared.hunt.Pause.TheVariants.{Awaited, Open, Over}
 use Rattle.rvcollide.specs.declared.hunt.Report.{Report}
@@ -110,7 +114,7 @@ did_push s t made h access now fact =
     (length made, get_pushed made h, record { within = longer made h (length made) (omega arith); state = t; reached = ap (run s) (take_whole made (h ∷ [])) ∙ now; fact = fact })
 
 report_if : (s t : State) (made : List ℕ) (hart h : ℕ) (access seen : Access) (b : Bool) → b ≡ conflicts access seen && not (h == hart) → WouldAccess s made hart access → run s made ≡ Some t → access_of_step (step_of t h) ≡ Some seen →
-  IfSome (cond b (Some (record { hart = hart; access = access; other = h; made = seen })) None) (IsReport s (made ++ h ∷ []))
+    IfSome (cond b (Some (record { hart = hart; access = access; other = h; made = seen })) None) (IsReport s (made ++ h ∷ []))
 report_if s t made hart h access seen true e would now fact =
     let parts = both (conflicts access seen) (not (h == hart)) (sym e) in
     record {
@@ -138,3 +142,21 @@ hunt_step s t u made w h e is step = record {
   paused = paused_after s made h w.pause is.paused;
   report = first_is s made h w.report (report_in w.pause h (accessed e)) is.report (report_now s t made w.pause h (accessed e) is.paused is.now (ap access_of_step step));
 }
+
+-- ---- what is written
+
+-- the five pieces of a report's line
+pub report_written : (r : Report) (a b c d e f : Option (List ℕ)) → Appends a b (side_text (codes "report hart ") r.hart) → Appends b c (access_text r.access) → Appends c d (side_text (codes " hart ") r.other) → Appends d e (access_text r.made) → Appends e f (10 ∷ []) →
+  Appends a f (text_of_lines (report_lines (Some r)))
+report_written r a b c d e f h i j k l =
+    let two = Appends-trans a b c _ _ h i in
+    let three = Appends-trans a c d _ _ two j in
+    let four = Appends-trans a d e _ _ three k in
+    let line = Appends-trans a e f _ _ four l in
+    subst (Appends a f) (sym (append-nil _)) line
+
+pub hunt_written : (remaining : Option (List ℕ)) (text : List ℕ) (t : State) (report : Option Report) (a b c d : Option (List ℕ)) → IfSome remaining (λ known. text ≡ known) → Hunts text t report → Appends a b (text_of_lines (report_lines report)) → Appends b c (state_text t) → Keeps c d →
+  IfSome remaining (WritesHunt (Appends a d))
+hunt_written None text t report a b c d whole hunts h k l = tt
+hunt_written (Some known) text t report a b c d whole hunts h k l =
+    (t, report, subst (λ (bytes : List ℕ). Hunts bytes t report) whole hunts, Appends-kept a c d _ (Appends-trans a b c _ _ h k) l)

@@ -1,4 +1,11 @@
-use Rattle.std.specs.Prelude.{◌≡◌, ◌≢◌, ℕ, ◌-◌, ◌≤◌, ◌==◌, ◌&&◌, not, nat_le, if◌then◌else◌, Option, Some, None, List, length, take, slice_get, IfSome, ⊤}
+use Rattle.std.specs.Prelude.{◌≡◌, ◌≢◌, ℕ, ◌-◌, ◌≤◌, ◌==◌, ◌&&◌, not, nat_le, if◌then◌else◌, Option, Some, None, List, length, take, slice_get, IfSome, IsOk, IsOkAnd, Err, ⊤, [], ◌∷◌, ◌++◌, codes}
+use Rattle.std.specs.Fmt.{decimal}
+use Rattle.rv_text.specs.Lines.{text_of_lines}
+use Rattle.rvcollide.specs.Texts.{access_text, state_text}
+use Rattle.rvcollide.specs.Words.{start_of}
+use Rattle.rvcollide.specs.WordsInput.{input_of}
+use Rattle.rvcollide.specs.declared.words.fault.WordsFault.{WordsFault}
+use Rattle.rvcollide.specs.declared.words.fault.WordsFault.TheVariants.{Line, Step, TooLong, Read, Write, NoMemory}
 use Rattle.rv_hart.specs.Conflict.{Conflict, conflicts}
 use Rattle.rv_hart.specs.Next.{next_access, access_of_step}
 use Rattle.rv_hart.specs.Run.{run}
@@ -70,3 +77,39 @@ first_report (Some old) new = Some old
 abbrev pub watch_after : Watch → ℕ → Option Access → Watch
 watch_after w h made =
     record w { pause = pause_after w.pause; report = first_report w.report (report_in w.pause h made) }
+
+-- ---- what the command writes
+
+-- a hunt from state s ended in state t with this report
+abbrev pub HuntOf : State → State → Option Report → Type 0
+HuntOf s t report = (made : List ℕ) × (run s made ≡ Some t) × IfSome report (IsReport s made)
+
+-- the same of an input's bytes
+abbrev pub Hunts : List ℕ → State → Option Report → Type 0
+Hunts bytes t report = IsOkAnd (input_of bytes) (λ input. HuntOf (start_of input) t report)
+
+-- a word before a hart's number, and a blank after it
+abbrev pub side_text : List ℕ → ℕ → List ℕ
+side_text before h = before ++ decimal h ++ codes " "
+
+-- `report hart H ACCESS hart H2 ACCESS`, or no line
+abbrev pub report_lines : Option Report → List (List ℕ)
+report_lines None = []
+report_lines (Some r) =
+    (side_text (codes "report hart ") r.hart ++ access_text r.access ++ side_text (codes " hart ") r.other ++ access_text r.made) ∷ []
+
+abbrev pub hunt_text : Option Report → State → List ℕ
+hunt_text report t = text_of_lines (report_lines report) ++ state_text t
+
+-- some hunt of the bytes is what was written
+abbrev pub WritesHunt : (List ℕ → Type 0) → List ℕ → Type 0
+WritesHunt Writes bytes = (t : State) × (report : Option Report) × Hunts bytes t report × Writes (hunt_text report t)
+
+-- a malformed line is the first one; of a refused step no more is said
+abbrev pub IsHuntFault : List ℕ → WordsFault → Type 0
+IsHuntFault bytes (Line number) = input_of bytes ≡ Err number
+IsHuntFault bytes (Step number fault) = IsOk (input_of bytes)
+IsHuntFault bytes TooLong = ⊤
+IsHuntFault bytes Read = ⊤
+IsHuntFault bytes Write = ⊤
+IsHuntFault bytes NoMemory = ⊤

@@ -1,4 +1,4 @@
-use Rattle.std.specs.Prelude.{ℕ, ◌+◌, ◌==◌, if◌then◌else◌, Option, Some, None, List, [], ◌∷◌, ◌++◌, codes}
+use Rattle.std.specs.Prelude.{ℕ, Bool, true, false, ◌+◌, ◌==◌, if◌then◌else◌, Option, Some, None, List, [], ◌∷◌, ◌++◌, codes}
 use Rattle.std.specs.List.{flat_map, range_with_len}
 use Rattle.std.specs.Fmt.{decimal}
 use Rattle.rv_text.specs.Hexadecimal.{byte_digits, word_digits}
@@ -6,6 +6,7 @@ use Rattle.rv_text.specs.Lines.{text_of_lines}
 use Rattle.rv_hart.specs.Cause.{number}
 use Rattle.rv_hart.specs.Registers.{get}
 use Rattle.rv_hart.specs.State.{State}
+use Rattle.rv_hart.specs.declared.access.Access.{Access}
 use Rattle.rv_hart.specs.declared.hart.Hart.{Hart}
 use Rattle.rv_hart.specs.declared.hart.Status.{Status}
 use Rattle.rv_hart.specs.declared.hart.Status.TheVariants.{Running, Exited, Stopped}
@@ -54,3 +55,15 @@ output_line output = codes "out" ++ flat_map (λ byte. 32 ∷ byte_digits byte) 
 -- what a state is shown as: a line of each hart, and a line of the output
 unfoldable pub state_text : State → List ℕ
 state_text s = text_of_lines (hart_lines 0 s.harts ++ output_line s.output ∷ [])
+
+-- ---- accesses
+
+-- `load`, `store` or `both`, by what an access reads and writes
+abbrev pub kind_text : Bool → Bool → List ℕ
+kind_text read true = if read then codes "both" else codes "store"
+kind_text read false = codes "load"
+
+-- `pc ADDR KIND ADDR SIZE`
+abbrev pub access_text : Access → List ℕ
+access_text a =
+    codes "pc " ++ word_digits a.pc ++ codes " " ++ kind_text a.read a.write ++ codes " " ++ word_digits a.first ++ codes " " ++ decimal a.size

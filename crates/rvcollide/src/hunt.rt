@@ -6,6 +6,8 @@ ghost use Rattle.rv_hart.specs.Run.{run};
 ghost use Rattle.rv_hart.specs.State.{State};
 ghost use Rattle.rvcollide.specs.Hunt as spec;
 
+pub mod engine;
+
 use rv_hart::access::{Access, Event};
 use rv_hart::machine::{Machine, StepFault};
 use rv_memory::store::ByteStore;
@@ -54,7 +56,7 @@ pub enum HuntFault {
 /// Makes the steps of the list, with one pause: the first hart whose pc is `pc` and which would make a plain
 /// load or store is paused in place of that step. Its numbers in the list are dropped until `pause` steps
 /// of others were made, or the list ends.
-pub fn hunt<S: ByteStore>(
+fn hunt<S: ByteStore>(
     alloc: Global,
     machine: &mut Machine<S>,
     steps: &[u8],

@@ -4,6 +4,6 @@
 #![tactic(auto)]
 
 pub mod command;
-mod hunt;
+pub mod hunt;
 pub mod texts;
 pub mod words;

@@ -7,6 +7,7 @@ ghost use Rattle.rv_memory.specs.Flagged as flag;
 ghost use Rattle.rv_text.specs.Lines.{text_of_lines};
 ghost use Rattle.rvcollide.specs.Texts as spec;
 
+use rv_hart::access::Access;
 use rv_hart::hart::Status;
 use rv_hart::machine::Machine;
 use rv_memory::flagged::{Flagged, WriteFault, write_whole};
@@ -169,4 +170,34 @@ pub fn write_state<S: ByteStore, W: Write>(
     write_harts(writer, machine)?;
     write_output(writer, machine.output())?;
     Ok(())
+}
+
+/// Writes an access.
+pub fn write_access<W: Write>(writer: &mut Flagged<W>, access: &Access) -> Result<(), WriteFault>
+    ensures ok { OnOk result (Appends (W.contents (flag.device writer.old)) (W.contents (flag.device writer.new))
+        (spec.access_text access.now)) }
+    ensures failed { flag.has_failed writer.new ≡ (flag.has_failed writer.old || is_err result) }
+{
+    write_pieces(
+        writer,
+        &[
+            b"pc ",
+            &word_digits(access.pc),
+            b" ",
+            kind_text(access),
+            b" ",
+        ],
+    )?;
+    let size = Decimal::new(u64::from(access.size));
+    write_pieces(writer, &[&word_digits(access.first), b" ", size.as_bytes()])
+}
+
+fn kind_text(access: &Access) -> &'static [u8]
+    ensures { result.now ≡ spec.kind_text access.now.read access.now.write }
+{
+    match (access.read, access.write) {
+        (true, true) => b"both",
+        (false, true) => b"store",
+        (_, false) => b"load",
+    }
 }

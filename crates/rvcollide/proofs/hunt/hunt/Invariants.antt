@@ -7,5 +7,5 @@ invariant-loop-number g l = record {
   hunts : IsHunt l.fn.machine.state l.machine.state l.made.items l.watch;
   count : vec_len l.made ≤ l.number;
   room : length l.steps ≤ vec_capacity l.made;
-  limit : l.machine.limit ≡ l.fn.machine.limit
+  limit : l.machine.limit ≡ l.fn.machine.limit;
 }
