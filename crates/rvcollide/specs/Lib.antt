@@ -1,4 +1,5 @@
 pub mod Command
+pub mod Failure
 pub mod FaultText
 pub mod HartsLine
 pub mod Hunt
