@@ -147,7 +147,7 @@ hunt_step s t u made w h e is step = record {
 
 -- the five pieces of a report's line
 pub report_written : (r : Report) (a b c d e f : Option (List ℕ)) → Appends a b (side_text (codes "report hart ") r.hart) → Appends b c (access_text r.access) → Appends c d (side_text (codes " hart ") r.other) → Appends d e (access_text r.made) → Appends e f (10 ∷ []) →
-  Appends a f (text_of_lines (report_lines (Some r)))
+    Appends a f (text_of_lines (report_lines (Some r)))
 report_written r a b c d e f h i j k l =
     let two = Appends-trans a b c _ _ h i in
     let three = Appends-trans a c d _ _ two j in
@@ -156,7 +156,7 @@ report_written r a b c d e f h i j k l =
     subst (Appends a f) (sym (append-nil _)) line
 
 pub hunt_written : (remaining : Option (List ℕ)) (text : List ℕ) (t : State) (report : Option Report) (a b c d : Option (List ℕ)) → IfSome remaining (λ known. text ≡ known) → Hunts text t report → Appends a b (text_of_lines (report_lines report)) → Appends b c (state_text t) → Keeps c d →
-  IfSome remaining (WritesHunt (Appends a d))
+    IfSome remaining (WritesHunt (Appends a d))
 hunt_written None text t report a b c d whole hunts h k l = tt
 hunt_written (Some known) text t report a b c d whole hunts h k l =
     (t, report, subst (λ (bytes : List ℕ). Hunts bytes t report) whole hunts, Appends-kept a c d _ (Appends-trans a b c _ _ h k) l)

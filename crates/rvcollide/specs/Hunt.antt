@@ -1,4 +1,4 @@
-use Rattle.std.specs.Prelude.{◌≡◌, ◌≢◌, ℕ, ◌-◌, ◌≤◌, ◌==◌, ◌&&◌, not, nat_le, if◌then◌else◌, Option, Some, None, List, length, take, slice_get, IfSome, IsOk, IsOkAnd, Err, ⊤, [], ◌∷◌, ◌++◌, codes}
+use Rattle.std.specs.Prelude.{◌≡◌, ◌≢◌, ℕ, Bool, false, ◌-◌, ◌≤◌, ◌==◌, ◌&&◌, not, nat_le, if◌then◌else◌, Option, Some, None, List, length, take, slice_get, IfSome, IsOk, IsOkAnd, Err, ⊤, [], ◌∷◌, ◌++◌, codes}
 use Rattle.std.specs.Fmt.{decimal}
 use Rattle.rv_text.specs.Lines.{text_of_lines}
 use Rattle.rvcollide.specs.Texts.{access_text, state_text}
@@ -45,6 +45,12 @@ abbrev pub IsPaused : State → List ℕ → Pause → Type 0
 IsPaused s made Awaited = ⊤
 IsPaused s made (Open hart access left) = WouldAccess s made hart access
 IsPaused s made Over = ⊤
+
+-- hart h is the one that is paused
+abbrev pub pauses : Pause → ℕ → Bool
+pauses Awaited h = false
+pauses (Open hart access left) h = hart == h
+pauses Over h = false
 
 -- a hunt that began in state s and has made steps of these harts is now in state t
 pub record IsHunt (s t : State) (made : List ℕ) (w : Watch) : Type 0 where

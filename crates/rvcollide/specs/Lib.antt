@@ -5,6 +5,7 @@ pub mod HartsLine
 pub mod Hunt
 pub mod Prefix
 pub mod Reading
+pub mod StepsLaw
 pub mod StepsLine
 pub mod Texts
 pub mod Words

@@ -1,6 +1,6 @@
 //! A first pause, under a weak contract: a report names two accesses of different harts that conflict, each
 //! at some place of the run. It does not say that the second came while the first was paused.
-ghost use Rattle.std.specs.Prelude.{◌≡◌, ◌≢◌, ◌≤◌, ◌<◌, ◌+◌, ◌^◌, Some, IfOk, IfErr, IfSome, OnOk, OnErr, IsErr, vec_len, vec_capacity, length};
+ghost use Rattle.std.specs.Prelude.{◌≡◌, ◌≢◌, ◌≤◌, ◌<◌, ◌+◌, ◌^◌, Some, IfOk, IfSome, IsTrue, OnOk, vec_len, vec_capacity, length};
 ghost use Rattle.rv_hart.specs.Next.{next_access, accessed};
 ghost use Rattle.rv_hart.specs.Run.{run};
 ghost use Rattle.rv_hart.specs.State.{State};
@@ -103,6 +103,7 @@ fn turn<S: ByteStore>(
     requires { vec_len made.old < vec_capacity made.old }
     ensures keeps { (s : State) → spec.IsHunt s machine.old.state made.old.items watch.old
         → OnOk result (spec.IsHunt s machine.new.state made.new.items watch.new) }
+    ensures dropped { IsTrue (spec.pauses watch.old.pause h) → made.new.items ≡ made.old.items }
     ensures room { vec_capacity made.new ≡ vec_capacity made.old }
     ensures len { vec_len made.new ≤ vec_len made.old + 1 }
     ensures limit { machine.new.limit ≡ machine.old.limit }
@@ -135,7 +136,9 @@ fn awaited<S: ByteStore>(machine: &Machine<S>, watch: &Watch, h: u8) -> Option<A
     }
 }
 
-fn is_paused(watch: &Watch, h: u8) -> bool {
+fn is_paused(watch: &Watch, h: u8) -> bool
+    ensures { result ≡ spec.pauses watch.now.pause h }
+{
     match watch.pause {
         Pause::Open { hart, .. } => hart == h,
         Pause::Awaited | Pause::Over => false,
@@ -186,3 +189,6 @@ fn report_of(hart: u8, access: Access, h: u8, made: Option<Access>) -> Option<Re
         None
     }
 }
+
+#[cfg(test)]
+mod tests;
