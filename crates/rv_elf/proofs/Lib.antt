@@ -5,7 +5,7 @@ pub mod ReadBack
 pub mod SegmentsBack
 pub mod SymbolsBack
 pub mod LoadsAgain
-pub mod Stages
+pub mod LoadSteps
 pub mod Stretches
 pub mod Tables
 pub mod Texts

@@ -29,13 +29,13 @@ use Rattle.rv_elf.proofs.Sizes.{data_small, places_in_order}
 abbrev passed : Result (Unit {0}) LoadFault
 passed = Ok tt
 
--- ---- the stages of loading, once each is known
+-- ---- the steps of loading, once each is known
 
-stages_back : (file : List ℕ) (h : FileHeader) (hs : List ProgramHeader) (segments : List Extent) (t : SymbolTable) → header_of file ≡ Ok h → loaded_headers h file ≡ Ok hs → each_segment_test file hs ≡ passed
+steps_back : (file : List ℕ) (h : FileHeader) (hs : List ProgramHeader) (segments : List Extent) (t : SymbolTable) → header_of file ≡ Ok h → loaded_headers h file ≡ Ok hs → each_segment_test file hs ≡ passed
     → map (segment file) hs ≡ segments → segments_test h.e_entry segments ≡ passed → symbol_table h file ≡ Ok t → entries_test 67_108_864 t.strings (entries_of t.symbols) ≡ passed
     → loaded file ≡ Ok (contents h.e_entry segments (symbols_among t.strings (entries_of t.symbols)))
 unfolding loaded
-stages_back file h hs segments t a b c d e f g = rw (a, b, c, d, e, f, g) refl
+steps_back file h hs segments t a b c d e f g = rw (a, b, c, d, e, f, g) refl
 
 -- ---- the header
 
@@ -124,7 +124,7 @@ front_loads entry segments sections rest t are fit table entries =
     let third : each_segment_test (((hb ++ pb) ++ db) ++ rest) hs ≡ passed = ap (λ file. each_segment_test file hs) (front_data hb pb db rest) ∙ each_back segments (hb ++ pb) rest (data_start segments) start are.each in
     let fourth : map (segment (((hb ++ pb) ++ db) ++ rest)) hs ≡ segments = ap (λ file. map (segment file) hs) (front_data hb pb db rest) ∙ segments_back segments (hb ++ pb) rest (data_start segments) start in
     let fifth = test_from_apart entry segments (record { apart = are.apart; small = are.small; aligned = are.aligned; executable = are.executable }) in
-    stages_back (((hb ++ pb) ++ db) ++ rest) h hs segments t first second third fourth fifth table entries
+    steps_back (((hb ++ pb) ++ db) ++ rest) h hs segments t first second third fourth fifth table entries
 
 -- ---- the tables behind it
 

@@ -11,7 +11,7 @@ use Rattle.rv_elf.specs.declared.layout.SymbolEntry.{SymbolEntry}
 abbrev pub field : ℕ → ℕ → List ℕ → ℕ
 field offset width bytes = little_number width (drop offset bytes)
 
--- 52 bytes; those from 7 to 15 and from 36 on are the ABI's version, padding and flags
+-- 52 bytes; those from 7 to 15 are the ABI, its version and padding
 unfoldable pub file_header : List ℕ → FileHeader
 file_header bytes = record {
   ei_mag = field 0 4 bytes;

@@ -1,8 +1,5 @@
 //! Why an image could not be loaded.
-ghost use Rattle.std.specs.Prelude.{◌≡◌};
-
 use rv_memory::store::NoMemory;
-use std::alloc::{AllocError, AllocFailed};
 use thiserror::Error;
 
 /// The first test that a file fails, by its name. The tests come in the order of
@@ -63,28 +60,6 @@ impl From<NoMemory> for LoadFault {
     ghost from_gives = { λ _ fault. fault ≡ faults.NoMemory };
 
     fn from(_: NoMemory) -> LoadFault {
-        LoadFault::NoMemory
-    }
-}
-
-impl From<AllocError> for LoadFault {
-    ghost use Rattle.std.specs.Prelude.{◌≡◌};
-    ghost use Rattle.rv_elf.specs.declared.fault.LoadFault.TheVariants as faults;
-
-    ghost from_gives = { λ _ fault. fault ≡ faults.NoMemory };
-
-    fn from(_: AllocError) -> LoadFault {
-        LoadFault::NoMemory
-    }
-}
-
-impl<T: Drop> From<AllocFailed<T>> for LoadFault {
-    ghost use Rattle.std.specs.Prelude.{◌≡◌};
-    ghost use Rattle.rv_elf.specs.declared.fault.LoadFault.TheVariants as faults;
-
-    ghost from_gives = { λ _ fault. fault ≡ faults.NoMemory };
-
-    fn from(_: AllocFailed<T>) -> LoadFault {
         LoadFault::NoMemory
     }
 }

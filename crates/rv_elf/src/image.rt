@@ -39,7 +39,9 @@ impl Model for Image {
 impl Image {
     /// The image of these parts, where they make one. It takes no memory.
     pub fn new(entry: u32, segments: Vec<Region>, symbols: Vec<Symbol>) -> Option<Image>
-        ensures { SomeIff result (IsImage (contents entry segments.items symbols.items)) (contents entry segments.items symbols.items) }
+        ensures { SomeIff result
+            (IsImage (contents entry segments.items symbols.items))
+            (contents entry segments.items symbols.items) }
     {
         if are_segments(entry, &segments) && are_symbols(&symbols) {
             Some(Image {
@@ -143,6 +145,9 @@ fn are_segments(entry: u32, regions: &[Region]) -> bool
     segments_test(entry, regions).is_ok()
 }
 
+/// STT_FUNC, the last of the types that a symbol may have.
+const LAST_TYPE: u8 = 2;
+
 /// Whether there is no zero byte.
 fn is_unbroken(name: &[u8]) -> bool
     ensures { result ≡ list_all (λ b. nat_lt 0 b) name.now }
@@ -155,7 +160,7 @@ fn is_symbol(symbol: &Symbol) -> bool
 {
     let name = symbol.name.as_str();
     let (_value, _size) = (symbol.value, symbol.size);
-    if symbol.kind > 2 || name.is_empty() {
+    if symbol.kind > LAST_TYPE || name.is_empty() {
         return false;
     }
     is_unbroken(name.as_bytes())

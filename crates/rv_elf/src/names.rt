@@ -39,7 +39,8 @@ pub fn name_of<'a>(strings: &'a [u8], entry: &SymbolEntry) -> Option<&'a [u8]>
 /// The text of a name, where it is UTF-8 and not empty.
 #[tactic(auto, using(crate::proofs::Texts::from_utf8, crate::proofs::Texts::not_utf8))]
 pub fn text_of(name: &[u8]) -> Option<&str>
-    ensures { option_copied result ≡ (if is_utf8 name.now && nat_le 1 (length name.now) then Some name.now else None) }
+    ensures { option_copied result
+        ≡ (if is_utf8 name.now && nat_le 1 (length name.now) then Some name.now else None) }
 {
     let Ok(text) = str::from_utf8(name) else {
         return None;

@@ -41,14 +41,16 @@ impl<'a> Model for SymbolTable<'a> {
 impl SymbolTable<'_> {
     /// What is wanted of the entries.
     pub fn test(&self) -> Result<(), LoadFault>
-        ensures { result ≡ spec.entries_test 67_108_864 self.now.strings (spec.entries_of self.now.symbols) }
+        ensures { result
+            ≡ spec.entries_test 67_108_864 self.now.strings (spec.entries_of self.now.symbols) }
     {
         entries_test(self.symbols, self.strings)
     }
 
     /// The symbols, in order.
     pub fn symbols(&self, alloc: Global) -> Result<Vec<Symbol>, NoMemory>
-        ensures those { IfOk result (λ found. found.items ≡ spec.symbols_among self.now.strings (spec.entries_of self.now.symbols)) }
+        ensures those { IfOk result (λ found.
+            found.items ≡ spec.symbols_among self.now.strings (spec.entries_of self.now.symbols)) }
         ensures sound { IfOk result (λ found. All IsSymbol found.items) }
     {
         symbols_among(alloc, self.symbols, self.strings)
@@ -58,7 +60,8 @@ impl SymbolTable<'_> {
 /// The header of the section of that index, if there is one.
 fn section_at(sections: &[u8], count: u16, index: u32) -> Option<SectionHeader>
     requires { length sections.now ≡ 40 * count }
-    ensures { result ≡ slice_get (layout_spec.records layout_spec.section_header 40 count sections.now) index }
+    ensures { result
+        ≡ slice_get (layout_spec.records layout_spec.section_header 40 count sections.now) index }
 {
     if index >= u32::from(count) {
         return None;
@@ -70,7 +73,8 @@ fn section_at(sections: &[u8], count: u16, index: u32) -> Option<SectionHeader>
 /// The first section that is a symbol table.
 fn first_symbol_table(sections: &[u8], count: u16) -> Option<SectionHeader>
     requires { length sections.now ≡ 40 * count }
-    ensures { result ≡ find (λ s. s.sh_type == 2) (layout_spec.records layout_spec.section_header 40 count sections.now) }
+    ensures { result ≡ find (λ s. s.sh_type == 2)
+        (layout_spec.records layout_spec.section_header 40 count sections.now) }
 {
     let mut rest = sections;
     for _ in 0..count {
@@ -93,7 +97,8 @@ fn linked_table<'a>(
     table: &SectionHeader,
 ) -> Result<SymbolTable<'a>, LoadFault>
     requires { length sections.now ≡ 40 * count }
-    ensures { result ≡ spec.linked_table table.now (layout_spec.records layout_spec.section_header 40 count sections.now) bytes.now }
+    ensures { result ≡ spec.linked_table table.now
+        (layout_spec.records layout_spec.section_header 40 count sections.now) bytes.now }
 {
     if table.sh_entsize != 16 || table.sh_size % 16 != 0 {
         return Err(LoadFault::BadSymbols);
@@ -179,7 +184,8 @@ fn symbol_of(alloc: Global, strings: &[u8], entry: &SymbolEntry) -> Result<Optio
 
 fn push_some(found: &mut Vec<Symbol>, symbol: Option<Symbol>) -> Result<(), NoMemory>
     ensures pushed { OnOk result (found.new.items ≡ found.old.items ++ cons_option symbol []) }
-    ensures sound { ForSome symbol IsSymbol → All IsSymbol found.old.items → OnOk result (All IsSymbol found.new.items) }
+    ensures sound { ForSome symbol IsSymbol → All IsSymbol found.old.items
+        → OnOk result (All IsSymbol found.new.items) }
 {
     if let Some(symbol) = symbol {
         found.push(symbol)?;
@@ -190,7 +196,8 @@ fn push_some(found: &mut Vec<Symbol>, symbol: Option<Symbol>) -> Result<(), NoMe
 /// The symbols that the entries stand for, in order.
 #[tactic(auto, unfolding(crate::specs::Loaded::entries_of))]
 fn symbols_among(alloc: Global, symbols: &[u8], strings: &[u8]) -> Result<Vec<Symbol>, NoMemory>
-    ensures those { IfOk result (λ found. found.items ≡ spec.symbols_among strings.now (spec.entries_of symbols.now)) }
+    ensures those { IfOk result (λ found.
+        found.items ≡ spec.symbols_among strings.now (spec.entries_of symbols.now)) }
     ensures sound { IfOk result (λ found. All IsSymbol found.items) }
 {
     let count = symbols.len() / SYMBOL_ENTRY_SIZE;

@@ -71,7 +71,8 @@ fn header_at(offset: u32, segment: &Region) -> ProgramHeader
 /// The program headers of segments whose bytes lie from `start` on, one directly after another.
 fn put_program_headers(out: &mut Vec<u8>, start: u32, segments: &[Region]) -> Result<(), NoMemory>
     requires { start + sum_by (λ s. length s.bytes) segments.now < 2 ^ 32 }
-    ensures { OnOk result (out.new.items ≡ out.old.items ++ flat_map spec.program_header_bytes (spec.headers_from start segments.now)) }
+    ensures { OnOk result (out.new.items
+        ≡ out.old.items ++ flat_map spec.program_header_bytes (spec.headers_from start segments.now)) }
 {
     let mut offset = start;
     for segment in segments {
@@ -127,7 +128,8 @@ fn entry_at(name: u32, symbol: &Symbol) -> SymbolEntry
 fn put_entries(out: &mut Vec<u8>, start: u32, symbols: &[Symbol]) -> Result<(), NoMemory>
     requires small { start + sum_by (λ s. length s.name + 1) symbols.now < 2 ^ 32 }
     requires kinds { All (λ s. s.kind ≤ 2) symbols.now }
-    ensures { OnOk result (out.new.items ≡ out.old.items ++ flat_map spec.symbol_entry_bytes (spec.entries_from start symbols.now)) }
+    ensures { OnOk result (out.new.items
+        ≡ out.old.items ++ flat_map spec.symbol_entry_bytes (spec.entries_from start symbols.now)) }
 {
     let mut name = start;
     for symbol in symbols {
@@ -156,7 +158,8 @@ fn put_terminated(out: &mut Vec<u8>, text: &[u8]) -> Result<(), NoMemory>
 }
 
 fn put_names(out: &mut Vec<u8>, symbols: &[Symbol]) -> Result<(), NoMemory>
-    ensures { OnOk result (out.new.items ≡ out.old.items ++ flat_map (λ s. spec.terminated s.name) symbols.now) }
+    ensures { OnOk result (out.new.items
+        ≡ out.old.items ++ flat_map (λ s. spec.terminated s.name) symbols.now) }
 {
     for symbol in symbols {
         put_terminated(out, symbol.name.as_bytes())?;
@@ -242,7 +245,8 @@ fn string_section(name: u32, offset: u32, size: u32) -> SectionHeader
 fn put_sections(out: &mut Vec<u8>, places: Places) -> Result<(), NoMemory>
     requires symbols { places.symbols ≤ places.strings }
     requires strings { places.strings ≤ places.names }
-    ensures { OnOk result (out.new.items ≡ out.old.items ++ flat_map spec.section_header_bytes (spec.sections_of places)) }
+    ensures { OnOk result (out.new.items
+        ≡ out.old.items ++ flat_map spec.section_header_bytes (spec.sections_of places)) }
 {
     let strings = string_section(9, places.strings, places.names - places.strings);
     let names = string_section(17, places.names, SECTION_NAMES_SIZE);
@@ -291,7 +295,8 @@ fn write_parts(
 ) -> Result<Vec<u8>, NoMemory>
     requires segments { AreSegments entry segments.now }
     requires symbols { AreSymbols symbols.now }
-    ensures { IfOk result (λ bytes. bytes.items ≡ spec.written_parts entry segments.now symbols.now) }
+    ensures { IfOk result (λ bytes.
+        bytes.items ≡ spec.written_parts entry segments.now symbols.now) }
 {
     let mut out = Vec::new(alloc);
     if symbols.is_empty() {

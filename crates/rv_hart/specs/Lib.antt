@@ -1,5 +1,6 @@
 pub mod Able
 pub mod Act
+pub mod Cause
 pub mod Conflict
 pub mod Harts
 pub mod Machine

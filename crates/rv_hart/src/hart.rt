@@ -1,3 +1,6 @@
+ghost use Rattle.std.specs.Prelude.{◌≡◌};
+ghost use Rattle.rv_hart.specs.Cause as spec;
+
 /// Why a hart stopped. The numbers, in this order from 0, are this project's own; what a hart does to be
 /// stopped so is the RISC-V Unprivileged ISA's "exception" of the chapters RV32I and A.
 #[derive(Clone, Copy, Debug, PartialEq, Eq, Hash)]
@@ -21,6 +24,15 @@ pub enum Cause {
     StoreFault,
     /// An environment call that there is not.
     UnknownCall,
+}
+
+impl Cause {
+    /// The cause's number, 0 to 8.
+    pub fn number(self) -> u8
+        ensures { result ≡ spec.number self }
+    {
+        self as u8
+    }
 }
 
 /// Whether a hart runs, and else how it ended.

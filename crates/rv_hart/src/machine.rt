@@ -186,6 +186,7 @@ impl<S: ByteStore> Machine<S> {
     pub fn step(&mut self, h: u8) -> Result<Event, StepFault>
         ensures step { IfOk result (λ event.
             step_of self.old.state h ≡ Some (event, self.new.state)) }
+        ensures harts { length self.new.state.harts ≡ length self.old.state.harts }
         ensures limit { self.new.limit ≡ self.old.limit }
         ensures no_hart { (result ≡ Err StepFault.NoHart) ↔ (length self.old.state.harts ≤ h) }
         ensures not_running { (result ≡ Err StepFault.NotRunning) ↔ next.IsIdle self.old.state h }
@@ -232,6 +233,7 @@ impl<S: ByteStore> Machine<S> {
         requires room { IsTrue (next.is_print action) → length self.old.state.output < self.old.limit }
         ensures step { IfOk result (λ event.
             step_of self.old.state h ≡ Some (event, self.new.state)) }
+        ensures harts { length self.new.state.harts ≡ length self.old.state.harts }
         ensures limit { self.new.limit ≡ self.old.limit }
         ensures err { IfErr result (λ fault. fault ≡ StepFault.NoMemory) }
         ensures no_memory { OnErr result (IsTrue S.can_refuse) }

@@ -1,5 +1,5 @@
 //! Steps with expected values worked out from the RISC-V Unprivileged ISA.
-ghost use Rattle.std.specs.Prelude.{IfOk, All};
+ghost use Rattle.std.specs.Prelude.{◌≡◌, IfOk, All, length};
 ghost use Rattle.rv_memory.specs.Extent.{IsExtent};
 
 use crate::access::{Access, Event};
@@ -71,7 +71,9 @@ fn two(alloc: Global, first: Region, second: Region) -> Result<Vec<Region>, Fail
 }
 
 /// Steps of the harts in turn, each of which is made.
-fn run(rt: &impl Abort, machine: &mut Machine<Flat>, steps: &[u8]) {
+fn run(rt: &impl Abort, machine: &mut Machine<Flat>, steps: &[u8])
+    ensures { length machine.new.state.harts ≡ length machine.old.state.harts }
+{
     for h in steps {
         assert!(rt; machine.step(*h).is_ok(), "step of hart {h}");
     }

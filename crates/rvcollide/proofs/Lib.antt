@@ -1,7 +1,12 @@
+pub mod Fits
 pub mod GivenLemmas
+pub mod HuntLemmas
 pub mod InputSoFar
 pub mod LeafLemmas
 pub mod LineLemmas
 pub mod ReadBack
 pub mod ReadsLine
+pub mod RunLemmas
+pub mod StepLemmas
 pub mod WordLemmas
+pub mod Written

@@ -9,6 +9,7 @@ use Rattle.rvcollide.specs.declared.command.Job.TheVariants.{Words, Hunt}
 
 -- Which job a command line asks for. A word is the list of its bytes.
 
+-- the words behind references
 abbrev pub texts : List (Bor (List ℕ)) → List (List ℕ)
 texts words = map (λ word. word.now) words
 
@@ -21,6 +22,7 @@ from least (Some n) = if nat_le least n then Some n else None
 abbrev pub pause_of : List ℕ → Option ℕ
 pause_of text = from 1 (up_to 65535 (number_of 10 text))
 
+-- a pause of this length at this address
 abbrev pub at_place : Option ℕ → Option ℕ → Option Job
 at_place pc pause = option_and_then (λ address. option_map (λ length. Hunt address length) pause) pc
 
@@ -29,10 +31,12 @@ abbrev pub arguments : List (List ℕ) → List (List ℕ)
 arguments [] = []
 arguments (word ∷ rest) = if bytes_eq word (codes "--") then rest else word ∷ arguments rest
 
+-- `words` has no argument
 abbrev pub words_of : List (List ℕ) → Option Job
 words_of [] = Some Words
 words_of _ = None
 
+-- `hunt PC PAUSE`: an address of eight hexadecimal digits in either case, and a pause's length
 abbrev pub hunt_of : List (List ℕ) → Option Job
 hunt_of (pc ∷ pause ∷ []) = at_place (word_of pc) (pause_of pause)
 hunt_of _ = None

@@ -14,7 +14,8 @@ use Rattle.rvcollide.specs.declared.command.Notice.{Notice}
 use Rattle.rvcollide.specs.declared.command.Notice.TheVariants.{Answer, Refusal}
 use Rattle.rv_text.specs.Hexadecimal.{word_of}
 
--- ---- the commands, as `clap` knows them
+-- The commands as `clap` knows them, and what it finds in the words. What a line means is said without
+-- `clap` by `job_of`, and the two are proved the same.
 
 -- a word that has to stand at its place after the command's name
 abbrev pub required_word : Text → Rule
@@ -34,22 +35,23 @@ without_commands = on_top (λ s. record s { has_version = true; subcommand_requi
 abbrev pub program : App
 program = with_subcommand (with_subcommand without_commands words_shape) hunt_shape
 
--- ---- the job that `clap` finds in the words
-
 -- `clap` finds no fault in the words
 abbrev pub is_accepted : List Text → Bool
 is_accepted words = is_empty (fault_of program words)
 
+-- the job in what `clap` found for `hunt`
 abbrev pub hunt_in : List Row → Option Job
 hunt_in rows = option_and_then (λ pc. option_and_then (λ pause. at_place (word_of pc) (pause_of pause))
     (first_of (codes "PAUSE") rows)) (first_of (codes "PC") rows)
 
+-- the job of the command that `clap` met
 abbrev pub job_in : Text × List Row → Option Job
 job_in p =
     if bytes_eq p.0 (codes "words") then Some Words
     else (if bytes_eq p.0 (codes "hunt") then hunt_in p.1
     else None)
 
+-- the job that `clap` finds
 unfoldable pub job_read : List Text → Option Job
 job_read words = if is_accepted words then option_and_then job_in (subcommand_of program words) else None
 
@@ -68,6 +70,7 @@ asks words = list_any is_request (fault_of program words)
 abbrev pub only_asks : List Text → Bool
 only_asks words = not (is_accepted words) && list_all is_request (fault_of program words)
 
+-- the text goes to the standard output
 abbrev pub is_answer : Notice → Bool
 is_answer (Answer text) = true
 is_answer (Refusal text) = false

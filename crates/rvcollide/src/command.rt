@@ -1,10 +1,10 @@
 //! The command line: which job its words ask for. `clap` reads the words, and this module says which
 //! commands there are, and reads the numbers.
-ghost use Rattle.std.specs.Prelude.{◌≡◌, ◌⊎◌, ◌≢◌, IfErr, IfOk, MatchResult, Some, None, true, false, map, option_and_then, option_map};
+ghost use Rattle.std.specs.Prelude.{◌≡◌, ◌⊎◌, ◌≢◌, IfErr, IfOk, MatchResult, Some, None, true, false, option_and_then, option_map};
 ghost use Rattle.clap.specs.Faults.{fault_of};
 ghost use Rattle.clap.specs.Kinds.{FailsBy};
 ghost use Rattle.clap.specs.Matches.{found_of};
-ghost use Rattle.clap.specs.Simple.{app_of, shape_of, subcommand_of, subcommand_rows_of};
+ghost use Rattle.clap.specs.Simple.{app_of, shape_of, subcommand_rows_of};
 ghost use Rattle.clap.specs.Values.{kind_of};
 ghost use Rattle.clap.specs.Walk.{first_of, rows_of, rule_of};
 ghost use Rattle.clap.specs.declared.builder.command.Command.TheViews.{out-Command as fields_of};
@@ -37,7 +37,7 @@ pub enum LineFault {
 }
 
 /// What the program writes where a line gives no job.
-#[derive(Debug)]
+#[derive(Debug, Drop)]
 pub enum Notice {
     /// The help or the version, which the line asks for. It goes to the standard output.
     Answer(String),
@@ -45,7 +45,8 @@ pub enum Notice {
     Refusal(String),
 }
 
-/// The job that the words of a command line ask for, the program's name first.
+/// The job that the words of a command line ask for, the program's name first. `Line` comes where they
+/// spell none, and also where they ask for the help or the version: `notice_of` has those texts.
 pub fn command_of<'a>(alloc: Global, words: &'a [&'a str]) -> Result<Job, LineFault>
     ensures job { IfOk result (λ job. spec.job_of (spec.texts words.entry.now) ≡ Some job) }
     ensures given { IfOk result (spec.IsGiven (spec.texts words.entry.now)) }

@@ -191,3 +191,15 @@ fn says_why_a_line_is_refused(rt: HostRuntime) -> Result<(), Fail> {
     assert!(rt; range.as_str().starts_with("error: "));
     Ok(())
 }
+
+/// With an allocation refused, the answer is `NoMemory` or stays as it was.
+#[test]
+fn tells_want_of_memory(rt: HostRuntime) {
+    let alloc = rt.alloc();
+    let job = command_of(alloc, &["rvcollide", "hunt", "00010004", "1"]);
+    assert!(rt; job == Ok(AT_4) || job == Err(LineFault::NoMemory));
+    let line = command_of(alloc, &["rvcollide", "hunt", "00010004", "1", "1"]);
+    assert!(rt; line == Err(LineFault::Line) || line == Err(LineFault::NoMemory));
+    let help = notice_of(alloc, &["rvcollide", "--help"]);
+    assert!(rt; matches!(help, Ok(Notice::Answer(_)) | Err(LineFault::NoMemory)));
+}

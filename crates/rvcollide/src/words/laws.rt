@@ -1,5 +1,6 @@
 //! What holds of the input of `words` beyond what one reading says.
 
+ghost use Rattle.rvcollide.specs.StepsLaw.{StepsAreTheRun};
 ghost use Rattle.rvcollide.specs.WordsText.{InputIsReadBack};
 
 use rv_text::laws::{decimal_is_read_back, lines_are_read_back, word_is_read_back};
@@ -12,3 +13,8 @@ pub fn input_is_read_back()
     lines_are_read_back();
     word_is_read_back();
 }
+
+/// The steps that `words` makes are the run of their harts, step by step as the machine's relation has it.
+pub fn steps_are_the_run()
+    ensures { StepsAreTheRun }
+{}

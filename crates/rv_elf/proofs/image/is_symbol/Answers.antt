@@ -12,7 +12,7 @@ returns c =
     let some = eqb-false (length c.as_str-name.result.now) 0 (sym c.is_empty.ensures ∙ c.if-is_empty.false) in
     let name = c.as_bytes.ensures.value ∙ c.as_str-name.ensures.value in (
       λ yes. subst IsSymbol c.symbol.view_is (record {
-        kind = c.if-symbol-gt2.false;
+        kind = c.if-symbol-gt-LAST_TYPE.false;
         some = omega (arith, some, ap length c.as_str-name.ensures.value);
         text = from_utf8 _ (IsUtf8-string_bytes c.symbol.inside.name);
         unbroken = ap (list_all (λ b. nat_lt 0 b)) (sym name) ∙ sym c.is_unbroken.ensures ∙ yes;

@@ -1,7 +1,7 @@
 use Rattle.std.proofs.Common.{[], map, ap, sym, ◌∙◌}
 use Rattle.std.proofs.lemmas.Result.{err_from_is_err_and}
 use Rattle.rv_elf.specs.Loaded.{entries_of, each_segment_test, segment, segments_test, refusal}
-use Rattle.rv_elf.proofs.Stages.{IsRead, fails_segments, fails_table, fails_entries, passes, image_is}
+use Rattle.rv_elf.proofs.LoadSteps.{IsRead, fails_segments, fails_table, fails_entries, passes, image_is}
 use Rattle.rv_elf.proofs.loading.load.Goals as goal
 
 pub returns-in_err-segments_test-clause-err : goal.returns-in_err-segments_test-clause-err

@@ -1,4 +1,4 @@
--- The stages of loading a file.
+-- The steps of loading a file.
 use Rattle.std.proofs.Common.{◌≤◌, All, arith, length, ◌≡◌, ◌+◌, ◌&&◌, ℕ, Bool, List, [], ◌∷◌, map, Result, Ok, Err, refl, sym, ap, ◌∙◌}
 use Rattle.std.specs.Prelude.{IsTrue}
 use Rattle.std.proofs.lemmas.List.{length-map}
@@ -46,7 +46,7 @@ after_table bytes h hs t = entries_test 67_108_864 t.strings (entries_of t.symbo
 abbrev after_segments : List ℕ → FileHeader → List ProgramHeader → Result Contents LoadFault
 after_segments bytes h hs = symbol_table h bytes >>= after_table bytes h hs
 
--- the stages up to the segments one by one
+-- the steps up to the segments one by one
 pub record IsRead (bytes : List ℕ) (h : FileHeader) (hs : List ProgramHeader) : Type 0 where
   pub header : Ok h ≡ header_of bytes
   pub headers : Ok hs ≡ loaded_headers h bytes
@@ -67,7 +67,7 @@ loaded_table : (bytes : List ℕ) (h : FileHeader) (hs : List ProgramHeader) (t 
     → Ok t ≡ symbol_table h bytes → loaded bytes ≡ after_table bytes h hs t
 loaded_table bytes h hs t r e table = loaded_then bytes h hs r e ∙ ap (λ s. s >>= after_table bytes h hs) (sym table)
 
--- where each stage fails
+-- where each step fails
 pub fails_segments : (bytes : List ℕ) (h : FileHeader) (hs : List ProgramHeader) (fault : LoadFault) → IsRead bytes h hs
     → Err fault ≡ segments_test h.e_entry (map (segment []) hs) → fault ≡ refusal (loaded bytes)
 fails_segments bytes h hs fault r e = sym (ap refusal (loaded_from bytes h hs r ∙ ap (λ s. s >>= λ _. after_segments bytes h hs) (sym e)))

@@ -1,0 +1,11 @@
+use Rattle.std.proofs.Common.{◌≡◌, ◌≤◌, length, vec_len, vec_capacity}
+use Rattle.rvcollide.specs.Hunt.{IsHunt}
+use Rattle.rvcollide.proofs.hunt.hunt.Given as goal
+
+abbrev pub invariant-loop-number : goal.invariant-loop-number
+invariant-loop-number g l = record {
+  hunts : IsHunt l.fn.machine.state l.machine.state l.made.items l.watch;
+  count : vec_len l.made ≤ l.number;
+  room : length l.steps ≤ vec_capacity l.made;
+  limit : l.machine.limit ≡ l.fn.machine.limit;
+}

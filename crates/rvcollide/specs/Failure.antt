@@ -1,0 +1,23 @@
+use Rattle.std.specs.Prelude.{ℕ}
+use Rattle.rvcollide.specs.FaultText.{status}
+use Rattle.rvcollide.specs.declared.command.LineFault.{LineFault}
+use Rattle.rvcollide.specs.declared.command.LineFault.TheVariants as fault
+use Rattle.rvcollide.specs.declared.failure.Failure.{Failure}
+use Rattle.rvcollide.specs.declared.failure.Failure.TheVariants.{Line, Told}
+use Rattle.rvcollide.specs.declared.words.fault.WordsFault.{WordsFault}
+use Rattle.rvcollide.specs.declared.words.fault.WordsFault.TheVariants.{NoMemory}
+
+-- the exit status: 2 for a refused command line, and else the fault's
+abbrev pub status_of : Failure → ℕ
+status_of Line = 2
+status_of (Told fault) = status fault
+
+abbrev pub told : WordsFault → Failure
+told fault = Told fault
+
+abbrev pub memory : Failure
+memory = Told NoMemory
+
+abbrev pub failure_of_line : LineFault → Failure
+failure_of_line fault.Line = Line
+failure_of_line fault.NoMemory = Told NoMemory

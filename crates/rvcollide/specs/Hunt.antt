@@ -1,0 +1,121 @@
+use Rattle.std.specs.Prelude.{◌≡◌, ◌≢◌, ℕ, Bool, false, ◌-◌, ◌≤◌, ◌==◌, ◌&&◌, not, nat_le, if◌then◌else◌, Option, Some, None, List, length, take, slice_get, IfSome, IsOk, IsOkAnd, Err, ⊤, [], ◌∷◌, ◌++◌, codes}
+use Rattle.std.specs.Fmt.{decimal}
+use Rattle.rv_text.specs.Lines.{text_of_lines}
+use Rattle.rvcollide.specs.Texts.{access_text, state_text}
+use Rattle.rvcollide.specs.Words.{start_of}
+use Rattle.rvcollide.specs.WordsInput.{input_of}
+use Rattle.rvcollide.specs.declared.words.fault.WordsFault.{WordsFault}
+use Rattle.rvcollide.specs.declared.words.fault.WordsFault.TheVariants.{Line, Step, TooLong, Read, Write, NoMemory}
+use Rattle.rv_hart.specs.Conflict.{Conflict, conflicts}
+use Rattle.rv_hart.specs.Next.{next_access, access_of_step}
+use Rattle.rv_hart.specs.Run.{run}
+use Rattle.rv_hart.specs.State.{State}
+use Rattle.rv_hart.specs.Step.{step_of}
+use Rattle.rv_hart.specs.declared.access.Access.{Access}
+use Rattle.rvcollide.specs.declared.hunt.Pause.{Pause}
+use Rattle.rvcollide.specs.declared.hunt.Pause.TheVariants.{Awaited, Open, Over}
+use Rattle.rvcollide.specs.declared.hunt.Report.{Report}
+use Rattle.rvcollide.specs.declared.hunt.Watch.{Watch}
+
+-- A place of a run from state s over the harts `made`: the state after the first of them, and a fact of it.
+pub record AtPlace (s : State) (made : List ℕ) (place : ℕ) (P : State → Type 0) : Type 0 where
+  pub within : place ≤ length made
+  pub state : State
+  pub reached : run s (take place made) ≡ Some state
+  pub fact : P state
+
+-- at some place of the run the hart would make this access
+abbrev pub WouldAccess : State → List ℕ → ℕ → Access → Type 0
+WouldAccess s made hart access = (place : ℕ) × AtPlace s made place (λ t. next_access t hart ≡ Some access)
+
+-- at some place of the run the hart made this access
+abbrev pub DidAccess : State → List ℕ → ℕ → Access → Type 0
+DidAccess s made hart access =
+    (place : ℕ) × (slice_get made place ≡ Some hart) × AtPlace s made place (λ t. access_of_step (step_of t hart) ≡ Some access)
+
+-- What a report says, and no more: its first hart would make the one access at some place of the run,
+-- another hart made the other at some place, and the two conflict.
+pub record IsReport (s : State) (made : List ℕ) (r : Report) : Type 0 where
+  pub others : r.other ≢ r.hart
+  pub would : WouldAccess s made r.hart r.access
+  pub did : DidAccess s made r.other r.made
+  pub conflict : Conflict r.access r.made
+
+abbrev pub IsPaused : State → List ℕ → Pause → Type 0
+IsPaused s made Awaited = ⊤
+IsPaused s made (Open hart access left) = WouldAccess s made hart access
+IsPaused s made Over = ⊤
+
+-- hart h is the one that is paused
+abbrev pub pauses : Pause → ℕ → Bool
+pauses Awaited h = false
+pauses (Open hart access left) h = hart == h
+pauses Over h = false
+
+-- a hunt that began in state s and has made steps of these harts is now in state t
+pub record IsHunt (s t : State) (made : List ℕ) (w : Watch) : Type 0 where
+  pub now : run s made ≡ Some t
+  pub paused : IsPaused s made w.pause
+  pub report : IfSome w.report (IsReport s made)
+
+-- ---- what one step of hart h changes
+
+abbrev pub pause_after : Pause → Pause
+pause_after Awaited = Awaited
+pause_after (Open hart access left) = if nat_le left 1 then Over else Open hart access (left - 1)
+pause_after Over = Over
+
+abbrev pub report_of : ℕ → Access → ℕ → Option Access → Option Report
+report_of hart access h None = None
+report_of hart access h (Some made) =
+    if conflicts access made && not (h == hart) then Some (record { hart = hart; access = access; other = h; made = made }) else None
+
+abbrev pub report_in : Pause → ℕ → Option Access → Option Report
+report_in Awaited h made = None
+report_in (Open hart access left) h made = report_of hart access h made
+report_in Over h made = None
+
+-- the first report is kept
+abbrev pub first_report : Option Report → Option Report → Option Report
+first_report None new = new
+first_report (Some old) new = Some old
+
+abbrev pub watch_after : Watch → ℕ → Option Access → Watch
+watch_after w h made =
+    record w { pause = pause_after w.pause; report = first_report w.report (report_in w.pause h made) }
+
+-- ---- what the command writes
+
+-- a hunt from state s ended in state t with this report
+abbrev pub HuntOf : State → State → Option Report → Type 0
+HuntOf s t report = (made : List ℕ) × (run s made ≡ Some t) × IfSome report (IsReport s made)
+
+-- the same of an input's bytes
+abbrev pub Hunts : List ℕ → State → Option Report → Type 0
+Hunts bytes t report = IsOkAnd (input_of bytes) (λ input. HuntOf (start_of input) t report)
+
+-- a word before a hart's number, and a blank after it
+abbrev pub side_text : List ℕ → ℕ → List ℕ
+side_text before h = before ++ decimal h ++ codes " "
+
+-- `report hart H ACCESS hart H2 ACCESS`, or no line
+abbrev pub report_lines : Option Report → List (List ℕ)
+report_lines None = []
+report_lines (Some r) =
+    (side_text (codes "report hart ") r.hart ++ access_text r.access ++ side_text (codes " hart ") r.other ++ access_text r.made) ∷ []
+
+abbrev pub hunt_text : Option Report → State → List ℕ
+hunt_text report t = text_of_lines (report_lines report) ++ state_text t
+
+-- some hunt of the bytes is what was written
+abbrev pub WritesHunt : (List ℕ → Type 0) → List ℕ → Type 0
+WritesHunt Writes bytes = (t : State) × (report : Option Report) × Hunts bytes t report × Writes (hunt_text report t)
+
+-- a malformed line is the first one; of a refused step no more is said
+abbrev pub IsHuntFault : List ℕ → WordsFault → Type 0
+IsHuntFault bytes (Line number) = input_of bytes ≡ Err number
+IsHuntFault bytes (Step number fault) = IsOk (input_of bytes)
+IsHuntFault bytes TooLong = ⊤
+IsHuntFault bytes Read = ⊤
+IsHuntFault bytes Write = ⊤
+IsHuntFault bytes NoMemory = ⊤

@@ -1,0 +1,77 @@
+use Rattle.std.specs.Prelude.{ℕ, ◌+◌, ◌*◌, true, false, nat_lt, if◌then◌else◌, Result, Ok, Err, List, [], ◌∷◌, length}
+use Rattle.std.specs.Int.{to_le_bytes, w32}
+use Rattle.std.specs.List.{flat_map}
+use Rattle.std.specs.Option.{ok_or}
+use Rattle.rv_memory.specs.Extent.{Extent}
+use Rattle.rv_hart.specs.State.{State, start}
+use Rattle.rv_hart.specs.Step.{step_of}
+use Rattle.rv_hart.specs.declared.machine.StepFault.{StepFault}
+use Rattle.rv_hart.specs.declared.machine.StepFault.TheVariants as refused
+use Rattle.rv_memory.specs.declared.flagged.TheConstants.{INPUT_LIMIT}
+use Rattle.rvcollide.specs.Texts.{state_text}
+use Rattle.rvcollide.specs.WordsInput.{WordsInput, input_of}
+use Rattle.rvcollide.specs.declared.words.fault.WordsFault.{WordsFault}
+use Rattle.rvcollide.specs.declared.words.fault.WordsFault.TheVariants.{Line, Step, TooLong}
+use Rattle.rvcollide.specs.declared.words.guest.TheConstants.{TEXT_START, DATA_START, DATA_LENGTH}
+
+infixl 10 ◌>>=◌
+abbrev pub ◌>>=◌ : {A B : Type 0} → Result A WordsFault → (A → Result B WordsFault) → Result B WordsFault
+(Ok a) >>= f = f a
+(Err fault) >>= f = Err fault
+
+-- ---- the guest
+
+-- the instruction words: readable, executable, and exactly these
+abbrev pub text_region : List ℕ → Extent
+text_region words =
+    record { start = TEXT_START; bytes = flat_map (to_le_bytes w32) words; len = 4 * length words; r = true; w = false; x = true }
+
+-- zeros to read and write
+abbrev pub data_region : Extent
+data_region = record { start = DATA_START; bytes = []; len = DATA_LENGTH; r = true; w = true; x = false }
+
+-- no instruction words are no region
+abbrev pub regions : List ℕ → List Extent
+regions [] = data_region ∷ []
+regions (word ∷ words) = text_region (word ∷ words) ∷ data_region ∷ []
+
+-- the state that an input begins in: its entry is the first word
+abbrev pub start_of : WordsInput → State
+start_of input = start (regions input.words) TEXT_START input.harts
+
+-- ---- the steps
+
+-- why the number of a hart makes no step: there is no such hart, or it doesn't run
+abbrev pub refusal : State → ℕ → StepFault
+refusal s h = if nat_lt h (length s.harts) then refused.NotRunning else refused.NoHart
+
+-- the state after the steps, or the first of them that is refused; the first has the number
+abbrev pub stepped : ℕ → State → List ℕ → Result State WordsFault
+stepped number s [] = Ok s
+stepped number s (h ∷ hs) = do
+  step ← ok_or (step_of s h) (Step number (refusal s h))
+  stepped (number + 1) step.1 hs
+
+-- ---- the whole
+
+abbrev pub told : {A : Type 0} → Result A ℕ → Result A WordsFault
+told (Ok a) = Ok a
+told (Err line) = Err (Line line)
+
+-- the bytes, unless they are more than an input may have
+abbrev pub unless_long : List ℕ → Result (List ℕ) WordsFault
+unless_long bytes = if nat_lt INPUT_LIMIT (length bytes) then Err TooLong else Ok bytes
+
+-- The state after the steps of an input, or why it is refused: it is too long, and else its first
+-- malformed line, and else its first step that is refused.
+unfoldable pub state_of : List ℕ → Result State WordsFault
+state_of bytes = do
+  whole ← unless_long bytes
+  input ← told (input_of whole)
+  stepped 0 (start_of input) input.steps
+
+-- what is written for an input, or why it is refused
+unfoldable pub words_text : List ℕ → Result (List ℕ) WordsFault
+words_text bytes = do
+  state ← state_of bytes
+  Ok (state_text state)

@@ -1,0 +1,67 @@
+ghost use Rattle.std.specs.Prelude.{◌≡◌};
+ghost use Rattle.rvcollide.specs.Failure as spec;
+
+use crate::command::LineFault;
+use crate::words::fault::WordsFault;
+use std::alloc::AllocError;
+use std::io;
+
+/// Why the program ends with another status than 0.
+#[derive(Clone, Copy, Debug, PartialEq, Eq)]
+pub enum Failure {
+    /// The command line is refused. What is wrong with it was told.
+    Line,
+    /// A fault that is told in one line.
+    Told(WordsFault),
+}
+
+impl Failure {
+    /// The exit status.
+    pub fn status(self) -> u8
+        ensures { result ≡ spec.status_of self }
+    {
+        match self {
+            Failure::Line => 2,
+            Failure::Told(fault) => fault.status(),
+        }
+    }
+}
+
+impl From<WordsFault> for Failure {
+    ghost from_gives = { λ fault made. made ≡ spec.told fault };
+
+    fn from(fault: WordsFault) -> Failure {
+        Failure::Told(fault)
+    }
+}
+
+impl From<AllocError> for Failure {
+    ghost from_gives = { λ _ made. made ≡ spec.memory };
+
+    fn from(_: AllocError) -> Failure {
+        Failure::Told(WordsFault::NoMemory)
+    }
+}
+
+impl From<LineFault> for Failure {
+    ghost from_gives = { λ fault made. made ≡ spec.failure_of_line fault };
+
+    fn from(fault: LineFault) -> Failure {
+        match fault {
+            LineFault::Line => Failure::Line,
+            LineFault::NoMemory => Failure::Told(WordsFault::NoMemory),
+        }
+    }
+}
+
+/// What the system answers to the program: that memory is out, that an argument is no text, or that the
+/// standard output failed.
+impl From<io::Error> for Failure {
+    fn from(error: io::Error) -> Failure {
+        match error.kind() {
+            io::ErrorKind::OutOfMemory => Failure::Told(WordsFault::NoMemory),
+            io::ErrorKind::InvalidData => Failure::Line,
+            _ => Failure::Told(WordsFault::Write),
+        }
+    }
+}

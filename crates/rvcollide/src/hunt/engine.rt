@@ -1,0 +1,98 @@
+//! The engine of `hunt`: bytes in, a report and text out.
+ghost use Rattle.std.specs.Prelude.{◌≡◌, ◌≤◌, ◌||◌, false, is_err, IfOk, IfErr, IfSome, OnOk, length};
+ghost use Rattle.std.specs.Io.KnownBytes.{Appends, Keeps};
+ghost use Rattle.rv_memory.specs.Flagged as flag;
+ghost use Rattle.rv_text.specs.Lines.{text_of_lines};
+ghost use Rattle.rvcollide.specs.Hunt as spec;
+ghost use Rattle.rvcollide.specs.WordsFault.{fails_by, is_read, is_write};
+
+use crate::hunt::{HuntFault, Report, hunt};
+use crate::texts::{write_access, write_state};
+use crate::words::fault::WordsFault;
+use crate::words::guest::machine_of;
+use crate::words::input::read_input;
+use rv_hart::machine::Machine;
+use rv_memory::flagged::{Flagged, INPUT_LIMIT, WriteFault, flush, read_whole, write_whole};
+use rv_memory::flat::Flat;
+use rv_text::decimal::Decimal;
+use std::alloc::Global;
+use std::io::{Read, Write};
+
+/// The machine after a hunt, and the hunt's report.
+#[derive(Drop)]
+struct Outcome {
+    machine: Machine<Flat>,
+    report: Option<Report>,
+}
+
+fn hunt_input(alloc: Global, text: &[u8], pc: u32, pause: u32) -> Result<Outcome, WordsFault>
+    requires { length text.now ≤ INPUT_LIMIT }
+    ensures ok { IfOk result (λ o. spec.Hunts text.now o.machine.state o.report) }
+    ensures err { IfErr result (spec.IsHuntFault text.now) }
+    ensures reader { fails_by is_read result ≡ false }
+    ensures writer { fails_by is_write result ≡ false }
+{
+    let input = read_input(alloc, text)?;
+    let mut machine = machine_of(alloc, &input)?;
+    match hunt(alloc, &mut machine, &input.steps, pc, pause) {
+        Ok(hunted) => Ok(Outcome {
+            machine,
+            report: hunted.report,
+        }),
+        Err(HuntFault::Step { number, fault }) => Err(WordsFault::Step { number, fault }),
+        Err(HuntFault::NoMemory) => Err(WordsFault::NoMemory),
+    }
+}
+
+fn write_side<W: Write>(writer: &mut Flagged<W>, before: &[u8], h: u8) -> Result<(), WriteFault>
+    ensures ok { OnOk result (Appends (W.contents (flag.device writer.old)) (W.contents (flag.device writer.new))
+        (spec.side_text before.now h)) }
+    ensures failed { flag.has_failed writer.new ≡ (flag.has_failed writer.old || is_err result) }
+{
+    write_whole(writer, before)?;
+    write_whole(writer, Decimal::new(u64::from(h)).as_bytes())?;
+    write_whole(writer, b" ")
+}
+
+/// Writes the line of a report, if there is one.
+fn write_report<W: Write>(writer: &mut Flagged<W>, report: Option<Report>) -> Result<(), WriteFault>
+    ensures ok { OnOk result (Appends (W.contents (flag.device writer.old)) (W.contents (flag.device writer.new))
+        (text_of_lines (spec.report_lines report))) }
+    ensures failed { flag.has_failed writer.new ≡ (flag.has_failed writer.old || is_err result) }
+{
+    let Some(report) = report else {
+        return write_whole(writer, b"");
+    };
+    write_side(writer, b"report hart ", report.hart)?;
+    write_access(writer, &report.access)?;
+    write_side(writer, b" hart ", report.other)?;
+    write_access(writer, &report.made)?;
+    write_whole(writer, b"\n")?;
+    Ok(())
+}
+
+/// Reads the input of `words`, makes its steps with one pause before a plain access at `pc`, and writes a
+/// report, if there is one, the harts and the output. A refused input writes nothing.
+pub fn run_hunt<R: Read, W: Write>(
+    alloc: Global,
+    reader: &mut Flagged<R>,
+    writer: &mut Flagged<W>,
+    pc: u32,
+    pause: u32,
+) -> Result<(), WordsFault>
+    ensures text { OnOk result (IfSome (R.remaining (flag.device reader.old)) (spec.WritesHunt
+        (Appends (W.contents (flag.device writer.old)) (W.contents (flag.device writer.new))))) }
+    ensures refused { IfErr result (λ fault. IfSome (R.remaining (flag.device reader.old)) (λ bytes.
+        spec.IsHuntFault bytes fault)) }
+    ensures nothing { IfErr result (λ fault. is_write fault ≡ false
+        → Keeps (W.contents (flag.device writer.old)) (W.contents (flag.device writer.new))) }
+    ensures reader { flag.has_failed reader.new ≡ (flag.has_failed reader.old || fails_by is_read result) }
+    ensures writer { flag.has_failed writer.new ≡ (flag.has_failed writer.old || fails_by is_write result) }
+{
+    let text = read_whole(alloc, reader, INPUT_LIMIT)?;
+    let outcome = hunt_input(alloc, &text, pc, pause)?;
+    write_report(writer, outcome.report)?;
+    write_state(writer, &outcome.machine)?;
+    flush(writer)?;
+    Ok(())
+}

@@ -1,0 +1,86 @@
+use crate::hunt::engine::run_hunt;
+use crate::words::fault::WordsFault;
+use rv_hart::machine::StepFault;
+use rv_memory::flagged::Flagged;
+
+#[test]
+fn writes_a_report_and_harts(rt: HostRuntime) {
+    let alloc = rt.alloc();
+    for (name, input, pc, pause, text) in [
+        (
+            "two stores to one word",
+            b"harts 2\nsteps 0 1 0 1 0\n00020337\n00a32023\n00032283\n00000073\n".as_slice(),
+            0x10004,
+            1,
+            b"report hart 0 pc 00010004 store 00020000 4 hart 1 pc 00010004 store 00020000 4\n\
+            hart 0 running pc 00010008 x2 c0010000 x6 00020000 x11 00000002\n\
+            hart 1 running pc 00010008 x2 c0020000 x6 00020000 x10 00000001 x11 00000002\nout\n"
+                .as_slice(),
+        ),
+        (
+            "the pause lasts to the end of the list, and its hart's numbers are dropped",
+            b"harts 1\nsteps 0 0 0 0\n00020337\n00a32023\n",
+            0x10004,
+            9,
+            b"hart 0 running pc 00010004 x2 c0010000 x6 00020000 x11 00000001\nout\n",
+        ),
+        (
+            "two loads",
+            b"harts 2\nsteps 0 1 0 1\n00020337\n00032283\n",
+            0x10004,
+            1,
+            b"hart 0 running pc 00010004 x2 c0010000 x6 00020000 x11 00000002\n\
+            hart 1 running pc 00010008 x2 c0020000 x6 00020000 x10 00000001 x11 00000002\nout\n",
+        ),
+        (
+            "a load of byte 1 and a store of byte 2",
+            b"harts 2\nsteps 0 0 1 1 0 1\n00020337\n00050663\n00a30123\n00000073\n00134283\n",
+            0x10010,
+            1,
+            b"hart 0 running pc 00010010 x2 c0010000 x6 00020000 x11 00000002\n\
+            hart 1 running pc 0001000c x2 c0020000 x6 00020000 x10 00000001 x11 00000002\nout\n",
+        ),
+        (
+            "no hart comes to the address",
+            b"harts 1\nsteps 0\n00020337\n",
+            0x10004,
+            1,
+            b"hart 0 running pc 00010004 x2 c0010000 x6 00020000 x11 00000001\nout\n",
+        ),
+    ] {
+        let mut reader = Flagged::new(input);
+        let mut writer = Flagged::new(Vec::new(alloc));
+        let outcome = run_hunt(alloc, &mut reader, &mut writer, pc, pause);
+        assert_eq!(rt; outcome, Ok(()), "{name}");
+        assert_eq!(rt; writer.into_inner().as_slice(), text, "{name}");
+    }
+}
+
+/// Steps are numbered in the given list, those that are dropped too.
+#[test]
+fn refuses_as_words_does(rt: HostRuntime) {
+    let alloc = rt.alloc();
+    for (input, fault) in [
+        (b"harts 2\nsteps 0 16\n".as_slice(), WordsFault::Line(2)),
+        (
+            b"harts 2\nsteps 0 0 0 5\n00020337\n00a32023\n",
+            WordsFault::Step {
+                number: 3,
+                fault: StepFault::NoHart,
+            },
+        ),
+        (
+            b"harts 1\nsteps 0 0\n",
+            WordsFault::Step {
+                number: 1,
+                fault: StepFault::NotRunning,
+            },
+        ),
+    ] {
+        let mut reader = Flagged::new(input);
+        let mut writer = Flagged::new(Vec::new(alloc));
+        let outcome = run_hunt(alloc, &mut reader, &mut writer, 0x10004, 9);
+        assert_eq!(rt; outcome, Err(fault));
+        assert_eq!(rt; writer.into_inner().len(), 0);
+    }
+}

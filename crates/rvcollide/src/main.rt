@@ -1,0 +1,66 @@
+//! `rvcollide`: its command line, its commands as engines over readers and writers, and the program that
+//! runs one of them on the standard input and output.
+//!
+//! Each engine writes the text that `specs/` states of the bytes that it reads, and nothing else.
+#![tactic(auto)]
+
+pub mod command;
+pub mod failure;
+pub mod hunt;
+pub mod texts;
+pub mod words;
+
+use crate::command::{Job, LineFault, Notice, command_of, notice_of};
+use crate::failure::Failure;
+use crate::hunt::engine::run_hunt;
+use crate::words::engine::run_words;
+use crate::words::fault::WordsFault;
+use rv_memory::flagged::Flagged;
+use std::env;
+use std::io::{self, BufWriter};
+use std::process::ExitCode;
+
+fn main(rt: HostRuntime) -> ExitCode {
+    let Err(failure) = run(&rt) else {
+        return ExitCode::SUCCESS;
+    };
+    if let Failure::Told(fault) = failure {
+        // Where the standard error fails there is nothing left to tell it to.
+        let _ = eprintln!(rt; "rvcollide: {fault}");
+    }
+    ExitCode::from(failure.status())
+}
+
+/// Runs the command of the program's arguments.
+fn run(rt: &HostRuntime) -> Result<(), Failure> {
+    let alloc = rt.alloc();
+    let arguments: Vec<String> = env::args(rt)?.collect(alloc)?;
+    let words: Vec<&str> = arguments.iter().map(|word| word.as_str()).collect(alloc)?;
+    match command_of(alloc, &words) {
+        Ok(job) => run_job(rt, job),
+        Err(LineFault::Line) => tell(rt, &words),
+        Err(LineFault::NoMemory) => Err(Failure::Told(WordsFault::NoMemory)),
+    }
+}
+
+fn run_job(rt: &HostRuntime, job: Job) -> Result<(), Failure> {
+    let alloc = rt.alloc();
+    let mut reader = Flagged::new(rt.stdin());
+    let mut writer = Flagged::new(BufWriter::new(alloc, rt.stdout())?);
+    match job {
+        Job::Words => run_words(alloc, &mut reader, &mut writer)?,
+        Job::Hunt { pc, pause } => run_hunt(alloc, &mut reader, &mut writer, pc, pause)?,
+    }
+    Ok(())
+}
+
+/// Writes why the words give no job, or the help that they ask for.
+fn tell<'a>(rt: &HostRuntime, words: &'a [&'a str]) -> Result<(), Failure> {
+    match notice_of(rt.alloc(), words)? {
+        Notice::Answer(text) => Ok(print!(rt; "{text}")?),
+        Notice::Refusal(text) => {
+            let _ = eprint!(rt; "{text}");
+            Err(Failure::Line)
+        }
+    }
+}

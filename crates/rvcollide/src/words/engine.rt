@@ -1,0 +1,91 @@
+//! The engine of `words`: bytes in, text out.
+ghost use Rattle.std.specs.Prelude.{◌≡◌, ◌≤◌, ◌+◌, ◌||◌, false, IfOk, IfErr, IfSome, OnOk, Ok, IsOkAnd, length};
+ghost use Rattle.std.specs.Io.KnownBytes.{Appends, Keeps};
+ghost use Rattle.rv_memory.specs.Flagged as flag;
+ghost use Rattle.rvcollide.specs.Words as spec;
+ghost use Rattle.rvcollide.specs.WordsFault.{IsToldFault, fails_by, is_read, is_write};
+
+use crate::texts::write_state;
+use crate::words::fault::WordsFault;
+use crate::words::guest::machine_of;
+use crate::words::input::read_input;
+use rv_hart::machine::Machine;
+use rv_memory::flagged::{Flagged, INPUT_LIMIT, flush, read_whole};
+use rv_memory::flat::Flat;
+use std::alloc::Global;
+use std::io::{Read, Write};
+
+/// Makes the steps, up to the first that is refused.
+fn make_steps(machine: &mut Machine<Flat>, steps: &[u8]) -> Result<(), WordsFault>
+    requires few { length steps.now ≤ 100000 }
+    requires room { length machine.old.state.output + length steps.now ≤ machine.old.limit }
+    ensures ok { OnOk result (spec.stepped 0 machine.old.state steps.now ≡ Ok machine.new.state) }
+    ensures err { IfErr result (IsToldFault (spec.stepped 0 machine.old.state steps.now)) }
+    ensures reader { fails_by is_read result ≡ false }
+    ensures writer { fails_by is_write result ≡ false }
+{
+    for (number, h) in steps.iter().enumerate() {
+        if let Err(fault) = machine.step(*h) {
+            return Err(WordsFault::Step {
+                number: number as u32,
+                fault,
+            });
+        }
+    }
+    Ok(())
+}
+
+/// The machine after the steps of an input.
+#[tactic(auto, unfolding(crate::specs::Words::state_of))]
+fn machine_after(alloc: Global, text: &[u8]) -> Result<Machine<Flat>, WordsFault>
+    requires { length text.now ≤ INPUT_LIMIT }
+    ensures ok { IfOk result (λ machine. spec.state_of text.now ≡ Ok machine.state) }
+    ensures err { IfErr result (IsToldFault (spec.state_of text.now)) }
+    ensures reader { fails_by is_read result ≡ false }
+    ensures writer { fails_by is_write result ≡ false }
+{
+    let input = read_input(alloc, text)?;
+    let mut machine = machine_of(alloc, &input)?;
+    make_steps(&mut machine, &input.steps)?;
+    Ok(machine)
+}
+
+#[tactic(auto, unfolding(crate::specs::Words::state_of))]
+fn read_machine<R: Read>(
+    alloc: Global,
+    reader: &mut Flagged<R>,
+) -> Result<Machine<Flat>, WordsFault>
+    ensures ok { IfOk result (λ machine. IfSome (R.remaining (flag.device reader.old)) (λ bytes.
+        spec.state_of bytes ≡ Ok machine.state)) }
+    ensures err { IfErr result (λ fault. IfSome (R.remaining (flag.device reader.old)) (λ bytes.
+        IsToldFault (spec.state_of bytes) fault)) }
+    ensures reader { flag.has_failed reader.new ≡ (flag.has_failed reader.old || fails_by is_read result) }
+    ensures writer { fails_by is_write result ≡ false }
+{
+    let text = read_whole(alloc, reader, INPUT_LIMIT)?;
+    machine_after(alloc, &text)
+}
+
+/// Reads the input of `words`, makes its steps, and writes the harts and the output. Where the input is
+/// refused nothing is written; where the writer fails, what was written before is not said.
+#[tactic(auto, unfolding(crate::specs::Words::words_text))]
+pub fn run_words<R: Read, W: Write>(
+    alloc: Global,
+    reader: &mut Flagged<R>,
+    writer: &mut Flagged<W>,
+) -> Result<(), WordsFault>
+    ensures text { OnOk result (IfSome (R.remaining (flag.device reader.old)) (λ bytes.
+        IsOkAnd (spec.words_text bytes)
+        (Appends (W.contents (flag.device writer.old)) (W.contents (flag.device writer.new))))) }
+    ensures refused { IfErr result (λ fault. IfSome (R.remaining (flag.device reader.old)) (λ bytes.
+        IsToldFault (spec.words_text bytes) fault)) }
+    ensures nothing { IfErr result (λ fault. is_write fault ≡ false
+        → Keeps (W.contents (flag.device writer.old)) (W.contents (flag.device writer.new))) }
+    ensures reader { flag.has_failed reader.new ≡ (flag.has_failed reader.old || fails_by is_read result) }
+    ensures writer { flag.has_failed writer.new ≡ (flag.has_failed writer.old || fails_by is_write result) }
+{
+    let machine = read_machine(alloc, reader)?;
+    write_state(writer, &machine)?;
+    flush(writer)?;
+    Ok(())
+}

@@ -1,0 +1,283 @@
+use crate::words::engine::run_words;
+use crate::words::fault::WordsFault;
+use rv_hart::machine::StepFault;
+use rv_memory::flagged::Flagged;
+use std::alloc::Global;
+use std::io::{self, ErrorKind, Read, Write};
+use std::process::Abort;
+use std::test::Fail;
+
+/// Asserts what `words` writes of an input.
+fn assert_writes(rt: &impl Abort, alloc: Global, input: &[u8], text: &[u8]) {
+    let mut reader = Flagged::new(input);
+    let mut writer = Flagged::new(Vec::new(alloc));
+    let outcome = run_words(alloc, &mut reader, &mut writer);
+    assert_eq!(rt; outcome, Ok(()));
+    assert!(rt; !reader.failed() && !writer.failed());
+    assert_eq!(rt; writer.into_inner().as_slice(), text);
+}
+
+/// The fault of an input, of which nothing is written.
+fn fault_of(rt: &impl Abort, alloc: Global, input: &[u8]) -> Option<WordsFault> {
+    let mut writer = Flagged::new(Vec::new(alloc));
+    let fault = run_words(alloc, &mut Flagged::new(input), &mut writer).err();
+    assert!(rt; !writer.failed());
+    assert_eq!(rt; writer.into_inner().len(), 0);
+    fault
+}
+
+#[test]
+fn writes_harts_and_output(rt: HostRuntime) {
+    let alloc = rt.alloc();
+    assert_writes(
+        &rt,
+        alloc,
+        b"harts 1\nsteps 0\n00500093\n",
+        b"hart 0 running pc 00010004 x1 00000005 x2 c0010000 x11 00000001\nout\n",
+    );
+    assert_writes(
+        &rt,
+        alloc,
+        b"harts 2\nsteps\n",
+        b"hart 0 running pc 00010000 x2 c0010000 x11 00000002\n\
+        hart 1 running pc 00010000 x2 c0020000 x10 00000001 x11 00000002\nout\n",
+    );
+    assert_writes(
+        &rt,
+        alloc,
+        b"harts 1\nsteps 0\n002000EF",
+        b"hart 0 stopped 0 pc 00010000 x2 c0010000 x11 00000001\nout\n",
+    );
+    assert_writes(
+        &rt,
+        alloc,
+        b"harts 1\nsteps 0 0 0\n00100893\n04100513\n00000073\n",
+        b"hart 0 running pc 0001000c x2 c0010000 x10 00000041 x11 00000001 x17 00000001\nout 41\n",
+    );
+    assert_writes(
+        &rt,
+        alloc,
+        b"harts 1\nsteps 0 0\n05d00893\n00000073\n",
+        b"hart 0 exited 00000000 pc 00010004 x2 c0010000 x11 00000001 x17 0000005d\nout\n",
+    );
+}
+
+/// Without words there is no region at the entry: the fetch fails. (Cause 1.)
+#[test]
+fn stops_without_words(rt: HostRuntime) {
+    assert_writes(
+        &rt,
+        rt.alloc(),
+        b"harts 1\nsteps 0\n",
+        b"hart 0 stopped 1 pc 00010000 x2 c0010000 x11 00000001\nout\n",
+    );
+}
+
+/// `lui x6,0x20`, `beq x10,x0,0x00010010`, `sw x10,0(x6)`, `ecall`, `lr.w x5,(x6)`,
+/// `sc.w x7,x5,(x6)`, `ecall`.
+#[test]
+fn shows_reservations(rt: HostRuntime) {
+    let alloc = rt.alloc();
+    assert_writes(
+        &rt,
+        alloc,
+        b"harts 2\nsteps 0 0 1 1 0\n\
+        00020337\n00050663\n00a32023\n00000073\n100322af\n185323af\n00000073\n",
+        b"hart 0 running pc 00010014 x2 c0010000 x6 00020000 x11 00000002 lr 00020000\n\
+        hart 1 running pc 00010008 x2 c0020000 x6 00020000 x10 00000001 x11 00000002\nout\n",
+    );
+    assert_writes(
+        &rt,
+        alloc,
+        b"harts 2\nsteps 0 0 1 1 0 1 0\n\
+        00020337\n00050663\n00a32023\n00000073\n100322af\n185323af\n00000073\n",
+        b"hart 0 running pc 00010018 x2 c0010000 x6 00020000 x7 00000001 x11 00000002\n\
+        hart 1 running pc 0001000c x2 c0020000 x6 00020000 x10 00000001 x11 00000002\nout\n",
+    );
+}
+
+#[test]
+fn tells_what_is_refused(rt: HostRuntime) {
+    let alloc = rt.alloc();
+    for (input, fault) in [
+        (b"".as_slice(), WordsFault::Line(1)),
+        (b"harts 17\nsteps 1\nx\n", WordsFault::Line(1)),
+        (b"harts 1\n", WordsFault::Line(2)),
+        (b"harts 1\nsteps 16\n", WordsFault::Line(2)),
+        (b"harts 1\nsteps 1\nx\n", WordsFault::Line(3)),
+        (b"harts 1\nsteps 0\n00500093\r\n", WordsFault::Line(3)),
+    ] {
+        assert_eq!(rt; fault_of(&rt, alloc, input), Some(fault), "at {input:?}");
+    }
+    for (input, number, fault) in [
+        (
+            b"harts 1\nsteps 0 0\n002000ef\n".as_slice(),
+            1,
+            StepFault::NotRunning,
+        ),
+        (b"harts 1\nsteps 1\n00500093\n", 0, StepFault::NoHart),
+        (b"harts 2\nsteps 1 2 0\n00500093\n", 1, StepFault::NoHart),
+        (
+            b"harts 2\nsteps 0 1 0 2\n002000ef\n",
+            2,
+            StepFault::NotRunning,
+        ),
+    ] {
+        let told = WordsFault::Step { number, fault };
+        assert_eq!(rt; fault_of(&rt, alloc, input), Some(told), "at {input:?}");
+    }
+}
+
+/// A reader of the text, whose read numbered `fails_at` from 1 on fails.
+#[derive(Drop)]
+struct Failing {
+    text: &'static [u8],
+    reads: u64,
+    fails_at: u64,
+}
+
+impl Read for Failing {
+    fn read(&mut self, buf: &mut [u8]) -> io::Result<usize> {
+        self.reads = self.reads.saturating_add(1);
+        if self.reads == self.fails_at {
+            return Err(io::Error::from(ErrorKind::Interrupted));
+        }
+        match self.text {
+            [byte, rest @ ..] if !buf.is_empty() => {
+                buf[0] = *byte;
+                self.text = rest;
+                Ok(1)
+            }
+            _ => Ok(0),
+        }
+    }
+}
+
+/// A reader that never ends.
+#[derive(Drop)]
+struct Endless;
+
+impl Read for Endless {
+    fn read(&mut self, buf: &mut [u8]) -> io::Result<usize> {
+        buf.fill(b'0');
+        Ok(buf.len())
+    }
+}
+
+/// A writer whose call numbered `fails_at` from 1 on fails, by an error or by taking nothing.
+#[derive(Drop)]
+struct Sink {
+    calls: u64,
+    fails_at: u64,
+    takes_none: bool,
+}
+
+impl Write for Sink {
+    fn write(&mut self, buf: &[u8]) -> io::Result<usize> {
+        self.calls = self.calls.saturating_add(1);
+        if self.calls != self.fails_at {
+            return Ok(buf.len());
+        }
+        if self.takes_none {
+            Ok(0)
+        } else {
+            Err(io::Error::from(ErrorKind::Interrupted))
+        }
+    }
+
+    fn flush(&mut self) -> io::Result<()> {
+        self.calls = self.calls.saturating_add(1);
+        if self.calls == self.fails_at {
+            return Err(io::Error::from(ErrorKind::Interrupted));
+        }
+        Ok(())
+    }
+}
+
+const ROW: &[u8] = b"harts 1\nsteps 0\n00500093\n";
+
+#[test]
+fn tells_a_reader_that_fails(rt: HostRuntime) {
+    let alloc = rt.alloc();
+    for fails_at in 1..27 {
+        let mut reader = Flagged::new(Failing {
+            text: ROW,
+            reads: 0,
+            fails_at,
+        });
+        let mut writer = Flagged::new(Vec::new(alloc));
+        let outcome = run_words(alloc, &mut reader, &mut writer);
+        assert_eq!(rt; outcome, Err(WordsFault::Read), "at read {fails_at}");
+        assert!(rt; reader.failed(), "at read {fails_at}");
+        assert_eq!(rt; writer.into_inner().len(), 0);
+    }
+}
+
+#[test]
+fn refuses_an_endless_input(rt: HostRuntime) {
+    let mut reader = Flagged::new(Endless);
+    let mut writer = Flagged::new(Vec::new(rt.alloc()));
+    let outcome = run_words(rt.alloc(), &mut reader, &mut writer);
+    assert_eq!(rt; outcome, Err(WordsFault::TooLong));
+    assert!(rt; !reader.failed());
+    assert_eq!(rt; writer.into_inner().len(), 0);
+}
+
+/// How the engine ends with a writer that fails so.
+fn outcome_of(
+    rt: &impl Abort,
+    alloc: Global,
+    fails_at: u64,
+    takes_none: bool,
+) -> Option<WordsFault> {
+    let mut writer = Flagged::new(Sink {
+        calls: 0,
+        fails_at,
+        takes_none,
+    });
+    let fault = run_words(alloc, &mut Flagged::new(ROW), &mut writer).err();
+    assert!(rt; writer.failed() == fault.is_some(), "at call {fails_at}");
+    fault
+}
+
+#[test]
+fn tells_a_writer_that_fails(rt: HostRuntime) {
+    let alloc = rt.alloc();
+    let mut calls = 0;
+    for fails_at in 1..100 {
+        if outcome_of(&rt, alloc, fails_at, false).is_none() {
+            break;
+        }
+        calls = fails_at;
+        let fault = outcome_of(&rt, alloc, fails_at, false);
+        assert_eq!(rt; fault, Some(WordsFault::Write), "at call {fails_at}");
+    }
+    assert!(rt; calls > 10, "many writes and a flush");
+    for fails_at in 1..calls {
+        let fault = outcome_of(&rt, alloc, fails_at, true);
+        assert_eq!(rt; fault, Some(WordsFault::Write), "at call {fails_at}");
+    }
+}
+
+#[test]
+fn tells_faults(rt: HostRuntime) -> Result<(), Fail> {
+    let step = |number: u32, fault: StepFault| WordsFault::Step { number, fault };
+    for (fault, text, status) in [
+        (WordsFault::Line(16_387), "words line 16387", 1),
+        (step(0, StepFault::NoHart), "words step 0 NoHart", 1),
+        (
+            step(99_999, StepFault::NotRunning),
+            "words step 99999 NotRunning",
+            1,
+        ),
+        (WordsFault::TooLong, "input TooLong", 1),
+        (WordsFault::Read, "read", 3),
+        (WordsFault::Write, "write", 3),
+        (WordsFault::NoMemory, "memory", 4),
+    ] {
+        let told = format!(in rt.alloc(); "{fault}")?;
+        assert_eq!(rt; told.as_str(), text);
+        assert_eq!(rt; fault.status(), status, "at {text}");
+    }
+    Ok(())
+}
