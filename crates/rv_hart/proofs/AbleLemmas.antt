@@ -1,8 +1,7 @@
-use Rattle.std.proofs.Common.{◌≡◌, ℕ, ◌-◌, ◌%◌, Bool, true, false, cond, List, [], ◌∷◌, Option, Some, None, refl, inl, inr}
-use Rattle.std.specs.Prelude.{◌&&◌, ◌||◌, ◌==◌, not, nat_lt, nat_le, IsTrue}
-use Rattle.std.specs.List.{list_any}
+use Rattle.std.proofs.Common.{◌≡◌, ℕ, ◌-◌, ◌%◌, Bool, true, false, cond, [], ◌∷◌, Option, Some, None, refl, inl, inr}
+use Rattle.std.specs.Prelude.{◌&&◌, ◌||◌, ◌==◌, not, nat_lt}
 use Rattle.rv_hart.specs.Able.{AreBytes, IsAble, HasSize}
-use Rattle.rv_hart.specs.Act.{act, action_of, branch, jump, environment_call, following, immediate, address, source_1, source_2}
+use Rattle.rv_hart.specs.Act.{act, branch, jump, environment_call, following, immediate, address, source_1, source_2}
 use Rattle.rv_hart.specs.Registers.{get}
 use Rattle.rv_hart.specs.Step.{action_at_word, fetched, tested, allowed, action_at}
 use Rattle.rv_hart.specs.Words as words
@@ -15,7 +14,6 @@ use Rattle.rv_isa.specs.Decoded.{decoded}
 use Rattle.rv_isa.specs.declared.instr.Instr.{Instr}
 use Rattle.rv_isa.specs.declared.op.Op.{Op}
 use Rattle.rv_isa.specs.declared.op.Op.TheVariants.{Lui, Auipc, Jal, Jalr, Beq, Bne, Blt, Bge, Bltu, Bgeu, Lb, Lh, Lw, Lbu, Lhu, Sb, Sh, Sw, Addi, Slti, Sltiu, Xori, Ori, Andi, Slli, Srli, Srai, Add, Sub, Sll, Slt, Sltu, Xor, Srl, Sra, Or, And, Fence, Ecall, Ebreak, LrW, ScW, AmoswapW, AmoaddW, AmoxorW, AmoandW, AmoorW, AmominW, AmomaxW, AmominuW, AmomaxuW}
-use Rattle.rv_memory.specs.Extent.{Extent}
 use Rattle.rv_memory.specs.Memory.{Memory, IsSize, holds, allows, load, permits}
 use Rattle.rv_memory.specs.declared.store.Need.{Need}
 use Rattle.rv_memory.specs.declared.store.Need.TheVariants as need

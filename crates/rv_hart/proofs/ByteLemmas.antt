@@ -1,9 +1,9 @@
-use Rattle.std.proofs.Common.{◌≡◌, ℕ, ◌+◌, ◌*◌, Bool, true, false, List, [], ◌∷◌, Option, Some, None, refl, sym, ◌∙◌, ap, arith}
-use Rattle.std.specs.Prelude.{◌&&◌, ◌||◌, is_some, unwrap_or, All}
+use Rattle.std.proofs.Common.{◌≡◌, ℕ, ◌+◌, ◌*◌, true, false, [], ◌∷◌, Option, Some, None, refl, sym, ◌∙◌, ap, arith}
+use Rattle.std.specs.Prelude.{◌&&◌, is_some, unwrap_or, All}
 use Rattle.std.specs.List.{list_any}
 use Rattle.std.proofs.lemmas.Bool.Decides.{nat_tests}
 use Rattle.rv_memory.specs.Extent.{Extent, IsFull}
-use Rattle.rv_memory.specs.Memory.{Memory, byte, covers, holds, allows, load, permits}
+use Rattle.rv_memory.specs.Memory.{Memory, byte, covers, holds, load, permits}
 use Rattle.rv_memory.specs.MemoryLaws.{BytesStandWhereCovered}
 use Rattle.rv_memory.specs.declared.store.Need.TheVariants.{Nothing}
 

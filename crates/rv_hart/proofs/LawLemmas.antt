@@ -1,12 +1,11 @@
-use Rattle.std.proofs.Common.{◌≡◌, ◌≢◌, ℕ, zero, suc, ◌+◌, ◌<◌, ◌≤◌, ◌⊎◌, inl, inr, Bool, true, false, cond, List, [], ◌∷◌, ◌++◌, Option, Some, None, length, map, set, refl, sym, ap, subst, ◌∙◌, arith}
-use Rattle.std.specs.Prelude.{slice_get, IsSomeAnd, IsTrue, option_map, nat_lt, nat_le, ◌&&◌}
+use Rattle.std.proofs.Common.{◌≡◌, ◌≢◌, ℕ, zero, suc, ◌+◌, ◌≤◌, ◌⊎◌, inl, inr, Bool, true, false, cond, List, [], ◌∷◌, ◌++◌, Option, Some, None, map, set, refl, sym, ap, subst, ◌∙◌, arith}
+use Rattle.std.specs.Prelude.{slice_get, IsSomeAnd, option_map, nat_lt, nat_le, ◌&&◌}
 use Rattle.std.proofs.lemmas.Option.{slice_get-map}
 use Rattle.std.proofs.lemmas.Bool.{cases_lt}
 use Rattle.std.proofs.lemmas.Bool.Decides.{nat_tests}
-use Rattle.rv_hart.specs.Machine.{SomeHart, RunsTo}
 use Rattle.rv_hart.specs.Next.{accessed}
 use Rattle.rv_hart.specs.State.{State, is_running}
-use Rattle.rv_hart.specs.Step.{step_of, step_of_hart, step_by, state_after, action_at, loaded_by, written_by, memory_after, access_of, event_of, printed, reserves, kept, seen_by, hart_after}
+use Rattle.rv_hart.specs.Step.{step_of, step_of_hart, step_by, state_after, action_at, loaded_by, written_by, memory_after, event_of, reserves, kept, seen_by, hart_after}
 use Rattle.rv_hart.specs.StepLaws as laws
 use Rattle.rv_hart.specs.StepLaws.{Acts, TrapLaw, ExitLaw, SetLaw, LoadLaw, StoreLaw, ReserveLaw, ScSucceedsLaw, ScFailsLaw, AmoLaw, PrintLaw}
 use Rattle.rv_hart.specs.declared.access.Event.{Event}

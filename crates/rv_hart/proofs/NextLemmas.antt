@@ -1,12 +1,11 @@
-use Rattle.std.proofs.Common.{◌≡◌, ℕ, ◌-◌, ◌%◌, Bool, true, false, cond, List, Option, Some, None, refl, sym, ap, ◌∙◌}
+use Rattle.std.proofs.Common.{◌≡◌, ℕ, ◌-◌, ◌%◌, Bool, true, false, cond, Option, Some, None, refl}
 use Rattle.std.specs.Prelude.{◌==◌, not, nat_lt, slice_get, option_map}
-use Rattle.rv_hart.specs.Act.{act, branch, jump, environment_call, following, immediate, address, source_1, source_2}
+use Rattle.rv_hart.specs.Act.{act, branch, jump, following, immediate, address, source_1, source_2}
 use Rattle.rv_hart.specs.Next.{next_access, next_plain, hart_access, hart_plain, plain_access, accessed, access_of_step, is_plain, is_plain_op, at_plain}
 use Rattle.rv_hart.specs.Registers.{get}
 use Rattle.rv_hart.specs.State.{State, is_running}
-use Rattle.rv_hart.specs.Step.{step_of, step_by, access_of, event_of, action_at_word, fetched, tested, allowed, action_at}
+use Rattle.rv_hart.specs.Step.{step_of, step_by, access_of, event_of, action_at_word, tested, allowed, action_at}
 use Rattle.rv_hart.specs.Words as words
-use Rattle.rv_hart.specs.declared.access.Access.{Access}
 use Rattle.rv_hart.specs.declared.action.Action.{Action}
 use Rattle.rv_hart.specs.declared.action.Action.TheVariants.{Trap, Set, Load, Store, Reserve, Conditional, Replace, Print, Exit}
 use Rattle.rv_hart.specs.declared.hart.Cause.{Cause}

@@ -1,14 +1,13 @@
-use Rattle.std.proofs.Common.{◌≡◌, ℕ, ◌+◌, ◌-◌, Bool, true, false, cond, List, [], ◌∷◌, ◌++◌, Option, Some, None, length, map, set, take, drop, refl, sym, ap, subst, ◌∙◌, arith}
-use Rattle.std.specs.Prelude.{slice_get, IsSomeAnd, IsTrue}
+use Rattle.std.proofs.Common.{◌≡◌, ℕ, Bool, true, false, cond, List, ◌++◌, Option, Some, None, length, map, set, take, drop, refl, sym, ap, subst, ◌∙◌, arith}
+use Rattle.std.specs.Prelude.{slice_get, IsSomeAnd}
 use Rattle.std.proofs.Math.ListN.{length-set}
 use Rattle.std.proofs.lemmas.Grind.{common_steps}
 use Rattle.std.proofs.lemmas.List.{length-map}
 use Rattle.rv_hart.specs.Able.{IsAble, IsAbleWrite, AreBytes}
 use Rattle.rv_hart.specs.Harts.{HartsAfter}
-use Rattle.rv_hart.specs.Machine.{SomeHart, RunsTo, Takes}
-use Rattle.rv_hart.specs.State.{State, is_running}
-use Rattle.rv_hart.specs.Step.{step_of, step_by, state_after, action_at, loaded_by, written_by, memory_after, event_of, printed, reserves, seen_by, hart_after}
-use Rattle.rv_hart.specs.Words.{combined}
+use Rattle.rv_hart.specs.Machine.{RunsTo, Takes}
+use Rattle.rv_hart.specs.State.{State}
+use Rattle.rv_hart.specs.Step.{step_of, step_by, loaded_by, written_by, memory_after, event_of, printed, reserves, seen_by, hart_after}
 use Rattle.rv_hart.specs.declared.access.Event.{Event}
 use Rattle.rv_hart.specs.declared.action.Action.{Action}
 use Rattle.rv_hart.specs.declared.action.Action.TheVariants.{Trap, Set, Load, Store, Reserve, Conditional, Replace, Print, Exit}

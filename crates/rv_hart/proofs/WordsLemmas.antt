@@ -1,5 +1,5 @@
-use Rattle.std.proofs.Common.{◌≡◌, ℕ, ◌+◌, ◌-◌, ◌*◌, ◌/◌, ◌%◌, ◌^◌, ◌<◌, ◌≤◌, Bool, true, false, cond, List, length, get_or, set, ℤ, pos, negsuc, ◌+ℤ◌, ◌*ℤ◌, ◌<ℤ◌, refl, sym, ap, ◌∙◌, arith, get_or-set_same, get_or-set_other}
-use Rattle.std.specs.Prelude.{◌≢◌, ◌==◌, ◌↔◌, IsTrue, slice_index, slice_set}
+use Rattle.std.proofs.Common.{◌≡◌, ℕ, ◌+◌, ◌*◌, ◌/◌, ◌%◌, ◌^◌, ◌<◌, Bool, true, false, cond, List, length, get_or, set, ℤ, ◌<ℤ◌, refl, arith, get_or-set_same, get_or-set_other}
+use Rattle.std.specs.Prelude.{◌≢◌, ◌==◌, ◌↔◌, IsTrue}
 use Rattle.std.specs.Int.{int_shr, w32}
 use Rattle.std.proofs.Math.Nat.{div-add-mod}
 use Rattle.std.proofs.Math.Pow.{pow_pos}
@@ -9,7 +9,7 @@ use mir.Val.{SFits}
 use Rattle.std.proofs.lemmas.Bool.Decides.{nat_tests}
 use Rattle.rv_hart.specs.Registers as registers
 use Rattle.rv_hart.specs.StepLaws.{RegistersLaw, WordsLaw}
-use Rattle.rv_hart.specs.Words.{integer, word, less_signed, shift_left, shift_right, shift_right_signed}
+use Rattle.rv_hart.specs.Words.{integer, less_signed, shift_left, shift_right, shift_right_signed}
 
 read_back : (rs : List ℕ) (r value : ℕ) → 0 < r → r < length rs → registers.get (registers.set rs r value) r ≡ value
 read_back rs r value some within = let named : (r == 0) ≡ false = grind (arith, nat_tests) in rw (named, get_or-set_same)

@@ -1,4 +1,4 @@
-use Rattle.std.specs.Prelude.{◌≡◌, ℕ, IsTrue, ◌<◌, ◌≤◌, List, Vec, vec_len, vec_capacity, length, slice_get, IsSomeAnd}
+use Rattle.std.specs.Prelude.{◌≡◌, ℕ, IsTrue, ◌≤◌, Vec, vec_len, vec_capacity, slice_get, IsSomeAnd}
 use Rattle.std.specs.declared.alloc.Global.{Global}
 use Rattle.rv_hart.specs.State.{State, is_running}
 use Rattle.rv_hart.specs.Step.{action_at}

@@ -1,4 +1,4 @@
-use Rattle.std.specs.Prelude.{◌≡◌, ℕ, Bool, true, false, ◌&&◌, ◌==◌, nat_lt, nat_le, not, Option, Some, None, if◌then◌else◌, IsTrue, length, slice_get}
+use Rattle.std.specs.Prelude.{ℕ, Bool, true, false, ◌&&◌, nat_lt, nat_le, not, Option, Some, None, if◌then◌else◌, IsTrue, length, slice_get}
 use Rattle.rv_hart.specs.State.{State, Guest, is_running}
 use Rattle.rv_hart.specs.Step.{step_of, action_at, access_of}
 use Rattle.rv_hart.specs.declared.access.Access.{Access}

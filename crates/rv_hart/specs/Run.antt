@@ -1,4 +1,4 @@
-use Rattle.std.specs.Prelude.{ℕ, Option, Some, None, option_and_then, List, [], ◌∷◌}
+use Rattle.std.specs.Prelude.{ℕ, Option, Some, option_and_then, List, [], ◌∷◌}
 use Rattle.rv_hart.specs.State.{State}
 use Rattle.rv_hart.specs.Step.{step_of}
 

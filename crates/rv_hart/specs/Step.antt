@@ -1,8 +1,8 @@
-use Rattle.std.specs.Prelude.{◌≡◌, ℕ, ◌+◌, ◌*◌, ◌%◌, Bool, true, false, ◌&&◌, ◌==◌, nat_lt, if◌then◌else◌, Option, Some, None, option_map, List, [], ◌∷◌, ◌++◌, map, slice_get, slice_set}
+use Rattle.std.specs.Prelude.{ℕ, ◌+◌, ◌%◌, Bool, true, false, ◌&&◌, ◌==◌, nat_lt, if◌then◌else◌, Option, Some, None, List, [], ◌∷◌, ◌++◌, map, slice_get, slice_set}
 use Rattle.rv_hart.specs.Act.{action_of, following}
 use Rattle.rv_hart.specs.Registers.{set}
 use Rattle.rv_hart.specs.State.{State, is_running}
-use Rattle.rv_hart.specs.Words.{combined, extended, flag}
+use Rattle.rv_hart.specs.Words.{combined, extended}
 use Rattle.rv_hart.specs.declared.access.Access.{Access}
 use Rattle.rv_hart.specs.declared.access.Event.{Event}
 use Rattle.rv_hart.specs.declared.access.Event.TheVariants as event

@@ -1,11 +1,11 @@
-use Rattle.std.specs.Prelude.{◌≡◌, ◌≢◌, ℕ, ◌+◌, ◌*◌, ◌/◌, ◌^◌, ◌<◌, ◌<ℤ◌, ◌↔◌, ◌⊎◌, Bool, true, false, not, ◌&&◌, nat_le, nat_lt, IsTrue, Option, Some, None, List, [], ◌∷◌, ◌++◌, length, map, slice_get, slice_set}
+use Rattle.std.specs.Prelude.{◌≡◌, ◌≢◌, ℕ, ◌+◌, ◌*◌, ◌^◌, ◌<◌, ◌<ℤ◌, ◌↔◌, ◌⊎◌, Bool, true, false, ◌&&◌, nat_le, nat_lt, IsTrue, Option, Some, None, List, [], ◌∷◌, ◌++◌, length, map, slice_get, slice_set}
 use Rattle.std.specs.Int.{int_shr}
 use Rattle.rv_hart.specs.Act.{following}
 use Rattle.rv_hart.specs.Machine.{SomeHart}
 use Rattle.rv_hart.specs.Next.{accessed}
 use Rattle.rv_hart.specs.Registers.{get, set}
 use Rattle.rv_hart.specs.State.{State, is_running}
-use Rattle.rv_hart.specs.Step.{step_of, action_at, reserves, seen_by}
+use Rattle.rv_hart.specs.Step.{step_of, action_at, seen_by}
 use Rattle.rv_hart.specs.Words.{integer, less_signed, shift_left, shift_right, shift_right_signed, combined, extended}
 use Rattle.rv_hart.specs.declared.access.Access.{Access}
 use Rattle.rv_hart.specs.declared.access.Event.{Event}

@@ -1,4 +1,4 @@
-use Rattle.std.specs.Prelude.{ℕ, ℤ, ◌+◌, ◌-◌, ◌*◌, ◌/◌, ◌%◌, ◌^◌, Bool, true, false, ◌==◌, nat_lt, int_lt, if◌then◌else◌, bit_and, bit_or, bit_xor, min, max}
+use Rattle.std.specs.Prelude.{ℕ, ℤ, ◌+◌, ◌-◌, ◌*◌, ◌/◌, ◌%◌, ◌^◌, Bool, nat_lt, int_lt, if◌then◌else◌, bit_and, bit_or, bit_xor, min, max}
 use Rattle.std.specs.Int.{cast_signed, cast_unsigned, int_shr, int_min, int_max, w32}
 use Rattle.rv_hart.specs.declared.action.Combine.{Combine}
 use Rattle.rv_hart.specs.declared.action.Combine.TheVariants.{Swap, Add, Xor, And, Or, Min, Max, MinUnsigned, MaxUnsigned}

@@ -1,10 +1,11 @@
 //! What an action does, one function a component of `specs/Step.antt`.
-ghost use Rattle.std.specs.Prelude.{◌≡◌, ◌<◌, ◌+◌, ◌++◌, vec_len, vec_capacity, Some, IsTrue, OnOk, OnErr, length, map};
+ghost use Rattle.std.specs.Prelude.{◌≡◌, ◌==◌, ◌%◌, ◌<◌, ◌+◌, ◌++◌, vec_len, vec_capacity, Some, IsTrue, OnOk, OnErr, length, map};
 ghost use Rattle.rv_hart.specs.Able.{HasSize, IsAble, IsAbleWrite, IsReady, Fits};
 ghost use Rattle.rv_hart.specs.Harts.{HartsAfter};
 ghost use Rattle.rv_hart.specs.Next as next;
 ghost use Rattle.rv_hart.specs.Registers as registers;
 ghost use Rattle.rv_hart.specs.Step as spec;
+ghost use Rattle.rv_memory.specs.Memory.{IsSize};
 
 use crate::access::{Access, Event};
 use crate::act::{act, combined, extended};
@@ -56,12 +57,26 @@ fn allowed<S: ByteStore>(store: &S, action: Action) -> Action
     }
 }
 
+/// Whether the address is a multiple of the size. The sizes stand here one by one, since a division by a
+/// number that is not known takes long.
+#[inline]
+fn is_aligned(address: u32, size: u8) -> bool
+    requires { IsSize size }
+    ensures { result ≡ (address % size == 0) }
+{
+    match size {
+        1 => true,
+        2 => address % 2 == 0,
+        _ => address % 4 == 0,
+    }
+}
+
 fn tested_load<S: ByteStore>(store: &S, address: u32, size: u8, action: Action) -> Action
-    requires { 0 < size }
+    requires { IsSize size }
     ensures { result ≡ spec.tested (S.memory store.now) address size Need.Read
         Cause.LoadMisaligned Cause.LoadFault action }
 {
-    if address % u32::from(size) != 0 {
+    if !is_aligned(address, size) {
         Action::Trap(Cause::LoadMisaligned)
     } else if store.permits(address, size, Need::Read) {
         action
@@ -77,11 +92,11 @@ fn tested_store<S: ByteStore>(
     need: Need,
     action: Action,
 ) -> Action
-    requires { 0 < size }
+    requires { IsSize size }
     ensures { result ≡ spec.tested (S.memory store.now) address size need
         Cause.StoreMisaligned Cause.StoreFault action }
 {
-    if address % u32::from(size) != 0 {
+    if !is_aligned(address, size) {
         Action::Trap(Cause::StoreMisaligned)
     } else if store.permits(address, size, need) {
         action

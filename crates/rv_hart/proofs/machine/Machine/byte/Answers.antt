@@ -1,4 +1,4 @@
-use Rattle.std.proofs.Common.{◌≡◌, ◌∙◌, Some, sym, ap}
+use Rattle.std.proofs.Common.{◌∙◌, Some, sym, ap}
 use Rattle.rv_hart.specs.State.{Guest}
 use Rattle.rv_memory.specs.Memory.{byte}
 use Rattle.rv_hart.proofs.ByteLemmas.{byte_within, byte_outside}

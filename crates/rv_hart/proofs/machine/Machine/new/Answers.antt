@@ -1,4 +1,4 @@
-use Rattle.std.proofs.Common.{All, arith, rules}
+use Rattle.std.proofs.Common.{All, arith}
 use Rattle.rv_memory.specs.Extent.{IsExtent}
 use Rattle.rv_hart.proofs.machine.Machine.new.Goals as goal
 

@@ -1,7 +1,6 @@
-use Rattle.std.proofs.Common.{◌≡◌, ◌∙◌, sym, ap}
+use Rattle.std.proofs.Common.{◌∙◌, sym, ap}
 use Rattle.rv_hart.specs.Next.{hart_access}
 use Rattle.rv_hart.specs.State.{Guest}
-use Rattle.rv_memory.specs.Memory.{Memory}
 use Rattle.rv_hart.proofs.NextLemmas.{next_access_is}
 use Rattle.rv_hart.proofs.machine.Machine.next_access.Goals as goal
 

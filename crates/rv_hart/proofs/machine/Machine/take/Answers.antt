@@ -1,8 +1,7 @@
-use Rattle.std.proofs.Common.{◌≡◌, ◌∙◌, ◌++◌, refl, Some, List, length, take, drop, sym, ap, arith}
+use Rattle.std.proofs.Common.{◌≡◌, ◌∙◌, refl, Some, length, ap}
 use Rattle.std.specs.Prelude.{slice_get}
 use Rattle.std.proofs.lemmas.Option.{slice_get_read}
 use Rattle.rv_hart.specs.Step.{memory_after}
-use Rattle.rv_hart.specs.declared.hart.Hart.{Hart}
 use Rattle.rv_hart.proofs.StepLemmas.{step_made, harts_back}
 use Rattle.rv_hart.proofs.machine.Machine.take.Goals as goal
 
