@@ -1,4 +1,4 @@
-use Rattle.std.proofs.Common.{◌≡◌, ℕ, ◌+◌, ◌^◌, Bool, true, false, List, [], ◌∷◌, ◌++◌, Option, Some, None, refl, arith}
+use Rattle.std.proofs.Common.{◌≡◌, ◌+◌, ◌^◌, Bool, true, false, List, [], ◌∷◌, ◌++◌, Some, None, refl}
 use Rattle.std.specs.Prelude.{◌||◌, nat_lt, sum_by, if◌then◌else◌}
 use Rattle.std.specs.List.{list_any}
 use Rattle.std.proofs.lemmas.List.Folds.{list_any-append}
@@ -6,7 +6,6 @@ use Rattle.std.proofs.lemmas.List.Sums.{sum_by-append}
 use Rattle.rv_memory.specs.Extent.{Extent, end_of}
 use Rattle.rv_memory.specs.Memory.{meets, overlaps, fault_of}
 use Rattle.rv_memory.specs.declared.store.MemFault.TheVariants.{Overlap, TooLarge, PastEnd}
-use Rattle.rv_memory.specs.declared.store.MemFault.{MemFault}
 use Rattle.rv_memory.specs.declared.store.TheConstants.{LIMIT}
 
 regroup : (a b c d e : Bool) → (a || b) || ((c || d) || e) ≡ ((a || c) || d) || (b || e)

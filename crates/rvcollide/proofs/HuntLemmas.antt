@@ -1,5 +1,5 @@
-use Rattle.std.proofs.Common.{◌≡◌, ◌≢◌, ℕ, ◌+◌, ◌-◌, ◌<◌, ◌≤◌, Bool, true, false, cond, List, [], ◌∷◌, ◌++◌, Option, Some, None, length, take, refl, sym, ap, subst, ◌∙◌, arith, length-append, append-nil}
-use Rattle.std.specs.Prelude.{zero, suc, ◌&&◌, ◌||◌, ◌==◌, not, nat_le, nat_lt, slice_get, option_and_then, IfSome, IsTrue, codes}
+use Rattle.std.proofs.Common.{◌≡◌, ◌≢◌, ℕ, ◌+◌, ◌-◌, ◌≤◌, Bool, true, false, cond, List, [], ◌∷◌, ◌++◌, Option, Some, None, length, take, refl, sym, ap, subst, ◌∙◌, arith, length-append, append-nil}
+use Rattle.std.specs.Prelude.{zero, suc, ◌&&◌, ◌||◌, ◌==◌, not, nat_le, nat_lt, slice_get, option_and_then, IfSome, codes}
 use Rattle.std.specs.Io.KnownBytes.{Appends, Keeps}
 use Rattle.std.proofs.KnownBytes.{Appends-trans, Appends-kept}
 use Rattle.std.proofs.lemmas.Bool.Decides.{nat_tests}
@@ -14,7 +14,7 @@ use Rattle.rv_hart.specs.declared.access.Access.{Access}
 use Rattle.rv_hart.specs.declared.access.Event.{Event}
 use Rattle.rv_text.specs.Lines.{text_of_lines}
 use Rattle.rvcollide.specs.Texts.{access_text, state_text}
-use Rattle.rvcollide.specs.Hunt.{side_text, report_lines, hunt_text, Hunts, WritesHunt, AtPlace, WouldAccess, DidAccess, IsReport, IsPaused, IsHunt, pause_after, report_of, report_in, first_report, watch_after}
+use Rattle.rvcollide.specs.Hunt.{side_text, report_lines, Hunts, WritesHunt, AtPlace, WouldAccess, DidAccess, IsReport, IsPaused, IsHunt, pause_after, report_in, first_report, watch_after}
 use Rattle.rvcollide.specs.declared.hunt.Pause.{Pause}
 use Rattle.rvcollide.specs.declared.hunt.Pause.TheVariants.{Awaited, Open, Over}
 use Rattle.rvcollide.specs.declared.hunt.Report.{Report}

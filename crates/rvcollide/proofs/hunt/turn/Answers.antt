@@ -1,4 +1,4 @@
-use Rattle.rvcollide.proofs.HuntLemmas.{hunt_pause, hunt_step}
+use Rattle.rvcollide.proofs.HuntLemmas.{hunt_step}
 use Rattle.rvcollide.proofs.hunt.turn.Goals as goal
 
 pub returns-clause-keeps : goal.returns-clause-keeps

@@ -1,4 +1,3 @@
-use Rattle.std.proofs.Common.{List, ℕ, Option, ◌≡◌, subst}
 use Rattle.rv_memory.specs.Flagged as flag
 use Rattle.rvcollide.proofs.HuntLemmas.{hunt_written}
 use Rattle.rvcollide.proofs.hunt.engine.run_hunt.Goals as goal
