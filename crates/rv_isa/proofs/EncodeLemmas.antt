@@ -7,7 +7,8 @@ use Rattle.std.proofs.lemmas.Int.{ints}
 use Rattle.std.proofs.lemmas.Bool.Decides.{nat_tests}
 use Rattle.rv_isa.specs.Fields.{signed}
 use Rattle.rv_isa.specs.Form.{has_rd, has_rs1, has_rs2, has_ordering}
-use Rattle.rv_isa.specs.Operands.{Operands, are_operands, is_register, is_immediate, is_ordering, is_within, is_even}
+use Rattle.rv_isa.specs.declared.operands.Operands.{Operands}
+use Rattle.rv_isa.specs.Operands.{are_operands, is_register, is_immediate, is_ordering, is_within, is_even}
 use Rattle.rv_isa.specs.declared.form.Form.{Form}
 
 -- ---- what a mask keeps of a word

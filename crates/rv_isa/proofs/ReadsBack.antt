@@ -5,7 +5,8 @@ use Rattle.std.proofs.lemmas.Bool.Decides.{nat_tests}
 use Rattle.rv_isa.specs.Encoded.{assembled}
 use Rattle.rv_isa.specs.Fields.{field, signed}
 use Rattle.rv_isa.specs.Form.{mask_of}
-use Rattle.rv_isa.specs.Operands.{Operands, operands_of, are_operands, is_immediate}
+use Rattle.rv_isa.specs.declared.operands.Operands.{Operands}
+use Rattle.rv_isa.specs.Operands.{operands_of, are_operands, is_immediate}
 use Rattle.rv_isa.specs.declared.form.Form.{Form}
 use Rattle.rv_isa.specs.declared.form.Form.TheVariants as form
 use Rattle.rv_isa.proofs.EncodeLemmas.{and_opcode, and_funct3, and_funct5, and_funct7, and_lr, and_all, bits_signed_12, bits_signed_13, bits_signed_21, bits_number, no_immediate, no_bit, made, same_operands, Facts, facts}

@@ -4,7 +4,8 @@ use Rattle.std.proofs.Math.Bool.{Bool-set}
 use Rattle.std.proofs.lemmas.Bool.Decides.{nat_tests}
 use Rattle.rv_isa.specs.Decoded.{op_at, with_operands, decoded}
 use Rattle.rv_isa.specs.Instr.{Row, operands}
-use Rattle.rv_isa.specs.Operands.{Operands, are_operands}
+use Rattle.rv_isa.specs.declared.operands.Operands.{Operands}
+use Rattle.rv_isa.specs.Operands.{are_operands}
 use Rattle.rv_isa.specs.Table.{Matches, form_of, match_of}
 use Rattle.rv_isa.specs.Form.{mask_of}
 use Rattle.rv_isa.proofs.TableLemmas.{candidate_is}

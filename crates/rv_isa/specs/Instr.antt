@@ -1,5 +1,6 @@
 use Rattle.std.specs.Prelude.{◌≡◌, ℕ}
-use Rattle.rv_isa.specs.Operands.{Operands, operands_of}
+use Rattle.rv_isa.specs.declared.operands.Operands.{Operands}
+use Rattle.rv_isa.specs.Operands.{operands_of}
 use Rattle.rv_isa.specs.Table.{Matches, form_of}
 use Rattle.rv_isa.specs.declared.instr.Instr.{Instr}
 

@@ -3,15 +3,7 @@ use Rattle.rv_isa.specs.Fields as fields
 use Rattle.rv_isa.specs.Form.{has_rd, has_rs1, has_rs2, has_ordering}
 use Rattle.rv_isa.specs.declared.form.Form.{Form}
 use Rattle.rv_isa.specs.declared.form.Form.TheVariants.{R, I, S, B, U, J, Shift, Fence, Plain, Lr, Amo}
-
--- what an instruction says beside its operation; a field that the format has not is 0 or false
-pub record Operands : Type 0 where
-  pub rd : ℕ
-  pub rs1 : ℕ
-  pub rs2 : ℕ
-  pub imm : ℤ
-  pub aq : Bool
-  pub rl : Bool
+use Rattle.rv_isa.specs.declared.operands.Operands.{Operands}
 
 abbrev pub immediate_of : Form → ℕ → ℤ
 immediate_of R w = pos 0

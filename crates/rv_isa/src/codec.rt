@@ -1,9 +1,7 @@
-ghost use Rattle.std.specs.Prelude.{◌≡◌, ◌↔◌, ◌<◌, ◌%◌, ◌^◌, ℕ, Some};
+ghost use Rattle.std.specs.Prelude.{◌≡◌, ◌↔◌, ◌<◌, ◌^◌, ℕ, Some};
 ghost use Rattle.rv_isa.specs.Decoded.{with_operands, decoded};
 ghost use Rattle.rv_isa.specs.Encoded.{assembled, scattered};
-ghost use Rattle.rv_isa.specs.Fields as fields;
 ghost use Rattle.rv_isa.specs.Instr.{Row, operands};
-ghost use Rattle.rv_isa.specs.Operands.{immediate_of};
 ghost use Rattle.rv_isa.specs.Table.{form_of, match_of};
 ghost use Rattle.rv_isa.specs.declared.instr.Instr.{Instr};
 
@@ -11,6 +9,7 @@ use crate::candidate::candidate;
 use crate::form::Form;
 use crate::instr::Instr;
 use crate::op::Op;
+use crate::operands::operands_of;
 
 /// The instruction that a word is, or None where no row of the table matches it.
 #[tactic(auto, using(crate::proofs::RowLemmas::decoded_row), unfolding(crate::specs::Decoded::op_at))]
@@ -30,87 +29,15 @@ pub fn decode(word: u32) -> Option<Instr>
 fn with_operands(op: Op, word: u32) -> Instr
     ensures { result ≡ with_operands op word }
 {
-    let form = op.form();
-    let rd = if form.has_rd() { field_5(word >> 7) } else { 0 };
-    let rs1 = if form.has_rs1() {
-        field_5(word >> 15)
-    } else {
-        0
-    };
-    let rs2 = if form.has_rs2() {
-        field_5(word >> 20)
-    } else {
-        0
-    };
-    let imm = immediate(form, word);
-    let aq = form.has_ordering() && (word >> 26) % 2 == 1;
-    let rl = form.has_ordering() && (word >> 25) % 2 == 1;
+    let operands = operands_of(op.form(), word);
     Instr {
         op,
-        rd,
-        rs1,
-        rs2,
-        imm,
-        aq,
-        rl,
-    }
-}
-
-/// The low five bits: a register's number.
-fn field_5(bits: u32) -> u8
-    ensures { result ≡ bits % 2 ^ 5 }
-{
-    (bits % 32) as u8
-}
-
-fn immediate(form: Form, word: u32) -> i32
-    ensures { result ≡ immediate_of form word }
-{
-    match form {
-        Form::R | Form::Plain | Form::Lr | Form::Amo => 0,
-        Form::I => immediate_i(word),
-        Form::S => immediate_s(word),
-        Form::B => immediate_b(word),
-        Form::U => (word >> 12) as i32,
-        Form::J => immediate_j(word),
-        Form::Shift => ((word >> 20) % 32) as i32,
-        Form::Fence => (word >> 20) as i32,
-    }
-}
-
-fn immediate_i(word: u32) -> i32
-    ensures { result ≡ fields.immediate_i word }
-{
-    let bits = (word >> 20) as i32;
-    if bits < 0x800 { bits } else { bits - 0x1000 }
-}
-
-fn immediate_s(word: u32) -> i32
-    ensures { result ≡ fields.immediate_s word }
-{
-    let bits = ((word >> 25) * 32 + (word >> 7) % 32) as i32;
-    if bits < 0x800 { bits } else { bits - 0x1000 }
-}
-
-fn immediate_b(word: u32) -> i32
-    ensures { result ≡ fields.immediate_b word }
-{
-    let high = (word >> 31) * 4096 + (word >> 7) % 2 * 2048;
-    let low = (word >> 25) % 64 * 32 + (word >> 8) % 16 * 2;
-    let bits = (high + low) as i32;
-    if bits < 0x1000 { bits } else { bits - 0x2000 }
-}
-
-fn immediate_j(word: u32) -> i32
-    ensures { result ≡ fields.immediate_j word }
-{
-    let high = (word >> 31) * 0x10_0000 + (word >> 12) % 256 * 4096;
-    let low = (word >> 20) % 2 * 2048 + (word >> 21) % 1024 * 2;
-    let bits = (high + low) as i32;
-    if bits < 0x10_0000 {
-        bits
-    } else {
-        bits - 0x20_0000
+        rd: operands.rd,
+        rs1: operands.rs1,
+        rs2: operands.rs2,
+        imm: operands.imm,
+        aq: operands.aq,
+        rl: operands.rl,
     }
 }
 

@@ -10,6 +10,7 @@ pub mod form;
 pub mod instr;
 pub mod laws;
 pub mod op;
+pub mod operands;
 pub mod shape;
 #[cfg(test)]
 mod tests;
