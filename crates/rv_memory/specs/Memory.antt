@@ -45,6 +45,10 @@ abbrev pub load : Memory → ℕ → ℕ → ℕ
 load m address zero = 0
 load m address (suc size) = unwrap_or (byte m address) 0 + 256 * load m (address + 1) size
 
+-- those bytes where they are permitted
+abbrev pub load_permitted : Memory → ℕ → ℕ → Need → Option ℕ
+load_permitted m address size need = if permits m address size need then Some (load m address size) else None
+
 -- one byte replaced; an address outside of every extent changes nothing
 abbrev pub set_byte : Memory → ℕ → ℕ → Memory
 set_byte [] address value = []

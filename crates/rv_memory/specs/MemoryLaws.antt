@@ -1,4 +1,4 @@
-use Rattle.std.specs.Prelude.{◌≡◌, ℕ, ◌+◌, ◌^◌, ◌%◌, ◌≤◌, ◌<◌, ◌⊎◌, false, is_some, List, map, None, All, IsTrue}
+use Rattle.std.specs.Prelude.{◌≡◌, ℕ, ◌+◌, ◌^◌, ◌%◌, ◌≤◌, ◌<◌, ◌⊎◌, true, false, is_some, List, map, None, All, IsTrue}
 use Rattle.std.specs.List.{list_any}
 use Rattle.rv_memory.specs.Extent.{Extent, IsExtent, IsFull, span}
 use Rattle.rv_memory.specs.Memory.{Memory, byte, covers, permits, load, store, overlaps, fault_of, memory_of}
@@ -47,3 +47,8 @@ MadeIsSound = (es : List Extent) → All IsExtent es → fault_of es ≡ None �
 -- and a store keeps it so
 abbrev pub StoreKeepsSound : Type 0
 StoreKeepsSound = (m : Memory) (address size value : ℕ) → IsSound m → IsSound (store m address size value)
+
+-- what is permitted for some need lies in memory
+abbrev pub PermittedIsThere : Type 0
+PermittedIsThere =
+    (m : Memory) (address size : ℕ) (need : Need) → permits m address size need ≡ true → permits m address size Nothing ≡ true

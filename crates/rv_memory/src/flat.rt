@@ -1,4 +1,4 @@
-ghost use Rattle.std.specs.Prelude.{◌≡◌, ◌+◌, ◌-◌, ◌^◌, ◌<◌, ◌≤◌, false, ⊤, refl, IsTrue, IfOk, All, HoldsAt, length, map, nat_lt, sum_by};
+ghost use Rattle.std.specs.Prelude.{◌≡◌, ◌+◌, ◌-◌, ◌^◌, ◌<◌, ◌≤◌, false, ⊤, refl, is_some, IsTrue, IfOk, IfSome, All, HoldsAt, length, map, nat_lt, sum_by};
 ghost use Rattle.std.specs.List.{list_any};
 ghost use Rattle.rv_memory.specs.Extent.{IsExtent, span, filled, end_of as spec_end_of};
 ghost use Rattle.rv_memory.specs.Memory as spec;
@@ -59,6 +59,14 @@ impl ByteStore for Flat {
     }
 
     #[inline]
+    #[tactic(auto, using(crate::proofs::Places::load_found))]
+    fn load_permitted(&self, address: u32, size: u8, need: Need) -> Option<u32> {
+        let region = find_permitted(&self.regions, address, size, need)?;
+        let region = &self.regions[region];
+        Some(number_at(&region.bytes, (address - region.start) as usize, size))
+    }
+
+    #[inline]
     fn ready(&mut self, _address: u32, _size: u8) -> Result<(), NoMemory> {
         Ok(())
     }
@@ -115,7 +123,22 @@ fn find(regions: &[Region], address: u32, size: u8) -> usize
             return place;
         }
     }
-    0
+    unreachable!()
+}
+
+/// The place of a region that the bytes lie in and that has the permissions.
+#[inline]
+fn find_permitted(regions: &[Region], address: u32, size: u8, need: Need) -> Option<usize>
+    ensures permitted { is_some result ≡ spec.permits regions.now address size need }
+    ensures within { IfSome result (λ place. place < length regions.now) }
+    ensures holds { IfSome result (HoldsAt (λ e. IsTrue (spec.holds e address size)) regions.now) }
+{
+    for (place, region) in regions.iter().enumerate() {
+        if holds(region, address, size) && allows(region, need) {
+            return Some(place);
+        }
+    }
+    None
 }
 
 /// The `size` bytes at `offset` as a little-endian number.
@@ -129,12 +152,10 @@ fn number_at(bytes: &[u8], offset: usize, size: u8) -> u32
     match size {
         1 => u32::from(bytes[offset]),
         2 => u32::from(bytes[offset]) + (u32::from(bytes[offset + 1]) << 8),
-        _ => {
-            u32::from(bytes[offset])
-                + (u32::from(bytes[offset + 1]) << 8)
-                + (u32::from(bytes[offset + 2]) << 16)
-                + (u32::from(bytes[offset + 3]) << 24)
-        }
+        _ => match bytes[offset..offset + 4].try_into() {
+            Ok(word) => u32::from_le_bytes(word),
+            Err(_) => unreachable!(),
+        },
     }
 }
 
@@ -145,13 +166,18 @@ fn put_at(bytes: &mut [u8], offset: usize, size: u8, value: u32)
     requires within { offset + size ≤ length bytes.old }
     ensures { bytes.new ≡ put_at bytes.old offset size value }
 {
-    bytes[offset] = (value % 256) as u8;
-    if size > 1 {
-        bytes[offset + 1] = (value / 256 % 256) as u8;
-    }
-    if size > 2 {
-        bytes[offset + 2] = (value / 65_536 % 256) as u8;
-        bytes[offset + 3] = (value / 16_777_216) as u8;
+    match size {
+        1 => bytes[offset] = (value % 256) as u8,
+        2 => {
+            bytes[offset] = (value % 256) as u8;
+            bytes[offset + 1] = (value / 256 % 256) as u8;
+        }
+        _ => {
+            bytes[offset] = (value % 256) as u8;
+            bytes[offset + 1] = (value / 256 % 256) as u8;
+            bytes[offset + 2] = (value / 65_536 % 256) as u8;
+            bytes[offset + 3] = (value / 16_777_216) as u8;
+        }
     }
 }
 

@@ -1,6 +1,6 @@
 //! Laws of memory as its definitions have it, each the contract of a function that does nothing.
 
-ghost use Rattle.rv_memory.specs.MemoryLaws.{StoreKeepsOtherBytes, StoreKeepsOtherLoads, StoreKeepsSpans, StoreKeepsPermissions, StoredIsReadBack, BytesStandWhereCovered, MadeIsSound, StoreKeepsSound};
+ghost use Rattle.rv_memory.specs.MemoryLaws.{StoreKeepsOtherBytes, StoreKeepsOtherLoads, StoreKeepsSpans, StoreKeepsPermissions, StoredIsReadBack, BytesStandWhereCovered, MadeIsSound, StoreKeepsSound, PermittedIsThere};
 
 /// A store changes its own bytes alone.
 pub fn store_keeps_the_rest()
@@ -24,4 +24,10 @@ pub fn bytes_stand_where_covered()
 pub fn memory_is_sound()
     ensures made { MadeIsSound }
     ensures stored { StoreKeepsSound }
+{}
+
+/// Bytes that are permitted for some need lie in memory.
+#[tactic(auto, using(crate::proofs::Permitted::permitted_is_there))]
+pub fn permitted_bytes_are_there()
+    ensures { PermittedIsThere }
 {}

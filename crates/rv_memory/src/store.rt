@@ -103,6 +103,20 @@ pub trait ByteStore: Drop {
         ensures value { result ≡ spec.load (memory self.now) address size }
         ensures below { result < 256 ^ size };
 
+    /// The bytes as a little-endian number where they are permitted: `permits` and then `load`, for which a
+    /// store may look the bytes up once.
+    #[tactic(auto, using(crate::proofs::Permitted::permitted_is_there))]
+    fn load_permitted(&self, address: u32, size: u8, need: Need) -> Option<u32>
+        requires { spec.IsSize size }
+        ensures { result ≡ spec.load_permitted (memory self.now) address size need }
+    {
+        if self.permits(address, size, need) {
+            Some(self.load(address, size))
+        } else {
+            None
+        }
+    }
+
     /// Makes the bytes ready to be stored to. The contents stay either way.
     fn ready(&mut self, address: u32, size: u8) -> Result<(), NoMemory>
         ensures same { memory self.new ≡ memory self.old }

@@ -171,3 +171,27 @@ fn tells_the_first_fault(rt: HostRuntime) -> Result<(), Fail> {
     );
     Ok(())
 }
+
+#[test]
+fn loads_where_permitted(rt: HostRuntime) -> Result<(), Fail> {
+    let alloc = rt.alloc();
+    let regions = [Region {
+        start: 0x1000,
+        bytes: Vec::from_slice(alloc, &[0x78, 0x56, 0x34, 0x92])?,
+        len: 6,
+        r: true,
+        w: false,
+        x: true,
+    }];
+    let flat = Flat::make(alloc, &regions)?;
+    for need in [Need::Nothing, Need::Read, Need::Execute] {
+        assert_eq!(rt; flat.load_permitted(0x1000, 4, need), Some(0x9234_5678));
+        assert_eq!(rt; flat.load_permitted(0x1002, 2, need), Some(0x9234));
+        assert_eq!(rt; flat.load_permitted(0x1003, 1, need), Some(0x92));
+        assert_eq!(rt; flat.load_permitted(0x1003, 4, need), None);
+    }
+    for need in [Need::Write, Need::ReadWrite] {
+        assert_eq!(rt; flat.load_permitted(0x1000, 4, need), None);
+    }
+    Ok(())
+}
