@@ -1,5 +1,5 @@
-use Rattle.std.proofs.Common.{◌≡◌, ℕ, ◌-◌, ◌%◌, Bool, true, false, cond, [], ◌∷◌, Option, Some, None, refl, inl, inr}
-use Rattle.std.specs.Prelude.{◌&&◌, ◌||◌, ◌==◌, not, nat_lt}
+use Rattle.std.proofs.Common.{◌≡◌, ℕ, ◌-◌, ◌%◌, Bool, true, false, cond, Option, Some, None, refl, sym, ap, inl, inr}
+use Rattle.std.specs.Prelude.{◌==◌, not, nat_lt}
 use Rattle.rv_hart.specs.Able.{AreBytes, IsAble, HasSize}
 use Rattle.rv_hart.specs.Act.{act, branch, jump, environment_call, following, immediate, address, source_1, source_2}
 use Rattle.rv_hart.specs.Registers.{get}
@@ -14,20 +14,10 @@ use Rattle.rv_isa.specs.Decoded.{decoded}
 use Rattle.rv_isa.specs.declared.instr.Instr.{Instr}
 use Rattle.rv_isa.specs.declared.op.Op.{Op}
 use Rattle.rv_isa.specs.declared.op.Op.TheVariants.{Lui, Auipc, Jal, Jalr, Beq, Bne, Blt, Bge, Bltu, Bgeu, Lb, Lh, Lw, Lbu, Lhu, Sb, Sh, Sw, Addi, Slti, Sltiu, Xori, Ori, Andi, Slli, Srli, Srai, Add, Sub, Sll, Slt, Sltu, Xor, Srl, Sra, Or, And, Fence, Ecall, Ebreak, LrW, ScW, AmoswapW, AmoaddW, AmoxorW, AmoandW, AmoorW, AmominW, AmomaxW, AmominuW, AmomaxuW}
-use Rattle.rv_memory.specs.Memory.{Memory, IsSize, holds, allows, load, permits}
+use Rattle.rv_memory.specs.Memory.{Memory, IsSize, load, permits}
+use Rattle.rv_memory.specs.MemoryLaws.{PermittedIsThere}
 use Rattle.rv_memory.specs.declared.store.Need.{Need}
 use Rattle.rv_memory.specs.declared.store.Need.TheVariants as need
-
--- ---- what is permitted are bytes that there are
-
-drop_need : (a b rest rest' : Bool) → (rest ≡ true → rest' ≡ true) → (a && b) || rest ≡ true → (a && true) || rest' ≡ true
-drop_need true b rest rest' f h = refl
-drop_need false b rest rest' f h = f h
-
-pub permits_bytes : (m : Memory) (address size : ℕ) (n : Need) → permits m address size n ≡ true → permits m address size need.Nothing ≡ true
-permits_bytes [] address size n h = h
-permits_bytes (e ∷ es) address size n h =
-    drop_need (holds e address size) (allows e n) (permits es address size n) (permits es address size need.Nothing) (permits_bytes es address size n) h
 
 -- ---- the sizes of what instructions access
 
@@ -132,24 +122,30 @@ able_tested : (m : Memory) (address size : ℕ) (n : Need) (misaligned fault : C
 able_tested m address size n misaligned fault action f =
     able_if m action misaligned fault (address % size == 0) (permits m address size n) f
 
-able_bytes : (m : Memory) (address size : ℕ) (n : Need) → IsSize size → permits m address size n ≡ true → AreBytes m address size
-able_bytes m address size n sized h = record { sized = sized; within = permits_bytes m address size n h }
+able_bytes : PermittedIsThere → (m : Memory) (address size : ℕ) (n : Need) → IsSize size → permits m address size n ≡ true → AreBytes m address size
+able_bytes there m address size n sized h = record { sized = sized; within = there m address size n h }
 
-able_allowed : (m : Memory) (action : Action) → HasSize action → IsAble m (allowed m action)
-able_allowed m (Load rd address size signed) h =
-    able_tested m address size need.Read LoadMisaligned LoadFault (Load rd address size signed) (able_bytes m address size need.Read h)
-able_allowed m (Store address size value) h =
-    able_tested m address size need.Write StoreMisaligned StoreFault (Store address size value) (able_bytes m address size need.Write h)
-able_allowed m (Reserve rd address) h =
-    able_tested m address 4 need.Read LoadMisaligned LoadFault (Reserve rd address) (able_bytes m address 4 need.Read (inr (inr refl)))
-able_allowed m (Conditional rd address value) h =
-    able_tested m address 4 need.Write StoreMisaligned StoreFault (Conditional rd address value) (able_bytes m address 4 need.Write (inr (inr refl)))
-able_allowed m (Replace rd address combine value) h =
-    able_tested m address 4 need.ReadWrite StoreMisaligned StoreFault (Replace rd address combine value) (able_bytes m address 4 need.ReadWrite (inr (inr refl)))
-able_allowed m (Trap cause) h = tt
-able_allowed m (Set rd value next) h = tt
-able_allowed m (Print byte) h = tt
-able_allowed m (Exit code) h = tt
+able_allowed : PermittedIsThere → (m : Memory) (action : Action) → HasSize action → IsAble m (allowed m action)
+able_allowed there m (Load rd address size signed) h =
+    able_tested m address size need.Read LoadMisaligned LoadFault (Load rd address size signed) (able_bytes there m address size need.Read h)
+able_allowed there m (Store address size value) h =
+    able_tested m address size need.Write StoreMisaligned StoreFault (Store address size value) (able_bytes there m address size need.Write h)
+able_allowed there m (Reserve rd address) h =
+    able_tested m address 4 need.Read LoadMisaligned LoadFault (Reserve rd address) (able_bytes there m address 4 need.Read (inr (inr refl)))
+able_allowed there m (Conditional rd address value) h =
+    able_tested m address 4 need.Write StoreMisaligned StoreFault (Conditional rd address value) (able_bytes there m address 4 need.Write (inr (inr refl)))
+able_allowed there m (Replace rd address combine value) h =
+    able_tested m address 4 need.ReadWrite StoreMisaligned StoreFault (Replace rd address combine value) (able_bytes there m address 4 need.ReadWrite (inr (inr refl)))
+able_allowed there m (Trap cause) h = tt
+able_allowed there m (Set rd value next) h = tt
+able_allowed there m (Print byte) h = tt
+able_allowed there m (Exit code) h = tt
 
-pub able_action : (m : Memory) (hart : Hart) → IsAble m (action_at m hart)
-able_action m hart = able_allowed m (fetched m hart) (sized_fetched m hart)
+pub able_action : PermittedIsThere → (m : Memory) (hart : Hart) → IsAble m (action_at m hart)
+able_action there m hart = able_allowed there m (fetched m hart) (sized_fetched m hart)
+
+-- ---- the word that is fetched
+
+pub fetched_word : (hart : Hart) (permitted : Bool) (loaded word : ℕ) → cond permitted (Some loaded) None ≡ Some word → action_at_word (decoded word) hart ≡ cond permitted (action_at_word (decoded loaded) hart) (Trap FetchFault)
+fetched_word hart true loaded word e = let same : loaded ≡ word = cc in ap (λ w. action_at_word (decoded w) hart) (sym same)
+fetched_word hart false loaded word e = cc

@@ -1,5 +1,6 @@
 use Rattle.std.proofs.Common.{◌≡◌, ◌≢◌, ℕ, zero, suc, ◌+◌, ◌≤◌, ◌⊎◌, inl, inr, Bool, true, false, cond, List, [], ◌∷◌, ◌++◌, Option, Some, None, map, set, refl, sym, ap, subst, ◌∙◌, arith}
 use Rattle.std.specs.Prelude.{slice_get, IsSomeAnd, option_map, nat_lt, nat_le, ◌&&◌}
+use Rattle.std.proofs.lemmas.List.{append-nil}
 use Rattle.std.proofs.lemmas.Option.{slice_get-map}
 use Rattle.std.proofs.lemmas.Bool.{cases_lt}
 use Rattle.std.proofs.lemmas.Bool.Decides.{nat_tests}
@@ -25,13 +26,9 @@ use Rattle.rv_hart.proofs.StepLemmas.{step_parts}
 acts_step : (s : State) (h : ℕ) (hart : Hart) (action : Action) → Acts s h hart action → step_of s h ≡ Some (step_by s h hart action)
 acts_step s h hart action a = step_parts s h hart action a.there (record { running = a.running; next = sym a.next })
 
-append_none : (xs : List ℕ) → xs ++ [] ≡ xs
-append_none [] = refl
-append_none (x ∷ xs) = ap (λ ys. x ∷ ys) (append_none xs)
-
 -- where nothing is written and nothing printed, one hart becomes another and all else stays
 quiet : (s : State) (h : ℕ) (hart : Hart) → record { harts = set (map (seen_by None) s.harts) h hart; memory = s.memory; output = s.output ++ [] } ≡ laws.with_hart s h hart
-quiet s h hart = rw (none_seen s.harts, append_none s.output)
+quiet s h hart = rw (none_seen s.harts, append-nil s.output)
 
 pub trap_law : TrapLaw
 trap_law s h hart cause a = acts_step s h hart (Trap cause) a ∙ ap (λ t. Some (event_of hart (Trap cause), t)) (quiet s h _)
@@ -54,7 +51,7 @@ print_law s h hart byte a =
     acts_step s h hart (Print byte) a ∙ rw (none_seen s.harts) refl
 
 loud : (s : State) (h : ℕ) (hart : Hart) (w : Write) → record { harts = set (map (seen_by (Some w)) s.harts) h hart; memory = memory_after s.memory (Some w); output = s.output ++ [] } ≡ laws.with_write s h hart w
-loud s h hart w = rw (append_none s.output)
+loud s h hart w = rw (append-nil s.output)
 
 pub store_law : StoreLaw
 store_law s h hart address size value a =
@@ -74,12 +71,12 @@ reserves_other (Some r) address h = let other : r ≢ address = λ e. h (ap Some
 pub sc_succeeds_law : ScSucceedsLaw
 sc_succeeds_law s h hart rd address value a held =
     let holds : reserves hart.reservation address ≡ true = rw held (reserves_same address) in
-    acts_step s h hart (Conditional rd address value) a ∙ rw (holds, append_none s.output) refl
+    acts_step s h hart (Conditional rd address value) a ∙ rw (holds, append-nil s.output) refl
 
 pub sc_fails_law : ScFailsLaw
 sc_fails_law s h hart rd address value a none =
     let holds : reserves hart.reservation address ≡ false = reserves_other hart.reservation address none in
-    acts_step s h hart (Conditional rd address value) a ∙ rw (holds, none_seen s.harts, append_none s.output) refl
+    acts_step s h hart (Conditional rd address value) a ∙ rw (holds, none_seen s.harts, append-nil s.output) refl
 
 -- ---- what no step does
 

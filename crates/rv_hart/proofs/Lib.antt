@@ -2,6 +2,7 @@ pub mod AbleLemmas
 pub mod ByteLemmas
 pub mod HartsLemmas
 pub mod NextLemmas
+pub mod OutputLemmas
 pub mod StartLemmas
 pub mod LawLemmas
 pub mod StepLemmas

@@ -2,17 +2,19 @@ use Rattle.std.proofs.Common.{◌≡◌, ℕ, Bool, true, false, cond, List, ◌
 use Rattle.std.specs.Prelude.{slice_get, IsSomeAnd}
 use Rattle.std.proofs.Math.ListN.{length-set}
 use Rattle.std.proofs.lemmas.Grind.{common_steps}
-use Rattle.std.proofs.lemmas.List.{length-map}
+use Rattle.std.proofs.lemmas.List.{length-map, append-nil}
 use Rattle.rv_hart.specs.Able.{IsAble, IsAbleWrite, AreBytes}
 use Rattle.rv_hart.specs.Harts.{HartsAfter}
 use Rattle.rv_hart.specs.Machine.{RunsTo, Takes}
 use Rattle.rv_hart.specs.State.{State}
 use Rattle.rv_hart.specs.Step.{step_of, step_by, loaded_by, written_by, memory_after, event_of, printed, reserves, seen_by, hart_after}
 use Rattle.rv_hart.specs.declared.access.Event.{Event}
+use Rattle.rv_hart.specs.declared.access.Event.TheVariants.{Moved}
 use Rattle.rv_hart.specs.declared.action.Action.{Action}
 use Rattle.rv_hart.specs.declared.action.Action.TheVariants.{Trap, Set, Load, Store, Reserve, Conditional, Replace, Print, Exit}
 use Rattle.rv_hart.specs.declared.hart.Hart.{Hart}
 use Rattle.rv_hart.specs.declared.write.Write.{Write}
+use Rattle.rv_hart.proofs.HartsLemmas.{none_seen}
 use Rattle.rv_memory.specs.Memory.{Memory}
 
 -- what an able action writes are bytes that there are
@@ -67,6 +69,15 @@ step_made s t h loaded hart action w event found takes l w_is e harts memory out
     let memory_now : t.memory ≡ memory_after s.memory (written_by (loaded_by s.memory action) hart action) = memory ∙ ap (memory_after s.memory) now in
     let whole = same_state t _ _ _ after_now memory_now output in
     rw (e, whole) (step_parts s h hart action found (runs_at s h hart action found takes))
+
+-- what only sets a register leaves the memory, the output and the other harts
+pub set_made : (s t : State) (h rd value next : ℕ) (hart : Hart) → slice_get s.harts h ≡ Some hart → Takes s h (Set rd value next) →
+    t.harts ≡ set s.harts h (hart_after 0 hart (Set rd value next)) → t.memory ≡ s.memory → t.output ≡ s.output →
+    step_of s h ≡ Some (Moved None, t)
+set_made s t h rd value next hart found takes harts memory output =
+    let action : Action = Set rd value next in
+    let after : HartsAfter s.harts t.harts h 0 action None = rw (found, none_seen s.harts) harts in
+    step_made s t h 0 hart action None (Moved None) found takes refl refl refl after memory (output ∙ sym (append-nil s.output))
 
 -- the harts keep their number
 pub harts_count : (old new : List Hart) (h loaded : ℕ) (action : Action) (w : Option Write) (hart : Hart) → slice_get old h ≡ Some hart → HartsAfter old new h loaded action w → length new ≡ length old

@@ -1,8 +1,8 @@
-use Rattle.std.specs.Prelude.{◌≡◌, ◌≢◌, ℕ, ◌+◌, ◌*◌, ◌^◌, ◌<◌, ◌<ℤ◌, ◌↔◌, ◌⊎◌, Bool, true, false, ◌&&◌, nat_le, nat_lt, IsTrue, Option, Some, None, List, [], ◌∷◌, ◌++◌, length, map, slice_get, slice_set}
+use Rattle.std.specs.Prelude.{◌≡◌, ◌≢◌, ℕ, ◌+◌, ◌*◌, ◌^◌, ◌<◌, ◌≤◌, ◌<ℤ◌, ◌↔◌, ◌⊎◌, Bool, true, false, ◌&&◌, nat_le, nat_lt, IsTrue, Option, Some, None, List, [], ◌∷◌, ◌++◌, length, map, slice_get, slice_set}
 use Rattle.std.specs.Int.{int_shr}
 use Rattle.rv_hart.specs.Act.{following}
 use Rattle.rv_hart.specs.Machine.{SomeHart}
-use Rattle.rv_hart.specs.Next.{accessed}
+use Rattle.rv_hart.specs.Next.{accessed, IsIdle}
 use Rattle.rv_hart.specs.Registers.{get, set}
 use Rattle.rv_hart.specs.State.{State, is_running}
 use Rattle.rv_hart.specs.Step.{step_of, action_at, seen_by}
@@ -136,6 +136,18 @@ OthersReservations =
 abbrev pub OwnReservation : Type 0
 OwnReservation =
     (s t : State) (h : ℕ) (e : Event) (hart : Hart) → step_of s h ≡ Some (e, t) → slice_get s.harts h ≡ Some hart → (word : ℕ) → SomeHart (λ after. after.reservation ≡ Some word) t h → ((rd : ℕ) × (action_at s.memory hart ≡ Reserve rd word)) ⊎ (hart.reservation ≡ Some word)
+
+-- a step keeps what was printed, and prints one more byte at most
+abbrev pub OutputLaw : Type 0
+OutputLaw =
+    (s t : State) (h : ℕ) (e : Event) → step_of s h ≡ Some (e, t) → (bytes : List ℕ) × (length bytes ≤ 1) × (t.output ≡ s.output ++ bytes)
+
+-- no step is made by a number that no hart has, or by a hart that does not run
+abbrev pub NoHartLaw : Type 0
+NoHartLaw = (s : State) (h : ℕ) → length s.harts ≤ h → step_of s h ≡ None
+
+abbrev pub IdleLaw : Type 0
+IdleLaw = (s : State) (h : ℕ) → IsIdle s h → step_of s h ≡ None
 
 -- ---- registers and words
 

@@ -13,6 +13,7 @@ use crate::action::Action;
 use crate::hart::{Cause, Hart, Status};
 use crate::write::Write;
 use rv_isa::codec::decode;
+use rv_memory::laws::permitted_bytes_are_there;
 use rv_memory::store::{ByteStore, Need, NoMemory};
 
 /// The action that a hart takes next, with its access tested.
@@ -20,17 +21,17 @@ pub fn action_at<S: ByteStore>(store: &S, hart: &Hart) -> Action
     ensures value { result ≡ spec.action_at (S.memory store.now) hart.now }
     ensures able { IsAble (S.memory store.now) result }
 {
+    permitted_bytes_are_there();
     allowed(store, fetched(store, hart))
 }
 
-#[tactic(auto, using(crate::proofs::AbleLemmas::permits_bytes))]
 fn fetched<S: ByteStore>(store: &S, hart: &Hart) -> Action
     ensures { result ≡ spec.fetched (S.memory store.now) hart.now }
 {
-    if !store.permits(hart.pc, 4, Need::Execute) {
+    let Some(word) = store.load_permitted(hart.pc, 4, Need::Execute) else {
         return Action::Trap(Cause::FetchFault);
-    }
-    match decode(store.load(hart.pc, 4)) {
+    };
+    match decode(word) {
         None => Action::Trap(Cause::Illegal),
         Some(instr) => act(&instr, hart),
     }
@@ -203,7 +204,7 @@ pub fn event_of(hart: &Hart, action: Action) -> Event
 
 /// Sets a register, but for x0.
 #[inline]
-fn set_register(hart: &mut Hart, register: u8, value: u32)
+pub fn set_register(hart: &mut Hart, register: u8, value: u32)
     ensures { hart.new ≡ record hart.old { registers = registers.set hart.old.registers register value } }
 {
     if 0 < register && register < 32 {

@@ -20,12 +20,16 @@ pub fn steps_by_class()
 
 /// What no step does: it changes no other hart's registers, pc or status, no byte that its access does
 /// not write, and leaves no reservation but those held before and that of its own LR; another hart's
-/// write of the word ends one.
+/// write of the word ends one. It takes nothing back that was printed, and prints one byte at most. A
+/// number that no running hart has makes none.
 pub fn what_no_step_does()
     ensures other_harts { law.OtherHartsStay }
     ensures other_bytes { law.OtherBytesStay }
     ensures others_reservations { law.OthersReservations }
     ensures own_reservation { law.OwnReservation }
+    ensures output { law.OutputLaw }
+    ensures no_hart { law.NoHartLaw }
+    ensures idle { law.IdleLaw }
 {
     store_keeps_the_rest();
 }

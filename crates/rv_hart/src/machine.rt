@@ -12,7 +12,8 @@ use crate::access::{Access, Event};
 use crate::act::register;
 use crate::action::Action;
 use crate::effect::{
-    access_of, action_at, event_of, loaded_by, print, put, ready, see_and_advance, written_by,
+    access_of, action_at, event_of, loaded_by, print, put, ready, see_and_advance, set_register,
+    written_by,
 };
 use crate::hart::{Hart, Status};
 use crate::start::{first_harts, with_stacks};
@@ -224,9 +225,44 @@ impl<S: ByteStore> Machine<S> {
         Ok(action)
     }
 
-    /// Takes the action, or changes nothing where the store is refused memory.
-    #[tactic(auto, using(crate::proofs::StepLemmas::able_write))]
+    /// Takes the action, or changes nothing where the store is refused memory. Most instructions only set a
+    /// register: they are taken by themselves, since they touch no other part of the machine.
     fn take(&mut self, h: u8, action: Action) -> Result<Event, StepFault>
+        requires takes { machine.Takes self.old.state h action }
+        requires hart { h < length self.old.state.harts }
+        requires able { IsAble self.old.state.memory action }
+        requires room { IsTrue (next.is_print action) → length self.old.state.output < self.old.limit }
+        ensures step { IfOk result (λ event.
+            step_of self.old.state h ≡ Some (event, self.new.state)) }
+        ensures harts { length self.new.state.harts ≡ length self.old.state.harts }
+        ensures limit { self.new.limit ≡ self.old.limit }
+        ensures err { IfErr result (λ fault. fault ≡ StepFault.NoMemory) }
+        ensures no_memory { OnErr result (IsTrue S.can_refuse) }
+        ensures refused { OnErr result (self.new ≡ self.old) }
+    {
+        match action {
+            Action::Set { rd, value, next } => Ok(self.set(h, rd, value, next)),
+            _ => self.take_any(h, action),
+        }
+    }
+
+    /// Sets a register of a hart, which goes on at `next`.
+    fn set(&mut self, h: u8, rd: u8, value: u32, next: u32) -> Event
+        requires takes { machine.Takes self.old.state h (Action.Set rd value next) }
+        requires hart { h < length self.old.state.harts }
+        ensures step { step_of self.old.state h ≡ Some (result, self.new.state) }
+        ensures harts { length self.new.state.harts ≡ length self.old.state.harts }
+        ensures limit { self.new.limit ≡ self.old.limit }
+    {
+        let hart = &mut self.harts[h as usize];
+        set_register(hart, rd, value);
+        hart.pc = next;
+        Event::Moved(None)
+    }
+
+    /// Takes any action, or changes nothing where the store is refused memory.
+    #[tactic(auto, using(crate::proofs::StepLemmas::able_write))]
+    fn take_any(&mut self, h: u8, action: Action) -> Result<Event, StepFault>
         requires takes { machine.Takes self.old.state h action }
         requires hart { h < length self.old.state.harts }
         requires able { IsAble self.old.state.memory action }

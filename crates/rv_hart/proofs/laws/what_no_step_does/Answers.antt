@@ -1,4 +1,5 @@
 use Rattle.rv_hart.proofs.LawLemmas.{other_harts_stay, other_bytes_stay, others_reservations, own_reservation}
+use Rattle.rv_hart.proofs.OutputLemmas.{output_grows, no_hart_step, idle_step}
 use Rattle.rv_hart.proofs.laws.what_no_step_does.Goals as goal
 
 pub returns-clause-other_harts : goal.returns-clause-other_harts
@@ -12,3 +13,12 @@ returns-clause-others_reservations c = others_reservations
 
 pub returns-clause-own_reservation : goal.returns-clause-own_reservation
 returns-clause-own_reservation c = own_reservation
+
+pub returns-clause-output : goal.returns-clause-output
+returns-clause-output c = output_grows
+
+pub returns-clause-no_hart : goal.returns-clause-no_hart
+returns-clause-no_hart c = no_hart_step
+
+pub returns-clause-idle : goal.returns-clause-idle
+returns-clause-idle c = idle_step
