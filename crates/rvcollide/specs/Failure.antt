@@ -1,11 +1,13 @@
 use Rattle.std.specs.Prelude.{ℕ}
+use Rattle.std.specs.declared.io.ErrorKind.{ErrorKind}
+use Rattle.std.specs.declared.io.ErrorKind.TheVariants as kind
 use Rattle.rvcollide.specs.FaultText.{status}
 use Rattle.rvcollide.specs.declared.command.LineFault.{LineFault}
 use Rattle.rvcollide.specs.declared.command.LineFault.TheVariants as fault
 use Rattle.rvcollide.specs.declared.failure.Failure.{Failure}
 use Rattle.rvcollide.specs.declared.failure.Failure.TheVariants.{Line, Told}
 use Rattle.rvcollide.specs.declared.words.fault.WordsFault.{WordsFault}
-use Rattle.rvcollide.specs.declared.words.fault.WordsFault.TheVariants.{NoMemory}
+use Rattle.rvcollide.specs.declared.words.fault.WordsFault.TheVariants.{NoMemory, Write}
 
 -- the exit status: 2 for a refused command line, and else the fault's
 abbrev pub status_of : Failure → ℕ
@@ -21,3 +23,10 @@ memory = Told NoMemory
 abbrev pub failure_of_line : LineFault → Failure
 failure_of_line fault.Line = Line
 failure_of_line fault.NoMemory = Told NoMemory
+
+-- what the system answered to the program: that memory is out, that an argument is no text, or that the
+-- standard output failed
+abbrev pub failure_of_kind : ErrorKind → Failure
+failure_of_kind kind.OutOfMemory = Told NoMemory
+failure_of_kind kind.InvalidData = Line
+failure_of_kind _ = Told Write

@@ -1,9 +1,8 @@
-use Rattle.std.specs.Prelude.{◌≡◌, ◌≢◌, ℕ, Bool, false, ◌-◌, ◌≤◌, ◌==◌, ◌&&◌, not, nat_le, if◌then◌else◌, Option, Some, None, List, length, take, slice_get, IfSome, IsOk, IsOkAnd, Err, ⊤, [], ◌∷◌, ◌++◌, codes}
+use Rattle.std.specs.Prelude.{◌≡◌, ◌≢◌, ℕ, Bool, false, ◌-◌, ◌≤◌, ◌==◌, ◌&&◌, not, nat_le, if◌then◌else◌, Option, Some, None, List, length, take, slice_get, IfSome, IsSomeAnd, IsOkAnd, Err, ⊤, [], ◌∷◌, ◌++◌, codes}
 use Rattle.std.specs.Fmt.{decimal}
 use Rattle.rv_text.specs.Lines.{text_of_lines}
 use Rattle.rvcollide.specs.Texts.{access_text, state_text}
-use Rattle.rvcollide.specs.Words.{start_of}
-use Rattle.rvcollide.specs.WordsInput.{input_of}
+use Rattle.rvcollide.specs.Words.{start_of, told_input, refusal}
 use Rattle.rvcollide.specs.declared.words.fault.WordsFault.{WordsFault}
 use Rattle.rvcollide.specs.declared.words.fault.WordsFault.TheVariants.{Line, Step, TooLong, Read, Write, NoMemory}
 use Rattle.rv_hart.specs.Conflict.{Conflict, conflicts}
@@ -12,6 +11,9 @@ use Rattle.rv_hart.specs.Run.{run}
 use Rattle.rv_hart.specs.State.{State}
 use Rattle.rv_hart.specs.Step.{step_of}
 use Rattle.rv_hart.specs.declared.access.Access.{Access}
+use Rattle.rv_hart.specs.declared.machine.StepFault.{StepFault}
+use Rattle.rvcollide.specs.declared.hunt.HuntFault.{HuntFault}
+use Rattle.rvcollide.specs.declared.hunt.HuntFault.TheVariants as hunted
 use Rattle.rvcollide.specs.declared.hunt.Pause.{Pause}
 use Rattle.rvcollide.specs.declared.hunt.Pause.TheVariants.{Awaited, Open, Over}
 use Rattle.rvcollide.specs.declared.hunt.Report.{Report}
@@ -92,7 +94,7 @@ HuntOf s t report = (made : List ℕ) × (run s made ≡ Some t) × IfSome repor
 
 -- the same of an input's bytes
 abbrev pub Hunts : List ℕ → State → Option Report → Type 0
-Hunts bytes t report = IsOkAnd (input_of bytes) (λ input. HuntOf (start_of input) t report)
+Hunts bytes t report = IsOkAnd (told_input bytes) (λ input. HuntOf (start_of input) t report)
 
 -- a word before a hart's number, and a blank after it
 abbrev pub side_text : List ℕ → ℕ → List ℕ
@@ -111,11 +113,28 @@ hunt_text report t = text_of_lines (report_lines report) ++ state_text t
 abbrev pub WritesHunt : (List ℕ → Type 0) → List ℕ → Type 0
 WritesHunt Writes bytes = (t : State) × (report : Option Report) × Hunts bytes t report × Writes (hunt_text report t)
 
--- a malformed line is the first one; of a refused step no more is said
+-- Hart h makes no step in some state of a run from state s, and this is why.
+pub record IsRefused (s : State) (fault : StepFault) (h : ℕ) : Type 0 where
+  pub made : List ℕ
+  pub state : State
+  pub reached : run s made ≡ Some state
+  pub none : step_of state h ≡ None
+  pub why : fault ≡ refusal state h
+
+-- the step of that number in the list is refused so
+abbrev pub RefusesStep : State → List ℕ → ℕ → StepFault → Type 0
+RefusesStep s steps number fault = IsSomeAnd (slice_get steps number) (IsRefused s fault)
+
+abbrev pub IsRefusedBy : State → List ℕ → HuntFault → Type 0
+IsRefusedBy s steps (hunted.Step number fault) = RefusesStep s steps number fault
+IsRefusedBy s steps hunted.NoMemory = ⊤
+
+-- bytes that are too many, or their first malformed line, or a step that is refused at some place of the run
 abbrev pub IsHuntFault : List ℕ → WordsFault → Type 0
-IsHuntFault bytes (Line number) = input_of bytes ≡ Err number
-IsHuntFault bytes (Step number fault) = IsOk (input_of bytes)
-IsHuntFault bytes TooLong = ⊤
+IsHuntFault bytes (Line number) = told_input bytes ≡ Err (Line number)
+IsHuntFault bytes (Step number fault) =
+    IsOkAnd (told_input bytes) (λ input. RefusesStep (start_of input) input.steps number fault)
+IsHuntFault bytes TooLong = told_input bytes ≡ Err TooLong
 IsHuntFault bytes Read = ⊤
 IsHuntFault bytes Write = ⊤
 IsHuntFault bytes NoMemory = ⊤

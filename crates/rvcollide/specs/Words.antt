@@ -62,12 +62,17 @@ told (Err line) = Err (Line line)
 abbrev pub unless_long : List ℕ → Result (List ℕ) WordsFault
 unless_long bytes = if nat_lt INPUT_LIMIT (length bytes) then Err TooLong else Ok bytes
 
--- The state after the steps of an input, or why it is refused: it is too long, and else its first
--- malformed line, and else its first step that is refused.
+-- what the bytes say, or why they are refused: they are too many, and else their first malformed line
+abbrev pub told_input : List ℕ → Result WordsInput WordsFault
+told_input bytes = do
+  whole ← unless_long bytes
+  told (input_of whole)
+
+-- The state after the steps of an input, or why it is refused: its bytes, and else its first step that is
+-- refused.
 unfoldable pub state_of : List ℕ → Result State WordsFault
 state_of bytes = do
-  whole ← unless_long bytes
-  input ← told (input_of whole)
+  input ← told_input bytes
   stepped 0 (start_of input) input.steps
 
 -- what is written for an input, or why it is refused

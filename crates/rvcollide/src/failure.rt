@@ -1,4 +1,5 @@
 ghost use Rattle.std.specs.Prelude.{◌≡◌};
+ghost use Rattle.std.specs.IoError.{error_kind};
 ghost use Rattle.rvcollide.specs.Failure as spec;
 
 use crate::command::LineFault;
@@ -57,6 +58,8 @@ impl From<LineFault> for Failure {
 /// What the system answers to the program: that memory is out, that an argument is no text, or that the
 /// standard output failed.
 impl From<io::Error> for Failure {
+    ghost from_gives = { λ error made. made ≡ spec.failure_of_kind (error_kind error) };
+
     fn from(error: io::Error) -> Failure {
         match error.kind() {
             io::ErrorKind::OutOfMemory => Failure::Told(WordsFault::NoMemory),

@@ -1,16 +1,19 @@
 //! A first pause, under a weak contract: a report names two accesses of different harts that conflict, each
 //! at some place of the run. It does not say that the second came while the first was paused.
-ghost use Rattle.std.specs.Prelude.{◌≡◌, ◌≢◌, ◌≤◌, ◌<◌, ◌+◌, ◌^◌, Some, IfOk, IfSome, IsTrue, OnOk, vec_len, vec_capacity, length};
+ghost use Rattle.std.specs.Prelude.{◌≡◌, ◌≢◌, ◌≤◌, ◌<◌, ◌+◌, ◌^◌, Some, None, IfOk, IfErr, IfSome, IsTrue, OnOk, vec_len, vec_capacity, length};
 ghost use Rattle.rv_hart.specs.Next.{next_access, accessed};
 ghost use Rattle.rv_hart.specs.Run.{run};
 ghost use Rattle.rv_hart.specs.State.{State};
+ghost use Rattle.rv_hart.specs.Step.{step_of};
 ghost use Rattle.rvcollide.specs.Hunt as spec;
+ghost use Rattle.rvcollide.specs.Words.{refusal};
 
 pub mod engine;
 
+use crate::words::guest::step;
 use rv_hart::access::{Access, Event};
 use rv_hart::machine::{Machine, StepFault};
-use rv_memory::store::ByteStore;
+use rv_memory::flat::Flat;
 use std::alloc::{AllocError, Global};
 
 /// Two accesses of different harts that conflict: the paused one, and the one that was made.
@@ -56,18 +59,20 @@ pub enum HuntFault {
 /// Makes the steps of the list, with one pause: the first hart whose pc is `pc` and which would make a plain
 /// load or store is paused in place of that step. Its numbers in the list are dropped until `pause` steps
 /// of others were made, or the list ends.
-fn hunt<S: ByteStore>(
+fn hunt(
     alloc: Global,
-    machine: &mut Machine<S>,
+    machine: &mut Machine<Flat>,
     steps: &[u8],
     pc: u32,
     pause: u32,
 ) -> Result<Hunted, HuntFault>
-    requires { length steps.now < 2 ^ 32 }
+    requires few { length steps.now < 2 ^ 32 }
+    requires room { length machine.old.state.output + length steps.now ≤ machine.old.limit }
     ensures machine { IfOk result (λ hunted.
         run machine.old.state hunted.made.items ≡ Some machine.new.state) }
     ensures report { IfOk result (λ hunted.
         IfSome hunted.report (spec.IsReport machine.old.state hunted.made.items)) }
+    ensures refused { IfErr result (spec.IsRefusedBy machine.old.state steps.now) }
     ensures limit { machine.new.limit ≡ machine.old.limit }
 {
     let Ok(mut made) = Vec::with_capacity(alloc, steps.len()) else {
@@ -94,16 +99,20 @@ fn hunt<S: ByteStore>(
 }
 
 /// One number of the list: the pause begins, or the number is dropped, or the hart makes a step.
-fn turn<S: ByteStore>(
-    machine: &mut Machine<S>,
+fn turn(
+    machine: &mut Machine<Flat>,
     made: &mut Vec<u8>,
     watch: &mut Watch,
     h: u8,
 ) -> Result<(), StepFault>
-    requires { vec_len made.old < vec_capacity made.old }
+    requires list { vec_len made.old < vec_capacity made.old }
+    requires room { length machine.old.state.output < machine.old.limit }
     ensures keeps { (s : State) → spec.IsHunt s machine.old.state made.old.items watch.old
         → OnOk result (spec.IsHunt s machine.new.state made.new.items watch.new) }
     ensures dropped { IsTrue (spec.pauses watch.old.pause h) → made.new.items ≡ made.old.items }
+    ensures refused { IfErr result (λ fault. (step_of machine.old.state h ≡ None)
+        × (fault ≡ refusal machine.old.state h)) }
+    ensures printed { OnOk result (length machine.new.state.output ≤ length machine.old.state.output + 1) }
     ensures room { vec_capacity made.new ≡ vec_capacity made.old }
     ensures len { vec_len made.new ≤ vec_len made.old + 1 }
     ensures limit { machine.new.limit ≡ machine.old.limit }
@@ -119,7 +128,7 @@ fn turn<S: ByteStore>(
     if is_paused(watch, h) {
         return Ok(());
     }
-    let event = machine.step(h)?;
+    let event = step(machine, h)?;
     made.push_reserved(h);
     see(watch, h, made_by(event));
     Ok(())
@@ -127,7 +136,7 @@ fn turn<S: ByteStore>(
 
 /// The access that the hart is paused before, if the pause is awaited and this is the place.
 #[tactic(auto, unfolding(rv_hart::specs::Next::next_plain))]
-fn awaited<S: ByteStore>(machine: &Machine<S>, watch: &Watch, h: u8) -> Option<Access>
+fn awaited(machine: &Machine<Flat>, watch: &Watch, h: u8) -> Option<Access>
     ensures { IfSome result (λ access. next_access machine.now.state h ≡ Some access) }
 {
     match watch.pause {

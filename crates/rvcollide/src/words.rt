@@ -6,4 +6,4 @@ pub mod guest;
 pub mod input;
 pub mod laws;
 #[cfg(test)]
-mod tests;
+pub mod tests;

@@ -1,5 +1,6 @@
 use crate::hunt::engine::run_hunt;
 use crate::words::fault::WordsFault;
+use crate::words::tests::Endless;
 use rv_hart::machine::StepFault;
 use rv_memory::flagged::Flagged;
 
@@ -83,4 +84,14 @@ fn refuses_as_words_does(rt: HostRuntime) {
         assert_eq!(rt; outcome, Err(fault));
         assert_eq!(rt; writer.into_inner().len(), 0);
     }
+}
+
+#[test]
+fn refuses_an_endless_input(rt: HostRuntime) {
+    let mut reader = Flagged::new(Endless);
+    let mut writer = Flagged::new(Vec::new(rt.alloc()));
+    let outcome = run_hunt(rt.alloc(), &mut reader, &mut writer, 0x10004, 1);
+    assert_eq!(rt; outcome, Err(WordsFault::TooLong));
+    assert!(rt; !reader.failed());
+    assert_eq!(rt; writer.into_inner().len(), 0);
 }

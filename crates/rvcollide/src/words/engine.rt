@@ -4,10 +4,11 @@ ghost use Rattle.std.specs.Io.KnownBytes.{Appends, Keeps};
 ghost use Rattle.rv_memory.specs.Flagged as flag;
 ghost use Rattle.rvcollide.specs.Words as spec;
 ghost use Rattle.rvcollide.specs.WordsFault.{IsToldFault, fails_by, is_read, is_write};
+ghost use Rattle.rvcollide.specs.declared.words.input.TheConstants.{MOST_STEPS};
 
 use crate::texts::write_state;
 use crate::words::fault::WordsFault;
-use crate::words::guest::machine_of;
+use crate::words::guest::{machine_of, step};
 use crate::words::input::read_input;
 use rv_hart::machine::Machine;
 use rv_memory::flagged::{Flagged, INPUT_LIMIT, flush, read_whole};
@@ -17,7 +18,7 @@ use std::io::{Read, Write};
 
 /// Makes the steps, up to the first that is refused.
 fn make_steps(machine: &mut Machine<Flat>, steps: &[u8]) -> Result<(), WordsFault>
-    requires few { length steps.now ≤ 100000 }
+    requires few { length steps.now ≤ MOST_STEPS }
     requires room { length machine.old.state.output + length steps.now ≤ machine.old.limit }
     ensures ok { OnOk result (spec.stepped 0 machine.old.state steps.now ≡ Ok machine.new.state) }
     ensures err { IfErr result (IsToldFault (spec.stepped 0 machine.old.state steps.now)) }
@@ -25,7 +26,7 @@ fn make_steps(machine: &mut Machine<Flat>, steps: &[u8]) -> Result<(), WordsFaul
     ensures writer { fails_by is_write result ≡ false }
 {
     for (number, h) in steps.iter().enumerate() {
-        if let Err(fault) = machine.step(*h) {
+        if let Err(fault) = step(machine, *h) {
             return Err(WordsFault::Step {
                 number: number as u32,
                 fault,

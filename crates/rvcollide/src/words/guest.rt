@@ -1,13 +1,17 @@
 //! The machine that the words of an input are loaded into.
-ghost use Rattle.std.specs.Prelude.{◌≡◌, ◌≤◌, ◌*◌, IfOk, IfErr, All, length, vec_len};
+ghost use Rattle.std.specs.Prelude.{◌≡◌, ◌≤◌, ◌<◌, ◌+◌, ◌*◌, Some, None, IfOk, IfErr, OnOk, All, length, vec_len};
 ghost use Rattle.std.specs.Int.{to_le_bytes, w32};
 ghost use Rattle.std.specs.List.{flat_map};
+ghost use Rattle.rv_hart.specs.Step.{step_of};
 ghost use Rattle.rv_memory.specs.Extent.{IsExtent};
 ghost use Rattle.rvcollide.specs.Words as spec;
 ghost use Rattle.rvcollide.specs.WordsInput.{IsInLimits};
+ghost use Rattle.rvcollide.specs.declared.words.input.TheConstants.{MOST_WORDS};
 
 use crate::words::input::Input;
-use rv_hart::machine::Machine;
+use rv_hart::access::Event;
+use rv_hart::laws::what_no_step_does;
+use rv_hart::machine::{Machine, StepFault};
 use rv_memory::flat::Flat;
 use rv_memory::region::Region;
 use rv_memory::store::{MemFault, NoMemory};
@@ -47,7 +51,7 @@ fn data_region(alloc: Global) -> Region
 }
 
 fn text_region(alloc: Global, words: &[u32]) -> Result<Region, NoMemory>
-    requires { length words.now ≤ 16384 }
+    requires { length words.now ≤ MOST_WORDS }
     ensures { IfOk result (λ region. region ≡ spec.text_region words.now) }
 {
     Ok(Region {
@@ -62,7 +66,7 @@ fn text_region(alloc: Global, words: &[u32]) -> Result<Region, NoMemory>
 
 /// The regions of the words and of the data.
 fn regions_of(alloc: Global, words: &[u32]) -> Result<Vec<Region>, NoMemory>
-    requires { length words.now ≤ 16384 }
+    requires { length words.now ≤ MOST_WORDS }
     ensures { IfOk result (λ regions. regions.items ≡ spec.regions words.now) }
 {
     let mut regions = Vec::new(alloc);
@@ -91,4 +95,17 @@ pub fn machine_of(alloc: Global, input: &Input) -> Result<Machine<Flat>, NoMemor
         Err(MemFault::NoMemory) => Err(NoMemory),
         Err(MemFault::Overlap | MemFault::TooLarge | MemFault::PastEnd) => unreachable!(),
     }
+}
+
+/// One step of a guest that has room to print a byte: it is refused only where no hart of the number runs.
+pub fn step(machine: &mut Machine<Flat>, h: u8) -> Result<Event, StepFault>
+    requires room { length machine.old.state.output < machine.old.limit }
+    ensures step { IfOk result (λ event. step_of machine.old.state h ≡ Some (event, machine.new.state)) }
+    ensures printed { OnOk result (length machine.new.state.output ≤ length machine.old.state.output + 1) }
+    ensures refused { IfErr result (λ fault. (step_of machine.old.state h ≡ None)
+        × (fault ≡ spec.refusal machine.old.state h)) }
+    ensures limit { machine.new.limit ≡ machine.old.limit }
+{
+    what_no_step_does();
+    machine.step(h)
 }

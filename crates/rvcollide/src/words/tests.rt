@@ -155,7 +155,7 @@ impl Read for Failing {
 
 /// A reader that never ends.
 #[derive(Drop)]
-struct Endless;
+pub struct Endless;
 
 impl Read for Endless {
     fn read(&mut self, buf: &mut [u8]) -> io::Result<usize> {
