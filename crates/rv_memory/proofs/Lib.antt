@@ -1,5 +1,6 @@
 pub mod Both
 pub mod Frame
+pub mod LookFrom
 pub mod Permitted
 pub mod Places
 pub mod Sound

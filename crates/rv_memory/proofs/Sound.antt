@@ -40,13 +40,17 @@ sound_made es extents sound =
       no_fault = same_fault (memory_of es) es (spans-memory_of es) ∙ sound;
     }
 
+-- another extent of the same span in the place of one
+pub spans_set : (m : Memory) (place : ℕ) (old new : Extent) → place < length m → old ≡ get_or m place old → span new ≡ span old → map span (set m place new) ≡ map span m
+spans_set m place old new below is spans =
+    map-set span m place new ∙ ap (λ e. set (map span m) place e) (spans ∙ ap span is ∙ sym (get_or-map span m place old (span old) below))
+    ∙ set-get_or (map span m) place (span old)
+
 -- other bytes, as many, in one of the extents
 pub sound_set : (m : Memory) (place : ℕ) (old new : Extent) → IsSound m → place < length m → old ≡ get_or m place old → span new ≡ span old → length new.bytes ≡ length old.bytes → IsSound (set m place new)
 sound_set m place old new sound below is spans lengths =
     let was : IsFull old = subst IsFull (sym is) (sound.full place old below) in
     let len : new.len ≡ old.len = ap (λ e. e.len) spans in
     let full : IsFull new = record { some = rw len was.some; whole = rw (lengths, len) was.whole } in
-    let same : map span (set m place new) ≡ map span m =
-    map-set span m place new ∙ ap (λ e. set (map span m) place e) (spans ∙ ap span is ∙ sym (get_or-map span m place old (span old) below))
-    ∙ set-get_or (map span m) place (span old) in
+    let same : map span (set m place new) ≡ map span m = spans_set m place old new below is spans in
     record { full = All-set IsFull m place new full sound.full; no_fault = same_fault (set m place new) m same ∙ sound.no_fault }

@@ -1,5 +1,6 @@
 use Rattle.std.specs.Prelude.{◌≡◌, ℕ, ◌+◌, ◌*◌, ◌/◌, ◌%◌, List, slice_index, slice_set, None, All, zero, suc}
 use Rattle.rv_memory.specs.Extent.{IsFull}
+use Rattle.rv_memory.specs.Index.{IsIndex}
 use Rattle.rv_memory.specs.Memory.{Memory, fault_of}
 
 -- memory as a store makes it: each extent has all of its bytes, none ends past 2 ^ 32, no two meet,
@@ -7,6 +8,11 @@ use Rattle.rv_memory.specs.Memory.{Memory, fault_of}
 pub record IsSound (m : Memory) : Type 0 where
   pub full : All IsFull m
   pub no_fault : fault_of m ≡ None
+
+-- memory as the flat store keeps it, with the places to look from
+pub record IsFlat (m : Memory) (firsts : List ℕ) : Type 0 where
+  pub sound : IsSound m
+  pub index : IsIndex m firsts
 
 -- `size` bytes of a list from a place on as a number, the least significant byte first
 abbrev pub number_at : List ℕ → ℕ → ℕ → ℕ

@@ -1,5 +1,6 @@
 pub mod Extent
 pub mod Flagged
 pub mod Flat
+pub mod Index
 pub mod Memory
 pub mod MemoryLaws

@@ -1,10 +1,12 @@
-ghost use Rattle.std.specs.Prelude.{◌≡◌, ◌+◌, ◌-◌, ◌^◌, ◌<◌, ◌≤◌, false, ⊤, refl, is_some, IsTrue, IfOk, IfSome, All, HoldsAt, length, map, nat_lt, sum_by};
+ghost use Rattle.std.specs.Prelude.{◌≡◌, ◌+◌, ◌-◌, ◌^◌, ◌<◌, ◌≤◌, false, ⊤, refl, None, is_some, IsTrue, IfOk, IfSome, All, HoldsAt, length, map, nat_lt, sum_by};
 ghost use Rattle.std.specs.List.{list_any};
 ghost use Rattle.rv_memory.specs.Extent.{IsExtent, span, filled, end_of as spec_end_of};
 ghost use Rattle.rv_memory.specs.Memory as spec;
 ghost use Rattle.rv_memory.specs.Flat.{number_at, put_at};
+ghost use Rattle.rv_memory.specs.Index.{Skips};
 
 use crate::fit::{end_of, fault_of};
+use crate::index::{first_of, index_of};
 use crate::region::Region;
 use crate::store::{ByteStore, MemFault, Need, NoMemory, Steady};
 use std::alloc::Global;
@@ -15,17 +17,19 @@ use std::marker::Model;
 #[derive(Debug, Drop)]
 pub struct Flat {
     regions: Vec<Region>,
+    /// Where an access looks for its region, from its page on.
+    firsts: Vec<u16>,
 }
 
 impl Model for Flat {
     ghost use Rattle.rv_memory.specs.Memory.{Memory};
-    ghost use Rattle.rv_memory.specs.Flat.{IsSound};
+    ghost use Rattle.rv_memory.specs.Flat.{IsFlat};
 
     ghost Value = { Memory };
 
     ghost view = { λ a. a.regions.items };
 
-    ghost invariant = { λ a. IsSound a.regions.items };
+    ghost invariant = { λ a. IsFlat a.regions.items a.firsts.items };
 }
 
 impl ByteStore for Flat {
@@ -39,30 +43,32 @@ impl ByteStore for Flat {
         if let Some(fault) = fault_of(regions) {
             return Err(fault);
         }
-        match fill_all(alloc, regions) {
-            Ok(regions) => Ok(Flat { regions }),
+        match keep(alloc, regions) {
+            Ok(flat) => Ok(flat),
             Err(NoMemory) => Err(MemFault::NoMemory),
         }
     }
 
     #[inline]
+    #[tactic(auto, using(crate::proofs::LookFrom::skips))]
     fn permits(&self, address: u32, size: u8, need: Need) -> bool {
-        permits(&self.regions, address, size, need)
+        let first = first_of(&self.firsts, address);
+        find_permitted(&self.regions, first, address, size, need).is_some()
     }
 
     #[inline]
-    #[tactic(auto, using(crate::proofs::Places::load_found))]
+    #[tactic(auto, using(crate::proofs::Places::load_found, crate::proofs::LookFrom::skips))]
     fn load(&self, address: u32, size: u8) -> u32 {
-        let region = find(&self.regions, address, size);
-        let region = &self.regions[region];
+        let first = first_of(&self.firsts, address);
+        let region = &self.regions[find(&self.regions, first, address, size)];
         number_at(&region.bytes, (address - region.start) as usize, size)
     }
 
     #[inline]
-    #[tactic(auto, using(crate::proofs::Places::load_found))]
+    #[tactic(auto, using(crate::proofs::Places::load_found, crate::proofs::LookFrom::skips))]
     fn load_permitted(&self, address: u32, size: u8, need: Need) -> Option<u32> {
-        let region = find_permitted(&self.regions, address, size, need)?;
-        let region = &self.regions[region];
+        let first = first_of(&self.firsts, address);
+        let region = &self.regions[find_permitted(&self.regions, first, address, size, need)?];
         Some(number_at(&region.bytes, (address - region.start) as usize, size))
     }
 
@@ -72,9 +78,10 @@ impl ByteStore for Flat {
     }
 
     #[inline]
-    #[tactic(auto, using(crate::proofs::Places::store_found))]
+    #[tactic(auto, using(crate::proofs::Places::store_found, crate::proofs::LookFrom::skips))]
     fn store(&mut self, address: u32, size: u8, value: u32) {
-        let region = find(&self.regions, address, size);
+        let first = first_of(&self.firsts, address);
+        let region = find(&self.regions, first, address, size);
         put(&mut self.regions[region], address, size, value);
     }
 }
@@ -104,36 +111,38 @@ fn allows(region: &Region, need: Need) -> bool
     }
 }
 
+/// The place of a region that the bytes lie in, where none before `first` has them.
 #[inline]
-fn permits(regions: &[Region], address: u32, size: u8, need: Need) -> bool
-    ensures { result ≡ spec.permits regions.now address size need }
-{
-    regions.iter().any(|region| holds(region, address, size) && allows(region, need))
-}
-
-/// The place of a region that the bytes lie in.
-#[inline]
-fn find(regions: &[Region], address: u32, size: u8) -> usize
-    requires { IsTrue (spec.permits regions.now address size Need.Nothing) }
+fn find(regions: &[Region], first: usize, address: u32, size: u8) -> usize
+    requires some { IsTrue (spec.permits regions.now address size Need.Nothing) }
+    requires skips { Skips regions.now first address size Need.Nothing }
     ensures within { result < length regions.now }
     ensures holds { HoldsAt (λ e. IsTrue (spec.holds e address size)) regions.now result }
 {
-    for (place, region) in regions.iter().enumerate() {
-        if holds(region, address, size) {
+    for place in first..regions.len() {
+        if holds(&regions[place], address, size) {
             return place;
         }
     }
     unreachable!()
 }
 
-/// The place of a region that the bytes lie in and that has the permissions.
+/// The place of a region that the bytes lie in and that has the permissions, where none before `first` does.
 #[inline]
-fn find_permitted(regions: &[Region], address: u32, size: u8, need: Need) -> Option<usize>
+fn find_permitted(
+    regions: &[Region],
+    first: usize,
+    address: u32,
+    size: u8,
+    need: Need,
+) -> Option<usize>
+    requires { Skips regions.now first address size need }
     ensures permitted { is_some result ≡ spec.permits regions.now address size need }
     ensures within { IfSome result (λ place. place < length regions.now) }
     ensures holds { IfSome result (HoldsAt (λ e. IsTrue (spec.holds e address size)) regions.now) }
 {
-    for (place, region) in regions.iter().enumerate() {
+    for place in first..regions.len() {
+        let region = &regions[place];
         if holds(region, address, size) && allows(region, need) {
             return Some(place);
         }
@@ -193,6 +202,17 @@ fn put(region: &mut Region, address: u32, size: u8, value: u32)
 {
     let offset = (address - region.start) as usize;
     put_at(&mut region.bytes, offset, size, value);
+}
+
+/// The store of regions that passed the tests.
+fn keep(alloc: Global, regions: &[Region]) -> Result<Flat, NoMemory>
+    requires extents { All IsExtent regions.now }
+    requires passed { spec.fault_of regions.now ≡ None }
+    ensures { IfOk result (λ flat. flat ≡ spec.memory_of regions.now) }
+{
+    let firsts = index_of(alloc, regions)?;
+    let regions = fill_all(alloc, regions)?;
+    Ok(Flat { regions, firsts })
 }
 
 /// The region with its zeros written out.

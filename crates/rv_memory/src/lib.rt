@@ -10,6 +10,7 @@
 pub mod fit;
 pub mod flagged;
 pub mod flat;
+mod index;
 pub mod laws;
 pub mod region;
 pub mod store;

@@ -195,3 +195,40 @@ fn loads_where_permitted(rt: HostRuntime) -> Result<(), Fail> {
     }
     Ok(())
 }
+
+#[test]
+fn finds_the_region_among_many(rt: HostRuntime) -> Result<(), Fail> {
+    let alloc = rt.alloc();
+    let regions = [
+        region(alloc, 0xFFFF_FFFC, &[1, 2, 3, 4], 4)?,
+        region(alloc, 0, &[0xA0], 0x4000)?,
+        region(alloc, 0x8000, &[0xA1], 0x4000)?,
+        region(alloc, 0x1_8000, &[0xA2], 0x4000)?,
+        region(alloc, 0x1_0000, &[0xA3], 0x4000)?,
+        region(alloc, 0x1FF_FFFE, &[5, 6, 7, 8], 4)?,
+        region(alloc, 0x300_0000, &[9], 0x2_0001)?,
+        region(alloc, 0x302_0001, &[10], 1)?,
+    ];
+    let mut flat = Flat::make(alloc, &regions)?;
+    for (start, first) in [
+        (0, 0xA0),
+        (0x8000, 0xA1),
+        (0x1_8000, 0xA2),
+        (0x1_0000, 0xA3),
+    ] {
+        assert_eq!(rt; load(&flat, start, 4), Some(first));
+        assert_eq!(rt; load(&flat, start + 0x3FFE, 2), Some(0));
+        assert_eq!(rt; load(&flat, start + 0x3FFE, 4), None);
+        assert_eq!(rt; load(&flat, start + 0x4000, 1), None);
+    }
+    assert_eq!(rt; load(&flat, 0xFFFF_FFFC, 4), Some(0x0403_0201));
+    assert_eq!(rt; load(&flat, 0xFFFF_FFFD, 4), None);
+    assert_eq!(rt; load(&flat, 0x1FF_FFFE, 4), Some(0x0807_0605));
+    assert_eq!(rt; load(&flat, 0x1FF_FFFF, 2), Some(0x0706));
+    assert_eq!(rt; load(&flat, 0x302_0000, 1), Some(0));
+    assert_eq!(rt; load(&flat, 0x302_0001, 1), Some(10));
+    assert_eq!(rt; load(&flat, 0x302_0000, 2), None);
+    assert!(rt; store(&mut flat, 0x301_0000, 4, 0x1234_5678));
+    assert_eq!(rt; load(&flat, 0x301_0000, 4), Some(0x1234_5678));
+    Ok(())
+}

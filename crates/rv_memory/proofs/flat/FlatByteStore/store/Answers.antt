@@ -1,8 +1,17 @@
-use Rattle.rv_memory.proofs.Sound.{sound_set}
+use Rattle.std.proofs.Common.{sym}
+use Rattle.rv_memory.proofs.LookFrom.{same_index}
+use Rattle.rv_memory.proofs.Sound.{sound_set, spans_set}
 use Rattle.rv_memory.proofs.flat.FlatByteStore.store.Goals as goal
 
 -- one region has other bytes, as many
 pub invariant_of-self : goal.invariant_of-self
 invariant_of-self c =
-    let below = rw c.deref.ensures.value at c.find-region.ensures.within in
-    sound_set c.self.inside.regions.items c.find-region.result c.index_mut.result.now c.put.new.region c.self.invariant below c.index_mut.ensures.value c.put.ensures.span c.put.ensures.length
+    let regions = c.self.inside.regions.items in
+    let place = c.find-region.result in
+    let old = c.index_mut.result.now in
+    let new = c.put.new.region in
+    let below = rw c.deref-2.ensures.value at c.find-region.ensures.within in
+    record {
+      sound = sound_set regions place old new c.self.invariant.sound below c.index_mut.ensures.value c.put.ensures.span c.put.ensures.length;
+      index = same_index _ _ _ (sym (spans_set regions place old new below c.index_mut.ensures.value c.put.ensures.span)) c.self.invariant.index;
+    }
