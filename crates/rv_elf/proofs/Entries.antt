@@ -12,8 +12,9 @@ use Rattle.rv_elf.specs.declared.fault.LoadFault.TheVariants.{BadSymbols}
 use Rattle.rv_elf.specs.declared.layout.SymbolEntry.{SymbolEntry}
 use Rattle.rv_elf.specs.Contents.{Named, need_of}
 use Rattle.rv_elf.specs.Layout.{symbol_entry, records}
-use Rattle.rv_elf.specs.Loaded.{◌>>=◌, want, is_candidate, name_of, kept, symbol, symbol_named, symbols_among, entries_test}
-use Rattle.rv_elf.specs.Steps.{room_after, room_named, room_with}
+use Rattle.rv_memory.specs.Chain.{◌>>=◌, want}
+use Rattle.rv_elf.specs.Loaded.{is_candidate, name_of, kept, symbol, symbol_named, symbols_among, entries_test}
+use Rattle.rv_elf.specs.internal.Steps.{room_after, room_named, room_with}
 use Rattle.rv_elf.proofs.Tables.{records_more}
 
 -- what is wanted of entries, by whether their names end and how much room they need

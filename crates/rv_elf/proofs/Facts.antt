@@ -16,8 +16,9 @@ use Rattle.rv_elf.specs.declared.layout.ProgramHeader.{ProgramHeader}
 use Rattle.rv_elf.specs.declared.layout.SymbolEntry.{SymbolEntry}
 use Rattle.rv_elf.specs.Contents.{Named, stacks, need_of, IsSegment, IsSymbol, AreSegments}
 use Rattle.rv_elf.specs.Layout.{part}
-use Rattle.rv_elf.specs.Steps.{room_after}
-use Rattle.rv_elf.specs.Loaded.{◌>>=◌, want, is_loaded, segment, segment_test, each_segment_test, segments_test, is_candidate, text, name_of, symbol, symbol_named, kept, symbols_among, entries_test}
+use Rattle.rv_elf.specs.internal.Steps.{room_after}
+use Rattle.rv_memory.specs.Chain.{◌>>=◌, want}
+use Rattle.rv_elf.specs.Loaded.{is_loaded, segment, segment_test, each_segment_test, segments_test, is_candidate, text, name_of, symbol, symbol_named, kept, symbols_among, entries_test}
 
 abbrev passed : Result (Unit {0}) LoadFault
 passed = Ok tt

@@ -12,7 +12,8 @@ use Rattle.rv_elf.specs.declared.layout.FileHeader.{FileHeader}
 use Rattle.rv_elf.specs.declared.layout.ProgramHeader.{ProgramHeader}
 use Rattle.rv_elf.specs.declared.layout.SymbolEntry.{SymbolEntry}
 use Rattle.rv_elf.specs.Contents.{Contents, Named, contents, stacks, IsImage, IsSymbol}
-use Rattle.rv_elf.specs.Loaded.{◌>>=◌, SymbolTable, is_loaded, header_of, loaded_headers, each_segment_test, segment, segments_test, symbol_table, entries_of, entries_test, symbols_among, loaded, refusal}
+use Rattle.rv_memory.specs.Chain.{◌>>=◌}
+use Rattle.rv_elf.specs.Loaded.{SymbolTable, is_loaded, header_of, loaded_headers, each_segment_test, segment, segments_test, symbol_table, entries_of, entries_test, symbols_among, loaded, refusal}
 use Rattle.rv_elf.proofs.Facts.{apart_from_test, segments_are, small_from_test}
 
 -- The bytes of segments make no difference to how they lie.

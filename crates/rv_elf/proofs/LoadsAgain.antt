@@ -17,7 +17,8 @@ use Rattle.rv_elf.specs.declared.places.Places.{Places}
 use Rattle.rv_elf.specs.declared.writing.Sections.{Sections}
 use Rattle.rv_elf.specs.Contents.{Named, contents, IsSegment, AreSegments, AreSymbols}
 use Rattle.rv_elf.specs.Layout.{section_header, part, records}
-use Rattle.rv_elf.specs.Loaded.{want, table_among, header_test, header_of, loaded_headers, segment, each_segment_test, segments_test, SymbolTable, no_table, linked_table, symbol_table, entries_of, entries_test, symbols_among, loaded}
+use Rattle.rv_memory.specs.Chain.{want}
+use Rattle.rv_elf.specs.Loaded.{table_among, header_test, header_of, loaded_headers, segment, each_segment_test, segments_test, SymbolTable, no_table, linked_table, symbol_table, entries_of, entries_test, symbols_among, loaded}
 use Rattle.rv_elf.specs.Written.{file_header_bytes, program_header_bytes, section_header_bytes, no_sections, header_for, headers_from, data_start, front, symbol_bytes, string_table, section_names, aligned, padding, data_end, strings_len, places_of, symbol_section, string_section, sections_of, tables, written_with, written_parts, written}
 use Rattle.rv_elf.specs.Laws.{LoadsAgain}
 use Rattle.rv_elf.proofs.Facts.{test_from_apart}

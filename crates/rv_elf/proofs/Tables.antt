@@ -5,7 +5,8 @@ use Rattle.std.specs.List.{find, slice_get}
 use Rattle.rv_elf.specs.declared.fault.LoadFault.{LoadFault}
 use Rattle.rv_elf.specs.declared.layout.ProgramHeader.{ProgramHeader}
 use Rattle.rv_elf.specs.Layout.{records}
-use Rattle.rv_elf.specs.Loaded.{◌>>=◌, segment_test, each_segment_test}
+use Rattle.rv_memory.specs.Chain.{◌>>=◌}
+use Rattle.rv_elf.specs.Loaded.{segment_test, each_segment_test}
 
 -- one more record at the front of what is left
 pub records_more : {A : Type 0} (one : List ℕ → A) (size count i : ℕ) (table : List ℕ) → i < count

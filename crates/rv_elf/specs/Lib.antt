@@ -1,6 +1,6 @@
-pub mod Layout
 pub mod Contents
-pub mod Loaded
-pub mod Steps
-pub mod Written
 pub mod Laws
+pub mod Layout
+pub mod Loaded
+pub mod Written
+pub mod internal

@@ -3,6 +3,7 @@ use Rattle.std.specs.Prelude.{ℕ, ◌+◌, ◌*◌, ◌/◌, ◌%◌, ◌^◌, 
 use Rattle.std.specs.List.{filter, find, filter_map, list_any, list_all, sum_by}
 use Rattle.std.specs.Option.{ok_or, option_map}
 use Rattle.std.specs.Str.{is_utf8}
+use Rattle.rv_memory.specs.Chain.{◌>>=◌, want}
 use Rattle.rv_memory.specs.Extent.{Extent}
 use Rattle.rv_memory.specs.Memory.{overlaps, permits}
 use Rattle.rv_memory.specs.declared.store.Need.TheVariants.{Execute}
@@ -14,15 +15,6 @@ use Rattle.rv_elf.specs.declared.layout.SectionHeader.{SectionHeader}
 use Rattle.rv_elf.specs.declared.layout.SymbolEntry.{SymbolEntry}
 use Rattle.rv_elf.specs.Layout.{file_header, program_header, section_header, symbol_entry, part, records}
 use Rattle.rv_elf.specs.Contents.{Named, Contents, contents, stacks, need_of}
-
-infixl 10 ◌>>=◌
-abbrev pub ◌>>=◌ : {A B : Type 0} → Result A LoadFault → (A → Result B LoadFault) → Result B LoadFault
-(Ok x) >>= f = f x
-(Err fault) >>= f = Err fault
-
--- a test, and what is told of a file that fails it
-abbrev pub want : Bool → LoadFault → Result (Unit {0}) LoadFault
-want test fault = if test then Ok tt else Err fault
 
 -- ---- the header
 

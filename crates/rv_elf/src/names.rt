@@ -3,7 +3,7 @@ ghost use Rattle.std.specs.Prelude.{◌≡◌, ◌+◌, ◌≤◌, ◌&&◌, nat
 ghost use Rattle.std.specs.Option.{option_copied};
 ghost use Rattle.std.specs.Str.{is_utf8};
 ghost use Rattle.rv_elf.specs.Loaded as spec;
-ghost use Rattle.rv_elf.specs.Steps as steps;
+ghost use Rattle.rv_elf.specs.internal.Steps as steps;
 
 use crate::fault::LoadFault;
 use crate::layout::SymbolEntry;
@@ -67,7 +67,7 @@ pub fn room_after(room: usize, name: &[u8]) -> Result<usize, LoadFault>
 }
 
 /// The room that is left after an entry of a symbol table.
-#[tactic(auto, unfolding(crate::specs::Steps::room_with))]
+#[tactic(auto, unfolding(crate::specs::internal::Steps::room_with))]
 pub fn room_with(room: usize, strings: &[u8], entry: &SymbolEntry) -> Result<usize, LoadFault>
     ensures { result ≡ steps.room_with room strings.now entry.now }
 {

@@ -1,6 +1,6 @@
 use Rattle.std.proofs.Common.{◌≡◌, ℕ, ◌-◌, ◌%◌, Bool, true, false, cond, Option, Some, None, refl, sym, ap, inl, inr}
 use Rattle.std.specs.Prelude.{◌==◌, not, nat_lt}
-use Rattle.rv_hart.specs.Able.{AreBytes, IsAble, HasSize}
+use Rattle.rv_hart.specs.internal.Able.{AreBytes, IsAble, HasSize}
 use Rattle.rv_hart.specs.Act.{act, branch, jump, environment_call, following, immediate, address, source_1, source_2}
 use Rattle.rv_hart.specs.Registers.{get}
 use Rattle.rv_hart.specs.Step.{action_at_word, fetched, tested, allowed, action_at}

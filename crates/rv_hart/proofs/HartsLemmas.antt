@@ -2,7 +2,7 @@ use Rattle.std.proofs.Common.{◌≡◌, ℕ, List, [], ◌∷◌, Option, Some,
 use Rattle.std.specs.Prelude.{slice_get}
 use Rattle.std.proofs.lemmas.Option.{slice_get-map, get_or_from_slice_get}
 use Rattle.std.specs.Prelude.{option_map}
-use Rattle.rv_hart.specs.Harts.{HartsAfter}
+use Rattle.rv_hart.specs.internal.Harts.{HartsAfter}
 use Rattle.rv_hart.specs.Step.{seen_by, hart_after}
 use Rattle.rv_hart.specs.declared.action.Action.{Action}
 use Rattle.rv_hart.specs.declared.hart.Hart.{Hart}

@@ -1,7 +1,8 @@
 use Rattle.std.proofs.Common.{◌≡◌, ℕ, ◌-◌, ◌%◌, Bool, true, false, cond, Option, Some, None, refl}
 use Rattle.std.specs.Prelude.{◌==◌, not, nat_lt, slice_get, option_map}
 use Rattle.rv_hart.specs.Act.{act, branch, jump, following, immediate, address, source_1, source_2}
-use Rattle.rv_hart.specs.Next.{next_access, next_plain, hart_access, hart_plain, plain_access, accessed, access_of_step, is_plain, is_plain_op, at_plain}
+use Rattle.rv_hart.specs.Next.{next_access, next_plain, accessed, access_of_step, is_plain, is_plain_op, at_plain}
+use Rattle.rv_hart.specs.internal.Next.{hart_access, hart_plain, plain_access}
 use Rattle.rv_hart.specs.Registers.{get}
 use Rattle.rv_hart.specs.State.{State, is_running}
 use Rattle.rv_hart.specs.Step.{step_of, step_by, access_of, event_of, action_at_word, tested, allowed, action_at}

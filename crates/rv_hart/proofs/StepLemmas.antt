@@ -3,9 +3,9 @@ use Rattle.std.specs.Prelude.{slice_get, IsSomeAnd}
 use Rattle.std.proofs.Math.ListN.{length-set}
 use Rattle.std.proofs.lemmas.Grind.{common_steps}
 use Rattle.std.proofs.lemmas.List.{length-map, append-nil}
-use Rattle.rv_hart.specs.Able.{IsAble, IsAbleWrite, AreBytes}
-use Rattle.rv_hart.specs.Harts.{HartsAfter}
-use Rattle.rv_hart.specs.Machine.{RunsTo, Takes}
+use Rattle.rv_hart.specs.internal.Able.{IsAble, IsAbleWrite, AreBytes}
+use Rattle.rv_hart.specs.internal.Harts.{HartsAfter}
+use Rattle.rv_hart.specs.internal.Machine.{RunsTo, Takes}
 use Rattle.rv_hart.specs.State.{State}
 use Rattle.rv_hart.specs.Step.{step_of, step_by, loaded_by, written_by, memory_after, event_of, printed, reserves, seen_by, hart_after}
 use Rattle.rv_hart.specs.declared.access.Event.{Event}

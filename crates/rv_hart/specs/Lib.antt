@@ -1,13 +1,12 @@
-pub mod Able
 pub mod Act
 pub mod Cause
 pub mod Conflict
-pub mod Harts
-pub mod Machine
 pub mod Next
 pub mod Registers
 pub mod Run
+pub mod SomeHart
 pub mod State
 pub mod Step
 pub mod StepLaws
 pub mod Words
+pub mod internal

@@ -1,6 +1,6 @@
 use Rattle.std.specs.Prelude.{ℕ, Bool, true, false, ◌&&◌, nat_lt, nat_le, not, Option, Some, None, if◌then◌else◌, IsTrue, length, slice_get}
 use Rattle.rv_hart.specs.State.{State, Guest, is_running}
-use Rattle.rv_hart.specs.Step.{step_of, action_at, access_of}
+use Rattle.rv_hart.specs.Step.{step_of, action_at}
 use Rattle.rv_hart.specs.declared.access.Access.{Access}
 use Rattle.rv_hart.specs.declared.access.Event.{Event}
 use Rattle.rv_hart.specs.declared.access.Event.TheVariants as event
@@ -28,10 +28,6 @@ access_of_step (Some (e, t)) = accessed e
 unfoldable pub next_access : State → ℕ → Option Access
 next_access s h = access_of_step (step_of s h)
 
--- the same of the hart itself
-abbrev pub hart_access : Memory → Hart → Option Access
-hart_access m hart = if is_running hart.status then access_of hart (action_at m hart) else None
-
 abbrev pub is_plain : Shape → Bool
 is_plain (shape.PlainLoad size) = true
 is_plain (shape.PlainStore size) = true
@@ -52,21 +48,6 @@ at_plain m (Some hart) = is_plain_op (op_at (load m hart.pc 4))
 -- the same where the word at pc is a plain load or store, else none
 unfoldable pub next_plain : State → ℕ → Option Access
 next_plain s h = if at_plain s.memory (slice_get s.harts h) then next_access s h else None
-
--- the same of the hart's action
-abbrev pub plain_access : Hart → Action → Option Access
-plain_access hart (Load rd address size signed) = access_of hart (Load rd address size signed)
-plain_access hart (Store address size value) = access_of hart (Store address size value)
-plain_access hart (Trap cause) = None
-plain_access hart (Set rd value next) = None
-plain_access hart (Reserve rd address) = None
-plain_access hart (Conditional rd address value) = None
-plain_access hart (Replace rd address combine value) = None
-plain_access hart (Print byte) = None
-plain_access hart (Exit code) = None
-
-abbrev pub hart_plain : Memory → Hart → Option Access
-hart_plain m hart = if is_running hart.status then plain_access hart (action_at m hart) else None
 
 -- ---- when a step is refused
 

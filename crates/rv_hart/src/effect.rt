@@ -1,7 +1,7 @@
 //! What an action does, one function a component of `specs/Step.antt`.
 ghost use Rattle.std.specs.Prelude.{◌≡◌, ◌==◌, ◌%◌, ◌<◌, ◌+◌, ◌++◌, vec_len, vec_capacity, Some, IsTrue, OnOk, OnErr, length, map};
-ghost use Rattle.rv_hart.specs.Able.{HasSize, IsAble, IsAbleWrite, IsReady, Fits};
-ghost use Rattle.rv_hart.specs.Harts.{HartsAfter};
+ghost use Rattle.rv_hart.specs.internal.Able.{HasSize, IsAble, IsAbleWrite, IsReady, Fits};
+ghost use Rattle.rv_hart.specs.internal.Harts.{HartsAfter};
 ghost use Rattle.rv_hart.specs.Next as next;
 ghost use Rattle.rv_hart.specs.Registers as registers;
 ghost use Rattle.rv_hart.specs.Step as spec;

@@ -1,8 +1,10 @@
 ghost use Rattle.std.specs.Prelude.{◌≡◌, ◌≢◌, ℕ, ◌<◌, ◌≤◌, ◌%◌, ◌↔◌, ◌+◌, Some, None, length, IsTrue, IfOk, IfErr, OnOk, OnErr, unwrap_or, slice_get, All};
-ghost use Rattle.rv_hart.specs.Able.{IsAble};
-ghost use Rattle.rv_hart.specs.Machine as machine;
+ghost use Rattle.rv_hart.specs.internal.Able.{IsAble};
+ghost use Rattle.rv_hart.specs.internal.Machine as machine;
+ghost use Rattle.rv_hart.specs.internal.Next as own;
 ghost use Rattle.rv_hart.specs.Next as next;
 ghost use Rattle.rv_hart.specs.Registers.{get};
+ghost use Rattle.rv_hart.specs.SomeHart.{SomeHart};
 ghost use Rattle.rv_hart.specs.State as state;
 ghost use Rattle.rv_hart.specs.Step.{step_of};
 ghost use Rattle.rv_memory.specs.Extent.{IsExtent};
@@ -48,7 +50,7 @@ pub struct Machine<S: ByteStore> {
 
 impl<S: ByteStore> Model for Machine<S> {
     ghost use Rattle.rv_hart.specs.State.{Guest};
-    ghost use Rattle.rv_hart.specs.Machine.{IsMachine};
+    ghost use Rattle.rv_hart.specs.internal.Machine.{IsMachine};
 
     ghost Value = { Guest };
 
@@ -110,7 +112,7 @@ impl<S: ByteStore> Machine<S> {
     /// The address of a hart's next instruction.
     pub fn pc(&self, h: u8) -> u32
         requires { h < length self.now.state.harts }
-        ensures { machine.SomeHart (λ hart. result ≡ hart.pc) self.now.state h }
+        ensures { SomeHart (λ hart. result ≡ hart.pc) self.now.state h }
     {
         self.harts[h as usize].pc
     }
@@ -119,7 +121,7 @@ impl<S: ByteStore> Machine<S> {
     pub fn register(&self, h: u8, r: u8) -> u32
         requires hart { h < length self.now.state.harts }
         requires register { r ≤ 31 }
-        ensures { machine.SomeHart (λ hart. result ≡ get hart.registers r) self.now.state h }
+        ensures { SomeHart (λ hart. result ≡ get hart.registers r) self.now.state h }
     {
         register(&self.harts[h as usize], r)
     }
@@ -127,7 +129,7 @@ impl<S: ByteStore> Machine<S> {
     /// Whether a hart runs, and else how it ended.
     pub fn status(&self, h: u8) -> Status
         requires { h < length self.now.state.harts }
-        ensures { machine.SomeHart (λ hart. result ≡ hart.status) self.now.state h }
+        ensures { SomeHart (λ hart. result ≡ hart.status) self.now.state h }
     {
         self.harts[h as usize].status
     }
@@ -135,7 +137,7 @@ impl<S: ByteStore> Machine<S> {
     /// The address of the word that a hart holds a reservation of.
     pub fn reservation(&self, h: u8) -> Option<u32>
         requires { h < length self.now.state.harts }
-        ensures { machine.SomeHart (λ hart. result ≡ hart.reservation) self.now.state h }
+        ensures { SomeHart (λ hart. result ≡ hart.reservation) self.now.state h }
     {
         self.harts[h as usize].reservation
     }
@@ -298,7 +300,7 @@ impl<S: ByteStore> Machine<S> {
 }
 
 fn hart_access<S: ByteStore>(store: &S, hart: &Hart) -> Option<Access>
-    ensures { result ≡ next.hart_access (S.memory store.now) hart.now }
+    ensures { result ≡ own.hart_access (S.memory store.now) hart.now }
 {
     match hart.status {
         Status::Running => access_of(hart, action_at(store, hart)),
@@ -307,7 +309,7 @@ fn hart_access<S: ByteStore>(store: &S, hart: &Hart) -> Option<Access>
 }
 
 fn hart_plain<S: ByteStore>(store: &S, hart: &Hart) -> Option<Access>
-    ensures { result ≡ next.hart_plain (S.memory store.now) hart.now }
+    ensures { result ≡ own.hart_plain (S.memory store.now) hart.now }
 {
     match hart.status {
         Status::Running => plain_access(hart, action_at(store, hart)),
@@ -316,7 +318,7 @@ fn hart_plain<S: ByteStore>(store: &S, hart: &Hart) -> Option<Access>
 }
 
 fn plain_access(hart: &Hart, action: Action) -> Option<Access>
-    ensures { result ≡ next.plain_access hart.now action }
+    ensures { result ≡ own.plain_access hart.now action }
 {
     match action {
         Action::Load { .. } | Action::Store { .. } => access_of(hart, action),

@@ -1,7 +1,7 @@
 use Rattle.std.proofs.Common.{◌≡◌, ℕ, ◌+◌, ◌*◌, ◌^◌, ◌<◌, refl, sym, ap, ◌∙◌, cond, arith}
 use Rattle.std.specs.Prelude.{bit_and, ◌==◌}
 use Rattle.std.proofs.lemmas.Bool.Decides.{nat_tests}
-use Rattle.rv_isa.specs.Encoded.{assembled}
+use Rattle.rv_isa.specs.internal.Encoded.{assembled}
 use Rattle.rv_isa.specs.Fields.{field}
 use Rattle.rv_isa.specs.Form.{mask_of}
 use Rattle.rv_isa.specs.Instr.{Row, operands}

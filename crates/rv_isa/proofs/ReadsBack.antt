@@ -2,7 +2,7 @@ use Rattle.std.proofs.Common.{◌≡◌, ℕ, ◌+◌, ◌*◌, ◌/◌, ◌%◌
 use Rattle.std.specs.Prelude.{bit_and, ◌==◌, nat_lt}
 use Rattle.std.specs.Int.{cast_unsigned, w32}
 use Rattle.std.proofs.lemmas.Bool.Decides.{nat_tests}
-use Rattle.rv_isa.specs.Encoded.{assembled}
+use Rattle.rv_isa.specs.internal.Encoded.{assembled}
 use Rattle.rv_isa.specs.Fields.{field, signed}
 use Rattle.rv_isa.specs.Form.{mask_of}
 use Rattle.rv_isa.specs.declared.operands.Operands.{Operands}

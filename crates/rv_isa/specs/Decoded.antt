@@ -1,9 +1,9 @@
 use Rattle.std.specs.Prelude.{ℕ, ◌==◌, bit_and, if◌then◌else◌, Option, Some, None, option_map}
-use Rattle.rv_isa.specs.Candidate.{candidate}
+use Rattle.rv_isa.specs.internal.Candidate.{candidate}
 use Rattle.rv_isa.specs.Form.{mask_of}
 use Rattle.rv_isa.specs.Operands.{operands_of}
 use Rattle.rv_isa.specs.Table.{form_of, match_of}
-use Rattle.rv_isa.specs.OperandsFit.{operands_fit}
+use Rattle.rv_isa.specs.internal.OperandsFit.{operands_fit}
 use Rattle.rv_isa.specs.declared.instr.Instr.{Instr}
 use Rattle.rv_isa.specs.declared.op.Op.{Op}
 

@@ -1,11 +1,9 @@
-pub mod Candidate
 pub mod Decoded
-pub mod Encoded
 pub mod Fields
 pub mod Form
 pub mod Instr
 pub mod Operands
-pub mod OperandsFit
 pub mod Shape
 pub mod Table
 pub mod TableLaws
+pub mod internal

@@ -1,10 +1,10 @@
 ghost use Rattle.std.specs.Prelude.{◌≡◌};
-ghost use Rattle.rv_isa.specs.Candidate as spec;
+ghost use Rattle.rv_isa.specs.internal.Candidate as spec;
 
 use crate::op::Op;
 
 /// The one operation whose row the word may have: whether it has it is for the table's mask to say.
-#[tactic(auto, unfolding(crate::specs::Candidate::candidate))]
+#[tactic(auto, unfolding(crate::specs::internal::Candidate::candidate))]
 pub fn candidate(word: u32) -> Op
     ensures { result ≡ spec.candidate word }
 {

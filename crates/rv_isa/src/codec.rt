@@ -1,6 +1,6 @@
 ghost use Rattle.std.specs.Prelude.{◌≡◌, ◌↔◌, ◌<◌, ◌^◌, ℕ, Some};
 ghost use Rattle.rv_isa.specs.Decoded.{with_operands, decoded};
-ghost use Rattle.rv_isa.specs.Encoded.{assembled, scattered};
+ghost use Rattle.rv_isa.specs.internal.Encoded.{assembled, scattered};
 ghost use Rattle.rv_isa.specs.Instr.{Row, operands};
 ghost use Rattle.rv_isa.specs.Table.{form_of, match_of};
 ghost use Rattle.rv_isa.specs.declared.instr.Instr.{Instr};

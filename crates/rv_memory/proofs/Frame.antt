@@ -11,7 +11,7 @@ use Rattle.std.proofs.lemmas.List.Folds.{Any-from_list_any}
 use Rattle.std.proofs.lemmas.List.Elements.{All-head, All-tail}
 use Rattle.rv_memory.specs.Extent.{Extent, IsFull, end_of}
 use Rattle.rv_memory.specs.Memory.{Memory, byte, covers, holds, allows, permits, load, set_byte, store, overlaps}
-use Rattle.rv_memory.specs.Flat.{number_at, put_at}
+use Rattle.rv_memory.specs.internal.Flat.{number_at, put_at}
 use Rattle.rv_memory.specs.declared.store.Need.{Need}
 use Rattle.rv_memory.specs.declared.store.Need.TheVariants.{Nothing}
 use Rattle.rv_memory.proofs.Spans.{with_bytes, spans-with_bytes, same_overlaps, permits-spans, spans-store}

@@ -4,7 +4,7 @@ use Rattle.std.specs.Prelude.{◌&&◌, ◌||◌}
 use Rattle.std.proofs.lemmas.Bool.Decides.{nat_tests}
 use Rattle.std.proofs.lemmas.List.{get_or-map, length-map}
 use Rattle.rv_memory.specs.Extent.{Extent, span}
-use Rattle.rv_memory.specs.Index.{IsIndex, Skips, touches}
+use Rattle.rv_memory.specs.internal.Index.{IsIndex, Skips, touches}
 use Rattle.rv_memory.specs.Memory.{Memory, holds, allows, permits}
 use Rattle.rv_memory.specs.declared.store.Need.{Need}
 

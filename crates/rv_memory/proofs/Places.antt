@@ -9,7 +9,8 @@ use Rattle.std.proofs.lemmas.Bool.{and_parts, leb-true}
 use Rattle.std.proofs.lemmas.Bool.Decides.{nat_tests}
 use Rattle.rv_memory.specs.Extent.{Extent, end_of}
 use Rattle.rv_memory.specs.Memory.{Memory, byte, covers, meets, overlaps, holds, load, set_byte, store}
-use Rattle.rv_memory.specs.Flat.{IsSound, number_at, put_at}
+use Rattle.rv_memory.specs.Sound.{IsSound}
+use Rattle.rv_memory.specs.internal.Flat.{number_at, put_at}
 use Rattle.rv_memory.proofs.Spans.{with_bytes, spans-with_bytes, same_overlaps, no_overlap}
 
 apart : (a b : Extent) (address : ℕ) → meets a b ≡ false → covers b address ≡ true → covers a address ≡ false

@@ -4,7 +4,7 @@ use Rattle.std.proofs.lemmas.List.{map-set, get_or-map, set-get_or, length-set, 
 use Rattle.std.proofs.lemmas.List.Elements.{All-cons, All-head, All-tail, All-map, All-set, All-weaker}
 use Rattle.rv_memory.specs.Extent.{Extent, IsExtent, IsFull, filled, span}
 use Rattle.rv_memory.specs.Memory.{Memory, covers, fault_of, set_byte, store, memory_of}
-use Rattle.rv_memory.specs.Flat.{IsSound}
+use Rattle.rv_memory.specs.Sound.{IsSound}
 use Rattle.rv_memory.proofs.Spans.{same_fault, spans-set_byte, spans-memory_of}
 
 full_set_byte : (m : Memory) (address value : ℕ) → All IsFull m → All IsFull (set_byte m address value)

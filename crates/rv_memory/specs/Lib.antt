@@ -1,6 +1,7 @@
+pub mod Chain
 pub mod Extent
 pub mod Flagged
-pub mod Flat
-pub mod Index
 pub mod Memory
 pub mod MemoryLaws
+pub mod Sound
+pub mod internal

@@ -2,7 +2,7 @@ use Rattle.std.specs.Prelude.{◌≡◌, ℕ, ◌+◌, ◌^◌, ◌%◌, ◌≤�
 use Rattle.std.specs.List.{list_any}
 use Rattle.rv_memory.specs.Extent.{Extent, IsExtent, IsFull, span}
 use Rattle.rv_memory.specs.Memory.{Memory, byte, covers, permits, load, store, overlaps, fault_of, memory_of}
-use Rattle.rv_memory.specs.Flat.{IsSound}
+use Rattle.rv_memory.specs.Sound.{IsSound}
 use Rattle.rv_memory.specs.declared.store.Need.{Need}
 use Rattle.rv_memory.specs.declared.store.Need.TheVariants.{Nothing}
 

@@ -2,8 +2,8 @@ ghost use Rattle.std.specs.Prelude.{◌≡◌, ◌+◌, ◌-◌, ◌^◌, ◌<�
 ghost use Rattle.std.specs.List.{list_any};
 ghost use Rattle.rv_memory.specs.Extent.{IsExtent, span, filled, end_of as spec_end_of};
 ghost use Rattle.rv_memory.specs.Memory as spec;
-ghost use Rattle.rv_memory.specs.Flat.{number_at, put_at};
-ghost use Rattle.rv_memory.specs.Index.{Skips};
+ghost use Rattle.rv_memory.specs.internal.Flat.{number_at, put_at};
+ghost use Rattle.rv_memory.specs.internal.Index.{Skips};
 
 use crate::fit::{end_of, fault_of};
 use crate::index::{first_of, index_of};
@@ -23,7 +23,7 @@ pub struct Flat {
 
 impl Model for Flat {
     ghost use Rattle.rv_memory.specs.Memory.{Memory};
-    ghost use Rattle.rv_memory.specs.Flat.{IsFlat};
+    ghost use Rattle.rv_memory.specs.internal.Flat.{IsFlat};
 
     ghost Value = { Memory };
 

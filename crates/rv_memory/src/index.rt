@@ -1,7 +1,7 @@
 //! Where an access looks for its region: for each page of the addresses, the first region that may have one
 //! of them. So a step looks at one region mostly, however many there are.
 ghost use Rattle.std.specs.Prelude.{◌≡◌, ℕ, ◌≤◌, ◌<◌, ◌/◌, true, length, slice_index, IfOk};
-ghost use Rattle.rv_memory.specs.Index.{touches, IsIndex};
+ghost use Rattle.rv_memory.specs.internal.Index.{touches, IsIndex};
 
 use crate::fit::end_of;
 use crate::region::Region;

@@ -1,7 +1,7 @@
 use Rattle.std.proofs.Common.{◌/◌, length, arith, sym, ◌∙◌, ap}
 use Rattle.std.proofs.lemmas.Result.{err_from_is_err_and}
 use Rattle.rv_elf.specs.Loaded.{entries_of}
-use Rattle.rv_elf.specs.Steps.{room_with}
+use Rattle.rv_elf.specs.internal.Steps.{room_with}
 use Rattle.rv_elf.proofs.Entries.{entry_passed, entry_failed, entries_done}
 use Rattle.rv_elf.proofs.symbols.entries_test.Goals as goal
 

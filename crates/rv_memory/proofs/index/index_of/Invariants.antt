@@ -2,7 +2,7 @@
 use Rattle.std.proofs.Common.{◌≡◌, ℕ, ◌<◌, false, length, slice_index}
 use Rattle.std.specs.Prelude.{slice_index_or}
 use Rattle.rv_memory.specs.Extent.{Extent}
-use Rattle.rv_memory.specs.Index.{touches}
+use Rattle.rv_memory.specs.internal.Index.{touches}
 use Rattle.rv_memory.specs.declared.index.TheConstants.{PAGES}
 use Rattle.rv_memory.proofs.index.index_of.Given as goal
 

@@ -2,7 +2,7 @@
 use Rattle.std.proofs.Common.{◌≡◌}
 use Rattle.std.specs.Io.KnownBytes.{Appends}
 use Rattle.std.specs.List.{flat_map, range_with_len}
-use Rattle.rv_hart.specs.Machine.{SomeHart}
+use Rattle.rv_hart.specs.SomeHart.{SomeHart}
 use Rattle.rv_memory.specs.Flagged.{device, has_failed}
 use Rattle.rvcollide.specs.Texts.{register_text}
 use Rattle.rvcollide.proofs.texts.write_registers.Given as goal

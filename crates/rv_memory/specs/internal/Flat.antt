@@ -1,13 +1,7 @@
-use Rattle.std.specs.Prelude.{◌≡◌, ℕ, ◌+◌, ◌*◌, ◌/◌, ◌%◌, List, slice_index, slice_set, None, All, zero, suc}
-use Rattle.rv_memory.specs.Extent.{IsFull}
-use Rattle.rv_memory.specs.Index.{IsIndex}
-use Rattle.rv_memory.specs.Memory.{Memory, fault_of}
-
--- memory as a store makes it: each extent has all of its bytes, none ends past 2 ^ 32, no two meet,
--- and together they are within the limit
-pub record IsSound (m : Memory) : Type 0 where
-  pub full : All IsFull m
-  pub no_fault : fault_of m ≡ None
+use Rattle.std.specs.Prelude.{ℕ, ◌+◌, ◌*◌, ◌/◌, ◌%◌, List, slice_index, slice_set, zero, suc}
+use Rattle.rv_memory.specs.Memory.{Memory}
+use Rattle.rv_memory.specs.Sound.{IsSound}
+use Rattle.rv_memory.specs.internal.Index.{IsIndex}
 
 -- memory as the flat store keeps it, with the places to look from
 pub record IsFlat (m : Memory) (firsts : List ℕ) : Type 0 where

@@ -1,11 +1,12 @@
-use Rattle.std.specs.Prelude.{◌≡◌, ℕ, IsTrue, ◌≤◌, Vec, vec_len, vec_capacity, slice_get, IsSomeAnd}
+use Rattle.std.specs.Prelude.{◌≡◌, ℕ, IsTrue, ◌≤◌, Vec, vec_len, vec_capacity}
 use Rattle.std.specs.declared.alloc.Global.{Global}
+use Rattle.rv_hart.specs.SomeHart.{SomeHart}
 use Rattle.rv_hart.specs.State.{State, is_running}
 use Rattle.rv_hart.specs.Step.{action_at}
 use Rattle.rv_hart.specs.declared.action.Action.{Action}
 use Rattle.rv_hart.specs.declared.hart.Hart.{Hart}
-use Rattle.rv_memory.specs.Flat.{IsSound}
 use Rattle.rv_memory.specs.Memory.{Memory}
+use Rattle.rv_memory.specs.Sound.{IsSound}
 
 -- what each machine keeps: 1 to 16 harts, sound memory, and room for the output up to its limit
 pub record IsMachine (harts : Vec Hart Global) (memory : Memory) (output : Vec ℕ Global) (limit : ℕ) : Type 0 where
@@ -14,10 +15,6 @@ pub record IsMachine (harts : Vec Hart Global) (memory : Memory) (output : Vec �
   pub sound : IsSound memory
   pub printed : vec_len output ≤ limit
   pub room : limit ≤ vec_capacity output
-
--- there is a hart h, and it is so
-abbrev pub SomeHart : (Hart → Type 0) → State → ℕ → Type 0
-SomeHart P s h = IsSomeAnd (slice_get s.harts h) P
 
 -- hart h runs, and this is what it does next
 pub record RunsTo (memory : Memory) (hart : Hart) (action : Action) : Type 0 where
