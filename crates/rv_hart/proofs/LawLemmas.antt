@@ -1,4 +1,4 @@
-use Rattle.std.proofs.Common.{◌≡◌, ◌≢◌, ℕ, zero, suc, ◌+◌, ◌≤◌, ◌⊎◌, inl, inr, Bool, true, false, cond, List, [], ◌∷◌, ◌++◌, Option, Some, None, map, set, refl, sym, ap, subst, ◌∙◌, arith}
+use Rattle.std.proofs.Common.{◌≡◌, ◌≢◌, ℕ, zero, suc, ◌+◌, ◌≤◌, inl, inr, Bool, true, false, cond, List, [], ◌∷◌, ◌++◌, Option, Some, None, map, set, refl, sym, ap, subst, ◌∙◌, arith}
 use Rattle.std.specs.Prelude.{slice_get, IsSomeAnd, option_map, nat_lt, nat_le, ◌&&◌}
 use Rattle.std.proofs.lemmas.List.{append-nil}
 use Rattle.std.proofs.lemmas.Option.{slice_get-map}
@@ -6,7 +6,8 @@ use Rattle.std.proofs.lemmas.Bool.{cases_lt}
 use Rattle.std.proofs.lemmas.Bool.Decides.{nat_tests}
 use Rattle.rv_hart.specs.Next.{accessed}
 use Rattle.rv_hart.specs.State.{State, is_running}
-use Rattle.rv_hart.specs.Step.{step_of, step_of_hart, step_by, state_after, action_at, loaded_by, written_by, memory_after, event_of, reserves, kept, seen_by, hart_after}
+use Rattle.rv_hart.specs.Step.{step_of, step_of_hart, step_by, state_after, action_at, loaded_by, written_by, memory_after, event_of, reserves, seen_by}
+use Rattle.rv_hart.specs.ReservationLaws.{writes_word}
 use Rattle.rv_hart.specs.StepLaws as laws
 use Rattle.rv_hart.specs.StepLaws.{Acts, TrapLaw, ExitLaw, SetLaw, LoadLaw, StoreLaw, ReserveLaw, ScSucceedsLaw, ScFailsLaw, AmoLaw, PrintLaw}
 use Rattle.rv_hart.specs.declared.access.Event.{Event}
@@ -86,10 +87,10 @@ pub record Was (s t : State) (h : ℕ) (e : Event) (hart : Hart) : Type 0 where
   pub event : e ≡ event_of hart (action_at s.memory hart)
   pub after : t ≡ state_after s h hart (action_at s.memory hart)
 
-some_same : {A : Type 0} → (x y : A) → Some x ≡ Some y → x ≡ y
+pub some_same : {A : Type 0} → (x y : A) → Some x ≡ Some y → x ≡ y
 some_same x y h = cc
 
-if_some : {A : Type 0} → (running : Bool) (x y : A) → cond running (Some x) None ≡ Some y → x ≡ y
+pub if_some : {A : Type 0} → (running : Bool) (x y : A) → cond running (Some x) None ≡ Some y → x ≡ y
 if_some true x y h = some_same x y h
 if_some false x y h = cc
 
@@ -110,17 +111,17 @@ get_set_other (y ∷ ys) zero (suc j) x ne = refl
 get_set_other (y ∷ ys) (suc i) zero x ne = refl
 get_set_other (y ∷ ys) (suc i) (suc j) x ne = get_set_other ys i j x (λ e. ne (ap suc e))
 
-get_set_same : (xs : List Hart) (i : ℕ) (x y : Hart) → slice_get xs i ≡ Some y → slice_get (set xs i x) i ≡ Some x
+pub get_set_same : (xs : List Hart) (i : ℕ) (x y : Hart) → slice_get xs i ≡ Some y → slice_get (set xs i x) i ≡ Some x
 get_set_same [] i x y h = cc
 get_set_same (z ∷ zs) zero x y h = refl
 get_set_same (z ∷ zs) (suc i) x y h = get_set_same zs i x y h
 
 -- a hart of a list that has been mapped
-get_map : (harts : List Hart) (f : Hart → Hart) (j : ℕ) (other : Hart) → slice_get harts j ≡ Some other → slice_get (map f harts) j ≡ Some (f other)
+pub get_map : (harts : List Hart) (f : Hart → Hart) (j : ℕ) (other : Hart) → slice_get harts j ≡ Some other → slice_get (map f harts) j ≡ Some (f other)
 get_map harts f j other there = slice_get-map f harts j ∙ ap (option_map f) there
 
 -- hart j, which is not h, after hart h has acted
-other_after : (s t : State) (h j : ℕ) (hart : Hart) (action : Action) → t ≡ state_after s h hart action → j ≢ h → slice_get t.harts j ≡ slice_get (map (seen_by (written_by (loaded_by s.memory action) hart action)) s.harts) j
+pub other_after : (s t : State) (h j : ℕ) (hart : Hart) (action : Action) → t ≡ state_after s h hart action → j ≢ h → slice_get t.harts j ≡ slice_get (map (seen_by (written_by (loaded_by s.memory action) hart action)) s.harts) j
 other_after s t h j hart action after ne = ap (λ (u : State). slice_get u.harts j) after ∙ get_set_other _ h j _ ne
 
 at_some : (P : Hart → Type 0) (o : Option Hart) (hart : Hart) → o ≡ Some hart → P hart → IsSomeAnd o P
@@ -134,23 +135,23 @@ other_harts_stay s t h e step j ne other there =
 
 -- ---- what was written is what the access says
 
-abbrev write_meets : Option Write → ℕ → Bool
+abbrev pub write_meets : Option Write → ℕ → Bool
 write_meets None word = false
 write_meets (Some w) word = nat_lt w.address (word + 4) && nat_lt word (w.address + w.size)
 
-abbrev write_has : Option Write → ℕ → Bool
+abbrev pub write_has : Option Write → ℕ → Bool
 write_has None address = false
 write_has (Some w) address = nat_le w.address address && nat_lt address (w.address + w.size)
 
 -- the same of an event
-abbrev SameWrite : Event → Option Write → Type 0
-SameWrite e w = ((word : ℕ) → laws.access_meets (accessed e) word ≡ write_meets w word) × ((address : ℕ) → laws.access_writes (accessed e) address ≡ write_has w address)
+abbrev pub SameWrite : Event → Option Write → Type 0
+SameWrite e w = ((word : ℕ) → writes_word (accessed e) word ≡ write_meets w word) × ((address : ℕ) → laws.access_writes (accessed e) address ≡ write_has w address)
 
 same_write_if : (b : Bool) (hart : Hart) (address value : ℕ) → SameWrite (Moved (cond b (Some (record { pc = hart.pc; first = address; size = 4; read = false; write = true })) None)) (cond b (Some (record { address = address; size = 4; value = value })) None)
 same_write_if true hart address value = (λ word. refl, λ a. refl)
 same_write_if false hart address value = (λ word. refl, λ a. refl)
 
-same_write : (hart : Hart) (loaded : ℕ) (action : Action) → SameWrite (event_of hart action) (written_by loaded hart action)
+pub same_write : (hart : Hart) (loaded : ℕ) (action : Action) → SameWrite (event_of hart action) (written_by loaded hart action)
 same_write hart loaded (Trap cause) = (λ word. refl, λ a. refl)
 same_write hart loaded (Set rd value next) = (λ word. refl, λ a. refl)
 same_write hart loaded (Load rd address size signed) = (λ word. refl, λ a. refl)
@@ -160,52 +161,6 @@ same_write hart loaded (Conditional rd address value) = same_write_if (reserves 
 same_write hart loaded (Replace rd address combine value) = (λ word. refl, λ a. refl)
 same_write hart loaded (Print byte) = (λ word. refl, λ a. refl)
 same_write hart loaded (Exit code) = (λ word. refl, λ a. refl)
-
--- ---- reservations
-
-kept_if : (b : Bool) (r word : ℕ) → cond b None (Some r) ≡ Some word → (r ≡ word) × (b ≡ false)
-kept_if true r word h = cc
-kept_if false r word h = (some_same r word h, refl)
-
-kept_held : (w : Option Write) (r : Option ℕ) (word : ℕ) → kept w r ≡ Some word → (r ≡ Some word) × (write_meets w word ≡ false)
-kept_held None r word h = (h, refl)
-kept_held (Some w) None word h = cc
-kept_held (Some w) (Some r) word h =
-    let k = kept_if (nat_lt w.address (r + 4) && nat_lt r (w.address + w.size)) r word h in
-    (ap Some k.0, subst (λ (n : ℕ). write_meets (Some w) n ≡ false) k.0 k.1)
-
-reserved_before : (o : Option Hart) (w : Option Write) (word : ℕ) → IsSomeAnd (option_map (seen_by w) o) (λ hart. hart.reservation ≡ Some word) → IsSomeAnd o (λ hart. hart.reservation ≡ Some word) × (write_meets w word ≡ false)
-reserved_before None w word h = absurd h
-reserved_before (Some other) w word h = kept_held w other.reservation word h
-
-pub others_reservations : laws.OthersReservations
-others_reservations s t h e step j word ne held =
-    let was_it = was s t h e step in
-    let action : Action = action_at s.memory was_it.0 in
-    let w : Option Write = written_by (loaded_by s.memory action) was_it.0 action in
-    let seen = other_after s t h j was_it.0 action was_it.1.after ne ∙ slice_get-map (seen_by w) s.harts j in
-    let before = reserved_before (slice_get s.harts j) w word (subst (λ (o : Option Hart). IsSomeAnd o (λ hart. hart.reservation ≡ Some word)) seen held) in
-    (before.0, ap (λ (x : Event). laws.access_meets (accessed x) word) was_it.1.event ∙ (same_write was_it.0 (loaded_by s.memory action) action).0 word ∙ before.1)
-
-own_after : (hart : Hart) (loaded word : ℕ) (action : Action) → (hart_after loaded hart action).reservation ≡ Some word → ((rd : ℕ) × (action ≡ Reserve rd word)) ⊎ (hart.reservation ≡ Some word)
-own_after hart loaded word (Trap cause) h = inr h
-own_after hart loaded word (Set rd value next) h = inr h
-own_after hart loaded word (Load rd address size signed) h = inr h
-own_after hart loaded word (Store address size value) h = inr h
-own_after hart loaded word (Reserve rd address) h = inl (rd, ap (Reserve rd) (some_same address word h))
-own_after hart loaded word (Conditional rd address value) h = cc
-own_after hart loaded word (Replace rd address combine value) h = inr h
-own_after hart loaded word (Print byte) h = inr h
-own_after hart loaded word (Exit code) h = inr h
-
-pub own_reservation : laws.OwnReservation
-own_reservation s t h e hart step there word held =
-    let was_it = was s t h e step in
-    let same : was_it.0 ≡ hart = some_same was_it.0 hart (sym was_it.1.there ∙ there) in
-    let action : Action = action_at s.memory was_it.0 in
-    let after = ap (λ (u : State). slice_get u.harts h) was_it.1.after ∙ get_set_same _ h _ _ (get_map s.harts _ h was_it.0 was_it.1.there) in
-    let now = subst (λ (o : Option Hart). IsSomeAnd o (λ x. x.reservation ≡ Some word)) after held in
-    subst (λ (x : Hart). ((rd : ℕ) × (action_at s.memory x ≡ Reserve rd word)) ⊎ (x.reservation ≡ Some word)) same (own_after was_it.0 (loaded_by s.memory action) word action now)
 
 -- ---- bytes
 

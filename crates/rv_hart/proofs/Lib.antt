@@ -3,6 +3,7 @@ pub mod ByteLemmas
 pub mod HartsLemmas
 pub mod NextLemmas
 pub mod OutputLemmas
+pub mod ReservationLemmas
 pub mod StartLemmas
 pub mod LawLemmas
 pub mod StepLemmas

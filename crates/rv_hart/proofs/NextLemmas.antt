@@ -34,7 +34,7 @@ accessed_event hart (Reserve rd address) = refl
 accessed_event hart (Conditional rd address value) = refl
 accessed_event hart (Replace rd address combine value) = refl
 
-access_if_running : (running : Bool) (s : State) (h : ℕ) (hart : Hart) (action : Action) → access_of_step (cond running (Some (step_by s h hart action)) None) ≡ cond running (access_of hart action) None
+pub access_if_running : (running : Bool) (s : State) (h : ℕ) (hart : Hart) (action : Action) → access_of_step (cond running (Some (step_by s h hart action)) None) ≡ cond running (access_of hart action) None
 access_if_running true s h hart action = accessed_event hart action
 access_if_running false s h hart action = refl
 

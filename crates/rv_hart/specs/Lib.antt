@@ -3,6 +3,7 @@ pub mod Cause
 pub mod Conflict
 pub mod Next
 pub mod Registers
+pub mod ReservationLaws
 pub mod Run
 pub mod SomeHart
 pub mod State

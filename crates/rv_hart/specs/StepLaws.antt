@@ -1,4 +1,4 @@
-use Rattle.std.specs.Prelude.{◌≡◌, ◌≢◌, ℕ, ◌+◌, ◌*◌, ◌^◌, ◌<◌, ◌≤◌, ◌<ℤ◌, ◌↔◌, ◌⊎◌, Bool, true, false, ◌&&◌, nat_le, nat_lt, IsTrue, Option, Some, None, List, [], ◌∷◌, ◌++◌, length, map, slice_get, slice_set}
+use Rattle.std.specs.Prelude.{◌≡◌, ◌≢◌, ℕ, ◌+◌, ◌*◌, ◌^◌, ◌<◌, ◌≤◌, ◌<ℤ◌, ◌↔◌, Bool, true, false, ◌&&◌, nat_le, nat_lt, IsTrue, Option, Some, None, List, [], ◌∷◌, ◌++◌, length, map, slice_get, slice_set}
 use Rattle.std.specs.Int.{int_shr}
 use Rattle.rv_hart.specs.Act.{following}
 use Rattle.rv_hart.specs.SomeHart.{SomeHart}
@@ -121,21 +121,6 @@ access_writes (Some a) address = a.write && (nat_le a.first address && nat_lt ad
 abbrev pub OtherBytesStay : Type 0
 OtherBytesStay =
     (s t : State) (h : ℕ) (e : Event) → step_of s h ≡ Some (e, t) → (address : ℕ) → access_writes (accessed e) address ≡ false → byte t.memory address ≡ byte s.memory address
-
--- the event's access writes a byte of the word at the address
-abbrev pub access_meets : Option Access → ℕ → Bool
-access_meets None word = false
-access_meets (Some a) word = a.write && (nat_lt a.first (word + 4) && nat_lt word (a.first + a.size))
-
--- another hart's reservation after a step is one that it held before, and the step did not write to it
-abbrev pub OthersReservations : Type 0
-OthersReservations =
-    (s t : State) (h : ℕ) (e : Event) → step_of s h ≡ Some (e, t) → (j word : ℕ) → j ≢ h → SomeHart (λ hart. hart.reservation ≡ Some word) t j → SomeHart (λ hart. hart.reservation ≡ Some word) s j × (access_meets (accessed e) word ≡ false)
-
--- the hart's own reservation after its step is one that its LR made, or that it held before
-abbrev pub OwnReservation : Type 0
-OwnReservation =
-    (s t : State) (h : ℕ) (e : Event) (hart : Hart) → step_of s h ≡ Some (e, t) → slice_get s.harts h ≡ Some hart → (word : ℕ) → SomeHart (λ after. after.reservation ≡ Some word) t h → ((rd : ℕ) × (action_at s.memory hart ≡ Reserve rd word)) ⊎ (hart.reservation ≡ Some word)
 
 -- a step keeps what was printed, and prints one more byte at most
 abbrev pub OutputLaw : Type 0

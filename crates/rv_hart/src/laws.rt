@@ -1,4 +1,5 @@
 //! Laws of the step. Each function's contract is the law.
+ghost use Rattle.rv_hart.specs.ReservationLaws as reservation;
 ghost use Rattle.rv_hart.specs.StepLaws as law;
 
 use rv_memory::laws::store_keeps_the_rest;
@@ -18,21 +19,32 @@ pub fn steps_by_class()
     ensures print { law.PrintLaw }
 {}
 
-/// What no step does: it changes no other hart's registers, pc or status, no byte that its access does
-/// not write, and leaves no reservation but those held before and that of its own LR; another hart's
-/// write of the word ends one. It takes nothing back that was printed, and prints one byte at most. A
-/// number that no running hart has makes none.
+/// What no step does: it changes no other hart's registers, pc or status, and no byte that its access does
+/// not write. It takes nothing back that was printed, and prints one byte at most. A number that no running
+/// hart has makes none.
 pub fn what_no_step_does()
     ensures other_harts { law.OtherHartsStay }
     ensures other_bytes { law.OtherBytesStay }
-    ensures others_reservations { law.OthersReservations }
-    ensures own_reservation { law.OwnReservation }
     ensures output { law.OutputLaw }
     ensures no_hart { law.NoHartLaw }
     ensures idle { law.IdleLaw }
 {
     store_keeps_the_rest();
 }
+
+/// What a step leaves of the harts' reservations, exactly, and what it accesses. A running hart makes a
+/// step, and no other number does. The hart's own reservation is that of its LR, none after its SC, and
+/// else what it was; a trap is neither. Each other hart's is what it was, unless the step's access writes a
+/// byte of its word: then it ends. The access that a step makes is the one that was next, and has 1, 2 or
+/// 4 bytes. (RISC-V Unprivileged ISA, "Load-Reserved/Store-Conditional Instructions"; which writes end a
+/// reservation is this project's own choice within it.)
+pub fn reservations_and_accesses()
+    ensures running { reservation.StepsOfRunningHarts }
+    ensures own { reservation.OwnReservation }
+    ensures others { reservation.OthersReservations }
+    ensures next { reservation.NextIsMade }
+    ensures sizes { reservation.SizesOfAccesses }
+{}
 
 /// Register x0 is read as 0; compares and shifts agree with the numbers that the words stand for.
 pub fn registers_and_words()

@@ -1,4 +1,4 @@
-use Rattle.rv_hart.proofs.LawLemmas.{other_harts_stay, other_bytes_stay, others_reservations, own_reservation}
+use Rattle.rv_hart.proofs.LawLemmas.{other_harts_stay, other_bytes_stay}
 use Rattle.rv_hart.proofs.OutputLemmas.{output_grows, no_hart_step, idle_step}
 use Rattle.rv_hart.proofs.laws.what_no_step_does.Goals as goal
 
@@ -7,12 +7,6 @@ returns-clause-other_harts c = other_harts_stay
 
 pub returns-clause-other_bytes : goal.returns-clause-other_bytes
 returns-clause-other_bytes c = other_bytes_stay c.store_keeps_the_rest.ensures.bytes
-
-pub returns-clause-others_reservations : goal.returns-clause-others_reservations
-returns-clause-others_reservations c = others_reservations
-
-pub returns-clause-own_reservation : goal.returns-clause-own_reservation
-returns-clause-own_reservation c = own_reservation
 
 pub returns-clause-output : goal.returns-clause-output
 returns-clause-output c = output_grows
