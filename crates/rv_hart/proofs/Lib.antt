@@ -1,5 +1,6 @@
 pub mod AbleLemmas
 pub mod ByteLemmas
+pub mod FetchLemmas
 pub mod HartsLemmas
 pub mod NextLemmas
 pub mod OutputLemmas

@@ -1,6 +1,7 @@
 pub mod Act
 pub mod Cause
 pub mod Conflict
+pub mod FetchLaws
 pub mod Next
 pub mod Registers
 pub mod ReservationLaws

@@ -1,8 +1,22 @@
 //! Laws of the step. Each function's contract is the law.
+ghost use Rattle.rv_hart.specs.FetchLaws as fetch;
 ghost use Rattle.rv_hart.specs.ReservationLaws as reservation;
 ghost use Rattle.rv_hart.specs.StepLaws as law;
 
+use rv_isa::laws::functions_of_the_table;
 use rv_memory::laws::store_keeps_the_rest;
+
+/// What a hart does next, in the terms of the instruction table: where the word at a permitted pc has the
+/// row of an instruction, what that instruction does, with its access tested; where it has the row of none,
+/// it stops with cause 2; where the four bytes are not permitted, with cause 1.
+pub fn actions_by_the_table()
+    ensures instruction { fetch.InstructionLaw }
+    ensures illegal { fetch.IllegalLaw }
+    ensures fetch_fault { fetch.FetchFaultLaw }
+    ensures plain { fetch.PlainLaw }
+{
+    functions_of_the_table();
+}
 
 /// What a step of each class of instruction changes; all else stays. (RISC-V Unprivileged ISA, chapters
 /// RV32I and A.)
