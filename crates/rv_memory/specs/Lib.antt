@@ -1,3 +1,4 @@
+pub mod Buffered
 pub mod Chain
 pub mod Extent
 pub mod Flagged

@@ -167,4 +167,4 @@ pub fn flush<W: Write>(writer: &mut Flagged<W>) -> Result<(), WriteFault>
 }
 
 #[cfg(test)]
-mod tests;
+pub mod tests;

@@ -5,6 +5,8 @@
 #![tactic(auto)]
 
 pub mod command;
+#[cfg(test)]
+pub mod devices;
 pub mod failure;
 pub mod hunt;
 pub mod texts;
@@ -15,9 +17,9 @@ use crate::failure::Failure;
 use crate::hunt::engine::run_hunt;
 use crate::words::engine::run_words;
 use crate::words::fault::WordsFault;
+use rv_memory::buffered::Buffered;
 use rv_memory::flagged::Flagged;
 use std::env;
-use std::io::{self, BufWriter};
 use std::process::ExitCode;
 
 fn main(rt: HostRuntime) -> ExitCode {
@@ -46,7 +48,7 @@ fn run(rt: &HostRuntime) -> Result<(), Failure> {
 fn run_job(rt: &HostRuntime, job: Job) -> Result<(), Failure> {
     let alloc = rt.alloc();
     let mut reader = Flagged::new(rt.stdin());
-    let mut writer = Flagged::new(BufWriter::new(alloc, rt.stdout())?);
+    let mut writer = Buffered::new(alloc, rt.stdout());
     match job {
         Job::Words => run_words(alloc, &mut reader, &mut writer)?,
         Job::Hunt { pc, pause } => run_hunt(alloc, &mut reader, &mut writer, pc, pause)?,

@@ -3,38 +3,37 @@ ghost use Rattle.std.specs.Prelude.{◌≡◌, ◌<◌, ◌∷◌, [], ◌++◌,
 ghost use Rattle.std.specs.Io.KnownBytes.{Appends};
 ghost use Rattle.std.specs.List.{flat_map};
 ghost use Rattle.rv_hart.specs.SomeHart.{SomeHart};
-ghost use Rattle.rv_memory.specs.Flagged as flag;
 ghost use Rattle.rv_text.specs.Lines.{text_of_lines};
 ghost use Rattle.rvcollide.specs.Texts as spec;
 
 use rv_hart::access::Access;
 use rv_hart::hart::Status;
 use rv_hart::machine::Machine;
-use rv_memory::flagged::{Flagged, WriteFault, write_whole};
+use rv_memory::flagged::WriteFault;
+use rv_memory::output::Output;
 use rv_memory::store::ByteStore;
 use rv_text::decimal::Decimal;
 use rv_text::hexadecimal::{byte_digits, word_digits};
-use std::io::Write;
 
 /// Writes the pieces, one after another.
-fn write_pieces<W: Write>(writer: &mut Flagged<W>, pieces: &[&[u8]]) -> Result<(), WriteFault>
-    ensures ok { OnOk result (Appends (W.contents (flag.device writer.old)) (W.contents (flag.device writer.new))
+fn write_pieces<O: Output>(writer: &mut O, pieces: &[&[u8]]) -> Result<(), WriteFault>
+    ensures ok { OnOk result (Appends (O.written writer.old) (O.written writer.new)
         (flat_map (λ piece. piece.now) pieces.now)) }
-    ensures failed { flag.has_failed writer.new ≡ (flag.has_failed writer.old || is_err result) }
+    ensures failed { O.has_failed writer.new ≡ (O.has_failed writer.old || is_err result) }
 {
     for piece in pieces {
-        write_whole(writer, piece)?;
+        writer.put(piece)?;
     }
     Ok(())
 }
 
-fn write_status<W: Write>(writer: &mut Flagged<W>, status: Status) -> Result<(), WriteFault>
-    ensures ok { OnOk result (Appends (W.contents (flag.device writer.old)) (W.contents (flag.device writer.new))
+fn write_status<O: Output>(writer: &mut O, status: Status) -> Result<(), WriteFault>
+    ensures ok { OnOk result (Appends (O.written writer.old) (O.written writer.new)
         (spec.status_text status)) }
-    ensures failed { flag.has_failed writer.new ≡ (flag.has_failed writer.old || is_err result) }
+    ensures failed { O.has_failed writer.new ≡ (O.has_failed writer.old || is_err result) }
 {
     match status {
-        Status::Running => write_whole(writer, b"running"),
+        Status::Running => writer.put(b"running"),
         Status::Exited(code) => write_pieces(writer, &[b"exited ", &word_digits(code)]),
         Status::Stopped(cause) => {
             let number = Decimal::new(u64::from(cause.number()));
@@ -44,13 +43,13 @@ fn write_status<W: Write>(writer: &mut Flagged<W>, status: Status) -> Result<(),
 }
 
 /// Writes a register, unless it is 0.
-fn write_register<W: Write>(writer: &mut Flagged<W>, r: u8, value: u32) -> Result<(), WriteFault>
-    ensures ok { OnOk result (Appends (W.contents (flag.device writer.old)) (W.contents (flag.device writer.new))
+fn write_register<O: Output>(writer: &mut O, r: u8, value: u32) -> Result<(), WriteFault>
+    ensures ok { OnOk result (Appends (O.written writer.old) (O.written writer.new)
         (spec.value_text r value)) }
-    ensures failed { flag.has_failed writer.new ≡ (flag.has_failed writer.old || is_err result) }
+    ensures failed { O.has_failed writer.new ≡ (O.has_failed writer.old || is_err result) }
 {
     if value == 0 {
-        return write_whole(writer, b"");
+        return writer.put(b"");
     }
     let number = Decimal::new(u64::from(r));
     write_pieces(
@@ -59,16 +58,16 @@ fn write_register<W: Write>(writer: &mut Flagged<W>, r: u8, value: u32) -> Resul
     )
 }
 
-fn write_registers<S: ByteStore, W: Write>(
-    writer: &mut Flagged<W>,
+fn write_registers<S: ByteStore, O: Output>(
+    writer: &mut O,
     machine: &Machine<S>,
     h: u8,
 ) -> Result<(), WriteFault>
     requires { h < length machine.now.state.harts }
     ensures ok { OnOk result (SomeHart (λ hart.
-        Appends (W.contents (flag.device writer.old)) (W.contents (flag.device writer.new))
+        Appends (O.written writer.old) (O.written writer.new)
         (spec.registers_text hart.registers)) machine.now.state h) }
-    ensures failed { flag.has_failed writer.new ≡ (flag.has_failed writer.old || is_err result) }
+    ensures failed { O.has_failed writer.new ≡ (O.has_failed writer.old || is_err result) }
 {
     for r in 0..32 {
         write_register(writer, r, machine.register(h, r))?;
@@ -76,80 +75,77 @@ fn write_registers<S: ByteStore, W: Write>(
     Ok(())
 }
 
-fn write_reservation<W: Write>(
-    writer: &mut Flagged<W>,
-    reservation: Option<u32>,
-) -> Result<(), WriteFault>
-    ensures ok { OnOk result (Appends (W.contents (flag.device writer.old)) (W.contents (flag.device writer.new))
+fn write_reservation<O: Output>(writer: &mut O, reservation: Option<u32>) -> Result<(), WriteFault>
+    ensures ok { OnOk result (Appends (O.written writer.old) (O.written writer.new)
         (spec.reservation_text reservation)) }
-    ensures failed { flag.has_failed writer.new ≡ (flag.has_failed writer.old || is_err result) }
+    ensures failed { O.has_failed writer.new ≡ (O.has_failed writer.old || is_err result) }
 {
     match reservation {
-        None => write_whole(writer, b""),
+        None => writer.put(b""),
         Some(address) => write_pieces(writer, &[b" lr ", &word_digits(address)]),
     }
 }
 
 /// Writes how the line of a hart begins.
-fn write_front<W: Write>(writer: &mut Flagged<W>, h: u8) -> Result<(), WriteFault>
-    ensures ok { OnOk result (Appends (W.contents (flag.device writer.old)) (W.contents (flag.device writer.new))
+fn write_front<O: Output>(writer: &mut O, h: u8) -> Result<(), WriteFault>
+    ensures ok { OnOk result (Appends (O.written writer.old) (O.written writer.new)
         (spec.front_text h)) }
-    ensures failed { flag.has_failed writer.new ≡ (flag.has_failed writer.old || is_err result) }
+    ensures failed { O.has_failed writer.new ≡ (O.has_failed writer.old || is_err result) }
 {
     let number = Decimal::new(u64::from(h));
     write_pieces(writer, &[b"hart ", number.as_bytes(), b" "])
 }
 
-fn write_pc<W: Write>(writer: &mut Flagged<W>, pc: u32) -> Result<(), WriteFault>
-    ensures ok { OnOk result (Appends (W.contents (flag.device writer.old)) (W.contents (flag.device writer.new))
+fn write_pc<O: Output>(writer: &mut O, pc: u32) -> Result<(), WriteFault>
+    ensures ok { OnOk result (Appends (O.written writer.old) (O.written writer.new)
         (spec.pc_text pc)) }
-    ensures failed { flag.has_failed writer.new ≡ (flag.has_failed writer.old || is_err result) }
+    ensures failed { O.has_failed writer.new ≡ (O.has_failed writer.old || is_err result) }
 {
     write_pieces(writer, &[b" pc ", &word_digits(pc)])
 }
 
 /// Writes the line of a hart.
-fn write_hart<S: ByteStore, W: Write>(
-    writer: &mut Flagged<W>,
+fn write_hart<S: ByteStore, O: Output>(
+    writer: &mut O,
     machine: &Machine<S>,
     h: u8,
 ) -> Result<(), WriteFault>
     requires { h < length machine.now.state.harts }
     ensures ok { OnOk result (SomeHart (λ hart.
-        Appends (W.contents (flag.device writer.old)) (W.contents (flag.device writer.new))
+        Appends (O.written writer.old) (O.written writer.new)
         (spec.hart_line h hart ++ 10 ∷ [])) machine.now.state h) }
-    ensures failed { flag.has_failed writer.new ≡ (flag.has_failed writer.old || is_err result) }
+    ensures failed { O.has_failed writer.new ≡ (O.has_failed writer.old || is_err result) }
 {
     write_front(writer, h)?;
     write_status(writer, machine.status(h))?;
     write_pc(writer, machine.pc(h))?;
     write_registers(writer, machine, h)?;
     write_reservation(writer, machine.reservation(h))?;
-    write_whole(writer, b"\n")?;
+    writer.put(b"\n")?;
     Ok(())
 }
 
 /// Writes the line of the output.
-fn write_output<W: Write>(writer: &mut Flagged<W>, output: &[u8]) -> Result<(), WriteFault>
-    ensures ok { OnOk result (Appends (W.contents (flag.device writer.old)) (W.contents (flag.device writer.new))
+fn write_output<O: Output>(writer: &mut O, output: &[u8]) -> Result<(), WriteFault>
+    ensures ok { OnOk result (Appends (O.written writer.old) (O.written writer.new)
         (spec.output_line output.now ++ 10 ∷ [])) }
-    ensures failed { flag.has_failed writer.new ≡ (flag.has_failed writer.old || is_err result) }
+    ensures failed { O.has_failed writer.new ≡ (O.has_failed writer.old || is_err result) }
 {
-    write_whole(writer, b"out")?;
+    writer.put(b"out")?;
     for byte in output {
         write_pieces(writer, &[b" ", &byte_digits(*byte)])?;
     }
-    write_whole(writer, b"\n")?;
+    writer.put(b"\n")?;
     Ok(())
 }
 
-fn write_harts<S: ByteStore, W: Write>(
-    writer: &mut Flagged<W>,
+fn write_harts<S: ByteStore, O: Output>(
+    writer: &mut O,
     machine: &Machine<S>,
 ) -> Result<(), WriteFault>
-    ensures ok { OnOk result (Appends (W.contents (flag.device writer.old)) (W.contents (flag.device writer.new))
+    ensures ok { OnOk result (Appends (O.written writer.old) (O.written writer.new)
         (text_of_lines (spec.hart_lines 0 machine.now.state.harts))) }
-    ensures failed { flag.has_failed writer.new ≡ (flag.has_failed writer.old || is_err result) }
+    ensures failed { O.has_failed writer.new ≡ (O.has_failed writer.old || is_err result) }
 {
     for h in 0..machine.harts() {
         write_hart(writer, machine, h)?;
@@ -159,13 +155,13 @@ fn write_harts<S: ByteStore, W: Write>(
 
 /// Writes what the machine's state is shown as: a line of each hart, and a line of the output.
 #[tactic(auto, unfolding(crate::specs::Texts::state_text))]
-pub fn write_state<S: ByteStore, W: Write>(
-    writer: &mut Flagged<W>,
+pub fn write_state<S: ByteStore, O: Output>(
+    writer: &mut O,
     machine: &Machine<S>,
 ) -> Result<(), WriteFault>
-    ensures ok { OnOk result (Appends (W.contents (flag.device writer.old)) (W.contents (flag.device writer.new))
+    ensures ok { OnOk result (Appends (O.written writer.old) (O.written writer.new)
         (spec.state_text machine.now.state)) }
-    ensures failed { flag.has_failed writer.new ≡ (flag.has_failed writer.old || is_err result) }
+    ensures failed { O.has_failed writer.new ≡ (O.has_failed writer.old || is_err result) }
 {
     write_harts(writer, machine)?;
     write_output(writer, machine.output())?;
@@ -173,10 +169,10 @@ pub fn write_state<S: ByteStore, W: Write>(
 }
 
 /// Writes an access.
-pub fn write_access<W: Write>(writer: &mut Flagged<W>, access: &Access) -> Result<(), WriteFault>
-    ensures ok { OnOk result (Appends (W.contents (flag.device writer.old)) (W.contents (flag.device writer.new))
+pub fn write_access<O: Output>(writer: &mut O, access: &Access) -> Result<(), WriteFault>
+    ensures ok { OnOk result (Appends (O.written writer.old) (O.written writer.new)
         (spec.access_text access.now)) }
-    ensures failed { flag.has_failed writer.new ≡ (flag.has_failed writer.old || is_err result) }
+    ensures failed { O.has_failed writer.new ≡ (O.has_failed writer.old || is_err result) }
 {
     write_pieces(
         writer,

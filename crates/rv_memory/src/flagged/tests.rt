@@ -104,14 +104,23 @@ fn refuses_to_read(rt: HostRuntime) -> Result<(), Fail> {
 /// A writer that takes at most `most` bytes a write, and whose write or flush numbered `fails_at`
 /// from 1 on fails.
 #[derive(Drop)]
-struct Sink {
-    taken: Vec<u8>,
+pub struct Sink {
+    pub taken: Vec<u8>,
     most: usize,
-    calls: u64,
+    pub calls: u64,
     fails_at: u64,
 }
 
 impl Sink {
+    pub fn new(alloc: Global, most: usize, fails_at: u64) -> Sink {
+        Sink {
+            taken: Vec::new(alloc),
+            most,
+            calls: 0,
+            fails_at,
+        }
+    }
+
     fn fails(&mut self) -> bool {
         self.calls = self.calls.saturating_add(1);
         self.calls == self.fails_at
@@ -137,12 +146,7 @@ impl Write for Sink {
 }
 
 fn taking(alloc: Global, most: usize, fails_at: u64) -> Flagged<Sink> {
-    Flagged::new(Sink {
-        taken: Vec::new(alloc),
-        most,
-        calls: 0,
-        fails_at,
-    })
+    Flagged::new(Sink::new(alloc, most, fails_at))
 }
 
 #[test]

@@ -1,6 +1,7 @@
 //! The engine of `hunt`: bytes in, a report and text out.
 ghost use Rattle.std.specs.Prelude.{◌≡◌, ◌≤◌, ◌||◌, false, is_err, IfOk, IfErr, IfSome, OnOk, length};
 ghost use Rattle.std.specs.Io.KnownBytes.{Appends, Keeps};
+ghost use Rattle.rv_memory.specs.Buffered as buffer;
 ghost use Rattle.rv_memory.specs.Flagged as flag;
 ghost use Rattle.rv_text.specs.Lines.{text_of_lines};
 ghost use Rattle.rvcollide.specs.Hunt as spec;
@@ -12,8 +13,10 @@ use crate::words::fault::WordsFault;
 use crate::words::guest::machine_of;
 use crate::words::input::read_input;
 use rv_hart::machine::Machine;
-use rv_memory::flagged::{Flagged, INPUT_LIMIT, WriteFault, flush, read_whole, write_whole};
+use rv_memory::buffered::Buffered;
+use rv_memory::flagged::{Flagged, INPUT_LIMIT, WriteFault, read_whole};
 use rv_memory::flat::Flat;
+use rv_memory::output::Output;
 use rv_text::decimal::Decimal;
 use std::alloc::Global;
 use std::io::{Read, Write};
@@ -44,30 +47,30 @@ fn hunt_input(alloc: Global, text: &[u8], pc: u32, pause: u32) -> Result<Outcome
     }
 }
 
-fn write_side<W: Write>(writer: &mut Flagged<W>, before: &[u8], h: u8) -> Result<(), WriteFault>
-    ensures ok { OnOk result (Appends (W.contents (flag.device writer.old)) (W.contents (flag.device writer.new))
+fn write_side<O: Output>(writer: &mut O, before: &[u8], h: u8) -> Result<(), WriteFault>
+    ensures ok { OnOk result (Appends (O.written writer.old) (O.written writer.new)
         (spec.side_text before.now h)) }
-    ensures failed { flag.has_failed writer.new ≡ (flag.has_failed writer.old || is_err result) }
+    ensures failed { O.has_failed writer.new ≡ (O.has_failed writer.old || is_err result) }
 {
-    write_whole(writer, before)?;
-    write_whole(writer, Decimal::new(u64::from(h)).as_bytes())?;
-    write_whole(writer, b" ")
+    writer.put(before)?;
+    writer.put(Decimal::new(u64::from(h)).as_bytes())?;
+    writer.put(b" ")
 }
 
 /// Writes the line of a report, if there is one.
-fn write_report<W: Write>(writer: &mut Flagged<W>, report: Option<Report>) -> Result<(), WriteFault>
-    ensures ok { OnOk result (Appends (W.contents (flag.device writer.old)) (W.contents (flag.device writer.new))
+fn write_report<O: Output>(writer: &mut O, report: Option<Report>) -> Result<(), WriteFault>
+    ensures ok { OnOk result (Appends (O.written writer.old) (O.written writer.new)
         (text_of_lines (spec.report_lines report))) }
-    ensures failed { flag.has_failed writer.new ≡ (flag.has_failed writer.old || is_err result) }
+    ensures failed { O.has_failed writer.new ≡ (O.has_failed writer.old || is_err result) }
 {
     let Some(report) = report else {
-        return write_whole(writer, b"");
+        return writer.put(b"");
     };
     write_side(writer, b"report hart ", report.hart)?;
     write_access(writer, &report.access)?;
     write_side(writer, b" hart ", report.other)?;
     write_access(writer, &report.made)?;
-    write_whole(writer, b"\n")?;
+    writer.put(b"\n")?;
     Ok(())
 }
 
@@ -76,23 +79,23 @@ fn write_report<W: Write>(writer: &mut Flagged<W>, report: Option<Report>) -> Re
 pub fn run_hunt<R: Read, W: Write>(
     alloc: Global,
     reader: &mut Flagged<R>,
-    writer: &mut Flagged<W>,
+    writer: &mut Buffered<W>,
     pc: u32,
     pause: u32,
 ) -> Result<(), WordsFault>
     ensures text { OnOk result (IfSome (R.remaining (flag.device reader.old)) (spec.WritesHunt
-        (Appends (W.contents (flag.device writer.old)) (W.contents (flag.device writer.new))))) }
+        (Appends (buffer.written W.contents writer.old) (buffer.sent W.contents writer.new)))) }
     ensures refused { IfErr result (λ fault. IfSome (R.remaining (flag.device reader.old)) (λ bytes.
         spec.IsHuntFault bytes fault)) }
     ensures nothing { IfErr result (λ fault. is_write fault ≡ false
-        → Keeps (W.contents (flag.device writer.old)) (W.contents (flag.device writer.new))) }
+        → Keeps (buffer.sent W.contents writer.old) (buffer.sent W.contents writer.new)) }
     ensures reader { flag.has_failed reader.new ≡ (flag.has_failed reader.old || fails_by is_read result) }
-    ensures writer { flag.has_failed writer.new ≡ (flag.has_failed writer.old || fails_by is_write result) }
+    ensures writer { buffer.has_failed writer.new ≡ (buffer.has_failed writer.old || fails_by is_write result) }
 {
     let text = read_whole(alloc, reader, INPUT_LIMIT)?;
     let outcome = hunt_input(alloc, &text, pc, pause)?;
     write_report(writer, outcome.report)?;
     write_state(writer, &outcome.machine)?;
-    flush(writer)?;
+    writer.finish()?;
     Ok(())
 }

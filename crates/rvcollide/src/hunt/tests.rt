@@ -1,8 +1,14 @@
+use crate::devices::{Endless, assert_tells_each_failing_call, assert_tells_each_failing_read};
 use crate::hunt::engine::run_hunt;
 use crate::words::fault::WordsFault;
-use crate::words::tests::Endless;
+use crate::words::tests::long_input;
 use rv_hart::machine::StepFault;
+use rv_memory::buffered::Buffered;
 use rv_memory::flagged::Flagged;
+use std::test::Fail;
+
+/// Two harts that store to one word.
+const RACE: &[u8] = b"harts 2\nsteps 0 1 0 1 0\n00020337\n00a32023\n00032283\n00000073\n";
 
 #[test]
 fn writes_a_report_and_harts(rt: HostRuntime) {
@@ -10,7 +16,7 @@ fn writes_a_report_and_harts(rt: HostRuntime) {
     for (name, input, pc, pause, text) in [
         (
             "two stores to one word",
-            b"harts 2\nsteps 0 1 0 1 0\n00020337\n00a32023\n00032283\n00000073\n".as_slice(),
+            RACE,
             0x10004,
             1,
             b"report hart 0 pc 00010004 store 00020000 4 hart 1 pc 00010004 store 00020000 4\n\
@@ -50,7 +56,7 @@ fn writes_a_report_and_harts(rt: HostRuntime) {
         ),
     ] {
         let mut reader = Flagged::new(input);
-        let mut writer = Flagged::new(Vec::new(alloc));
+        let mut writer = Buffered::new(alloc, Vec::new(alloc));
         let outcome = run_hunt(alloc, &mut reader, &mut writer, pc, pause);
         assert_eq!(rt; outcome, Ok(()), "{name}");
         assert_eq!(rt; writer.into_inner().as_slice(), text, "{name}");
@@ -79,7 +85,7 @@ fn refuses_as_words_does(rt: HostRuntime) {
         ),
     ] {
         let mut reader = Flagged::new(input);
-        let mut writer = Flagged::new(Vec::new(alloc));
+        let mut writer = Buffered::new(alloc, Vec::new(alloc));
         let outcome = run_hunt(alloc, &mut reader, &mut writer, 0x10004, 9);
         assert_eq!(rt; outcome, Err(fault));
         assert_eq!(rt; writer.into_inner().len(), 0);
@@ -89,9 +95,36 @@ fn refuses_as_words_does(rt: HostRuntime) {
 #[test]
 fn refuses_an_endless_input(rt: HostRuntime) {
     let mut reader = Flagged::new(Endless);
-    let mut writer = Flagged::new(Vec::new(rt.alloc()));
+    let mut writer = Buffered::new(rt.alloc(), Vec::new(rt.alloc()));
     let outcome = run_hunt(rt.alloc(), &mut reader, &mut writer, 0x10004, 1);
     assert_eq!(rt; outcome, Err(WordsFault::TooLong));
     assert!(rt; !reader.failed());
     assert_eq!(rt; writer.into_inner().len(), 0);
+}
+
+#[test]
+fn tells_a_reader_that_fails(rt: HostRuntime) {
+    let alloc = rt.alloc();
+    assert_tells_each_failing_read(&rt, RACE, |reader| {
+        let mut writer = Buffered::new(alloc, Vec::new(alloc));
+        run_hunt(alloc, reader, &mut writer, 0x10004, 1)
+    });
+}
+
+#[test]
+fn tells_a_writer_that_fails(rt: HostRuntime) -> Result<(), Fail> {
+    let alloc = rt.alloc();
+    let input = long_input(alloc)?;
+    for takes_none in [false, true] {
+        assert_tells_each_failing_call(&rt, alloc, takes_none, |writer| {
+            run_hunt(
+                alloc,
+                &mut Flagged::new(input.as_bytes()),
+                writer,
+                0x10004,
+                1,
+            )
+        });
+    }
+    Ok(())
 }

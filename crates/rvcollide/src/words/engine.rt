@@ -1,6 +1,7 @@
 //! The engine of `words`: bytes in, text out.
 ghost use Rattle.std.specs.Prelude.{◌≡◌, ◌≤◌, ◌+◌, ◌||◌, false, IfOk, IfErr, IfSome, OnOk, Ok, IsOkAnd, length};
 ghost use Rattle.std.specs.Io.KnownBytes.{Appends, Keeps};
+ghost use Rattle.rv_memory.specs.Buffered as buffer;
 ghost use Rattle.rv_memory.specs.Flagged as flag;
 ghost use Rattle.rvcollide.specs.Words as spec;
 ghost use Rattle.rvcollide.specs.WordsFault.{IsToldFault, fails_by, is_read, is_write};
@@ -11,7 +12,8 @@ use crate::words::fault::WordsFault;
 use crate::words::guest::{machine_of, step};
 use crate::words::input::read_input;
 use rv_hart::machine::Machine;
-use rv_memory::flagged::{Flagged, INPUT_LIMIT, flush, read_whole};
+use rv_memory::buffered::Buffered;
+use rv_memory::flagged::{Flagged, INPUT_LIMIT, read_whole};
 use rv_memory::flat::Flat;
 use std::alloc::Global;
 use std::io::{Read, Write};
@@ -73,20 +75,20 @@ fn read_machine<R: Read>(
 pub fn run_words<R: Read, W: Write>(
     alloc: Global,
     reader: &mut Flagged<R>,
-    writer: &mut Flagged<W>,
+    writer: &mut Buffered<W>,
 ) -> Result<(), WordsFault>
     ensures text { OnOk result (IfSome (R.remaining (flag.device reader.old)) (λ bytes.
         IsOkAnd (spec.words_text bytes)
-        (Appends (W.contents (flag.device writer.old)) (W.contents (flag.device writer.new))))) }
+        (Appends (buffer.written W.contents writer.old) (buffer.sent W.contents writer.new)))) }
     ensures refused { IfErr result (λ fault. IfSome (R.remaining (flag.device reader.old)) (λ bytes.
         IsToldFault (spec.words_text bytes) fault)) }
     ensures nothing { IfErr result (λ fault. is_write fault ≡ false
-        → Keeps (W.contents (flag.device writer.old)) (W.contents (flag.device writer.new))) }
+        → Keeps (buffer.sent W.contents writer.old) (buffer.sent W.contents writer.new)) }
     ensures reader { flag.has_failed reader.new ≡ (flag.has_failed reader.old || fails_by is_read result) }
-    ensures writer { flag.has_failed writer.new ≡ (flag.has_failed writer.old || fails_by is_write result) }
+    ensures writer { buffer.has_failed writer.new ≡ (buffer.has_failed writer.old || fails_by is_write result) }
 {
     let machine = read_machine(alloc, reader)?;
     write_state(writer, &machine)?;
-    flush(writer)?;
+    writer.finish()?;
     Ok(())
 }

@@ -1,16 +1,17 @@
+use crate::devices::{Endless, assert_tells_each_failing_call, assert_tells_each_failing_read};
 use crate::words::engine::run_words;
 use crate::words::fault::WordsFault;
 use rv_hart::machine::StepFault;
+use rv_memory::buffered::Buffered;
 use rv_memory::flagged::Flagged;
-use std::alloc::Global;
-use std::io::{self, ErrorKind, Read, Write};
+use std::alloc::{AllocError, Global};
 use std::process::Abort;
 use std::test::Fail;
 
 /// Asserts what `words` writes of an input.
 fn assert_writes(rt: &impl Abort, alloc: Global, input: &[u8], text: &[u8]) {
     let mut reader = Flagged::new(input);
-    let mut writer = Flagged::new(Vec::new(alloc));
+    let mut writer = Buffered::new(alloc, Vec::new(alloc));
     let outcome = run_words(alloc, &mut reader, &mut writer);
     assert_eq!(rt; outcome, Ok(()));
     assert!(rt; !reader.failed() && !writer.failed());
@@ -19,7 +20,7 @@ fn assert_writes(rt: &impl Abort, alloc: Global, input: &[u8], text: &[u8]) {
 
 /// The fault of an input, of which nothing is written.
 fn fault_of(rt: &impl Abort, alloc: Global, input: &[u8]) -> Option<WordsFault> {
-    let mut writer = Flagged::new(Vec::new(alloc));
+    let mut writer = Buffered::new(alloc, Vec::new(alloc));
     let fault = run_words(alloc, &mut Flagged::new(input), &mut writer).err();
     assert!(rt; !writer.failed());
     assert_eq!(rt; writer.into_inner().len(), 0);
@@ -128,135 +129,54 @@ fn tells_what_is_refused(rt: HostRuntime) {
     }
 }
 
-/// A reader of the text, whose read numbered `fails_at` from 1 on fails.
-#[derive(Drop)]
-struct Failing {
-    text: &'static [u8],
-    reads: u64,
-    fails_at: u64,
-}
-
-impl Read for Failing {
-    fn read(&mut self, buf: &mut [u8]) -> io::Result<usize> {
-        self.reads = self.reads.saturating_add(1);
-        if self.reads == self.fails_at {
-            return Err(io::Error::from(ErrorKind::Interrupted));
-        }
-        match self.text {
-            [byte, rest @ ..] if !buf.is_empty() => {
-                buf[0] = *byte;
-                self.text = rest;
-                Ok(1)
-            }
-            _ => Ok(0),
-        }
-    }
-}
-
-/// A reader that never ends.
-#[derive(Drop)]
-pub struct Endless;
-
-impl Read for Endless {
-    fn read(&mut self, buf: &mut [u8]) -> io::Result<usize> {
-        buf.fill(b'0');
-        Ok(buf.len())
-    }
-}
-
-/// A writer whose call numbered `fails_at` from 1 on fails, by an error or by taking nothing.
-#[derive(Drop)]
-struct Sink {
-    calls: u64,
-    fails_at: u64,
-    takes_none: bool,
-}
-
-impl Write for Sink {
-    fn write(&mut self, buf: &[u8]) -> io::Result<usize> {
-        self.calls = self.calls.saturating_add(1);
-        if self.calls != self.fails_at {
-            return Ok(buf.len());
-        }
-        if self.takes_none {
-            Ok(0)
-        } else {
-            Err(io::Error::from(ErrorKind::Interrupted))
-        }
-    }
-
-    fn flush(&mut self) -> io::Result<()> {
-        self.calls = self.calls.saturating_add(1);
-        if self.calls == self.fails_at {
-            return Err(io::Error::from(ErrorKind::Interrupted));
-        }
-        Ok(())
-    }
-}
-
 const ROW: &[u8] = b"harts 1\nsteps 0\n00500093\n";
+
+/// An input whose text is longer than what a writer gathers: each of 16 harts sets its registers x12 to x31.
+pub fn long_input(alloc: Global) -> Result<String, AllocError> {
+    let mut input = String::from_str(alloc, "harts 16\nsteps")?;
+    for _ in 0..20 {
+        for h in 0..16 {
+            input.push_str(format!(in alloc; " {h}")?.as_str())?;
+        }
+    }
+    for r in 12..32 {
+        // addi xr, x0, 1
+        let word: u32 = 0x0010_0013 + (r << 7);
+        input.push_str(format!(in alloc; "\n{word:08x}")?.as_str())?;
+    }
+    Ok(input)
+}
 
 #[test]
 fn tells_a_reader_that_fails(rt: HostRuntime) {
     let alloc = rt.alloc();
-    for fails_at in 1..27 {
-        let mut reader = Flagged::new(Failing {
-            text: ROW,
-            reads: 0,
-            fails_at,
+    assert_tells_each_failing_read(&rt, ROW, |reader| {
+        let mut writer = Buffered::new(alloc, Vec::new(alloc));
+        run_words(alloc, reader, &mut writer)
+    });
+}
+
+#[test]
+fn tells_a_writer_that_fails(rt: HostRuntime) -> Result<(), Fail> {
+    let alloc = rt.alloc();
+    let input = long_input(alloc)?;
+    for takes_none in [false, true] {
+        assert_tells_each_failing_call(&rt, alloc, takes_none, |writer| {
+            run_words(alloc, &mut Flagged::new(input.as_bytes()), writer)
         });
-        let mut writer = Flagged::new(Vec::new(alloc));
-        let outcome = run_words(alloc, &mut reader, &mut writer);
-        assert_eq!(rt; outcome, Err(WordsFault::Read), "at read {fails_at}");
-        assert!(rt; reader.failed(), "at read {fails_at}");
-        assert_eq!(rt; writer.into_inner().len(), 0);
     }
+    Ok(())
 }
 
 #[test]
 fn refuses_an_endless_input(rt: HostRuntime) {
+    let alloc = rt.alloc();
     let mut reader = Flagged::new(Endless);
-    let mut writer = Flagged::new(Vec::new(rt.alloc()));
-    let outcome = run_words(rt.alloc(), &mut reader, &mut writer);
+    let mut writer = Buffered::new(alloc, Vec::new(alloc));
+    let outcome = run_words(alloc, &mut reader, &mut writer);
     assert_eq!(rt; outcome, Err(WordsFault::TooLong));
     assert!(rt; !reader.failed());
     assert_eq!(rt; writer.into_inner().len(), 0);
-}
-
-/// How the engine ends with a writer that fails so.
-fn outcome_of(
-    rt: &impl Abort,
-    alloc: Global,
-    fails_at: u64,
-    takes_none: bool,
-) -> Option<WordsFault> {
-    let mut writer = Flagged::new(Sink {
-        calls: 0,
-        fails_at,
-        takes_none,
-    });
-    let fault = run_words(alloc, &mut Flagged::new(ROW), &mut writer).err();
-    assert!(rt; writer.failed() == fault.is_some(), "at call {fails_at}");
-    fault
-}
-
-#[test]
-fn tells_a_writer_that_fails(rt: HostRuntime) {
-    let alloc = rt.alloc();
-    let mut calls = 0;
-    for fails_at in 1..100 {
-        if outcome_of(&rt, alloc, fails_at, false).is_none() {
-            break;
-        }
-        calls = fails_at;
-        let fault = outcome_of(&rt, alloc, fails_at, false);
-        assert_eq!(rt; fault, Some(WordsFault::Write), "at call {fails_at}");
-    }
-    assert!(rt; calls > 10, "many writes and a flush");
-    for fails_at in 1..calls {
-        let fault = outcome_of(&rt, alloc, fails_at, true);
-        assert_eq!(rt; fault, Some(WordsFault::Write), "at call {fails_at}");
-    }
 }
 
 #[test]

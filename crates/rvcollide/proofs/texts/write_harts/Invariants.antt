@@ -1,7 +1,6 @@
 -- the lines so far are written, and the writer has failed no more than before
 use Rattle.std.proofs.Common.{◌≡◌, take}
 use Rattle.std.specs.Io.KnownBytes.{Appends}
-use Rattle.rv_memory.specs.Flagged.{device, has_failed}
 use Rattle.rv_text.specs.Lines.{text_of_lines}
 use Rattle.rvcollide.specs.Texts.{hart_lines}
 use Rattle.rvcollide.proofs.texts.write_harts.Given as goal
@@ -9,6 +8,6 @@ use Rattle.rvcollide.proofs.texts.write_harts.Given as goal
 abbrev pub invariant-loop-h : goal.invariant-loop-h
 invariant-loop-h g l =
     record {
-      written : Appends (g.W.Write.contents (device l.initial.writer)) (g.W.Write.contents (device l.writer)) (text_of_lines (hart_lines 0 (take l.h l.machine.state.harts)));
-      failed : has_failed l.writer ≡ has_failed l.initial.writer;
+      written : Appends (g.O.Output.written l.initial.writer) (g.O.Output.written l.writer) (text_of_lines (hart_lines 0 (take l.h l.machine.state.harts)));
+      failed : g.O.Output.has_failed l.writer ≡ g.O.Output.has_failed l.initial.writer;
     }

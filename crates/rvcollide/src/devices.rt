@@ -1,0 +1,146 @@
+//! Readers and writers that fail, and what each engine owes them.
+use crate::words::fault::WordsFault;
+use rv_memory::buffered::Buffered;
+use rv_memory::flagged::Flagged;
+use std::alloc::Global;
+use std::io::{self, ErrorKind, Read, Write};
+use std::process::Abort;
+
+/// A reader of the text, a byte a read, whose read numbered `fails_at` from 1 on fails.
+#[derive(Drop)]
+pub struct Failing<'t> {
+    text: &'t [u8],
+    reads: u64,
+    fails_at: u64,
+}
+
+impl Read for Failing<'_> {
+    fn read(&mut self, buf: &mut [u8]) -> io::Result<usize> {
+        self.reads = self.reads.saturating_add(1);
+        if self.reads == self.fails_at {
+            return Err(io::Error::from(ErrorKind::Interrupted));
+        }
+        match self.text {
+            [byte, rest @ ..] if !buf.is_empty() => {
+                buf[0] = *byte;
+                self.text = rest;
+                Ok(1)
+            }
+            _ => Ok(0),
+        }
+    }
+}
+
+/// A reader that never ends.
+#[derive(Drop)]
+pub struct Endless;
+
+impl Read for Endless {
+    fn read(&mut self, buf: &mut [u8]) -> io::Result<usize> {
+        buf.fill(b'0');
+        Ok(buf.len())
+    }
+}
+
+/// A writer whose call numbered `fails_at` from 1 on fails: a flush by an error, a write by an error or by
+/// taking nothing.
+#[derive(Drop)]
+pub struct Sink {
+    calls: u64,
+    fails_at: u64,
+    takes_none: bool,
+    /// The call that failed was a flush.
+    flush_failed: bool,
+}
+
+impl Write for Sink {
+    fn write(&mut self, buf: &[u8]) -> io::Result<usize> {
+        self.calls = self.calls.saturating_add(1);
+        if self.calls != self.fails_at {
+            return Ok(buf.len());
+        }
+        if self.takes_none {
+            Ok(0)
+        } else {
+            Err(io::Error::from(ErrorKind::Interrupted))
+        }
+    }
+
+    fn flush(&mut self) -> io::Result<()> {
+        self.calls = self.calls.saturating_add(1);
+        if self.calls == self.fails_at {
+            self.flush_failed = true;
+            return Err(io::Error::from(ErrorKind::Interrupted));
+        }
+        Ok(())
+    }
+}
+
+fn failing_at(alloc: Global, fails_at: u64, takes_none: bool) -> Buffered<Sink> {
+    Buffered::new(
+        alloc,
+        Sink {
+            calls: 0,
+            fails_at,
+            takes_none,
+            flush_failed: false,
+        },
+    )
+}
+
+/// Asserts that an engine tells each failure of its writer: at each of its calls in turn, the last of which
+/// is a flush. It calls no failed writer again, and tells no failure where there was none.
+pub fn assert_tells_each_failing_call<F: Fn(&mut Buffered<Sink>) -> Result<(), WordsFault>>(
+    rt: &impl Abort,
+    alloc: Global,
+    takes_none: bool,
+    engine: F,
+)
+    requires { F.IsAlwaysCallable engine }
+{
+    let mut flush_failed = false;
+    for fails_at in 1..100 {
+        let mut writer = failing_at(alloc, fails_at, takes_none);
+        let outcome = engine(&mut writer);
+        assert!(rt; writer.failed() == outcome.is_err(), "at call {fails_at}");
+        let device = writer.into_inner();
+        if outcome.is_ok() {
+            assert!(rt; device.calls < fails_at, "each call was made to fail");
+            assert!(rt; fails_at > 3, "two writes and a flush");
+            assert!(rt; flush_failed, "the last call is a flush");
+            return;
+        }
+        assert_eq!(rt; outcome, Err(WordsFault::Write), "at call {fails_at}");
+        assert_eq!(rt; device.calls, fails_at, "the failed call was the last");
+        flush_failed = device.flush_failed;
+    }
+    assert!(rt; false, "some writer does not fail");
+}
+
+/// Asserts that an engine tells each failure of its reader: at each of its reads in turn, the last of which
+/// is the one at the end. It tells no failure where there was none.
+pub fn assert_tells_each_failing_read<F: Fn(&mut Flagged<Failing<'_>>) -> Result<(), WordsFault>>(
+    rt: &impl Abort,
+    text: &[u8],
+    engine: F,
+)
+    requires { F.IsAlwaysCallable engine }
+{
+    for fails_at in 1..1000 {
+        let mut reader = Flagged::new(Failing {
+            text,
+            reads: 0,
+            fails_at,
+        });
+        let outcome = engine(&mut reader);
+        assert!(rt; reader.failed() == outcome.is_err(), "at read {fails_at}");
+        let device = reader.into_inner();
+        if outcome.is_ok() {
+            assert!(rt; device.reads < fails_at, "each read was made to fail");
+            return;
+        }
+        assert_eq!(rt; outcome, Err(WordsFault::Read), "at read {fails_at}");
+        assert_eq!(rt; device.reads, fails_at, "the failed read was the last");
+    }
+    assert!(rt; false, "some reader does not fail");
+}
