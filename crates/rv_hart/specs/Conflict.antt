@@ -1,4 +1,4 @@
-use Rattle.std.specs.Prelude.{ℕ, ◌+◌, ◌<◌, ◌≤◌, Bool, ◌&&◌, ◌||◌, nat_lt, IsTrue}
+use Rattle.std.specs.Prelude.{ℕ, ◌+◌, ◌<◌, ◌≤◌, Bool, ◌&&◌, ◌||◌, nat_lt, min, max, IsTrue}
 use Rattle.rv_hart.specs.declared.access.Access.{Access}
 
 -- one past the access's last byte: a number up to 2 ^ 32, which does not wrap
@@ -6,18 +6,24 @@ abbrev pub end_of : Access → ℕ
 end_of a = a.first + a.size
 
 -- the address is one of the access's bytes
-abbrev pub Touches : Access → ℕ → Type 0
-Touches a address = (a.first ≤ address) × (address < end_of a)
+pub record Touches (a : Access) (address : ℕ) : Type 0 where
+  pub from : a.first ≤ address
+  pub before : address < end_of a
 
--- the byte ranges meet
+-- a byte of both accesses
+pub record Shared (a b : Access) : Type 0 where
+  pub address : ℕ
+  pub of_one : Touches a address
+  pub of_other : Touches b address
+
+-- Two accesses conflict: they share a byte, and one of the two writes. (This project's own.)
+pub record Conflict (a b : Access) : Type 0 where
+  pub shared : Shared a b
+  pub writes : IsTrue (a.write || b.write)
+
+-- the same by their ends: both have begun before either ends
 abbrev pub meets : Access → Access → Bool
-meets a b = nat_lt a.first (end_of b) && nat_lt b.first (end_of a)
+meets a b = nat_lt (max a.first b.first) (min (end_of a) (end_of b))
 
 abbrev pub conflicts : Access → Access → Bool
 conflicts a b = meets a b && (a.write || b.write)
-
--- Two accesses conflict: their byte ranges meet, and one of the two writes. (This project's own.)
-pub record Conflict (a b : Access) : Type 0 where
-  pub before_end : a.first < end_of b
-  pub after_start : b.first < end_of a
-  pub writes : IsTrue (a.write || b.write)

@@ -25,15 +25,16 @@ pub enum Event {
 impl Access {
     ghost use Rattle.rv_hart.specs.Conflict.{conflicts, Conflict};
 
-    /// Whether the two accesses conflict: their bytes overlap and at least one of them writes. (This
-    /// project's own definition; accesses of LR, SC and AMO count as others do.)
+    /// Whether the two accesses conflict: some address is a byte of both, and at least one of them writes.
+    /// (This project's own definition; accesses of LR, SC and AMO count as others do. An access of no bytes
+    /// conflicts with nothing.)
     pub fn conflicts(&self, other: &Access) -> bool
         ensures value { result ≡ conflicts self.now other.now }
         ensures meaning { IsTrue result ↔ Conflict self.now other.now }
     {
         let end = u64::from(self.first) + u64::from(self.size);
         let other_end = u64::from(other.first) + u64::from(other.size);
-        let meet = u64::from(self.first) < other_end && u64::from(other.first) < end;
+        let meet = u64::from(self.first.max(other.first)) < end.min(other_end);
         meet && (self.write || other.write)
     }
 }

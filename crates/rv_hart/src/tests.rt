@@ -14,6 +14,7 @@ use std::test::Fail;
 
 mod atomics;
 mod causes;
+mod edges;
 mod operations;
 
 /// Words as a region from an address on.
