@@ -4,9 +4,6 @@ ghost use Rattle.std.specs.Prelude.{◌≡◌, ◌<◌, ◌≤◌, [], ◌∷◌
 use crate::layout::ProgramHeader;
 use std::marker::Model;
 
-/// The most program headers that a file may have.
-pub const MOST: usize = 64;
-
 const NONE: ProgramHeader = ProgramHeader {
     p_type: 0,
     p_offset: 0,

@@ -9,6 +9,7 @@ mod fault;
 mod header;
 mod headers;
 mod image;
+pub mod laws;
 mod layout;
 mod loading;
 mod names;
@@ -24,7 +25,7 @@ pub use fault::LoadFault;
 pub use image::Image;
 pub use loading::load;
 pub use symbol::Symbol;
-pub use writing::{loads_again, write};
+pub use writing::write;
 
 #[cfg(test)]
 mod tests;

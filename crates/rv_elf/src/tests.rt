@@ -5,7 +5,7 @@ use std::test::Fail;
 
 mod samples;
 
-use samples::{LINKED, PLAIN};
+use samples::{LINKED, NAMED, PLAIN};
 
 /// The file with other bytes from `at` on.
 fn patched(alloc: Global, file: &[u8], at: usize, new: &[u8]) -> Result<Vec<u8>, Fail> {
@@ -297,6 +297,35 @@ fn symbol(alloc: Global, name: &str, kind: u8) -> Result<Symbol, Fail> {
         size: 8,
         kind,
     })
+}
+
+/// What is written for an image with symbols, byte for byte.
+#[test]
+fn written_file(rt: HostRuntime) -> Result<(), Fail> {
+    let alloc = rt.alloc();
+    let mut segments = Vec::new(alloc);
+    segments.push(region(alloc, 0x10000, &[0x93, 0x00, 0x50, 0x00], 4)?)?;
+    let mut counter = region(alloc, 0x20000, &[0x2a], 8)?;
+    counter.w = true;
+    counter.x = false;
+    segments.push(counter)?;
+    let mut symbols = Vec::new(alloc);
+    for (name, value, size, kind) in [("main", 0x10000, 4, 2), ("x", 0x20000, 8, 1)] {
+        let name = String::from_str(alloc, name)?;
+        symbols.push(Symbol {
+            name,
+            value,
+            size,
+            kind,
+        })?;
+    }
+    let image = Image::new(0x10000, segments, symbols);
+    assert!(rt; image.is_some());
+    if let Some(image) = image {
+        let written = write(alloc, &image)?;
+        assert_eq!(rt; written.as_slice(), NAMED.as_slice());
+    }
+    Ok(())
 }
 
 #[test]

@@ -2,7 +2,6 @@
 ghost use Rattle.std.specs.Prelude.{◌≡◌, ◌+◌, ◌*◌, ◌≤◌, ◌^◌, ◌<◌, ◌++◌, length, IfOk, OnOk, Ok};
 ghost use Rattle.std.specs.List.{All, flat_map, sum_by};
 ghost use Rattle.rv_elf.specs.Contents.{AreSegments, AreSymbols};
-ghost use Rattle.rv_elf.specs.Laws.{LoadsAgain};
 ghost use Rattle.rv_elf.specs.Loaded.{loaded};
 ghost use Rattle.rv_elf.specs.Written as spec;
 
@@ -322,8 +321,3 @@ pub fn write(alloc: Global, image: &Image) -> Result<Vec<u8>, NoMemory>
 {
     write_parts(alloc, image.entry(), image.segments(), image.symbols())
 }
-
-/// The file of every image loads as the image.
-pub fn loads_again()
-    ensures { LoadsAgain }
-{}
