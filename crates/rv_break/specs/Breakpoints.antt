@@ -1,0 +1,14 @@
+use Rattle.std.specs.FinSet.{FinSet, empty}
+use Rattle.std.specs.Ordering.{nat_cmp}
+use Rattle.std.specs.Prelude.{None, replicate}
+use Rattle.rv_break.specs.Slots.{Slots}
+use Rattle.rv_break.specs.declared.claim.TheConstants.{SLOTS}
+
+-- The code breakpoints, a set of addresses, and the data breakpoints.
+pub record Breaks : Type 0 where
+  pub armed : FinSet nat_cmp
+  pub slots : Slots
+
+-- none is armed, and none claimed
+abbrev pub no_breaks : Breaks
+no_breaks = record { armed = empty; slots = replicate SLOTS None }

@@ -1,0 +1,4 @@
+pub mod Breakpoints
+pub mod Slots
+pub mod SlotsLaw
+pub mod internal

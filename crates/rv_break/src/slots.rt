@@ -1,0 +1,127 @@
+//! The data breakpoints.
+ghost use Rattle.std.specs.Prelude.{◌≡◌, ◌<◌, IfOk, IfSome, IfNone, IsTrue, ◌↔◌, Some, None, replicate, slice_set, slice_get, map, option_map, is_none, position};
+ghost use Rattle.rv_break.specs.Slots as spec;
+
+use crate::claim::{Claim, SLOTS, Seen};
+use rv_hart::access::Access;
+use rv_memory::store::NoMemory;
+use std::alloc::Global;
+use std::marker::Model;
+
+/// The data breakpoints by number, each claimed or free.
+#[derive(Drop)]
+pub struct Slots {
+    claims: Vec<Option<Claim>>,
+}
+
+impl Model for Slots {
+    ghost use Rattle.std.specs.Prelude.{◌≡◌, length};
+    ghost use Rattle.rv_break.specs.declared.claim.TheConstants.{SLOTS};
+    ghost use Rattle.rv_break.specs.Slots as spec;
+
+    ghost Value = { spec.Slots };
+
+    ghost view = { λ s. s.claims.items };
+
+    ghost invariant = { λ s. length s.claims.items ≡ SLOTS };
+}
+
+impl Slots {
+    /// All of them, free.
+    pub fn new(alloc: Global) -> Result<Slots, NoMemory>
+        ensures { IfOk result (λ slots. slots ≡ replicate SLOTS None) }
+    {
+        Ok(Slots {
+            claims: vec![in alloc; None; SLOTS as usize]?,
+        })
+    }
+
+    /// Claims the free one with the least number, if there is one.
+    pub fn claim(&mut self, hart: u8, access: Access) -> Option<u8>
+        ensures slot { result ≡ spec.free_slot self.old }
+        ensures within { IfSome result (λ slot. slot < SLOTS) }
+        ensures claimed { IfSome result (λ slot. self.new
+            ≡ slice_set self.old slot (Some (record { hart = hart; access = access; seen = None }))) }
+        ensures none { IfNone result (self.new ≡ self.old) }
+    {
+        let slot = free_slot(&self.claims)?;
+        self.claims[slot] = Some(Claim {
+            hart,
+            access,
+            seen: None,
+        });
+        Some(slot as u8)
+    }
+
+    /// Shows each claim an access.
+    pub fn see(&mut self, seen: Seen)
+        ensures { self.new ≡ spec.slots_after seen self.old }
+    {
+        show(&mut self.claims, seen);
+    }
+
+    /// Whether one is claimed.
+    pub fn is_claimed(&self, slot: u8) -> bool
+        ensures { IsTrue result ↔ spec.IsClaimed self.now slot }
+    {
+        let slot = slot as usize;
+        slot < self.claims.len() && self.claims[slot].is_some()
+    }
+
+    /// Frees a claimed one and tells what it has seen.
+    pub fn release(&mut self, slot: u8) -> Option<Seen>
+        requires { spec.IsClaimed self.old slot }
+        ensures seen { result ≡ spec.seen_at self.old slot }
+        ensures freed { self.new ≡ slice_set self.old slot None }
+    {
+        let slot = slot as usize;
+        let seen = seen_by(self.claims[slot]);
+        self.claims[slot] = None;
+        seen
+    }
+}
+
+fn free_slot(claims: &[Option<Claim>]) -> Option<usize>
+    ensures { result ≡ spec.free_slot claims.now }
+{
+    claims.iter().position(|held| held.is_none())
+}
+
+fn show(claims: &mut [Option<Claim>], seen: Seen)
+    ensures { claims.new ≡ spec.slots_after seen claims.old }
+{
+    for held in claims.iter_mut() {
+        *held = held_after(*held, seen);
+    }
+}
+
+fn held_after(held: Option<Claim>, seen: Seen) -> Option<Claim>
+    ensures { result ≡ option_map (spec.claim_after seen) held }
+{
+    match held {
+        None => None,
+        Some(claim) => Some(claim_after(claim, seen)),
+    }
+}
+
+fn claim_after(claim: Claim, seen: Seen) -> Claim
+    ensures { result ≡ spec.claim_after seen claim }
+{
+    if claim.seen.is_none() && claim.hart != seen.hart && claim.access.conflicts(&seen.access) {
+        Claim {
+            seen: Some(seen),
+            ..claim
+        }
+    } else {
+        claim
+    }
+}
+
+fn seen_by(held: Option<Claim>) -> Option<Seen>
+    ensures { result ≡ spec.seen_by held }
+{
+    match held {
+        None => None,
+        Some(claim) => claim.seen,
+    }
+}
