@@ -8,4 +8,5 @@ pub mod ReservationLemmas
 pub mod StartLemmas
 pub mod LawLemmas
 pub mod StepLemmas
+pub mod TextLemmas
 pub mod WordsLemmas

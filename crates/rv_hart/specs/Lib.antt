@@ -10,5 +10,6 @@ pub mod SomeHart
 pub mod State
 pub mod Step
 pub mod StepLaws
+pub mod Texts
 pub mod Words
 pub mod internal

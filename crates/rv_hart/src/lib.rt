@@ -14,4 +14,5 @@ pub mod machine;
 mod start;
 #[cfg(test)]
 mod tests;
+pub mod texts;
 pub mod write;

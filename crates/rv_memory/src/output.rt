@@ -1,5 +1,6 @@
 ghost use Rattle.std.specs.Prelude.{◌≡◌, ◌||◌, is_err, OnOk};
 ghost use Rattle.std.specs.Io.KnownBytes.{Appends};
+ghost use Rattle.std.specs.List.{flat_map};
 
 use crate::flagged::{Flagged, WriteFault, write_whole};
 use std::io::Write;
@@ -32,4 +33,16 @@ impl<W: Write> Output for Flagged<W> {
     fn put(&mut self, bytes: &[u8]) -> Result<(), WriteFault> {
         write_whole(self, bytes)
     }
+}
+
+/// Puts the pieces, one after another.
+pub fn put_pieces<O: Output>(writer: &mut O, pieces: &[&[u8]]) -> Result<(), WriteFault>
+    ensures ok { OnOk result (Appends (O.written writer.old) (O.written writer.new)
+        (flat_map (λ piece. piece.now) pieces.now)) }
+    ensures failed { O.has_failed writer.new ≡ (O.has_failed writer.old || is_err result) }
+{
+    for piece in pieces {
+        writer.put(piece)?;
+    }
+    Ok(())
 }

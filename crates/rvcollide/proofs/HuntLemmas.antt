@@ -13,7 +13,7 @@ use Rattle.rv_hart.specs.Step.{step_of}
 use Rattle.rv_hart.specs.declared.access.Access.{Access}
 use Rattle.rv_hart.specs.declared.access.Event.{Event}
 use Rattle.rv_text.specs.Lines.{text_of_lines}
-use Rattle.rvcollide.specs.Texts.{access_text, state_text}
+use Rattle.rv_hart.specs.Texts.{access_text, state_text}
 use Rattle.rvcollide.specs.Hunt.{side_text, report_lines, Hunts, WritesHunt, AtPlace, WouldAccess, DidAccess, IsReport, IsPaused, IsHunt, pause_after, report_in, first_report, watch_after}
 use Rattle.rvcollide.specs.declared.hunt.Pause.{Pause}
 use Rattle.rvcollide.specs.declared.hunt.Pause.TheVariants.{Awaited, Open, Over}

@@ -9,4 +9,3 @@ pub mod ReadsLine
 pub mod RunLemmas
 pub mod StepLemmas
 pub mod WordLemmas
-pub mod Written

@@ -24,7 +24,7 @@ pause_of text = from 1 (up_to 65535 (number_of 10 text))
 
 -- a pause of this length at this address
 abbrev pub at_place : Option ℕ → Option ℕ → Option Job
-at_place pc pause = option_and_then (λ address. option_map (λ length. Hunt address length) pause) pc
+at_place pc pause = option_and_then (λ address. option_map (λ length. Hunt (record { 0 = address }) (record { 0 = length })) pause) pc
 
 -- the words after a command's name, without a first `--`, which only says that no option follows
 abbrev pub arguments : List (List ℕ) → List (List ℕ)
@@ -57,5 +57,5 @@ job_of _ = None
 abbrev pub IsGiven : List (List ℕ) → Job → Type 0
 IsGiven words Words = slice_get words 1 ≡ Some (codes "words")
 IsGiven words (Hunt pc pause) = (slice_get words 1 ≡ Some (codes "hunt"))
-    × Any (λ word. word_of word ≡ Some pc) (drop 2 words) × Any (λ word. pause_of word ≡ Some pause) (drop 2 words)
-    × (1 ≤ pause) × (pause ≤ 65535)
+    × Any (λ word. word_of word ≡ Some pc.0) (drop 2 words) × Any (λ word. pause_of word ≡ Some pause.0) (drop 2 words)
+    × (1 ≤ pause.0) × (pause.0 ≤ 65535)

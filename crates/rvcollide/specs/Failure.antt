@@ -1,18 +1,31 @@
-use Rattle.std.specs.Prelude.{ℕ}
+use Rattle.std.specs.Prelude.{ℕ, Bool, true, false, List, [], codes}
 use Rattle.std.specs.declared.io.ErrorKind.{ErrorKind}
 use Rattle.std.specs.declared.io.ErrorKind.TheVariants as kind
-use Rattle.rvcollide.specs.FaultText.{status}
+use Rattle.rvcollide.specs.FaultText.{fault_text, status}
 use Rattle.rvcollide.specs.declared.command.LineFault.{LineFault}
 use Rattle.rvcollide.specs.declared.command.LineFault.TheVariants as fault
 use Rattle.rvcollide.specs.declared.failure.Failure.{Failure}
-use Rattle.rvcollide.specs.declared.failure.Failure.TheVariants.{Line, Told}
+use Rattle.rvcollide.specs.declared.failure.Failure.TheVariants.{Line, NotText, Told}
 use Rattle.rvcollide.specs.declared.words.fault.WordsFault.{WordsFault}
 use Rattle.rvcollide.specs.declared.words.fault.WordsFault.TheVariants.{NoMemory, Write}
 
 -- the exit status: 2 for a refused command line, and else the fault's
 abbrev pub status_of : Failure → ℕ
 status_of Line = 2
+status_of NotText = 2
 status_of (Told fault) = status fault
+
+-- what is wrong was told already
+abbrev pub is_told : Failure → Bool
+is_told Line = true
+is_told NotText = false
+is_told (Told fault) = false
+
+-- what the program still tells of it, after its own name
+abbrev pub failure_text : Failure → List ℕ
+failure_text Line = []
+failure_text NotText = codes "an argument is not UTF-8"
+failure_text (Told fault) = fault_text fault
 
 abbrev pub told : WordsFault → Failure
 told fault = Told fault
@@ -24,9 +37,9 @@ abbrev pub failure_of_line : LineFault → Failure
 failure_of_line fault.Line = Line
 failure_of_line fault.NoMemory = Told NoMemory
 
--- what the system answered to the program: that memory is out, that an argument is no text, or that the
--- standard output failed
+-- what the system answered to the program: that memory is out, that an argument is not UTF-8, or that
+-- the standard output failed
 abbrev pub failure_of_kind : ErrorKind → Failure
 failure_of_kind kind.OutOfMemory = Told NoMemory
-failure_of_kind kind.InvalidData = Line
+failure_of_kind kind.InvalidData = NotText
 failure_of_kind _ = Told Write

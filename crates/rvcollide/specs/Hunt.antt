@@ -1,7 +1,7 @@
 use Rattle.std.specs.Prelude.{◌≡◌, ◌≢◌, ℕ, Bool, false, ◌-◌, ◌≤◌, ◌==◌, ◌&&◌, not, nat_le, if◌then◌else◌, Option, Some, None, List, length, take, slice_get, IfSome, IsSomeAnd, IsOkAnd, Err, ⊤, [], ◌∷◌, ◌++◌, codes}
 use Rattle.std.specs.Fmt.{decimal}
 use Rattle.rv_text.specs.Lines.{text_of_lines}
-use Rattle.rvcollide.specs.Texts.{access_text, state_text}
+use Rattle.rv_hart.specs.Texts.{access_text, state_text}
 use Rattle.rvcollide.specs.Words.{start_of, told_input, refusal}
 use Rattle.rvcollide.specs.declared.words.fault.WordsFault.{WordsFault}
 use Rattle.rvcollide.specs.declared.words.fault.WordsFault.TheVariants.{Line, Step, TooLong, Read, Write, NoMemory}

@@ -3,11 +3,11 @@ pub mod Failure
 pub mod FaultText
 pub mod HartsLine
 pub mod Hunt
+pub mod Malformed
 pub mod Prefix
 pub mod Reading
 pub mod StepsLaw
 pub mod StepsLine
-pub mod Texts
 pub mod Words
 pub mod WordsFault
 pub mod WordsInput

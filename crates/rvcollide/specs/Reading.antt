@@ -1,6 +1,7 @@
 use Rattle.std.specs.Prelude.{Bool, true, false, not, ◌&&◌, List, [], ◌∷◌, Option, Some, None, option_and_then, codes, if◌then◌else◌}
 use Rattle.std.specs.List.{list_all, list_any}
 use Rattle.std.specs.Str.{bytes_eq}
+use Rattle.std.specs.String.{string_bytes}
 use Rattle.clap.specs.Words.{App, Row, Rule, Shape, Text, first_of, new_app, new_rule, subcommand_of, with_subcommand}
 use Rattle.clap.specs.Walk.{is_empty}
 use Rattle.clap.specs.Simple.{new_shape, on_top}
@@ -69,6 +70,10 @@ asks words = list_any is_request (fault_of program words)
 -- it is nothing else
 abbrev pub only_asks : List Text → Bool
 only_asks words = not (is_accepted words) && list_all is_request (fault_of program words)
+
+abbrev pub text_of : Notice → Text
+text_of (Answer text) = string_bytes text
+text_of (Refusal text) = string_bytes text
 
 -- the text goes to the standard output
 abbrev pub is_answer : Notice → Bool

@@ -8,7 +8,7 @@ use Rattle.rv_hart.specs.Step.{step_of}
 use Rattle.rv_hart.specs.declared.machine.StepFault.{StepFault}
 use Rattle.rv_hart.specs.declared.machine.StepFault.TheVariants as refused
 use Rattle.rv_memory.specs.declared.flagged.TheConstants.{INPUT_LIMIT}
-use Rattle.rvcollide.specs.Texts.{state_text}
+use Rattle.rv_hart.specs.Texts.{state_text}
 use Rattle.rvcollide.specs.WordsInput.{WordsInput, input_of}
 use Rattle.rvcollide.specs.declared.words.fault.WordsFault.{WordsFault}
 use Rattle.rvcollide.specs.declared.words.fault.WordsFault.TheVariants.{Line, Step, TooLong}

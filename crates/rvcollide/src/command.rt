@@ -1,16 +1,20 @@
 //! The command line: which job its words ask for. `clap` reads the words, and this module says which
 //! commands there are, and reads the numbers.
-ghost use Rattle.std.specs.Prelude.{◌≡◌, ◌⊎◌, ◌≢◌, IfErr, IfOk, MatchResult, Some, None, true, false, option_and_then, option_map};
+ghost use Rattle.std.specs.Prelude.{◌≡◌, ◌⊎◌, ◌≢◌, IfErr, IfOk, IfSome, MatchResult, Some, None, true, false, option_and_then, option_map};
+ghost use Rattle.std.specs.String.{string_bytes};
 ghost use Rattle.clap.specs.Faults.{fault_of};
 ghost use Rattle.clap.specs.Kinds.{FailsBy};
 ghost use Rattle.clap.specs.Matches.{found_of};
-ghost use Rattle.clap.specs.Simple.{app_of, shape_of, subcommand_rows_of};
+ghost use Rattle.clap.specs.Simple.{app_of, shape_of, subcommand_of, subcommand_rows_of};
 ghost use Rattle.clap.specs.Values.{kind_of};
 ghost use Rattle.clap.specs.Walk.{first_of, rows_of, rule_of};
 ghost use Rattle.clap.specs.declared.builder.command.Command.TheViews.{out-Command as fields_of};
 ghost use Rattle.rvcollide.specs.Command as spec;
+ghost use Rattle.rvcollide.specs.Malformed as malformed;
 ghost use Rattle.rvcollide.specs.Reading as reading;
 
+use crate::arguments::{Address, PauseLength};
+use crate::malformed::malformed_in;
 use clap::error::ErrorKind;
 use clap::{Arg, ArgMatches, Command, Error};
 use rv_text::hexadecimal::read_word;
@@ -23,14 +27,14 @@ use std::fmt::Display;
 pub enum Job {
     /// `words`: run the words of the standard input.
     Words,
-    /// `hunt PC PAUSE`: the same, with one pause of `pause` steps (1 to 65,535) before an access at `pc`.
-    Hunt { pc: u32, pause: u32 },
+    /// `hunt PC PAUSE`: the same, with one pause before an access at `pc`.
+    Hunt { pc: Address, pause: PauseLength },
 }
 
 /// Why a command line gives no job.
 #[derive(Clone, Copy, Debug, PartialEq, Eq)]
 pub enum LineFault {
-    /// The words are no command with its arguments, or a number is outside its range.
+    /// The words are no command with its arguments, or one of them is malformed where it stands.
     Line,
     /// There is no memory.
     NoMemory,
@@ -58,14 +62,17 @@ pub fn command_of<'a>(alloc: Global, words: &'a [&'a str]) -> Result<Job, LineFa
     }
 }
 
-/// What to write of a line that `command_of` refuses. The words are the same, and the text is `clap`'s.
+/// What to write of a line that `command_of` refuses. The words are the same. Where `clap` finds no fault in
+/// them the text tells the first that is malformed; else it is `clap`'s.
 pub fn notice_of<'a>(alloc: Global, words: &'a [&'a str]) -> Result<Notice, LineFault>
     ensures answer { IfOk result (λ n. reading.is_answer n ≡ true → reading.asks (spec.texts words.entry.now) ≡ true) }
     ensures refusal { IfOk result (λ n. reading.is_answer n ≡ false → reading.only_asks (spec.texts words.entry.now) ≡ false) }
+    ensures malformed { IfOk result (λ n. IfSome (malformed.malformed_read (spec.texts words.entry.now))
+        (malformed.IsRefusalOf n)) }
     ensures memory { IfErr result (λ e. e ≡ LineFault.NoMemory) }
 {
     match read_line(alloc, words) {
-        Ok(_) => Ok(Notice::Refusal(text(alloc, &NUMBER_REFUSED)?)),
+        Ok(matches) => refused(alloc, &matches),
         Err(error) => shown(alloc, &error),
     }
 }
@@ -84,12 +91,25 @@ fn shown(alloc: Global, error: &Error) -> Result<Notice, LineFault>
     }
 }
 
-/// Of a line that `clap` accepts.
-const NUMBER_REFUSED: &str =
-    "error: a number is outside its range\n\nFor more information, try '--help'.\n";
+/// The refusal of a line that `clap` accepts.
+fn refused(alloc: Global, matches: &ArgMatches<'_>) -> Result<Notice, LineFault>
+    ensures notice { IfOk result (λ n. reading.is_answer n ≡ false) }
+    ensures told { IfOk result (λ n. IfSome (option_and_then malformed.malformed_in (subcommand_rows_of matches.now))
+        (malformed.IsRefusalOf n)) }
+    ensures memory { IfErr result (λ e. e ≡ LineFault.NoMemory) }
+{
+    match malformed_in(matches) {
+        Some(word) => Ok(Notice::Refusal(text(alloc, &word)?)),
+        None => Ok(Notice::Refusal(text(alloc, &NO_FAULT)?)),
+    }
+}
+
+/// What is told where no word is malformed.
+const NO_FAULT: &str = "error: the command line is refused\n";
 
 fn text<T: Display>(alloc: Global, shown: &T) -> Result<String, LineFault>
-    ensures { IfErr result (λ e. e ≡ LineFault.NoMemory) }
+    ensures text { IfOk result (λ text. IfSome (T.output shown.now) (λ bytes. string_bytes text ≡ bytes)) }
+    ensures memory { IfErr result (λ e. e ≡ LineFault.NoMemory) }
 {
     format!(in alloc; "{shown}").map_err(|_| LineFault::NoMemory)
 }
@@ -109,6 +129,7 @@ fn read_line<'a>(alloc: Global, words: &'a [&'a str]) -> Result<ArgMatches<'a>, 
     ensures job { MatchResult result
         (λ m. option_and_then reading.job_in (subcommand_rows_of m) ≡ spec.job_of (spec.texts words.entry.now))
         (λ e. (kind_of e ≡ ErrorKind.OutOfMemory) ⊎ (spec.job_of (spec.texts words.entry.now) ≡ None)) }
+    ensures rows { IfOk result (λ m. subcommand_rows_of m ≡ subcommand_of reading.program (spec.texts words.entry.now)) }
     ensures kinds { FailsBy (fault_of reading.program (spec.texts words.entry.now)) result }
 {
     program(alloc)?.try_get_matches_from(words)
@@ -176,10 +197,14 @@ fn hunt_of(given: &ArgMatches<'_>) -> Option<Job>
 {
     let pc = read_word(text_of(given, "PC")?.as_bytes())?;
     let pause = read_pause(text_of(given, "PAUSE")?)?;
-    Some(Job::Hunt { pc, pause })
+    Some(Job::Hunt {
+        pc: Address(pc),
+        pause: PauseLength(pause),
+    })
 }
 
-fn read_pause(text: &str) -> Option<u32>
+/// A pause's length, 1 to 65,535.
+pub fn read_pause(text: &str) -> Option<u32>
     ensures { result ≡ spec.pause_of text.now }
 {
     let pause = read_number(text.as_bytes(), 10, 65_535)?;
@@ -188,7 +213,7 @@ fn read_pause(text: &str) -> Option<u32>
 
 /// The word that was given for an argument.
 #[tactic(auto, using(crate::proofs::LineLemmas::text_found))]
-fn text_of<'a>(given: &ArgMatches<'a>, name: &str) -> Option<&'a str>
+pub fn text_of<'a>(given: &ArgMatches<'a>, name: &str) -> Option<&'a str>
     ensures { option_map (λ s. s.now) result ≡ first_of name.now (rows_of (found_of given.now)) }
 {
     given.get_str(name)

@@ -1,29 +1,54 @@
-ghost use Rattle.std.specs.Prelude.{◌≡◌};
+ghost use Rattle.std.specs.Prelude.{◌≡◌, Some};
 ghost use Rattle.std.specs.IoError.{error_kind};
 ghost use Rattle.rvcollide.specs.Failure as spec;
 
 use crate::command::LineFault;
 use crate::words::fault::WordsFault;
 use std::alloc::AllocError;
-use std::io;
+use std::{fmt, io};
 
 /// Why the program ends with another status than 0.
 #[derive(Clone, Copy, Debug, PartialEq, Eq)]
 pub enum Failure {
     /// The command line is refused. What is wrong with it was told.
     Line,
+    /// An argument is not UTF-8, and so the command line is refused.
+    NotText,
     /// A fault that is told in one line.
     Told(WordsFault),
 }
 
 impl Failure {
+    /// Whether what is wrong was told already.
+    pub fn is_told(self) -> bool
+        ensures { result ≡ spec.is_told self }
+    {
+        match self {
+            Failure::Line => true,
+            Failure::NotText | Failure::Told(_) => false,
+        }
+    }
+
     /// The exit status.
     pub fn status(self) -> u8
         ensures { result ≡ spec.status_of self }
     {
         match self {
-            Failure::Line => 2,
+            Failure::Line | Failure::NotText => 2,
             Failure::Told(fault) => fault.status(),
+        }
+    }
+}
+
+/// What is still to be told of the failure, after the program's name.
+impl fmt::Display for Failure {
+    ghost output = { λ failure. Some (spec.failure_text failure) };
+
+    fn fmt<W: fmt::Write>(&self, f: &mut fmt::Formatter<W>) -> fmt::Result {
+        match self {
+            Failure::Line => Ok(()),
+            Failure::NotText => f.write_str("an argument is not UTF-8"),
+            Failure::Told(fault) => write!(f, "{fault}"),
         }
     }
 }
@@ -55,7 +80,7 @@ impl From<LineFault> for Failure {
     }
 }
 
-/// What the system answers to the program: that memory is out, that an argument is no text, or that the
+/// What the system answers to the program: that memory is out, that an argument is not UTF-8, or that the
 /// standard output failed.
 impl From<io::Error> for Failure {
     ghost from_gives = { λ error made. made ≡ spec.failure_of_kind (error_kind error) };
@@ -63,7 +88,7 @@ impl From<io::Error> for Failure {
     fn from(error: io::Error) -> Failure {
         match error.kind() {
             io::ErrorKind::OutOfMemory => Failure::Told(WordsFault::NoMemory),
-            io::ErrorKind::InvalidData => Failure::Line,
+            io::ErrorKind::InvalidData => Failure::NotText,
             _ => Failure::Told(WordsFault::Write),
         }
     }

@@ -4,12 +4,13 @@
 //! Each engine writes the text that `specs/` states of the bytes that it reads, and nothing else.
 #![tactic(auto)]
 
+pub mod arguments;
 pub mod command;
 #[cfg(test)]
 pub mod devices;
 pub mod failure;
 pub mod hunt;
-pub mod texts;
+pub mod malformed;
 pub mod words;
 
 use crate::command::{Job, LineFault, Notice, command_of, notice_of};
@@ -26,9 +27,9 @@ fn main(rt: HostRuntime) -> ExitCode {
     let Err(failure) = run(&rt) else {
         return ExitCode::SUCCESS;
     };
-    if let Failure::Told(fault) = failure {
+    if !failure.is_told() {
         // Where the standard error fails there is nothing left to tell it to.
-        let _ = eprintln!(rt; "rvcollide: {fault}");
+        let _ = eprintln!(rt; "rvcollide: {failure}");
     }
     ExitCode::from(failure.status())
 }

@@ -2,8 +2,8 @@ use super::*;
 use std::test::Fail;
 
 const AT_4: Job = Job::Hunt {
-    pc: 0x1_0004,
-    pause: 1,
+    pc: Address(0x1_0004),
+    pause: PauseLength(1),
 };
 
 #[test]
@@ -20,8 +20,8 @@ fn reads_each_command(rt: HostRuntime) {
 fn reads_digits_in_either_case_and_leading_zeros(rt: HostRuntime) {
     let alloc = rt.alloc();
     let hunt = Ok(Job::Hunt {
-        pc: 0xffff_abcd,
-        pause: 65_535,
+        pc: Address(0xffff_abcd),
+        pause: PauseLength(65_535),
     });
     assert_eq!(rt; command_of(alloc, &["", "hunt", "FFFFabcd", "65535"]), hunt);
     assert_eq!(rt;
@@ -182,13 +182,38 @@ fn says_why_a_line_is_refused(rt: HostRuntime) -> Result<(), Fail> {
     )
     .ok_or("a refusal")?;
     assert!(rt; missing.as_str().contains("<PAUSE>"));
-    let range = refusal(
-        notice_of(alloc, &["rvcollide", "hunt", "00010004", "0"])
-            .ok()
-            .ok_or("memory")?,
-    )
-    .ok_or("a refusal")?;
-    assert!(rt; range.as_str().starts_with("error: "));
+    Ok(())
+}
+
+/// A malformed word is told, with the place where it stands and what may stand there.
+#[test]
+fn says_which_word_is_malformed(rt: HostRuntime) -> Result<(), Fail> {
+    let alloc = rt.alloc();
+    for (pc, pause, text) in [
+        (
+            "0001000g",
+            "1",
+            "error: invalid value '0001000g' for '<PC>': it is not eight hexadecimal digits\n\n\
+            For more information, try '--help'.\n",
+        ),
+        (
+            "0001000g",
+            "0",
+            "error: invalid value '0001000g' for '<PC>': it is not eight hexadecimal digits\n\n\
+            For more information, try '--help'.\n",
+        ),
+        (
+            "00010004",
+            "65536",
+            "error: invalid value '65536' for '<PAUSE>': it is not a number from 1 to 65535\n\n\
+            For more information, try '--help'.\n",
+        ),
+    ] {
+        let words = ["rvcollide", "hunt", pc, pause];
+        let notice = notice_of(alloc, &words);
+        let told = refusal(notice.ok().ok_or("memory")?).ok_or("a refusal")?;
+        assert_eq!(rt; told.as_str(), text);
+    }
     Ok(())
 }
 

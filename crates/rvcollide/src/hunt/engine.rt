@@ -7,12 +7,13 @@ ghost use Rattle.rv_text.specs.Lines.{text_of_lines};
 ghost use Rattle.rvcollide.specs.Hunt as spec;
 ghost use Rattle.rvcollide.specs.WordsFault.{fails_by, is_read, is_write};
 
+use crate::arguments::{Address, PauseLength};
 use crate::hunt::{HuntFault, Report, hunt};
-use crate::texts::{write_access, write_state};
 use crate::words::fault::WordsFault;
 use crate::words::guest::machine_of;
 use crate::words::input::read_input;
 use rv_hart::machine::Machine;
+use rv_hart::texts::{write_access, write_state};
 use rv_memory::buffered::Buffered;
 use rv_memory::flagged::{Flagged, INPUT_LIMIT, WriteFault, read_whole};
 use rv_memory::flat::Flat;
@@ -80,8 +81,8 @@ pub fn run_hunt<R: Read, W: Write>(
     alloc: Global,
     reader: &mut Flagged<R>,
     writer: &mut Buffered<W>,
-    pc: u32,
-    pause: u32,
+    pc: Address,
+    pause: PauseLength,
 ) -> Result<(), WordsFault>
     ensures text { OnOk result (IfSome (R.remaining (flag.device reader.old)) (spec.WritesHunt
         (Appends (buffer.written W.contents writer.old) (buffer.sent W.contents writer.new)))) }
@@ -93,7 +94,7 @@ pub fn run_hunt<R: Read, W: Write>(
     ensures writer { buffer.has_failed writer.new ≡ (buffer.has_failed writer.old || fails_by is_write result) }
 {
     let text = read_whole(alloc, reader, INPUT_LIMIT)?;
-    let outcome = hunt_input(alloc, &text, pc, pause)?;
+    let outcome = hunt_input(alloc, &text, pc.0, pause.0)?;
     write_report(writer, outcome.report)?;
     write_state(writer, &outcome.machine)?;
     writer.finish()?;

@@ -1,3 +1,4 @@
+use crate::arguments::{Address, PauseLength};
 use crate::devices::{Endless, assert_tells_each_failing_call, assert_tells_each_failing_read};
 use crate::hunt::engine::run_hunt;
 use crate::words::fault::WordsFault;
@@ -57,7 +58,13 @@ fn writes_a_report_and_harts(rt: HostRuntime) {
     ] {
         let mut reader = Flagged::new(input);
         let mut writer = Buffered::new(alloc, Vec::new(alloc));
-        let outcome = run_hunt(alloc, &mut reader, &mut writer, pc, pause);
+        let outcome = run_hunt(
+            alloc,
+            &mut reader,
+            &mut writer,
+            Address(pc),
+            PauseLength(pause),
+        );
         assert_eq!(rt; outcome, Ok(()), "{name}");
         assert_eq!(rt; writer.into_inner().as_slice(), text, "{name}");
     }
@@ -86,7 +93,13 @@ fn refuses_as_words_does(rt: HostRuntime) {
     ] {
         let mut reader = Flagged::new(input);
         let mut writer = Buffered::new(alloc, Vec::new(alloc));
-        let outcome = run_hunt(alloc, &mut reader, &mut writer, 0x10004, 9);
+        let outcome = run_hunt(
+            alloc,
+            &mut reader,
+            &mut writer,
+            Address(0x10004),
+            PauseLength(9),
+        );
         assert_eq!(rt; outcome, Err(fault));
         assert_eq!(rt; writer.into_inner().len(), 0);
     }
@@ -96,7 +109,13 @@ fn refuses_as_words_does(rt: HostRuntime) {
 fn refuses_an_endless_input(rt: HostRuntime) {
     let mut reader = Flagged::new(Endless);
     let mut writer = Buffered::new(rt.alloc(), Vec::new(rt.alloc()));
-    let outcome = run_hunt(rt.alloc(), &mut reader, &mut writer, 0x10004, 1);
+    let outcome = run_hunt(
+        rt.alloc(),
+        &mut reader,
+        &mut writer,
+        Address(0x10004),
+        PauseLength(1),
+    );
     assert_eq!(rt; outcome, Err(WordsFault::TooLong));
     assert!(rt; !reader.failed());
     assert_eq!(rt; writer.into_inner().len(), 0);
@@ -107,7 +126,7 @@ fn tells_a_reader_that_fails(rt: HostRuntime) {
     let alloc = rt.alloc();
     assert_tells_each_failing_read(&rt, RACE, |reader| {
         let mut writer = Buffered::new(alloc, Vec::new(alloc));
-        run_hunt(alloc, reader, &mut writer, 0x10004, 1)
+        run_hunt(alloc, reader, &mut writer, Address(0x10004), PauseLength(1))
     });
 }
 
@@ -121,8 +140,8 @@ fn tells_a_writer_that_fails(rt: HostRuntime) -> Result<(), Fail> {
                 alloc,
                 &mut Flagged::new(input.as_bytes()),
                 writer,
-                0x10004,
-                1,
+                Address(0x10004),
+                PauseLength(1),
             )
         });
     }

@@ -7,11 +7,11 @@ ghost use Rattle.rvcollide.specs.Words as spec;
 ghost use Rattle.rvcollide.specs.WordsFault.{IsToldFault, fails_by, is_read, is_write};
 ghost use Rattle.rvcollide.specs.declared.words.input.TheConstants.{MOST_STEPS};
 
-use crate::texts::write_state;
 use crate::words::fault::WordsFault;
 use crate::words::guest::{machine_of, step};
 use crate::words::input::read_input;
 use rv_hart::machine::Machine;
+use rv_hart::texts::write_state;
 use rv_memory::buffered::Buffered;
 use rv_memory::flagged::{Flagged, INPUT_LIMIT, read_whole};
 use rv_memory::flat::Flat;

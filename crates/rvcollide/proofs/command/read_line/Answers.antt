@@ -12,9 +12,12 @@ returns-clause-kinds c =
     subst (λ (a : App). FailsBy (fault_of a (map (λ w. w.now) c.args.words.now)) parse.result) c.in_ok-program.ensures
     (parse.ensures.kinds (ap is_simple_and_free c.in_ok-program.ensures ∙ is_exact))
 
+pub returns-clause-rows : goal.returns-clause-rows
+returns-clause-rows c =
+    let parse = c.try_get_matches_from in
+    IfOk-weaker parse.result _ _ (λ m h. (h (ap is_simple c.in_ok-program.ensures ∙ is_simple_program)).1
+    ∙ ap (λ (a : App). subcommand_of a (map (λ w. w.now) c.args.words.now)) c.in_ok-program.ensures) parse.ensures.matches
+
 pub returns-clause-job : goal.returns-clause-job
 returns-clause-job c =
-    let parse = c.try_get_matches_from in
-    let rows = IfOk-weaker parse.result _ _ (λ m h. (h (ap is_simple c.in_ok-program.ensures ∙ is_simple_program)).1
-    ∙ ap (λ (a : App). subcommand_of a (map (λ w. w.now) c.args.words.now)) c.in_ok-program.ensures) parse.ensures.matches in
-    job_told (map (λ w. w.now) c.args.words.now) parse.result (returns-clause-kinds c) rows
+    job_told (map (λ w. w.now) c.args.words.now) c.try_get_matches_from.result (returns-clause-kinds c) (returns-clause-rows c)

@@ -1,7 +1,7 @@
 use Rattle.std.proofs.Common.{arith}
 use Rattle.std.proofs.lemmas.Bool.Decides.{nat_tests}
-use Rattle.rvcollide.proofs.Written.{lines_next}
-use Rattle.rvcollide.proofs.texts.write_harts.Goals as goal
+use Rattle.rv_hart.proofs.TextLemmas.{lines_next}
+use Rattle.rv_hart.proofs.texts.write_harts.Goals as goal
 
 pub loop-h-preserved : goal.loop-h-preserved
 loop-h-preserved g c =

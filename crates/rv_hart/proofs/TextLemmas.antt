@@ -11,7 +11,7 @@ use Rattle.rv_hart.specs.Registers.{get}
 use Rattle.rv_hart.specs.declared.hart.Hart.{Hart}
 use Rattle.rv_hart.specs.declared.hart.Status.{Status}
 use Rattle.rv_text.specs.Lines.{text_of_lines}
-use Rattle.rvcollide.specs.Texts.{front_text, hart_line, hart_lines, pc_text, register_text, registers_text, reservation_text, status_text, value_text}
+use Rattle.rv_hart.specs.Texts.{front_text, hart_line, hart_lines, pc_text, register_text, registers_text, reservation_text, status_text, value_text}
 
 -- what was written before and the next piece are the whole
 appends_then : (a b c : Option (List ℕ)) (front piece whole : List ℕ) → Appends a b front → Appends b c piece → front ++ piece ≡ whole → Appends a c whole

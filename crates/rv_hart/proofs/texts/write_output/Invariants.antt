@@ -1,8 +1,8 @@
 -- the bytes so far are written, and the writer has failed no more than before
 use Rattle.std.proofs.Common.{◌≡◌, take}
 use Rattle.std.specs.Io.KnownBytes.{Appends}
-use Rattle.rvcollide.specs.Texts.{output_line}
-use Rattle.rvcollide.proofs.texts.write_output.Given as goal
+use Rattle.rv_hart.specs.Texts.{output_line}
+use Rattle.rv_hart.proofs.texts.write_output.Given as goal
 
 abbrev pub invariant-loop-byte : goal.invariant-loop-byte
 invariant-loop-byte g l =

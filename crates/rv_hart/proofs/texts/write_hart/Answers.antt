@@ -1,5 +1,5 @@
-use Rattle.rvcollide.proofs.Written.{hart_written}
-use Rattle.rvcollide.proofs.texts.write_hart.Goals as goal
+use Rattle.rv_hart.proofs.TextLemmas.{hart_written}
+use Rattle.rv_hart.proofs.texts.write_hart.Goals as goal
 
 pub returns-clause-ok : goal.returns-clause-ok
 returns-clause-ok g c =

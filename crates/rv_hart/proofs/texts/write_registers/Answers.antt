@@ -1,7 +1,7 @@
 use Rattle.std.proofs.Common.{arith}
 use Rattle.std.proofs.lemmas.Bool.Decides.{nat_tests}
-use Rattle.rvcollide.proofs.Written.{registers_next}
-use Rattle.rvcollide.proofs.texts.write_registers.Goals as goal
+use Rattle.rv_hart.proofs.TextLemmas.{registers_next}
+use Rattle.rv_hart.proofs.texts.write_registers.Goals as goal
 
 pub loop-r-preserved : goal.loop-r-preserved
 loop-r-preserved g c =

@@ -3,8 +3,8 @@ use Rattle.std.proofs.Common.{◌≡◌}
 use Rattle.std.specs.Io.KnownBytes.{Appends}
 use Rattle.std.specs.List.{flat_map, range_with_len}
 use Rattle.rv_hart.specs.SomeHart.{SomeHart}
-use Rattle.rvcollide.specs.Texts.{register_text}
-use Rattle.rvcollide.proofs.texts.write_registers.Given as goal
+use Rattle.rv_hart.specs.Texts.{register_text}
+use Rattle.rv_hart.proofs.texts.write_registers.Given as goal
 
 abbrev pub invariant-loop-r : goal.invariant-loop-r
 invariant-loop-r g l =

@@ -1,31 +1,18 @@
 //! The texts that harts are shown in. They are written piece by piece and take no memory.
 ghost use Rattle.std.specs.Prelude.{◌≡◌, ◌<◌, ◌∷◌, [], ◌++◌, ◌||◌, is_err, length, OnOk};
 ghost use Rattle.std.specs.Io.KnownBytes.{Appends};
-ghost use Rattle.std.specs.List.{flat_map};
 ghost use Rattle.rv_hart.specs.SomeHart.{SomeHart};
 ghost use Rattle.rv_text.specs.Lines.{text_of_lines};
-ghost use Rattle.rvcollide.specs.Texts as spec;
+ghost use Rattle.rv_hart.specs.Texts as spec;
 
-use rv_hart::access::Access;
-use rv_hart::hart::Status;
-use rv_hart::machine::Machine;
+use crate::access::Access;
+use crate::hart::Status;
+use crate::machine::Machine;
 use rv_memory::flagged::WriteFault;
-use rv_memory::output::Output;
+use rv_memory::output::{Output, put_pieces};
 use rv_memory::store::ByteStore;
 use rv_text::decimal::Decimal;
 use rv_text::hexadecimal::{byte_digits, word_digits};
-
-/// Writes the pieces, one after another.
-fn write_pieces<O: Output>(writer: &mut O, pieces: &[&[u8]]) -> Result<(), WriteFault>
-    ensures ok { OnOk result (Appends (O.written writer.old) (O.written writer.new)
-        (flat_map (λ piece. piece.now) pieces.now)) }
-    ensures failed { O.has_failed writer.new ≡ (O.has_failed writer.old || is_err result) }
-{
-    for piece in pieces {
-        writer.put(piece)?;
-    }
-    Ok(())
-}
 
 fn write_status<O: Output>(writer: &mut O, status: Status) -> Result<(), WriteFault>
     ensures ok { OnOk result (Appends (O.written writer.old) (O.written writer.new)
@@ -34,10 +21,10 @@ fn write_status<O: Output>(writer: &mut O, status: Status) -> Result<(), WriteFa
 {
     match status {
         Status::Running => writer.put(b"running"),
-        Status::Exited(code) => write_pieces(writer, &[b"exited ", &word_digits(code)]),
+        Status::Exited(code) => put_pieces(writer, &[b"exited ", &word_digits(code)]),
         Status::Stopped(cause) => {
             let number = Decimal::new(u64::from(cause.number()));
-            write_pieces(writer, &[b"stopped ", number.as_bytes()])
+            put_pieces(writer, &[b"stopped ", number.as_bytes()])
         }
     }
 }
@@ -52,7 +39,7 @@ fn write_register<O: Output>(writer: &mut O, r: u8, value: u32) -> Result<(), Wr
         return writer.put(b"");
     }
     let number = Decimal::new(u64::from(r));
-    write_pieces(
+    put_pieces(
         writer,
         &[b" x", number.as_bytes(), b" ", &word_digits(value)],
     )
@@ -82,7 +69,7 @@ fn write_reservation<O: Output>(writer: &mut O, reservation: Option<u32>) -> Res
 {
     match reservation {
         None => writer.put(b""),
-        Some(address) => write_pieces(writer, &[b" lr ", &word_digits(address)]),
+        Some(address) => put_pieces(writer, &[b" lr ", &word_digits(address)]),
     }
 }
 
@@ -93,7 +80,7 @@ fn write_front<O: Output>(writer: &mut O, h: u8) -> Result<(), WriteFault>
     ensures failed { O.has_failed writer.new ≡ (O.has_failed writer.old || is_err result) }
 {
     let number = Decimal::new(u64::from(h));
-    write_pieces(writer, &[b"hart ", number.as_bytes(), b" "])
+    put_pieces(writer, &[b"hart ", number.as_bytes(), b" "])
 }
 
 fn write_pc<O: Output>(writer: &mut O, pc: u32) -> Result<(), WriteFault>
@@ -101,11 +88,11 @@ fn write_pc<O: Output>(writer: &mut O, pc: u32) -> Result<(), WriteFault>
         (spec.pc_text pc)) }
     ensures failed { O.has_failed writer.new ≡ (O.has_failed writer.old || is_err result) }
 {
-    write_pieces(writer, &[b" pc ", &word_digits(pc)])
+    put_pieces(writer, &[b" pc ", &word_digits(pc)])
 }
 
-/// Writes the line of a hart.
-fn write_hart<S: ByteStore, O: Output>(
+/// Writes the line of hart `h`, with its line feed.
+pub fn write_hart<S: ByteStore, O: Output>(
     writer: &mut O,
     machine: &Machine<S>,
     h: u8,
@@ -125,15 +112,15 @@ fn write_hart<S: ByteStore, O: Output>(
     Ok(())
 }
 
-/// Writes the line of the output.
-fn write_output<O: Output>(writer: &mut O, output: &[u8]) -> Result<(), WriteFault>
+/// Writes the line of the printed bytes, with its line feed.
+pub fn write_output<O: Output>(writer: &mut O, output: &[u8]) -> Result<(), WriteFault>
     ensures ok { OnOk result (Appends (O.written writer.old) (O.written writer.new)
         (spec.output_line output.now ++ 10 ∷ [])) }
     ensures failed { O.has_failed writer.new ≡ (O.has_failed writer.old || is_err result) }
 {
     writer.put(b"out")?;
     for byte in output {
-        write_pieces(writer, &[b" ", &byte_digits(*byte)])?;
+        put_pieces(writer, &[b" ", &byte_digits(*byte)])?;
     }
     writer.put(b"\n")?;
     Ok(())
@@ -168,13 +155,13 @@ pub fn write_state<S: ByteStore, O: Output>(
     Ok(())
 }
 
-/// Writes an access.
+/// Writes an access: `pc ADDR KIND ADDR SIZE`.
 pub fn write_access<O: Output>(writer: &mut O, access: &Access) -> Result<(), WriteFault>
     ensures ok { OnOk result (Appends (O.written writer.old) (O.written writer.new)
         (spec.access_text access.now)) }
     ensures failed { O.has_failed writer.new ≡ (O.has_failed writer.old || is_err result) }
 {
-    write_pieces(
+    put_pieces(
         writer,
         &[
             b"pc ",
@@ -185,7 +172,7 @@ pub fn write_access<O: Output>(writer: &mut O, access: &Access) -> Result<(), Wr
         ],
     )?;
     let size = Decimal::new(u64::from(access.size));
-    write_pieces(writer, &[&word_digits(access.first), b" ", size.as_bytes()])
+    put_pieces(writer, &[&word_digits(access.first), b" ", size.as_bytes()])
 }
 
 fn kind_text(access: &Access) -> &'static [u8]
@@ -197,3 +184,6 @@ fn kind_text(access: &Access) -> &'static [u8]
         (_, false) => b"load",
     }
 }
+
+#[cfg(test)]
+mod tests;

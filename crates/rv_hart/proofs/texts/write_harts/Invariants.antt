@@ -2,8 +2,8 @@
 use Rattle.std.proofs.Common.{◌≡◌, take}
 use Rattle.std.specs.Io.KnownBytes.{Appends}
 use Rattle.rv_text.specs.Lines.{text_of_lines}
-use Rattle.rvcollide.specs.Texts.{hart_lines}
-use Rattle.rvcollide.proofs.texts.write_harts.Given as goal
+use Rattle.rv_hart.specs.Texts.{hart_lines}
+use Rattle.rv_hart.proofs.texts.write_harts.Given as goal
 
 abbrev pub invariant-loop-h : goal.invariant-loop-h
 invariant-loop-h g l =
