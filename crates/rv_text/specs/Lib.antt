@@ -3,3 +3,4 @@ pub mod Hexadecimal
 pub mod Decimal
 pub mod Lines
 pub mod Pieces
+pub mod internal

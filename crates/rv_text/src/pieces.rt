@@ -1,6 +1,7 @@
 ghost use Rattle.std.specs.Prelude.{◌≡◌, ℕ, ◌==◌, false, List, ◌∷◌, ◌++◌, All, MatchOption, slice_get, drop};
 ghost use Rattle.std.specs.Option.{option_copied};
-ghost use Rattle.rv_text.specs.Pieces.{pieces_of, pieces_left};
+ghost use Rattle.rv_text.specs.Pieces.{pieces_of};
+ghost use Rattle.rv_text.specs.internal.Pieces.{pieces_left};
 
 use std::marker::Model;
 

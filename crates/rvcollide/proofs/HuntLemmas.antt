@@ -1,5 +1,5 @@
 use Rattle.std.proofs.Common.{◌≡◌, ◌≢◌, ℕ, ◌-◌, ◌≤◌, Bool, true, false, cond, List, [], ◌∷◌, ◌++◌, Option, Some, None, length, take, refl, sym, ap, subst, ◌∙◌, arith, length-append, append-nil}
-use Rattle.std.specs.Prelude.{zero, suc, ◌&&◌, ◌||◌, ◌==◌, not, nat_le, nat_lt, slice_get, option_and_then, IfSome, codes}
+use Rattle.std.specs.Prelude.{◌<◌, max, min, zero, suc, ◌&&◌, ◌||◌, ◌==◌, not, nat_le, nat_lt, slice_get, option_and_then, IfSome, codes}
 use Rattle.std.specs.Io.KnownBytes.{Appends, Keeps}
 use Rattle.std.proofs.KnownBytes.{Appends-trans, Appends-kept}
 use Rattle.std.proofs.lemmas.Bool.Decides.{nat_tests}
@@ -14,7 +14,8 @@ use Rattle.rv_hart.specs.declared.access.Access.{Access}
 use Rattle.rv_hart.specs.declared.access.Event.{Event}
 use Rattle.rv_text.specs.Lines.{text_of_lines}
 use Rattle.rv_hart.specs.Texts.{access_text, state_text}
-use Rattle.rvcollide.specs.Hunt.{side_text, report_lines, Hunts, WritesHunt, AtPlace, WouldAccess, DidAccess, IsReport, IsPaused, IsHunt, pause_after, report_in, first_report, watch_after}
+use Rattle.rvcollide.specs.Hunt.{side_text, report_lines, Hunts, WritesHunt, AtPlace, WouldAccess, DidAccess, IsReport}
+use Rattle.rvcollide.specs.internal.Hunt.{IsPaused, IsHunt, pause_after, report_in, first_report, watch_after}
 use Rattle.rvcollide.specs.declared.hunt.Pause.{Pause}
 use Rattle.rvcollide.specs.declared.hunt.Pause.TheVariants.{Awaited, Open, Over}
 use Rattle.rvcollide.specs.declared.hunt.Report.{Report}
@@ -89,11 +90,19 @@ both : (a b : Bool) → a && b ≡ true → (a ≡ true) × (b ≡ true)
 both true b h = (refl, h)
 both false b h = cc
 
+-- the greater of the first bytes is a byte of both
 conflict_of : (a b : Access) → conflicts a b ≡ true → Conflict a b
 conflict_of a b h =
     let parts = both (meets a b) (a.write || b.write) h in
-    let ends = both (nat_lt a.first (end_of b)) (nat_lt b.first (end_of a)) parts.0 in
-    record { before_end = grind (arith, nat_tests, ends.0); after_start = grind (arith, nat_tests, ends.1); writes = parts.1 }
+    let within : max a.first b.first < min (end_of a) (end_of b) = grind (arith, nat_tests, parts.0) in
+    record {
+      shared = record {
+        address = max a.first b.first;
+        of_one = record { from = omega arith; before = omega arith };
+        of_other = record { from = omega arith; before = omega arith };
+      };
+      writes = parts.1;
+    }
 
 other_hart : (h hart : ℕ) → not (h == hart) ≡ true → h ≢ hart
 other_hart h hart test = grind (arith, nat_tests)

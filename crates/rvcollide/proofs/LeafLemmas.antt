@@ -14,7 +14,8 @@ use Rattle.rv_text.specs.Hexadecimal.{word_of}
 use Rattle.rv_text.specs.Numeral.{number_of}
 use Rattle.rvcollide.proofs.WordLemmas.{IsRequestOr, Requests, first_stays, has_hyphen, stand, turn_is}
 use Rattle.rvcollide.specs.Command.{arguments, at_place, hunt_of, words_of}
-use Rattle.rvcollide.specs.Reading.{hunt_in, program}
+use Rattle.rvcollide.specs.Reading.{program}
+use Rattle.rvcollide.specs.internal.Reading.{hunt_in}
 use Rattle.rvcollide.specs.declared.command.Job.{Job}
 use Rattle.rvcollide.specs.declared.command.Job.TheVariants.{Words}
 

@@ -12,7 +12,8 @@ use Rattle.clap.proofs.WalkLemmas.{walk_stopped}
 use Rattle.rvcollide.proofs.WordLemmas.{Requests, first_stays, turn_is}
 use Rattle.rvcollide.proofs.LeafLemmas.{hunt_leaf, hunt_outcome, if_false, is_dashes, leaf, outcome, request_or, words_at, words_job, words_leaf, words_outcome}
 use Rattle.rvcollide.specs.Command.{command_job, job_of}
-use Rattle.rvcollide.specs.Reading.{hunt_in, job_in, job_read, program}
+use Rattle.rvcollide.specs.Reading.{program}
+use Rattle.rvcollide.specs.internal.Reading.{hunt_in, job_in, job_read}
 
 abbrev Built : App
 Built = built program

@@ -1,23 +1,18 @@
-use Rattle.std.specs.Prelude.{◌≡◌, ◌≢◌, ℕ, Bool, false, ◌-◌, ◌≤◌, ◌==◌, ◌&&◌, not, nat_le, if◌then◌else◌, Option, Some, None, List, length, take, slice_get, IfSome, IsSomeAnd, IsOkAnd, Err, ⊤, [], ◌∷◌, ◌++◌, codes}
+use Rattle.std.specs.Prelude.{◌≡◌, ◌≢◌, ℕ, ◌≤◌, Option, Some, None, List, length, take, slice_get, IfSome, IsSomeAnd, IsOkAnd, Err, ⊤, [], ◌∷◌, ◌++◌, codes}
 use Rattle.std.specs.Fmt.{decimal}
 use Rattle.rv_text.specs.Lines.{text_of_lines}
 use Rattle.rv_hart.specs.Texts.{access_text, state_text}
 use Rattle.rvcollide.specs.Words.{start_of, told_input, refusal}
 use Rattle.rvcollide.specs.declared.words.fault.WordsFault.{WordsFault}
 use Rattle.rvcollide.specs.declared.words.fault.WordsFault.TheVariants.{Line, Step, TooLong, Read, Write, NoMemory}
-use Rattle.rv_hart.specs.Conflict.{Conflict, conflicts}
+use Rattle.rv_hart.specs.Conflict.{Conflict}
 use Rattle.rv_hart.specs.Next.{next_access, access_of_step}
 use Rattle.rv_hart.specs.Run.{run}
 use Rattle.rv_hart.specs.State.{State}
 use Rattle.rv_hart.specs.Step.{step_of}
 use Rattle.rv_hart.specs.declared.access.Access.{Access}
 use Rattle.rv_hart.specs.declared.machine.StepFault.{StepFault}
-use Rattle.rvcollide.specs.declared.hunt.HuntFault.{HuntFault}
-use Rattle.rvcollide.specs.declared.hunt.HuntFault.TheVariants as hunted
-use Rattle.rvcollide.specs.declared.hunt.Pause.{Pause}
-use Rattle.rvcollide.specs.declared.hunt.Pause.TheVariants.{Awaited, Open, Over}
 use Rattle.rvcollide.specs.declared.hunt.Report.{Report}
-use Rattle.rvcollide.specs.declared.hunt.Watch.{Watch}
 
 -- A place of a run from state s over the harts `made`: the state after the first of them, and a fact of it.
 pub record AtPlace (s : State) (made : List ℕ) (place : ℕ) (P : State → Type 0) : Type 0 where
@@ -42,49 +37,6 @@ pub record IsReport (s : State) (made : List ℕ) (r : Report) : Type 0 where
   pub would : WouldAccess s made r.hart r.access
   pub did : DidAccess s made r.other r.made
   pub conflict : Conflict r.access r.made
-
-abbrev pub IsPaused : State → List ℕ → Pause → Type 0
-IsPaused s made Awaited = ⊤
-IsPaused s made (Open hart access left) = WouldAccess s made hart access
-IsPaused s made Over = ⊤
-
--- hart h is the one that is paused
-abbrev pub pauses : Pause → ℕ → Bool
-pauses Awaited h = false
-pauses (Open hart access left) h = hart == h
-pauses Over h = false
-
--- a hunt that began in state s and has made steps of these harts is now in state t
-pub record IsHunt (s t : State) (made : List ℕ) (w : Watch) : Type 0 where
-  pub now : run s made ≡ Some t
-  pub paused : IsPaused s made w.pause
-  pub report : IfSome w.report (IsReport s made)
-
--- ---- what one step of hart h changes
-
-abbrev pub pause_after : Pause → Pause
-pause_after Awaited = Awaited
-pause_after (Open hart access left) = if nat_le left 1 then Over else Open hart access (left - 1)
-pause_after Over = Over
-
-abbrev pub report_of : ℕ → Access → ℕ → Option Access → Option Report
-report_of hart access h None = None
-report_of hart access h (Some made) =
-    if conflicts access made && not (h == hart) then Some (record { hart = hart; access = access; other = h; made = made }) else None
-
-abbrev pub report_in : Pause → ℕ → Option Access → Option Report
-report_in Awaited h made = None
-report_in (Open hart access left) h made = report_of hart access h made
-report_in Over h made = None
-
--- the first report is kept
-abbrev pub first_report : Option Report → Option Report → Option Report
-first_report None new = new
-first_report (Some old) new = Some old
-
-abbrev pub watch_after : Watch → ℕ → Option Access → Watch
-watch_after w h made =
-    record w { pause = pause_after w.pause; report = first_report w.report (report_in w.pause h made) }
 
 -- ---- what the command writes
 
@@ -124,10 +76,6 @@ pub record IsRefused (s : State) (fault : StepFault) (h : ℕ) : Type 0 where
 -- the step of that number in the list is refused so
 abbrev pub RefusesStep : State → List ℕ → ℕ → StepFault → Type 0
 RefusesStep s steps number fault = IsSomeAnd (slice_get steps number) (IsRefused s fault)
-
-abbrev pub IsRefusedBy : State → List ℕ → HuntFault → Type 0
-IsRefusedBy s steps (hunted.Step number fault) = RefusesStep s steps number fault
-IsRefusedBy s steps hunted.NoMemory = ⊤
 
 -- bytes that are too many, or their first malformed line, or a step that is refused at some place of the run
 abbrev pub IsHuntFault : List ℕ → WordsFault → Type 0

@@ -4,6 +4,7 @@ pub mod FaultText
 pub mod HartsLine
 pub mod Hunt
 pub mod Malformed
+pub mod Notice
 pub mod Prefix
 pub mod Reading
 pub mod StepsLaw
@@ -12,3 +13,4 @@ pub mod Words
 pub mod WordsFault
 pub mod WordsInput
 pub mod WordsText
+pub mod internal

@@ -3,7 +3,8 @@ use Rattle.std.specs.Str.{bytes_eq}
 use Rattle.clap.specs.Words.{Row, Text, first_of, subcommand_of}
 use Rattle.rv_text.specs.Hexadecimal.{word_of}
 use Rattle.rvcollide.specs.Command.{pause_of}
-use Rattle.rvcollide.specs.Reading.{is_accepted, is_answer, program, text_of}
+use Rattle.rvcollide.specs.Notice.{is_answer, text_of}
+use Rattle.rvcollide.specs.Reading.{is_accepted, program}
 use Rattle.rvcollide.specs.declared.command.Notice.{Notice}
 use Rattle.rvcollide.specs.declared.malformed.Place.{Place}
 use Rattle.rvcollide.specs.declared.malformed.Place.TheVariants.{Pc, Pause}

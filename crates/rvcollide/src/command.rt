@@ -11,7 +11,9 @@ ghost use Rattle.clap.specs.Walk.{first_of, rows_of, rule_of};
 ghost use Rattle.clap.specs.declared.builder.command.Command.TheViews.{out-Command as fields_of};
 ghost use Rattle.rvcollide.specs.Command as spec;
 ghost use Rattle.rvcollide.specs.Malformed as malformed;
+ghost use Rattle.rvcollide.specs.Notice as notice;
 ghost use Rattle.rvcollide.specs.Reading as reading;
+ghost use Rattle.rvcollide.specs.internal.Reading as jobs;
 
 use crate::arguments::{Address, PauseLength};
 use crate::malformed::malformed_in;
@@ -65,8 +67,8 @@ pub fn command_of<'a>(alloc: Global, words: &'a [&'a str]) -> Result<Job, LineFa
 /// What to write of a line that `command_of` refuses. The words are the same. Where `clap` finds no fault in
 /// them the text tells the first that is malformed; else it is `clap`'s.
 pub fn notice_of<'a>(alloc: Global, words: &'a [&'a str]) -> Result<Notice, LineFault>
-    ensures answer { IfOk result (λ n. reading.is_answer n ≡ true → reading.asks (spec.texts words.entry.now) ≡ true) }
-    ensures refusal { IfOk result (λ n. reading.is_answer n ≡ false → reading.only_asks (spec.texts words.entry.now) ≡ false) }
+    ensures answer { IfOk result (λ n. notice.is_answer n ≡ true → notice.asks (spec.texts words.entry.now) ≡ true) }
+    ensures refusal { IfOk result (λ n. notice.is_answer n ≡ false → notice.only_asks (spec.texts words.entry.now) ≡ false) }
     ensures malformed { IfOk result (λ n. IfSome (malformed.malformed_read (spec.texts words.entry.now))
         (malformed.IsRefusalOf n)) }
     ensures memory { IfErr result (λ e. e ≡ LineFault.NoMemory) }
@@ -78,7 +80,7 @@ pub fn notice_of<'a>(alloc: Global, words: &'a [&'a str]) -> Result<Notice, Line
 }
 
 fn shown(alloc: Global, error: &Error) -> Result<Notice, LineFault>
-    ensures notice { IfOk result (λ n. (reading.is_answer n ≡ reading.is_request (kind_of error.now))
+    ensures notice { IfOk result (λ n. (notice.is_answer n ≡ notice.is_request (kind_of error.now))
         × (kind_of error.now ≢ ErrorKind.OutOfMemory)) }
     ensures memory { IfErr result (λ e. e ≡ LineFault.NoMemory) }
 {
@@ -93,7 +95,7 @@ fn shown(alloc: Global, error: &Error) -> Result<Notice, LineFault>
 
 /// The refusal of a line that `clap` accepts.
 fn refused(alloc: Global, matches: &ArgMatches<'_>) -> Result<Notice, LineFault>
-    ensures notice { IfOk result (λ n. reading.is_answer n ≡ false) }
+    ensures notice { IfOk result (λ n. notice.is_answer n ≡ false) }
     ensures told { IfOk result (λ n. IfSome (option_and_then malformed.malformed_in (subcommand_rows_of matches.now))
         (malformed.IsRefusalOf n)) }
     ensures memory { IfErr result (λ e. e ≡ LineFault.NoMemory) }
@@ -127,7 +129,7 @@ fn line_fault(error: &Error) -> LineFault
 /// What `clap` finds in the words.
 fn read_line<'a>(alloc: Global, words: &'a [&'a str]) -> Result<ArgMatches<'a>, Error>
     ensures job { MatchResult result
-        (λ m. option_and_then reading.job_in (subcommand_rows_of m) ≡ spec.job_of (spec.texts words.entry.now))
+        (λ m. option_and_then jobs.job_in (subcommand_rows_of m) ≡ spec.job_of (spec.texts words.entry.now))
         (λ e. (kind_of e ≡ ErrorKind.OutOfMemory) ⊎ (spec.job_of (spec.texts words.entry.now) ≡ None)) }
     ensures rows { IfOk result (λ m. subcommand_rows_of m ≡ subcommand_of reading.program (spec.texts words.entry.now)) }
     ensures kinds { FailsBy (fault_of reading.program (spec.texts words.entry.now)) result }
@@ -175,7 +177,7 @@ fn required_word<'a>(alloc: Global, name: &'a str) -> Arg<'a>
 
 /// The job that `clap` found.
 fn job_in(matches: &ArgMatches<'_>) -> Option<Job>
-    ensures { result ≡ option_and_then reading.job_in (subcommand_rows_of matches.now) }
+    ensures { result ≡ option_and_then jobs.job_in (subcommand_rows_of matches.now) }
 {
     let (name, given) = matches.subcommand()?;
     job_at(name, given)
@@ -183,7 +185,7 @@ fn job_in(matches: &ArgMatches<'_>) -> Option<Job>
 
 /// The job of the command of this name.
 fn job_at(name: &str, given: &ArgMatches<'_>) -> Option<Job>
-    ensures { result ≡ reading.job_in (name.now, rows_of (found_of given.now)) }
+    ensures { result ≡ jobs.job_in (name.now, rows_of (found_of given.now)) }
 {
     match name {
         "words" => Some(Job::Words),
@@ -193,7 +195,7 @@ fn job_at(name: &str, given: &ArgMatches<'_>) -> Option<Job>
 }
 
 fn hunt_of(given: &ArgMatches<'_>) -> Option<Job>
-    ensures { result ≡ reading.hunt_in (rows_of (found_of given.now)) }
+    ensures { result ≡ jobs.hunt_in (rows_of (found_of given.now)) }
 {
     let pc = read_word(text_of(given, "PC")?.as_bytes())?;
     let pause = read_pause(text_of(given, "PAUSE")?)?;

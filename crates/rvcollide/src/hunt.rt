@@ -7,6 +7,7 @@ ghost use Rattle.rv_hart.specs.State.{State};
 ghost use Rattle.rv_hart.specs.Step.{step_of};
 ghost use Rattle.rvcollide.specs.Hunt as spec;
 ghost use Rattle.rvcollide.specs.Words.{refusal};
+ghost use Rattle.rvcollide.specs.internal.Hunt as inner;
 
 pub mod engine;
 
@@ -72,7 +73,7 @@ fn hunt(
         run machine.old.state hunted.made.items ≡ Some machine.new.state) }
     ensures report { IfOk result (λ hunted.
         IfSome hunted.report (spec.IsReport machine.old.state hunted.made.items)) }
-    ensures refused { IfErr result (spec.IsRefusedBy machine.old.state steps.now) }
+    ensures refused { IfErr result (inner.IsRefusedBy machine.old.state steps.now) }
     ensures limit { machine.new.limit ≡ machine.old.limit }
 {
     let Ok(mut made) = Vec::with_capacity(alloc, steps.len()) else {
@@ -107,9 +108,9 @@ fn turn(
 ) -> Result<(), StepFault>
     requires list { vec_len made.old < vec_capacity made.old }
     requires room { length machine.old.state.output < machine.old.limit }
-    ensures keeps { (s : State) → spec.IsHunt s machine.old.state made.old.items watch.old
-        → OnOk result (spec.IsHunt s machine.new.state made.new.items watch.new) }
-    ensures dropped { IsTrue (spec.pauses watch.old.pause h) → made.new.items ≡ made.old.items }
+    ensures keeps { (s : State) → inner.IsHunt s machine.old.state made.old.items watch.old
+        → OnOk result (inner.IsHunt s machine.new.state made.new.items watch.new) }
+    ensures dropped { IsTrue (inner.pauses watch.old.pause h) → made.new.items ≡ made.old.items }
     ensures refused { IfErr result (λ fault. (step_of machine.old.state h ≡ None)
         × (fault ≡ refusal machine.old.state h)) }
     ensures printed { OnOk result (length machine.new.state.output ≤ length machine.old.state.output + 1) }
@@ -146,7 +147,7 @@ fn awaited(machine: &Machine<Flat>, watch: &Watch, h: u8) -> Option<Access>
 }
 
 fn is_paused(watch: &Watch, h: u8) -> bool
-    ensures { result ≡ spec.pauses watch.now.pause h }
+    ensures { result ≡ inner.pauses watch.now.pause h }
 {
     match watch.pause {
         Pause::Open { hart, .. } => hart == h,
@@ -165,7 +166,7 @@ fn made_by(event: Event) -> Option<Access>
 
 /// Notes a step of hart `h` and the access that it made.
 fn see(watch: &mut Watch, h: u8, made: Option<Access>)
-    ensures { watch.new ≡ spec.watch_after watch.old h made }
+    ensures { watch.new ≡ inner.watch_after watch.old h made }
 {
     if let Pause::Open { hart, access, left } = watch.pause {
         if watch.report.is_none() {
@@ -184,7 +185,7 @@ fn see(watch: &mut Watch, h: u8, made: Option<Access>)
 }
 
 fn report_of(hart: u8, access: Access, h: u8, made: Option<Access>) -> Option<Report>
-    ensures { result ≡ spec.report_of hart access h made }
+    ensures { result ≡ inner.report_of hart access h made }
 {
     let made = made?;
     if access.conflicts(&made) && h != hart {

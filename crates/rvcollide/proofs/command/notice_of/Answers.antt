@@ -1,6 +1,6 @@
 use Rattle.std.proofs.lemmas.Result.{IfOk-weaker}
 use Rattle.rvcollide.specs.Command.{texts}
-use Rattle.rvcollide.specs.Reading.{is_answer}
+use Rattle.rvcollide.specs.Notice.{is_answer}
 use Rattle.rvcollide.proofs.LineLemmas.{answer_asked, malformed_found, malformed_only_accepted, refusal_told}
 use Rattle.rvcollide.proofs.command.notice_of.Goals as goal
 

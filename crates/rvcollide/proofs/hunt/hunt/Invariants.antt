@@ -1,5 +1,5 @@
 use Rattle.std.proofs.Common.{◌≡◌, ◌+◌, ◌-◌, ◌≤◌, length, vec_len, vec_capacity}
-use Rattle.rvcollide.specs.Hunt.{IsHunt}
+use Rattle.rvcollide.specs.internal.Hunt.{IsHunt}
 use Rattle.rvcollide.proofs.hunt.hunt.Given as goal
 
 abbrev pub invariant-loop-number : goal.invariant-loop-number

@@ -1,6 +1,6 @@
 use Rattle.std.proofs.Common.{sym, ap, ◌∙◌, refl}
 use Rattle.std.specs.Option.{option_copied}
-use Rattle.rv_text.specs.Pieces.{pieces_left}
+use Rattle.rv_text.specs.internal.Pieces.{pieces_left}
 use Rattle.rv_text.proofs.LineLemmas.{pieces_of-cut, pieces_of-last}
 use Rattle.rv_text.proofs.pieces.Pieces.next_piece.Goals as goal
 

@@ -1,0 +1,34 @@
+use Rattle.std.specs.Prelude.{Bool, true, false, not, ◌&&◌, List}
+use Rattle.std.specs.List.{list_all, list_any}
+use Rattle.std.specs.String.{string_bytes}
+use Rattle.clap.specs.Words.{Text}
+use Rattle.clap.specs.Faults.{fault_of}
+use Rattle.clap.specs.declared.error.kind.ErrorKind.{ErrorKind}
+use Rattle.clap.specs.declared.error.kind.ErrorKind.TheVariants as kind
+use Rattle.rvcollide.specs.Reading.{is_accepted, program}
+use Rattle.rvcollide.specs.declared.command.Notice.{Notice}
+use Rattle.rvcollide.specs.declared.command.Notice.TheVariants.{Answer, Refusal}
+
+-- What is written of a line that gives no job.
+
+abbrev pub is_request : ErrorKind → Bool
+is_request kind.DisplayHelp = true
+is_request kind.DisplayVersion = true
+is_request _ = false
+
+-- among what `clap` may answer to the words is the help or the version
+abbrev pub asks : List Text → Bool
+asks words = list_any is_request (fault_of program words)
+
+-- it is nothing else
+abbrev pub only_asks : List Text → Bool
+only_asks words = not (is_accepted words) && list_all is_request (fault_of program words)
+
+abbrev pub text_of : Notice → Text
+text_of (Answer text) = string_bytes text
+text_of (Refusal text) = string_bytes text
+
+-- the text goes to the standard output
+abbrev pub is_answer : Notice → Bool
+is_answer (Answer text) = true
+is_answer (Refusal text) = false
