@@ -159,26 +159,26 @@ null_section = record { sh_name = 0; sh_type = 0; sh_flags = 0; sh_addr = 0; sh_
 
 -- SHT_SYMTAB, linked to the third section, its entries from 1 on not local
 abbrev pub symbol_section : Places → SectionHeader
-symbol_section p = record null_section { sh_name = 1; sh_type = 2; sh_offset = p.symbols; sh_size = p.strings - p.symbols; sh_link = 2; sh_info = 1; sh_addralign = 4; sh_entsize = 16 }
+symbol_section places = record null_section { sh_name = 1; sh_type = 2; sh_offset = places.symbols; sh_size = places.strings - places.symbols; sh_link = 2; sh_info = 1; sh_addralign = 4; sh_entsize = 16 }
 
 -- SHT_STRTAB
 abbrev pub string_section : ℕ → ℕ → ℕ → SectionHeader
 string_section name offset size = record null_section { sh_name = name; sh_type = 3; sh_offset = offset; sh_size = size; sh_addralign = 1 }
 
 abbrev pub sections_of : Places → List SectionHeader
-sections_of p = null_section ∷ symbol_section p ∷ string_section 9 p.strings (p.names - p.strings) ∷ string_section 17 p.names 27 ∷ []
+sections_of places = null_section ∷ symbol_section places ∷ string_section 9 places.strings (places.names - places.strings) ∷ string_section 17 places.names 27 ∷ []
 
 -- the tables behind the segments' bytes
 unfoldable pub tables : ℕ → List Named → Places → List ℕ
-tables end symbols p =
-    padding end ++ symbol_bytes symbols ++ string_table symbols ++ section_names ++ padding (p.names + 27) ++ flat_map section_header_bytes (sections_of p)
+tables end symbols places =
+    padding end ++ symbol_bytes symbols ++ string_table symbols ++ section_names ++ padding (places.names + 27) ++ flat_map section_header_bytes (sections_of places)
 
 -- ---- the file
 
 -- the whole of a file with symbols
 abbrev pub written_with : ℕ → List Extent → List Named → Places → List ℕ
-written_with entry segments symbols p =
-    front entry segments (record { offset = p.sections; count = 4; names = 3 }) ++ tables (data_end segments) symbols p
+written_with entry segments symbols places =
+    front entry segments (record { offset = places.sections; count = 4; names = 3 }) ++ tables (data_end segments) symbols places
 
 -- an image without symbols has no sections
 abbrev pub written_parts : ℕ → List Extent → List Named → List ℕ

@@ -30,7 +30,8 @@ own_after (Exit code) held = held
 -- the access writes a byte of the word at the address
 abbrev pub writes_word : Option Access → ℕ → Bool
 writes_word None word = false
-writes_word (Some a) word = a.write && (nat_lt a.first (word + 4) && nat_lt word (a.first + a.size))
+writes_word (Some access) word =
+    access.write && (nat_lt access.first (word + 4) && nat_lt word (access.first + access.size))
 
 -- what an access leaves of another hart's reservation: what there was, unless it writes a byte of its word
 abbrev pub left_by : Option Access → Option ℕ → Option ℕ
@@ -44,17 +45,17 @@ StepsOfRunningHarts = (s : State) (h : ℕ) → is_some (step_of s h) ≡ is_run
 -- the hart's own reservation after its step
 abbrev pub OwnReservation : Type 0
 OwnReservation =
-    (s t : State) (h : ℕ) (e : Event) (hart : Hart) → step_of s h ≡ Some (e, t) → slice_get s.harts h ≡ Some hart → reservation_at t h ≡ own_after (action_at s.memory hart) hart.reservation
+    (before after : State) (h : ℕ) (event : Event) (hart : Hart) → step_of before h ≡ Some (event, after) → slice_get before.harts h ≡ Some hart → reservation_at after h ≡ own_after (action_at before.memory hart) hart.reservation
 
 -- and each other hart's
 abbrev pub OthersReservations : Type 0
 OthersReservations =
-    (s t : State) (h j : ℕ) (e : Event) → step_of s h ≡ Some (e, t) → j ≢ h → reservation_at t j ≡ left_by (accessed e) (reservation_at s j)
+    (before after : State) (h other : ℕ) (event : Event) → step_of before h ≡ Some (event, after) → other ≢ h → reservation_at after other ≡ left_by (accessed event) (reservation_at before other)
 
 -- the access that a step makes is the one that was next before it
 abbrev pub NextIsMade : Type 0
-NextIsMade = (s t : State) (h : ℕ) (e : Event) → step_of s h ≡ Some (e, t) → next_access s h ≡ accessed e
+NextIsMade = (before after : State) (h : ℕ) (event : Event) → step_of before h ≡ Some (event, after) → next_access before h ≡ accessed event
 
 -- it has 1, 2 or 4 bytes
 abbrev pub SizesOfAccesses : Type 0
-SizesOfAccesses = (s : State) (h : ℕ) (a : Access) → next_access s h ≡ Some a → IsSize a.size
+SizesOfAccesses = (s : State) (h : ℕ) (access : Access) → next_access s h ≡ Some access → IsSize access.size

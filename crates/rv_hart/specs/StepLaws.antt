@@ -110,7 +110,7 @@ pub record SameButReservation (a b : Hart) : Type 0 where
 -- a step of one hart changes no other hart's registers, pc or status
 abbrev pub OtherHartsStay : Type 0
 OtherHartsStay =
-    (s t : State) (h : ℕ) (e : Event) → step_of s h ≡ Some (e, t) → (j : ℕ) → j ≢ h → (other : Hart) → slice_get s.harts j ≡ Some other → SomeHart (SameButReservation other) t j
+    (before after : State) (h : ℕ) (made : Event) → step_of before h ≡ Some (made, after) → (j : ℕ) → j ≢ h → (other : Hart) → slice_get before.harts j ≡ Some other → SomeHart (SameButReservation other) after j
 
 -- the event's access writes the byte at the address
 abbrev pub access_writes : Option Access → ℕ → Bool
@@ -120,12 +120,12 @@ access_writes (Some a) address = a.write && (nat_le a.first address && nat_lt ad
 -- a step changes only bytes that its own access writes
 abbrev pub OtherBytesStay : Type 0
 OtherBytesStay =
-    (s t : State) (h : ℕ) (e : Event) → step_of s h ≡ Some (e, t) → (address : ℕ) → access_writes (accessed e) address ≡ false → byte t.memory address ≡ byte s.memory address
+    (before after : State) (h : ℕ) (made : Event) → step_of before h ≡ Some (made, after) → (address : ℕ) → access_writes (accessed made) address ≡ false → byte after.memory address ≡ byte before.memory address
 
 -- a step keeps what was printed, and prints one more byte at most
 abbrev pub OutputLaw : Type 0
 OutputLaw =
-    (s t : State) (h : ℕ) (e : Event) → step_of s h ≡ Some (e, t) → (bytes : List ℕ) × (length bytes ≤ 1) × (t.output ≡ s.output ++ bytes)
+    (before after : State) (h : ℕ) (made : Event) → step_of before h ≡ Some (made, after) → (bytes : List ℕ) × (length bytes ≤ 1) × (after.output ≡ before.output ++ bytes)
 
 -- no step is made by a number that no hart has, or by a hart that does not run
 abbrev pub NoHartLaw : Type 0

@@ -7,16 +7,17 @@ use Rattle.rv_isa.specs.declared.op.Op.{Op}
 
 -- no word matches two rows
 abbrev pub OneRowPerWord : Type 0
-OneRowPerWord = (w : ℕ) (a b : Op) → Matches w a → Matches w b → a ≡ b
+OneRowPerWord = (word : ℕ) (one other : Op) → Matches word one → Matches word other → one ≡ other
 
 -- no word is two instructions
 abbrev pub OneInstructionPerWord : Type 0
-OneInstructionPerWord = (w : ℕ) (i j : Instr) → Row w i → Row w j → i ≡ j
+OneInstructionPerWord = (word : ℕ) (one other : Instr) → Row word one → Row word other → one ≡ other
 
 -- no instruction has two words
 abbrev pub OneWordPerInstruction : Type 0
-OneWordPerInstruction = (v w : ℕ) (i : Instr) → v < 2 ^ 32 → w < 2 ^ 32 → Row v i → Row w i → v ≡ w
+OneWordPerInstruction = (one other : ℕ) (instr : Instr) → one < 2 ^ 32 → other < 2 ^ 32 → Row one instr → Row other instr → one ≡ other
 
 -- `op_at` is the operation whose row matches, and `decoded` the instruction whose row it is
 abbrev pub FunctionsOfTheTable : Type 0
-FunctionsOfTheTable = ((w : ℕ) (op : Op) → (op_at w ≡ Some op) ↔ Matches w op) × ((w : ℕ) (i : Instr) → (decoded w ≡ Some i) ↔ Row w i)
+FunctionsOfTheTable =
+    ((word : ℕ) (op : Op) → (op_at word ≡ Some op) ↔ Matches word op) × ((word : ℕ) (instr : Instr) → (decoded word ≡ Some instr) ↔ Row word instr)
