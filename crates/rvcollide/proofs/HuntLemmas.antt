@@ -1,5 +1,5 @@
 use Rattle.std.proofs.Common.{◌≡◌, ◌≢◌, ℕ, ◌-◌, ◌≤◌, Bool, true, false, cond, List, [], ◌∷◌, ◌++◌, Option, Some, None, length, take, refl, sym, ap, subst, ◌∙◌, arith, length-append, append-nil}
-use Rattle.std.specs.Prelude.{◌<◌, max, min, zero, suc, ◌&&◌, ◌||◌, ◌==◌, not, nat_le, nat_lt, slice_get, option_and_then, IfSome, codes}
+use Rattle.std.specs.Prelude.{◌<◌, max, min, zero, suc, ◌&&◌, ◌||◌, ◌==◌, not, nat_le, slice_get, option_and_then, IfSome, codes}
 use Rattle.std.specs.Io.KnownBytes.{Appends, Keeps}
 use Rattle.std.proofs.KnownBytes.{Appends-trans, Appends-kept}
 use Rattle.std.proofs.lemmas.Bool.Decides.{nat_tests}
