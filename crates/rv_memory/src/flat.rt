@@ -5,7 +5,7 @@ ghost use Rattle.rv_memory.specs.Memory as spec;
 ghost use Rattle.rv_memory.specs.internal.Flat.{number_at, put_at};
 ghost use Rattle.rv_memory.specs.internal.Index.{Skips};
 
-use crate::fit::{end_of, fault_of};
+use crate::fit::fault_of;
 use crate::index::{first_of, index_of};
 use crate::region::Region;
 use crate::store::{ByteStore, MemFault, Need, NoMemory, Steady};
@@ -19,6 +19,9 @@ pub struct Flat {
     regions: Vec<Region>,
     /// Where an access looks for its region, from its page on.
     firsts: Vec<u16>,
+    /// The place of the first executable region, where a fetch looks before it asks for its page's. It is
+    /// no more than a place to try: what lies there is tested at each fetch.
+    code: usize,
 }
 
 impl Model for Flat {
@@ -67,6 +70,10 @@ impl ByteStore for Flat {
     #[inline]
     #[tactic(auto, using(crate::proofs::Places::load_found, crate::proofs::LookFrom::skips))]
     fn load_permitted(&self, address: u32, size: u8, need: Need) -> Option<u32> {
+        if need == Need::Execute && permits_at(&self.regions, self.code, address, size, need) {
+            let region = &self.regions[self.code];
+            return Some(number_at(&region.bytes, (address - region.start) as usize, size));
+        }
         let first = first_of(&self.firsts, address);
         let region = &self.regions[find_permitted(&self.regions, first, address, size, need)?];
         Some(number_at(&region.bytes, (address - region.start) as usize, size))
@@ -84,6 +91,19 @@ impl ByteStore for Flat {
         let region = find(&self.regions, first, address, size);
         put(&mut self.regions[region], address, size, value);
     }
+
+    #[inline]
+    #[tactic(auto, using(crate::proofs::Places::store_found, crate::proofs::LookFrom::skips))]
+    fn store_permitted(&mut self, address: u32, size: u8, value: u32, need: Need) -> bool {
+        let first = first_of(&self.firsts, address);
+        match find_permitted(&self.regions, first, address, size, need) {
+            None => false,
+            Some(place) => {
+                put(&mut self.regions[place], address, size, value);
+                true
+            }
+        }
+    }
 }
 
 impl Steady for Flat {
@@ -95,7 +115,8 @@ impl Steady for Flat {
 fn holds(region: &Region, address: u32, size: u8) -> bool
     ensures { result ≡ spec.holds region.now address size }
 {
-    region.start <= address && u64::from(address) + u64::from(size) <= end_of(region)
+    region.start <= address
+        && u64::from(address - region.start) + u64::from(size) <= u64::from(region.len)
 }
 
 #[inline]
@@ -109,6 +130,21 @@ fn allows(region: &Region, need: Need) -> bool
         Need::ReadWrite => region.r && region.w,
         Need::Execute => region.x,
     }
+}
+
+/// Whether the region of the place, where there is one, has the bytes and the permissions.
+#[inline]
+#[tactic(auto, using(crate::proofs::Permitted::permitted_at))]
+fn permits_at(regions: &[Region], place: usize, address: u32, size: u8, need: Need) -> bool
+    ensures permitted { IsTrue result → IsTrue (spec.permits regions.now address size need) }
+    ensures within { IsTrue result → place < length regions.now }
+    ensures holds { IsTrue result → HoldsAt (λ e. IsTrue (spec.holds e address size)) regions.now place }
+{
+    if place >= regions.len() {
+        return false;
+    }
+    let region = &regions[place];
+    holds(region, address, size) && allows(region, need)
 }
 
 /// The place of a region that the bytes lie in, where none before `first` has them.
@@ -212,7 +248,12 @@ fn keep(alloc: Global, regions: &[Region]) -> Result<Flat, NoMemory>
 {
     let firsts = index_of(alloc, regions)?;
     let regions = fill_all(alloc, regions)?;
-    Ok(Flat { regions, firsts })
+    let code = regions.iter().position(|region| region.x).unwrap_or(0);
+    Ok(Flat {
+        regions,
+        firsts,
+        code,
+    })
 }
 
 /// The region with its zeros written out.

@@ -131,6 +131,25 @@ pub trait ByteStore: Drop {
         requires ready { is_ready self.old address size }
         ensures stored { memory self.new ≡ spec.store (memory self.old) address size value }
         ensures keeps { (a n : ℕ) → is_ready self.old a n → is_ready self.new a n };
+
+    /// The same where the bytes are permitted, and no memory is refused for them: `permits`, `ready` and then
+    /// `store`, for which a store may look the bytes up once. Elsewhere the contents stay. Answers whether the
+    /// bytes were stored.
+    #[tactic(auto, using(crate::proofs::Permitted::permitted_is_there))]
+    fn store_permitted(&mut self, address: u32, size: u8, value: u32, need: Need) -> bool
+        requires { spec.IsSize size }
+        ensures permitted { IsTrue result → IsTrue (spec.permits (memory self.old) address size need) }
+        ensures stored { IsTrue result → memory self.new ≡ spec.store (memory self.old) address size value }
+        ensures same { (result ≡ false) → memory self.new ≡ memory self.old }
+        ensures refused { (result ≡ false) → IsTrue (spec.permits (memory self.old) address size need) → IsTrue can_refuse }
+        ensures keeps { (a n : ℕ) → is_ready self.old a n → is_ready self.new a n }
+    {
+        if !self.permits(address, size, need) || self.ready(address, size).is_err() {
+            return false;
+        }
+        self.store(address, size, value);
+        true
+    }
 }
 
 /// A store that asks for no memory once it is made.

@@ -232,3 +232,24 @@ fn finds_the_region_among_many(rt: HostRuntime) -> Result<(), Fail> {
     assert_eq!(rt; load(&flat, 0x301_0000, 4), Some(0x1234_5678));
     Ok(())
 }
+
+#[test]
+fn stores_where_permitted(rt: HostRuntime) -> Result<(), Fail> {
+    let alloc = rt.alloc();
+    let mut fixed = region(alloc, 0x1000, &[0xEE; 4], 4)?;
+    fixed.w = false;
+    let mut hidden = region(alloc, 0x1004, &[0xEE; 8], 8)?;
+    hidden.r = false;
+    let regions = [fixed, hidden];
+    let mut flat = Flat::make(alloc, &regions)?;
+    assert!(rt; flat.store_permitted(0x1004, 4, 0x0403_0201, Need::Write));
+    assert!(rt; flat.store_permitted(0x100A, 2, 0x7777_ABCD, Need::Write));
+    assert!(rt; flat.store_permitted(0x1000, 1, 0x11, Need::Read));
+    assert!(rt; !flat.store_permitted(0x1001, 1, 0, Need::Write));
+    assert!(rt; !flat.store_permitted(0x1004, 4, 0, Need::ReadWrite));
+    assert!(rt; !flat.store_permitted(0x100B, 2, 0, Need::Write));
+    assert_eq!(rt; load(&flat, 0x1000, 4), Some(0xEEEE_EE11));
+    assert_eq!(rt; load(&flat, 0x1004, 4), Some(0x0403_0201));
+    assert_eq!(rt; load(&flat, 0x1008, 4), Some(0xABCD_EEEE));
+    Ok(())
+}
