@@ -1,8 +1,8 @@
-ghost use Rattle.std.specs.Prelude.{◌≡◌, ◌↔◌, ◌<◌, ◌^◌, ℕ, Some};
+ghost use Rattle.std.specs.Prelude.{◌≡◌, ◌↔◌, ◌<◌, ◌^◌, ℕ, Some, IfSome, IsSome};
 ghost use Rattle.rv_isa.specs.Decoded.{with_operands, decoded};
 ghost use Rattle.rv_isa.specs.internal.Encoded.{assembled, scattered};
 ghost use Rattle.rv_isa.specs.Instr.{Row, operands};
-ghost use Rattle.rv_isa.specs.Table.{form_of, match_of};
+ghost use Rattle.rv_isa.specs.Table.{Matches, form_of, match_of};
 ghost use Rattle.rv_isa.specs.declared.instr.Instr.{Instr};
 
 use crate::candidate::candidate;
@@ -12,12 +12,22 @@ use crate::op::Op;
 use crate::operands::operands_of;
 
 /// The instruction that a word is, or None where no row of the table matches it.
-#[tactic(auto, using(crate::proofs::RowLemmas::decoded_row), unfolding(crate::specs::Decoded::op_at))]
 pub fn decode(word: u32) -> Option<Instr>
     ensures value { result ≡ decoded word }
     ensures row { (i : Instr) → (result ≡ Some i) ↔ Row word i }
 {
-    let op = candidate(word);
+    decode_as(candidate(word), word)
+}
+
+/// The instruction that a word is, where it is one of this operation, or None where the operation's row
+/// does not match it. Where the operation is a constant, this is one test and the operands of one format.
+#[inline(always)]
+#[tactic(auto, using(crate::proofs::RowLemmas::decoded_as))]
+pub fn decode_as(op: Op, word: u32) -> Option<Instr>
+    ensures value { IfSome result (λ i. decoded word ≡ Some i) }
+    ensures operation { IfSome result (λ i. i.op ≡ op) }
+    ensures row { IsSome result ↔ Matches word op }
+{
     if word & op.form().mask() == op.fixed_bits() {
         Some(with_operands(op, word))
     } else {
@@ -26,6 +36,7 @@ pub fn decode(word: u32) -> Option<Instr>
 }
 
 /// The operation with a word's operands in its format.
+#[inline(always)]
 fn with_operands(op: Op, word: u32) -> Instr
     ensures { result ≡ with_operands op word }
 {

@@ -21,6 +21,7 @@ pub enum Form {
 
 impl Form {
     /// The bits of a word that are fixed in this format.
+    #[inline(always)]
     pub fn mask(self) -> u32
         ensures { result ≡ spec.mask_of self }
     {

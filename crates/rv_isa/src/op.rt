@@ -62,6 +62,7 @@ pub enum Op {
 
 impl Op {
     /// The format of the operation's words.
+    #[inline(always)]
     pub fn form(self) -> Form
         ensures { result ≡ spec.form_of self }
     {
@@ -110,6 +111,7 @@ impl Op {
     }
 
     /// The fixed bits of the operation's words, in their places.
+    #[inline(always)]
     pub fn fixed_bits(self) -> u32
         ensures { result ≡ spec.match_of self }
     {

@@ -27,6 +27,7 @@ const NONE: Operands = Operands {
 };
 
 /// The operands of a word in a format.
+#[inline(always)]
 #[tactic(auto, using(crate::specs::internal::OperandsFit::operands_fit))]
 pub(crate) fn operands_of(form: Form, word: u32) -> Operands
     ensures value { result ≡ spec.operands_of form word }
@@ -104,12 +105,14 @@ pub(crate) fn operands_of(form: Form, word: u32) -> Operands
 }
 
 /// The low five bits: a register's number.
+#[inline(always)]
 fn field_5(bits: u32) -> u8
     ensures { result ≡ bits % 2 ^ 5 }
 {
     (bits % 32) as u8
 }
 
+#[inline(always)]
 fn immediate_i(word: u32) -> i32
     ensures { result ≡ fields.immediate_i word }
 {
@@ -117,6 +120,7 @@ fn immediate_i(word: u32) -> i32
     if bits < 0x800 { bits } else { bits - 0x1000 }
 }
 
+#[inline(always)]
 fn immediate_s(word: u32) -> i32
     ensures { result ≡ fields.immediate_s word }
 {
@@ -124,6 +128,7 @@ fn immediate_s(word: u32) -> i32
     if bits < 0x800 { bits } else { bits - 0x1000 }
 }
 
+#[inline(always)]
 fn immediate_b(word: u32) -> i32
     ensures { result ≡ fields.immediate_b word }
 {
@@ -133,6 +138,7 @@ fn immediate_b(word: u32) -> i32
     if bits < 0x1000 { bits } else { bits - 0x2000 }
 }
 
+#[inline(always)]
 fn immediate_j(word: u32) -> i32
     ensures { result ≡ fields.immediate_j word }
 {
