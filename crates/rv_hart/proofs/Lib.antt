@@ -2,11 +2,12 @@ pub mod AbleLemmas
 pub mod ByteLemmas
 pub mod FetchLemmas
 pub mod HartsLemmas
+pub mod LawLemmas
 pub mod NextLemmas
 pub mod OutputLemmas
+pub mod QuickLemmas
 pub mod ReservationLemmas
 pub mod StartLemmas
-pub mod LawLemmas
 pub mod StepLemmas
 pub mod TextLemmas
 pub mod WordsLemmas

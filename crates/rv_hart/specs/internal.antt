@@ -3,3 +3,4 @@ pub mod Able
 pub mod Harts
 pub mod Machine
 pub mod Next
+pub mod Quick

@@ -15,7 +15,7 @@ const EXIT: u32 = 93;
 const PRINT: u32 = 1;
 
 /// A register's value; x0's is 0.
-#[inline]
+#[inline(always)]
 pub fn register(hart: &Hart, register: u8) -> u32
     ensures { result ≡ get hart.now.registers register }
 {
@@ -27,7 +27,7 @@ pub fn register(hart: &Hart, register: u8) -> u32
 }
 
 /// What an instruction does, before its access is tested.
-#[inline]
+#[inline(always)]
 pub fn act(instr: &Instr, hart: &Hart) -> Action
     ensures { result ≡ spec.action_of instr.now hart.now }
 {
@@ -91,7 +91,7 @@ pub fn act(instr: &Instr, hart: &Hart) -> Action
 }
 
 /// What an AMO stores, of the loaded word and the source register's.
-#[inline]
+#[inline(always)]
 pub fn combined(combine: Combine, loaded: u32, value: u32) -> u32
     ensures { result ≡ words.combined combine loaded value }
 {
@@ -109,7 +109,7 @@ pub fn combined(combine: Combine, loaded: u32, value: u32) -> u32
 }
 
 /// Loaded bytes, extended to a word.
-#[inline]
+#[inline(always)]
 pub fn extended(signed: bool, size: u8, bits: u32) -> u32
     requires size { IsSize size }
     requires fits { bits < 256 ^ size }
@@ -122,30 +122,35 @@ pub fn extended(signed: bool, size: u8, bits: u32) -> u32
     }
 }
 
+#[inline(always)]
 fn min_signed(a: u32, b: u32) -> u32
     ensures { result ≡ words.combined Combine.Min a b }
 {
     a.cast_signed().min(b.cast_signed()).cast_unsigned()
 }
 
+#[inline(always)]
 fn max_signed(a: u32, b: u32) -> u32
     ensures { result ≡ words.combined Combine.Max a b }
 {
     a.cast_signed().max(b.cast_signed()).cast_unsigned()
 }
 
+#[inline(always)]
 fn flag(b: bool) -> u32
     ensures { result ≡ words.flag b }
 {
     u32::from(b)
 }
 
+#[inline(always)]
 fn less_signed(a: u32, b: u32) -> bool
     ensures { result ≡ words.less_signed a b }
 {
     a.cast_signed() < b.cast_signed()
 }
 
+#[inline(always)]
 fn shift_left(a: u32, amount: u32) -> u32
     requires { amount < 32 }
     ensures { result ≡ words.shift_left a amount }
@@ -153,6 +158,7 @@ fn shift_left(a: u32, amount: u32) -> u32
     a << amount
 }
 
+#[inline(always)]
 fn shift_right_signed(a: u32, amount: u32) -> u32
     requires { amount < 32 }
     ensures { result ≡ words.shift_right_signed a amount }
@@ -160,12 +166,14 @@ fn shift_right_signed(a: u32, amount: u32) -> u32
     a.cast_signed().wrapping_shr(amount).cast_unsigned()
 }
 
+#[inline(always)]
 fn following(hart: &Hart) -> u32
     ensures { result ≡ spec.following hart.now }
 {
     hart.pc.wrapping_add(4)
 }
 
+#[inline(always)]
 fn set(instr: &Instr, hart: &Hart, value: u32) -> Action
     ensures { result ≡ spec.result_is instr.now hart.now value }
 {
@@ -176,6 +184,7 @@ fn set(instr: &Instr, hart: &Hart, value: u32) -> Action
     }
 }
 
+#[inline(always)]
 fn proceed(hart: &Hart) -> Action
     ensures { result ≡ Action.Set 0 0 (spec.following hart.now) }
 {
@@ -186,6 +195,7 @@ fn proceed(hart: &Hart) -> Action
     }
 }
 
+#[inline(always)]
 fn jump(instr: &Instr, hart: &Hart, target: u32) -> Action
     ensures { result ≡ spec.jump instr.now hart.now target }
 {
@@ -200,6 +210,7 @@ fn jump(instr: &Instr, hart: &Hart, target: u32) -> Action
     }
 }
 
+#[inline(always)]
 fn branch(instr: &Instr, hart: &Hart, taken: bool) -> Action
     ensures { result ≡ spec.branch instr.now hart.now taken }
 {
@@ -218,6 +229,7 @@ fn branch(instr: &Instr, hart: &Hart, taken: bool) -> Action
     }
 }
 
+#[inline(always)]
 fn load(instr: &Instr, address: u32, size: u8, signed: bool) -> Action
     ensures { result ≡ Action.Load instr.now.rd address size signed }
 {
@@ -229,6 +241,7 @@ fn load(instr: &Instr, address: u32, size: u8, signed: bool) -> Action
     }
 }
 
+#[inline(always)]
 fn store(address: u32, size: u8, value: u32) -> Action
     ensures { result ≡ Action.Store address size value }
 {
@@ -239,6 +252,7 @@ fn store(address: u32, size: u8, value: u32) -> Action
     }
 }
 
+#[inline(always)]
 fn reserve(instr: &Instr, address: u32) -> Action
     ensures { result ≡ Action.Reserve instr.now.rd address }
 {
@@ -248,6 +262,7 @@ fn reserve(instr: &Instr, address: u32) -> Action
     }
 }
 
+#[inline(always)]
 fn conditional(instr: &Instr, address: u32, value: u32) -> Action
     ensures { result ≡ Action.Conditional instr.now.rd address value }
 {
@@ -258,6 +273,7 @@ fn conditional(instr: &Instr, address: u32, value: u32) -> Action
     }
 }
 
+#[inline(always)]
 fn replace(instr: &Instr, address: u32, combine: Combine, value: u32) -> Action
     ensures { result ≡ Action.Replace instr.now.rd address combine value }
 {

@@ -60,8 +60,8 @@ fn allowed<S: ByteStore>(store: &S, action: Action) -> Action
 
 /// Whether the address is a multiple of the size. The sizes stand here one by one, since a division by a
 /// number that is not known takes long.
-#[inline]
-fn is_aligned(address: u32, size: u8) -> bool
+#[inline(always)]
+pub fn is_aligned(address: u32, size: u8) -> bool
     requires { IsSize size }
     ensures { result ≡ (address % size == 0) }
 {
@@ -163,6 +163,7 @@ pub fn written_by(loaded: u32, hart: &Hart, action: Action) -> Option<Write>
     }
 }
 
+#[inline(always)]
 fn access(hart: &Hart, first: u32, size: u8, read: bool, write: bool) -> Access
     ensures { result ≡ record { pc = hart.now.pc; first = first; size = size; read = read; write = write } }
 {
@@ -176,6 +177,7 @@ fn access(hart: &Hart, first: u32, size: u8, read: bool, write: bool) -> Access
 }
 
 /// The access that the action makes.
+#[inline(always)]
 pub fn access_of(hart: &Hart, action: Action) -> Option<Access>
     ensures { result ≡ spec.access_of hart.now action }
 {
@@ -192,6 +194,7 @@ pub fn access_of(hart: &Hart, action: Action) -> Option<Access>
 }
 
 /// The event of the action.
+#[inline(always)]
 pub fn event_of(hart: &Hart, action: Action) -> Event
     ensures { result ≡ spec.event_of hart.now action }
 {
@@ -203,7 +206,7 @@ pub fn event_of(hart: &Hart, action: Action) -> Event
 }
 
 /// Sets a register, but for x0.
-#[inline]
+#[inline(always)]
 pub fn set_register(hart: &mut Hart, register: u8, value: u32)
     ensures { hart.new ≡ record hart.old { registers = registers.set hart.old.registers register value } }
 {
@@ -213,6 +216,7 @@ pub fn set_register(hart: &mut Hart, register: u8, value: u32)
 }
 
 /// What the action does to the hart itself.
+#[inline(always)]
 pub fn advance(hart: &mut Hart, loaded: u32, action: Action)
     requires { Fits loaded action }
     ensures { hart.new ≡ spec.hart_after loaded hart.old action }

@@ -1,5 +1,6 @@
 ghost use Rattle.std.specs.Prelude.{◌≡◌};
 ghost use Rattle.rv_hart.specs.Cause as spec;
+ghost use Rattle.rv_hart.specs.State as state;
 
 /// Why a hart stopped. The numbers, in this order from 0, are this project's own; what a hart does to be
 /// stopped so is the RISC-V Unprivileged ISA's "exception" of the chapters RV32I and A.
@@ -41,6 +42,16 @@ pub enum Status {
     Running,
     Exited(u32),
     Stopped(Cause),
+}
+
+#[inline(always)]
+pub(crate) fn is_running(status: Status) -> bool
+    ensures { result ≡ state.is_running status }
+{
+    match status {
+        Status::Running => true,
+        Status::Exited(_) | Status::Stopped(_) => false,
+    }
 }
 
 /// One hart: its 32 registers (x0 is read as 0 whatever stands here), the address of its next

@@ -11,6 +11,7 @@ mod effect;
 pub mod hart;
 pub mod laws;
 pub mod machine;
+mod quick;
 mod start;
 #[cfg(test)]
 mod tests;

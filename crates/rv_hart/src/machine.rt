@@ -1,4 +1,4 @@
-ghost use Rattle.std.specs.Prelude.{◌≡◌, ◌≢◌, ℕ, ◌<◌, ◌≤◌, ◌%◌, ◌↔◌, ◌+◌, Some, None, length, IsTrue, IfOk, IfErr, OnOk, OnErr, unwrap_or, slice_get, All};
+ghost use Rattle.std.specs.Prelude.{◌≡◌, ◌≢◌, ℕ, ◌<◌, ◌≤◌, ◌%◌, ◌↔◌, ◌+◌, Some, None, length, IsTrue, false, IsSome, IfSome, IfOk, IfErr, OnOk, OnErr, unwrap_or, slice_get, All};
 ghost use Rattle.rv_hart.specs.internal.Able.{IsAble};
 ghost use Rattle.rv_hart.specs.internal.Machine as machine;
 ghost use Rattle.rv_hart.specs.internal.Next as own;
@@ -14,10 +14,10 @@ use crate::access::{Access, Event};
 use crate::act::register;
 use crate::action::Action;
 use crate::effect::{
-    access_of, action_at, event_of, loaded_by, print, put, ready, see_and_advance, set_register,
-    written_by,
+    access_of, action_at, event_of, loaded_by, print, put, ready, see_and_advance, written_by,
 };
-use crate::hart::{Hart, Status};
+use crate::hart::{Hart, Status, is_running};
+use crate::quick::quick;
 use crate::start::{first_harts, with_stacks};
 use rv_memory::laws::{bytes_stand_where_covered, memory_is_sound};
 use rv_memory::region::Region;
@@ -197,6 +197,40 @@ impl<S: ByteStore> Machine<S> {
         ensures no_memory { (result ≡ Err StepFault.NoMemory) → IsTrue S.can_refuse }
         ensures refused { OnErr result (self.new ≡ self.old) }
     {
+        match self.step_quick(h) {
+            Some(event) => Ok(event),
+            None => self.step_any(h),
+        }
+    }
+
+    /// One step of a hart where it is a common one; else nothing has changed.
+    #[inline(always)]
+    fn step_quick(&mut self, h: u8) -> Option<Event>
+        ensures step { IfSome result (λ event.
+            step_of self.old.state h ≡ Some (event, self.new.state)) }
+        ensures running { IsSome result → IsTrue (next.is_running_hart (slice_get self.old.state.harts h)) }
+        ensures silent { IsSome result → next.prints self.old.state.memory (slice_get self.old.state.harts h) ≡ false }
+        ensures harts { length self.new.state.harts ≡ length self.old.state.harts }
+        ensures limit { self.new.limit ≡ self.old.limit }
+        ensures same { (result ≡ None) → self.new ≡ self.old }
+    {
+        quick(&mut self.store, &mut self.harts, h)
+    }
+
+    /// One step of a hart, whatever it is.
+    #[cold]
+    #[inline(never)]
+    fn step_any(&mut self, h: u8) -> Result<Event, StepFault>
+        ensures step { IfOk result (λ event.
+            step_of self.old.state h ≡ Some (event, self.new.state)) }
+        ensures harts { length self.new.state.harts ≡ length self.old.state.harts }
+        ensures limit { self.new.limit ≡ self.old.limit }
+        ensures no_hart { (result ≡ Err StepFault.NoHart) ↔ (length self.old.state.harts ≤ h) }
+        ensures not_running { (result ≡ Err StepFault.NotRunning) ↔ next.IsIdle self.old.state h }
+        ensures output_full { (result ≡ Err StepFault.OutputFull) ↔ next.HasNoRoom self.old h }
+        ensures no_memory { (result ≡ Err StepFault.NoMemory) → IsTrue S.can_refuse }
+        ensures refused { OnErr result (self.new ≡ self.old) }
+    {
         let action = self.tested(h)?;
         self.take(h, action)
     }
@@ -227,44 +261,9 @@ impl<S: ByteStore> Machine<S> {
         Ok(action)
     }
 
-    /// Takes the action, or changes nothing where the store is refused memory. Most instructions only set a
-    /// register: they are taken by themselves, since they touch no other part of the machine.
-    fn take(&mut self, h: u8, action: Action) -> Result<Event, StepFault>
-        requires takes { machine.Takes self.old.state h action }
-        requires hart { h < length self.old.state.harts }
-        requires able { IsAble self.old.state.memory action }
-        requires room { IsTrue (next.is_print action) → length self.old.state.output < self.old.limit }
-        ensures step { IfOk result (λ event.
-            step_of self.old.state h ≡ Some (event, self.new.state)) }
-        ensures harts { length self.new.state.harts ≡ length self.old.state.harts }
-        ensures limit { self.new.limit ≡ self.old.limit }
-        ensures err { IfErr result (λ fault. fault ≡ StepFault.NoMemory) }
-        ensures no_memory { OnErr result (IsTrue S.can_refuse) }
-        ensures refused { OnErr result (self.new ≡ self.old) }
-    {
-        match action {
-            Action::Set { rd, value, next } => Ok(self.set(h, rd, value, next)),
-            _ => self.take_any(h, action),
-        }
-    }
-
-    /// Sets a register of a hart, which goes on at `next`.
-    fn set(&mut self, h: u8, rd: u8, value: u32, next: u32) -> Event
-        requires takes { machine.Takes self.old.state h (Action.Set rd value next) }
-        requires hart { h < length self.old.state.harts }
-        ensures step { step_of self.old.state h ≡ Some (result, self.new.state) }
-        ensures harts { length self.new.state.harts ≡ length self.old.state.harts }
-        ensures limit { self.new.limit ≡ self.old.limit }
-    {
-        let hart = &mut self.harts[h as usize];
-        set_register(hart, rd, value);
-        hart.pc = next;
-        Event::Moved(None)
-    }
-
-    /// Takes any action, or changes nothing where the store is refused memory.
+    /// Takes the action, or changes nothing where the store is refused memory.
     #[tactic(auto, using(crate::proofs::StepLemmas::able_write))]
-    fn take_any(&mut self, h: u8, action: Action) -> Result<Event, StepFault>
+    fn take(&mut self, h: u8, action: Action) -> Result<Event, StepFault>
         requires takes { machine.Takes self.old.state h action }
         requires hart { h < length self.old.state.harts }
         requires able { IsAble self.old.state.memory action }
@@ -323,15 +322,6 @@ fn plain_access(hart: &Hart, action: Action) -> Option<Access>
     match action {
         Action::Load { .. } | Action::Store { .. } => access_of(hart, action),
         _ => None,
-    }
-}
-
-fn is_running(status: Status) -> bool
-    ensures { result ≡ state.is_running status }
-{
-    match status {
-        Status::Running => true,
-        Status::Exited(_) | Status::Stopped(_) => false,
     }
 }
 

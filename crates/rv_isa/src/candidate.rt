@@ -4,6 +4,7 @@ ghost use Rattle.rv_isa.specs.internal.Candidate as spec;
 use crate::op::Op;
 
 /// The one operation whose row the word may have: whether it has it is for the table's mask to say.
+#[inline(always)]
 #[tactic(auto, unfolding(crate::specs::internal::Candidate::candidate))]
 pub fn candidate(word: u32) -> Op
     ensures { result ≡ spec.candidate word }
@@ -26,6 +27,7 @@ pub fn candidate(word: u32) -> Op
     }
 }
 
+#[inline(always)]
 fn branch(funct3: u32) -> Op
     ensures { result ≡ spec.branch funct3 }
 {
@@ -39,6 +41,7 @@ fn branch(funct3: u32) -> Op
     }
 }
 
+#[inline(always)]
 fn load(funct3: u32) -> Op
     ensures { result ≡ spec.load funct3 }
 {
@@ -51,6 +54,7 @@ fn load(funct3: u32) -> Op
     }
 }
 
+#[inline(always)]
 fn store(funct3: u32) -> Op
     ensures { result ≡ spec.store funct3 }
 {
@@ -61,6 +65,7 @@ fn store(funct3: u32) -> Op
     }
 }
 
+#[inline(always)]
 fn immediate(funct3: u32, funct7: u32) -> Op
     ensures { result ≡ spec.immediate funct3 funct7 }
 {
@@ -76,6 +81,7 @@ fn immediate(funct3: u32, funct7: u32) -> Op
     }
 }
 
+#[inline(always)]
 fn register(funct3: u32, funct7: u32) -> Op
     ensures { result ≡ spec.register funct3 funct7 }
 {
@@ -91,6 +97,7 @@ fn register(funct3: u32, funct7: u32) -> Op
     }
 }
 
+#[inline(always)]
 fn atomic(funct5: u32) -> Op
     ensures { result ≡ spec.atomic funct5 }
 {
@@ -109,6 +116,7 @@ fn atomic(funct5: u32) -> Op
     }
 }
 
+#[inline(always)]
 fn system(source: u32) -> Op
     ensures { result ≡ spec.system source }
 {

@@ -1,4 +1,4 @@
-ghost use Rattle.std.specs.Prelude.{◌≡◌, ℕ, ◌^◌, ◌<◌, Bool, false, IsTrue, IfOk, IfErr, OnOk, OnErr, None, Some, codes, unwrap_or, All};
+ghost use Rattle.std.specs.Prelude.{◌≡◌, ℕ, ◌^◌, ◌<◌, Bool, false, IsTrue, IfSome, IfOk, IfErr, OnOk, OnErr, None, Some, codes, unwrap_or, All};
 ghost use Rattle.rv_memory.specs.Extent.{IsExtent};
 ghost use Rattle.rv_memory.specs.Memory as spec;
 ghost use Rattle.rv_memory.specs.declared.store.MemFault.TheVariants.{NoMemory as OutOfMemory};
@@ -108,7 +108,8 @@ pub trait ByteStore: Drop {
     #[tactic(auto, using(crate::proofs::Permitted::permitted_is_there))]
     fn load_permitted(&self, address: u32, size: u8, need: Need) -> Option<u32>
         requires { spec.IsSize size }
-        ensures { result ≡ spec.load_permitted (memory self.now) address size need }
+        ensures value { result ≡ spec.load_permitted (memory self.now) address size need }
+        ensures below { IfSome result (λ value. value < 256 ^ size) }
     {
         if self.permits(address, size, need) {
             Some(self.load(address, size))

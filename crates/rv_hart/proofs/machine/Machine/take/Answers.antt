@@ -3,7 +3,7 @@ use Rattle.std.specs.Prelude.{slice_get}
 use Rattle.std.proofs.lemmas.Option.{slice_get_read}
 use Rattle.rv_hart.specs.Step.{memory_after}
 use Rattle.rv_hart.proofs.StepLemmas.{step_made, harts_back}
-use Rattle.rv_hart.proofs.machine.Machine.take_any.Goals as goal
+use Rattle.rv_hart.proofs.machine.Machine.take.Goals as goal
 
 pub returns-clause-step : goal.returns-clause-step
 returns-clause-step g c =
