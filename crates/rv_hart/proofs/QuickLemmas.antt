@@ -8,6 +8,7 @@ use Rattle.rv_hart.specs.Next.{is_print}
 use Rattle.rv_hart.specs.State.{State}
 use Rattle.rv_hart.specs.Step.{action_at_word, allowed, event_of, fetched, hart_after, loaded_by, memory_after, printed, written_by}
 use Rattle.rv_hart.specs.declared.access.Event.{Event}
+use Rattle.rv_hart.specs.declared.access.Event.TheVariants.{Moved}
 use Rattle.rv_hart.specs.declared.action.Action.{Action}
 use Rattle.rv_hart.specs.declared.action.Action.TheVariants.{Set, Load, Store}
 use Rattle.rv_hart.specs.declared.hart.Hart.{Hart}
@@ -99,20 +100,20 @@ quick_step old new before after h loaded hart action w event found runs l w_is e
       sound = sound;
     }
 
-pub quick_set : (m : Memory) (old new : List Hart) (h rd value next : ℕ) (event : Event) → HartIs old h (Begins m (Set rd value next)) → HartIs old h (λ hart. event ≡ event_of hart (Set rd value next)) →
-    HartsAfter old new h 0 (Set rd value next) None → IsQuick old new m m h event
-quick_set m old new h rd value next event b e harts =
+pub quick_set : (m : Memory) (old new : List Hart) (h rd value next : ℕ) → HartIs old h (Begins m (Set rd value next)) →
+    HartsAfter old new h 0 (Set rd value next) None → IsQuick old new m m h (Moved None)
+quick_set m old new h rd value next b harts =
     let action : Action = Set rd value next in
     let (hart, found, begun) = some_hart {P = Begins m action} (slice_get old h) b in
-    quick_step old new m m h 0 hart action None event found (set_runs m hart rd value next begun) refl refl (of_hart old h hart (λ x. event ≡ event_of x action) found e) harts refl refl refl (λ sound. sound)
+    quick_step old new m m h 0 hart action None (Moved None) found (set_runs m hart rd value next begun) refl refl refl harts refl refl refl (λ sound. sound)
 
-pub quick_load : (m : Memory) (old new : List Hart) (h rd address size loaded : ℕ) (signed : Bool) (event : Event) → HartIs old h (Begins m (Load rd address size signed)) → (address % size == 0) ≡ true → load_permitted m address size need.Read ≡ Some loaded →
-    HartIs old h (λ hart. event ≡ event_of hart (Load rd address size signed)) → HartsAfter old new h loaded (Load rd address size signed) None → IsQuick old new m m h event
-quick_load m old new h rd address size loaded signed event b aligned read e harts =
+pub quick_load : (m : Memory) (old new : List Hart) (h rd address size loaded : ℕ) (signed : Bool) (hart : Hart) (event : Event) → slice_get old h ≡ Some hart → HartIs old h (Begins m (Load rd address size signed)) → (address % size == 0) ≡ true → load_permitted m address size need.Read ≡ Some loaded →
+    event ≡ event_of hart (Load rd address size signed) → HartsAfter old new h loaded (Load rd address size signed) None → IsQuick old new m m h event
+quick_load m old new h rd address size loaded signed hart event found b aligned read e harts =
     let action : Action = Load rd address size signed in
-    let (hart, found, begun) = some_hart {P = Begins m action} (slice_get old h) b in
+    let begun = of_hart old h hart (Begins m action) found b in
     let parts = permitted_parts (permits m address size need.Read) (load m address size) loaded read in
-    quick_step old new m m h loaded hart action None event found (load_runs m hart rd address size signed begun aligned parts.0) parts.1 refl (of_hart old h hart (λ x. event ≡ event_of x action) found e) harts refl refl refl (λ sound. sound)
+    quick_step old new m m h loaded hart action None event found (load_runs m hart rd address size signed begun aligned parts.0) parts.1 refl e harts refl refl refl (λ sound. sound)
 
 pub quick_store : (before after : Memory) (old new : List Hart) (h address size value : ℕ) (hart : Hart) (event : Event) → slice_get old h ≡ Some hart → HartIs old h (Begins before (Store address size value)) → (address % size == 0) ≡ true → permits before address size need.Write ≡ true →
     event ≡ event_of hart (Store address size value) → HartsAfter old new h 0 (Store address size value) (Some (record { address = address; size = size; value = value })) →

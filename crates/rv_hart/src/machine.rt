@@ -17,7 +17,7 @@ use crate::effect::{
     access_of, action_at, event_of, loaded_by, print, put, ready, see_and_advance, written_by,
 };
 use crate::hart::{Hart, Status, is_running};
-use crate::quick::quick;
+use crate::quick::{Attempt, quick};
 use crate::start::{first_harts, with_stacks};
 use rv_memory::laws::{bytes_stand_where_covered, memory_is_sound};
 use rv_memory::region::Region;
@@ -214,7 +214,18 @@ impl<S: ByteStore> Machine<S> {
         ensures limit { self.new.limit ≡ self.old.limit }
         ensures same { (result ≡ None) → self.new ≡ self.old }
     {
-        quick(&mut self.store, &mut self.harts, h)
+        let mut access = Access {
+            pc: 0,
+            first: 0,
+            size: 0,
+            read: false,
+            write: false,
+        };
+        match quick(&mut self.store, &mut self.harts, h, &mut access) {
+            Attempt::Nothing => None,
+            Attempt::Set => Some(Event::Moved(None)),
+            Attempt::Accessed => Some(Event::Moved(Some(access))),
+        }
     }
 
     /// One step of a hart, whatever it is.

@@ -1,15 +1,14 @@
 //! Speed: the common steps, each executed at one place with one look-up an access. `effect` is the meaning's
 //! twin; what is not taken here has changed nothing, and is for the functions there.
-ghost use Rattle.std.specs.Prelude.{◌≡◌, ◌<◌, None, length};
+ghost use Rattle.std.specs.Prelude.{◌≡◌, ◌<◌, None, length, not};
 ghost use Rattle.rv_hart.specs.internal.Able.{Fits, HasSize};
 ghost use Rattle.rv_hart.specs.internal.Harts.{HartsAfter};
-ghost use Rattle.rv_hart.specs.internal.Quick.{Begins, Fetches, HartIs, Tried};
-ghost use Rattle.rv_hart.specs.Step as spec;
+ghost use Rattle.rv_hart.specs.internal.Quick.{Begins, Fetches, HartIs, Tried, event_of_attempt};
 
-use crate::access::Event;
+use crate::access::Access;
 use crate::act::act;
 use crate::action::Action;
-use crate::effect::{advance, event_of, is_aligned, see_and_advance};
+use crate::effect::{advance, is_aligned, see_and_advance};
 use crate::hart::{Hart, is_running};
 use crate::write::Write;
 use rv_isa::candidate::candidate;
@@ -18,101 +17,140 @@ use rv_isa::op::Op;
 use rv_memory::laws::memory_is_sound;
 use rv_memory::store::{ByteStore, Need};
 
-/// Takes a step of a hart, where it is a common one that is made, or changes nothing.
+/// What trying a step came to: nothing, and nothing has changed; a register was set; or the noted access was
+/// made. The access is noted apart and not carried here, so that both stay in registers.
+#[derive(Clone, Copy, Debug, PartialEq, Eq)]
+pub enum Attempt {
+    Nothing,
+    Set,
+    Accessed,
+}
+
+/// Takes a step of a hart, where it is a common one, and notes its access; or changes nothing.
 #[inline(always)]
-pub fn quick<S: ByteStore>(store: &mut S, harts: &mut [Hart], h: u8) -> Option<Event>
-    ensures { Tried harts.old harts.new (S.memory store.old) (S.memory store.new) h result }
+pub fn quick<S: ByteStore>(store: &mut S, harts: &mut [Hart], h: u8, access: &mut Access) -> Attempt
+    ensures { Tried harts.old harts.new (S.memory store.old) (S.memory store.new) h (event_of_attempt result access.new) }
 {
     if h as usize >= harts.len() {
-        return None;
+        return Attempt::Nothing;
     }
     let hart = &harts[h as usize];
     if !is_running(hart.status) {
-        return None;
+        return Attempt::Nothing;
     }
-    let word = store.load_permitted(hart.pc, 4, Need::Execute)?;
-    dispatched(store, harts, h, word)
+    let Some(word) = store.load_permitted(hart.pc, 4, Need::Execute) else {
+        return Attempt::Nothing;
+    };
+    dispatched(store, harts, h, word, access)
 }
 
 /// Takes the step of a word. Each arm names its operation as a constant, so that it is compiled to the
 /// operands and the action of that operation alone.
 #[inline(always)]
-fn dispatched<S: ByteStore>(store: &mut S, harts: &mut [Hart], h: u8, word: u32) -> Option<Event>
+fn dispatched<S: ByteStore>(
+    store: &mut S,
+    harts: &mut [Hart],
+    h: u8,
+    word: u32,
+    access: &mut Access,
+) -> Attempt
     requires hart { h < length harts.old }
     requires fetches { HartIs harts.old h (Fetches (S.memory store.old) word) }
-    ensures { Tried harts.old harts.new (S.memory store.old) (S.memory store.new) h result }
+    ensures { Tried harts.old harts.new (S.memory store.old) (S.memory store.new) h (event_of_attempt result access.new) }
 {
     match candidate(word) {
-        Op::Lui => tried(store, harts, h, Op::Lui, word),
-        Op::Auipc => tried(store, harts, h, Op::Auipc, word),
-        Op::Jal => tried(store, harts, h, Op::Jal, word),
-        Op::Jalr => tried(store, harts, h, Op::Jalr, word),
-        Op::Beq => tried(store, harts, h, Op::Beq, word),
-        Op::Bne => tried(store, harts, h, Op::Bne, word),
-        Op::Blt => tried(store, harts, h, Op::Blt, word),
-        Op::Bge => tried(store, harts, h, Op::Bge, word),
-        Op::Bltu => tried(store, harts, h, Op::Bltu, word),
-        Op::Bgeu => tried(store, harts, h, Op::Bgeu, word),
-        Op::Lb => tried(store, harts, h, Op::Lb, word),
-        Op::Lh => tried(store, harts, h, Op::Lh, word),
-        Op::Lw => tried(store, harts, h, Op::Lw, word),
-        Op::Lbu => tried(store, harts, h, Op::Lbu, word),
-        Op::Lhu => tried(store, harts, h, Op::Lhu, word),
-        Op::Sb => tried(store, harts, h, Op::Sb, word),
-        Op::Sh => tried(store, harts, h, Op::Sh, word),
-        Op::Sw => tried(store, harts, h, Op::Sw, word),
-        Op::Addi => tried(store, harts, h, Op::Addi, word),
-        Op::Slti => tried(store, harts, h, Op::Slti, word),
-        Op::Sltiu => tried(store, harts, h, Op::Sltiu, word),
-        Op::Xori => tried(store, harts, h, Op::Xori, word),
-        Op::Ori => tried(store, harts, h, Op::Ori, word),
-        Op::Andi => tried(store, harts, h, Op::Andi, word),
-        Op::Slli => tried(store, harts, h, Op::Slli, word),
-        Op::Srli => tried(store, harts, h, Op::Srli, word),
-        Op::Srai => tried(store, harts, h, Op::Srai, word),
-        Op::Add => tried(store, harts, h, Op::Add, word),
-        Op::Sub => tried(store, harts, h, Op::Sub, word),
-        Op::Sll => tried(store, harts, h, Op::Sll, word),
-        Op::Slt => tried(store, harts, h, Op::Slt, word),
-        Op::Sltu => tried(store, harts, h, Op::Sltu, word),
-        Op::Xor => tried(store, harts, h, Op::Xor, word),
-        Op::Srl => tried(store, harts, h, Op::Srl, word),
-        Op::Sra => tried(store, harts, h, Op::Sra, word),
-        Op::Or => tried(store, harts, h, Op::Or, word),
-        Op::And => tried(store, harts, h, Op::And, word),
-        _ => None,
+        Op::Lui => tried(store, harts, h, Op::Lui, word, access),
+        Op::Auipc => tried(store, harts, h, Op::Auipc, word, access),
+        Op::Jal => tried(store, harts, h, Op::Jal, word, access),
+        Op::Jalr => tried(store, harts, h, Op::Jalr, word, access),
+        Op::Beq => tried(store, harts, h, Op::Beq, word, access),
+        Op::Bne => tried(store, harts, h, Op::Bne, word, access),
+        Op::Blt => tried(store, harts, h, Op::Blt, word, access),
+        Op::Bge => tried(store, harts, h, Op::Bge, word, access),
+        Op::Bltu => tried(store, harts, h, Op::Bltu, word, access),
+        Op::Bgeu => tried(store, harts, h, Op::Bgeu, word, access),
+        Op::Lb => tried(store, harts, h, Op::Lb, word, access),
+        Op::Lh => tried(store, harts, h, Op::Lh, word, access),
+        Op::Lw => tried(store, harts, h, Op::Lw, word, access),
+        Op::Lbu => tried(store, harts, h, Op::Lbu, word, access),
+        Op::Lhu => tried(store, harts, h, Op::Lhu, word, access),
+        Op::Sb => tried(store, harts, h, Op::Sb, word, access),
+        Op::Sh => tried(store, harts, h, Op::Sh, word, access),
+        Op::Sw => tried(store, harts, h, Op::Sw, word, access),
+        Op::Addi => tried(store, harts, h, Op::Addi, word, access),
+        Op::Slti => tried(store, harts, h, Op::Slti, word, access),
+        Op::Sltiu => tried(store, harts, h, Op::Sltiu, word, access),
+        Op::Xori => tried(store, harts, h, Op::Xori, word, access),
+        Op::Ori => tried(store, harts, h, Op::Ori, word, access),
+        Op::Andi => tried(store, harts, h, Op::Andi, word, access),
+        Op::Slli => tried(store, harts, h, Op::Slli, word, access),
+        Op::Srli => tried(store, harts, h, Op::Srli, word, access),
+        Op::Srai => tried(store, harts, h, Op::Srai, word, access),
+        Op::Add => tried(store, harts, h, Op::Add, word, access),
+        Op::Sub => tried(store, harts, h, Op::Sub, word, access),
+        Op::Sll => tried(store, harts, h, Op::Sll, word, access),
+        Op::Slt => tried(store, harts, h, Op::Slt, word, access),
+        Op::Sltu => tried(store, harts, h, Op::Sltu, word, access),
+        Op::Xor => tried(store, harts, h, Op::Xor, word, access),
+        Op::Srl => tried(store, harts, h, Op::Srl, word, access),
+        Op::Sra => tried(store, harts, h, Op::Sra, word, access),
+        Op::Or => tried(store, harts, h, Op::Or, word, access),
+        Op::And => tried(store, harts, h, Op::And, word, access),
+        _ => Attempt::Nothing,
     }
 }
 
 /// Takes the step of a word that is of this operation.
 #[inline(always)]
-fn tried<S: ByteStore>(store: &mut S, harts: &mut [Hart], h: u8, op: Op, word: u32) -> Option<Event>
+fn tried<S: ByteStore>(
+    store: &mut S,
+    harts: &mut [Hart],
+    h: u8,
+    op: Op,
+    word: u32,
+    access: &mut Access,
+) -> Attempt
     requires hart { h < length harts.old }
     requires fetches { HartIs harts.old h (Fetches (S.memory store.old) word) }
-    ensures { Tried harts.old harts.new (S.memory store.old) (S.memory store.new) h result }
+    ensures { Tried harts.old harts.new (S.memory store.old) (S.memory store.new) h (event_of_attempt result access.new) }
 {
-    let instr = decode_as(op, word)?;
+    let Some(instr) = decode_as(op, word) else {
+        return Attempt::Nothing;
+    };
     let action = act(&instr, &harts[h as usize]);
-    begun(store, harts, h, action)
+    begun(store, harts, h, action, access)
 }
 
 /// Takes an action whose access is not tested yet, where it sets a register, or is a plain load or store
 /// that is permitted.
 #[inline(always)]
-fn begun<S: ByteStore>(store: &mut S, harts: &mut [Hart], h: u8, action: Action) -> Option<Event>
+fn begun<S: ByteStore>(
+    store: &mut S,
+    harts: &mut [Hart],
+    h: u8,
+    action: Action,
+    access: &mut Access,
+) -> Attempt
     requires hart { h < length harts.old }
     requires sized { HasSize action }
     requires begins { HartIs harts.old h (Begins (S.memory store.old) action) }
-    ensures { Tried harts.old harts.new (S.memory store.old) (S.memory store.new) h result }
+    ensures { Tried harts.old harts.new (S.memory store.old) (S.memory store.new) h (event_of_attempt result access.new) }
 {
     match action {
-        Action::Set { .. } => Some(taken(harts, h, 0, action)),
+        Action::Set { .. } => {
+            advance_hart(harts, h, 0, action);
+            Attempt::Set
+        }
         Action::Load { address, size, .. } => {
             if !is_aligned(address, size) {
-                return None;
+                return Attempt::Nothing;
             }
-            let loaded = store.load_permitted(address, size, Need::Read)?;
-            Some(taken(harts, h, loaded, action))
+            let Some(loaded) = store.load_permitted(address, size, Need::Read) else {
+                return Attempt::Nothing;
+            };
+            note(access, &harts[h as usize], address, size, true);
+            advance_hart(harts, h, loaded, action);
+            Attempt::Accessed
         }
         Action::Store {
             address,
@@ -123,31 +161,39 @@ fn begun<S: ByteStore>(store: &mut S, harts: &mut [Hart], h: u8, action: Action)
             if !is_aligned(address, size)
                 || !store.store_permitted(address, size, value, Need::Write)
             {
-                return None;
+                return Attempt::Nothing;
             }
-            let event = event_of(&harts[h as usize], action);
+            note(access, &harts[h as usize], address, size, false);
             let write = Write {
                 address,
                 size,
                 value,
             };
             see_and_advance(harts, h, 0, action, Some(write));
-            Some(event)
+            Attempt::Accessed
         }
-        _ => None,
+        _ => Attempt::Nothing,
     }
+}
+
+/// Notes an access that the hart makes, which reads or else writes.
+#[inline(always)]
+fn note(access: &mut Access, hart: &Hart, first: u32, size: u8, reads: bool)
+    ensures { access.new ≡ record { pc = hart.now.pc; first = first; size = size; read = reads; write = not reads } }
+{
+    access.pc = hart.pc;
+    access.first = first;
+    access.size = size;
+    access.read = reads;
+    access.write = !reads;
 }
 
 /// Moves a hart on by an action that writes nothing.
 #[inline(always)]
-fn taken(harts: &mut [Hart], h: u8, loaded: u32, action: Action) -> Event
+fn advance_hart(harts: &mut [Hart], h: u8, loaded: u32, action: Action)
     requires hart { h < length harts.old }
     requires fits { Fits loaded action }
-    ensures event { HartIs harts.old h (λ hart. result ≡ spec.event_of hart action) }
-    ensures harts { HartsAfter harts.old harts.new h loaded action None }
+    ensures { HartsAfter harts.old harts.new h loaded action None }
 {
-    let hart = &mut harts[h as usize];
-    let event = event_of(hart, action);
-    advance(hart, loaded, action);
-    event
+    advance(&mut harts[h as usize], loaded, action);
 }

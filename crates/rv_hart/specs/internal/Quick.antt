@@ -2,9 +2,13 @@ use Rattle.std.specs.Prelude.{◌≡◌, ℕ, Bool, false, IsTrue, Option, Some,
 use Rattle.rv_hart.specs.Next.{is_running_hart, prints}
 use Rattle.rv_hart.specs.State.{State, is_running}
 use Rattle.rv_hart.specs.Step.{step_of, fetched}
+use Rattle.rv_hart.specs.declared.access.Access.{Access}
 use Rattle.rv_hart.specs.declared.access.Event.{Event}
+use Rattle.rv_hart.specs.declared.access.Event.TheVariants as event
 use Rattle.rv_hart.specs.declared.action.Action.{Action}
 use Rattle.rv_hart.specs.declared.hart.Hart.{Hart}
+use Rattle.rv_hart.specs.declared.quick.Attempt.{Attempt}
+use Rattle.rv_hart.specs.declared.quick.Attempt.TheVariants as attempt
 use Rattle.rv_memory.specs.Memory.{Memory, load_permitted}
 use Rattle.rv_memory.specs.Sound.{IsSound}
 use Rattle.rv_memory.specs.declared.store.Need.TheVariants.{Execute}
@@ -38,3 +42,9 @@ pub record IsQuick (old new : List Hart) (before after : Memory) (h : ℕ) (even
 abbrev pub Tried : List Hart → List Hart → Memory → Memory → ℕ → Option Event → Type 0
 Tried old new before after h None = (new ≡ old) × (after ≡ before)
 Tried old new before after h (Some event) = IsQuick old new before after h event
+
+-- the event that an attempt comes to, with the access that was noted
+abbrev pub event_of_attempt : Attempt → Access → Option Event
+event_of_attempt attempt.Nothing access = None
+event_of_attempt attempt.Set access = Some (event.Moved None)
+event_of_attempt attempt.Accessed access = Some (event.Moved (Some access))

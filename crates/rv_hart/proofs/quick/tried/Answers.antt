@@ -8,11 +8,11 @@ pub begun-requires-clause-begins : goal.begun-requires-clause-begins
 begun-requires-clause-begins g c =
     let harts = c.args.harts.now in
     let hart : Hart = get_or harts c.args.h none_hart in
-    begins_at _ c.args.word harts c.args.h hart c.in_ok-instr.instr c.act-action.result (slice_get-get_or harts c.args.h none_hart c.requires.hart) c.requires.fetches c.in_ok-instr.ensures.value c.act-action.ensures
+    begins_at _ c.args.word harts c.args.h hart c.in-Some.instr c.act-action.result (slice_get-get_or harts c.args.h none_hart c.requires.hart) c.requires.fetches c.in-Some.ensures.value c.act-action.ensures
 
 pub begun-requires-clause-sized : goal.begun-requires-clause-sized
 begun-requires-clause-sized g c =
     let harts = c.args.harts.now in
     let hart : Hart = get_or harts c.args.h none_hart in
-    let begins = begins_at (g.S.ByteStore.memory c.args.store.now) c.args.word harts c.args.h hart c.in_ok-instr.instr c.act-action.result (slice_get-get_or harts c.args.h none_hart c.requires.hart) c.requires.fetches c.in_ok-instr.ensures.value c.act-action.ensures in
+    let begins = begins_at (g.S.ByteStore.memory c.args.store.now) c.args.word harts c.args.h hart c.in-Some.instr c.act-action.result (slice_get-get_or harts c.args.h none_hart c.requires.hart) c.requires.fetches c.in-Some.ensures.value c.act-action.ensures in
     sized_begun (g.S.ByteStore.memory c.args.store.now) harts c.args.h c.act-action.result begins
