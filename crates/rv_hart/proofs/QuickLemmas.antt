@@ -1,12 +1,11 @@
 -- The quick path takes the step that the definitions have.
 use Rattle.std.proofs.Common.{◌≡◌, ℕ, ◌%◌, ◌<◌, set, get_or, Bool, true, false, cond, List, [], length, Option, Some, None, refl, sym, ap, subst, ◌∙◌}
-use Rattle.std.specs.Prelude.{◌==◌, IsTrue, slice_get, IsSomeAnd}
+use Rattle.std.specs.Prelude.{◌==◌, slice_get, IsSomeAnd}
 use Rattle.std.proofs.lemmas.List.{append-nil}
 use Rattle.std.proofs.lemmas.Option.{slice_get-get_or}
 use Rattle.rv_hart.specs.Act.{action_of}
 use Rattle.rv_hart.specs.Next.{is_print}
-use Rattle.rv_hart.specs.State.{State}
-use Rattle.rv_hart.specs.Step.{action_at_word, allowed, event_of, fetched, hart_after, loaded_by, memory_after, printed, written_by}
+use Rattle.rv_hart.specs.Step.{action_at_word, allowed, event_of, hart_after, loaded_by, memory_after, printed, written_by}
 use Rattle.rv_hart.specs.declared.access.Event.{Event}
 use Rattle.rv_hart.specs.declared.access.Event.TheVariants.{Moved}
 use Rattle.rv_hart.specs.declared.action.Action.{Action}

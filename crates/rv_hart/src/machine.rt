@@ -2,6 +2,7 @@ ghost use Rattle.std.specs.Prelude.{◌≡◌, ◌≢◌, ℕ, ◌<◌, ◌≤�
 ghost use Rattle.rv_hart.specs.internal.Able.{IsAble};
 ghost use Rattle.rv_hart.specs.internal.Machine as machine;
 ghost use Rattle.rv_hart.specs.internal.Next as own;
+ghost use Rattle.rv_hart.specs.internal.Quick.{event_of_attempt};
 ghost use Rattle.rv_hart.specs.Next as next;
 ghost use Rattle.rv_hart.specs.Registers.{get};
 ghost use Rattle.rv_hart.specs.SomeHart.{SomeHart};
@@ -186,6 +187,7 @@ impl<S: ByteStore> Machine<S> {
     }
 
     /// One step of a hart: its instruction, an exit, or a stop. A refused step changes nothing.
+    #[inline(always)]
     pub fn step(&mut self, h: u8) -> Result<Event, StepFault>
         ensures step { IfOk result (λ event.
             step_of self.old.state h ≡ Some (event, self.new.state)) }
@@ -197,23 +199,6 @@ impl<S: ByteStore> Machine<S> {
         ensures no_memory { (result ≡ Err StepFault.NoMemory) → IsTrue S.can_refuse }
         ensures refused { OnErr result (self.new ≡ self.old) }
     {
-        match self.step_quick(h) {
-            Some(event) => Ok(event),
-            None => self.step_any(h),
-        }
-    }
-
-    /// One step of a hart where it is a common one; else nothing has changed.
-    #[inline(always)]
-    fn step_quick(&mut self, h: u8) -> Option<Event>
-        ensures step { IfSome result (λ event.
-            step_of self.old.state h ≡ Some (event, self.new.state)) }
-        ensures running { IsSome result → IsTrue (next.is_running_hart (slice_get self.old.state.harts h)) }
-        ensures silent { IsSome result → next.prints self.old.state.memory (slice_get self.old.state.harts h) ≡ false }
-        ensures harts { length self.new.state.harts ≡ length self.old.state.harts }
-        ensures limit { self.new.limit ≡ self.old.limit }
-        ensures same { (result ≡ None) → self.new ≡ self.old }
-    {
         let mut access = Access {
             pc: 0,
             first: 0,
@@ -221,11 +206,28 @@ impl<S: ByteStore> Machine<S> {
             read: false,
             write: false,
         };
-        match quick(&mut self.store, &mut self.harts, h, &mut access) {
-            Attempt::Nothing => None,
-            Attempt::Set => Some(Event::Moved(None)),
-            Attempt::Accessed => Some(Event::Moved(Some(access))),
+        match self.step_quick(h, &mut access) {
+            Attempt::Nothing => self.step_any(h),
+            Attempt::Set => Ok(Event::Moved(None)),
+            Attempt::Accessed => Ok(Event::Moved(Some(access))),
         }
+    }
+
+    /// One step of a hart where it is a common one, with its access noted; else nothing has changed. It stays
+    /// a function of its own, since it answers in a register where `step` answers in memory.
+    #[inline(never)]
+    fn step_quick(&mut self, h: u8, access: &mut Access) -> Attempt
+        ensures step { IfSome (event_of_attempt result access.new) (λ event.
+            step_of self.old.state h ≡ Some (event, self.new.state)) }
+        ensures running { IsSome (event_of_attempt result access.new)
+            → IsTrue (next.is_running_hart (slice_get self.old.state.harts h)) }
+        ensures silent { IsSome (event_of_attempt result access.new)
+            → next.prints self.old.state.memory (slice_get self.old.state.harts h) ≡ false }
+        ensures harts { length self.new.state.harts ≡ length self.old.state.harts }
+        ensures limit { self.new.limit ≡ self.old.limit }
+        ensures same { (result ≡ Attempt.Nothing) → self.new ≡ self.old }
+    {
+        quick(&mut self.store, &mut self.harts, h, access)
     }
 
     /// One step of a hart, whatever it is.

@@ -1,4 +1,4 @@
-use Rattle.std.specs.Prelude.{◌≡◌, ℕ, Bool, false, IsTrue, Option, Some, None, List, length, slice_get, IsSomeAnd}
+use Rattle.std.specs.Prelude.{◌≡◌, ℕ, false, IsTrue, Option, Some, None, List, length, slice_get, IsSomeAnd}
 use Rattle.rv_hart.specs.Next.{is_running_hart, prints}
 use Rattle.rv_hart.specs.State.{State, is_running}
 use Rattle.rv_hart.specs.Step.{step_of, fetched}
