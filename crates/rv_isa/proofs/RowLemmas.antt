@@ -1,6 +1,5 @@
 use Rattle.std.proofs.Common.{◌≡◌, ℕ, true, false, Option, Some, None, refl, sym, ap, subst, ◌↔◌, eqb, arith, eq-eqb}
 use Rattle.std.specs.Prelude.{bit_and, option_map, IfSome, IsSome}
-use Rattle.rv_isa.specs.internal.Candidate.{candidate}
 use Rattle.std.proofs.Math.Bool.{Bool-set}
 use Rattle.std.proofs.lemmas.Bool.Decides.{nat_tests}
 use Rattle.rv_isa.specs.Decoded.{op_at, with_operands, decoded}
@@ -56,13 +55,13 @@ decoded_row_at r w e i = rw e (decoded_row w i)
 pub decoded_as : (w : ℕ) (op : Op) → Matches w op → decoded w ≡ Some (with_operands op w)
 decoded_as w op h = rw (op_at-matches w op h) refl
 
-decoded_none : (w : ℕ) (o : Option Op) → op_at w ≡ o → (Matches w (candidate w) → ⊥) → option_map (λ op. with_operands op w) o ≡ None
-decoded_none w None e other = refl
-decoded_none w (Some op) e other =
+decoded_none : (w : ℕ) (candidate : Op) (o : Option Op) → op_at w ≡ o → ((op : Op) → Matches w op → candidate ≡ op) → (Matches w candidate → ⊥) → option_map (λ op. with_operands op w) o ≡ None
+decoded_none w candidate None e only other = refl
+decoded_none w candidate (Some op) e only other =
     let row = op_at-some w op e in
-    absurd (other (subst (Matches w) (sym (candidate_is w op row)) row))
+    absurd (other (subst (Matches w) (sym (only op row)) row))
 
--- What is found by the candidate's row alone is what is found at all.
-pub decoded_by_candidate : (w : ℕ) (o : Option Instr) → IfSome o (λ i. decoded w ≡ Some i) → (IsSome o ↔ Matches w (candidate w)) → o ≡ decoded w
-decoded_by_candidate w (Some i) found row = sym found
-decoded_by_candidate w None found row = sym (decoded_none w (op_at w) refl (λ m. let none : false ≡ true = row.1 m in cc))
+-- What is found by the row of the one operation that a word may be is what is found at all.
+pub decoded_by_candidate : (w : ℕ) (candidate : Op) (o : Option Instr) → ((op : Op) → Matches w op → candidate ≡ op) → IfSome o (λ i. decoded w ≡ Some i) → (IsSome o ↔ Matches w candidate) → o ≡ decoded w
+decoded_by_candidate w candidate (Some i) only found row = sym found
+decoded_by_candidate w candidate None only found row = sym (decoded_none w candidate (op_at w) refl only (λ m. let none : false ≡ true = row.1 m in cc))

@@ -1,12 +1,21 @@
 ghost use Rattle.std.specs.Prelude.{◌≡◌};
+ghost use Rattle.rv_isa.specs.Table.{Matches};
+ghost use Rattle.rv_isa.specs.declared.op.Op.{Op};
 ghost use Rattle.rv_isa.specs.internal.Candidate as spec;
 
 use crate::op::Op;
 
 /// The one operation whose row the word may have: whether it has it is for the table's mask to say.
 #[inline(always)]
-#[tactic(auto, unfolding(crate::specs::internal::Candidate::candidate))]
 pub fn candidate(word: u32) -> Op
+    ensures { (op : Op) → Matches word op → result ≡ op }
+{
+    by_fields(word)
+}
+
+#[inline(always)]
+#[tactic(auto, unfolding(crate::specs::internal::Candidate::candidate))]
+fn by_fields(word: u32) -> Op
     ensures { result ≡ spec.candidate word }
 {
     let funct3 = (word >> 12) % 8;

@@ -1,5 +1,6 @@
 //! Words from the RISC-V Unprivileged ISA's formats, worked by hand, and from GNU as.
-use crate::codec::{decode, encode};
+use crate::candidate::candidate;
+use crate::codec::{decode, decode_as, encode};
 use crate::form::Form;
 use crate::instr::Instr;
 use crate::op::Op;
@@ -190,4 +191,17 @@ fn forms(rt: HostRuntime) {
     assert_eq!(rt; Form::Amo.mask(), 0xf800_707f);
     assert!(rt; Form::Amo.has_rd() && Form::Amo.has_rs1() && Form::Amo.has_rs2());
     assert!(rt; Form::Amo.has_ordering() && !Form::R.has_ordering() && !Form::Plain.has_rs1());
+}
+
+#[test]
+fn words_of_one_operation(rt: HostRuntime) {
+    for (word, op) in [
+        (0x0050_0093, Op::Addi),
+        (0x8020_9063, Op::Bne),
+        (0x0002_0337, Op::Lui),
+    ] {
+        assert_eq!(rt; candidate(word), op);
+        assert_eq!(rt; decode_as(op, word), decode(word));
+        assert!(rt; decode_as(Op::Sub, word).is_none());
+    }
 }
