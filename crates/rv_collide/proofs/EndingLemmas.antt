@@ -1,0 +1,45 @@
+-- Endings written line by line.
+use Rattle.std.proofs.Common.{◌≡◌, ℕ, ◌+◌, ◌<◌, List, [], ◌∷◌, ◌++◌, take, length, Option, Result, Ok, Err, OnOk, codes, ap, sym, ◌∙◌, append-nil, subst, zero-add, add-zero, arith}
+use Rattle.std.specs.List.{slice_index_or}
+use Rattle.std.specs.Io.KnownBytes.{Appends}
+use Rattle.std.proofs.KnownBytes.{Appends-trans}
+use Rattle.std.proofs.lemmas.Grind.{flat_map-append}
+use Rattle.std.proofs.lemmas.List.{take_more, length-take-le}
+use Rattle.rv_text.specs.Lines.{text_of_lines}
+use Rattle.rv_collide.specs.Grammar.{slot_text}
+use Rattle.rv_collide.specs.Texts.{ending_line, ending_lines, pause_text, values_text, verdict_text}
+use Rattle.rv_collide.specs.declared.ending.Ending.{Ending}
+
+lines_push : (endings : List Ending) (first : ℕ) (ending : Ending) → ending_lines first endings ++ ending_line (first + length endings) ending ∷ [] ≡ ending_lines first (endings ++ ending ∷ [])
+lines_push [] first ending = ap (λ k. ending_line k ending ∷ []) (add-zero first)
+lines_push (other ∷ endings) first ending =
+    let later : first + length (other ∷ endings) ≡ (first + 1) + length endings = omega arith in
+    ap (λ l. ending_line first other ∷ l) (ap (λ k. ending_lines (first + 1) endings ++ ending_line k ending ∷ []) later ∙ lines_push endings (first + 1) ending)
+
+text_push : (lines : List (List ℕ)) (line : List ℕ) → text_of_lines lines ++ (line ++ 10 ∷ []) ≡ text_of_lines (lines ++ line ∷ [])
+text_push lines line =
+    sym (flat_map-append (λ l. l ++ 10 ∷ []) lines (line ∷ []) ∙ ap (λ l. text_of_lines lines ++ l) (append-nil (line ++ 10 ∷ [])))
+
+-- one line more
+pub lines_next : (endings : List Ending) (n : ℕ) (other : Ending) (a b c : Option (List ℕ)) → n < length endings → Appends a b (text_of_lines (ending_lines 0 (take n endings)))
+    → Appends b c (ending_line n (slice_index_or endings n other) ++ 10 ∷ []) → Appends a c (text_of_lines (ending_lines 0 (take (n + 1) endings)))
+lines_next endings n other a b c inside before next =
+    let front = take n endings in
+    let ending = slice_index_or endings n other in
+    let count : 0 + length front ≡ n = zero-add (length front) ∙ length-take-le n endings (omega arith) in
+    let more : front ++ ending ∷ [] ≡ take (n + 1) endings = sym (take_more endings n other inside) in
+    let push = ap (λ k. ending_lines 0 front ++ ending_line k ending ∷ []) (sym count) ∙ lines_push front 0 ending ∙ ap (ending_lines 0) more in
+    subst (Appends a c) (text_push (ending_lines 0 front) (ending_line n ending) ∙ ap text_of_lines push) (Appends-trans a b c (text_of_lines (ending_lines 0 front)) (ending_line n ending ++ 10 ∷ []) before next)
+
+-- a line in the order of writing
+pub ending_written : {T E : Type 0} (number : ℕ) (e : Ending) (r : Result T E) (a b c d f g h i : Option (List ℕ)) → Appends a b (pause_text number e) → Appends b c (codes " slot ") → Appends c d (slot_text e.slot)
+    → Appends d f (codes " ") → Appends f g (verdict_text e.verdict) → Appends g h (values_text e.old e.new) → OnOk r (Appends h i (codes "\n")) → OnOk r (Appends a i (ending_line number e ++ 10 ∷ []))
+unfolding ending_line
+ending_written number e (Err fault) a b c d f g h i pause slot_word slot blank verdict values feed = tt
+ending_written number e (Ok value) a b c d f g h i pause slot_word slot blank verdict values feed =
+    let to_slot = Appends-trans a b c _ _ pause slot_word in
+    let to_blank = Appends-trans a c d _ _ to_slot slot in
+    let to_verdict = Appends-trans a d f _ _ to_blank blank in
+    let to_values = Appends-trans a f g _ _ to_verdict verdict in
+    let to_feed = Appends-trans a g h _ _ to_values values in
+    Appends-trans a h i _ _ to_feed feed

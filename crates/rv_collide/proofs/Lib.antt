@@ -1,0 +1,13 @@
+pub mod BoundLemmas
+pub mod CutLemmas
+pub mod EndingLemmas
+pub mod EntriesLemmas
+pub mod EntriesSoFar
+pub mod EntryLineLemmas
+pub mod FrontLemmas
+pub mod GrammarLemmas
+pub mod GrammarProof
+pub mod PlanLineLemmas
+pub mod ReadsBack
+pub mod ScheduleLemmas
+pub mod SpellLemmas

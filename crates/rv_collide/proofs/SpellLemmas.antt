@@ -1,0 +1,262 @@
+-- A schedule that is written is read back.
+use Rattle.std.proofs.Common.{◌≡◌, ℕ, ◌+◌, ◌-◌, ◌^◌, ◌<◌, ◌≤◌, Bool, true, false, ◌&&◌, ◌==◌, nat_lt, nat_le, Option, Some, None, Ok, All, List, [], ◌∷◌, ◌++◌, map, length, codes, refl, ap, ◌∙◌, arith, append_assoc, length-append, cond}
+use Rattle.std.specs.Prelude.{IfSome}
+use Rattle.std.specs.List.{list_all, list_any}
+use Rattle.std.specs.Char.{is_digit}
+use Rattle.std.specs.Str.{bytes_eq}
+use Rattle.std.specs.Str.Parse.{digits_value}
+use Rattle.std.specs.Fmt.{decimal}
+use Rattle.std.proofs.lemmas.Bool.{and_parts, or_from, or_parts}
+use Rattle.std.proofs.lemmas.Bool.Decides.{nat_tests}
+use Rattle.std.proofs.lemmas.Fmt.{decimal_digit, length-decimal-le}
+use Rattle.std.proofs.lemmas.List.Elements.{All-head, All-tail}
+use Rattle.std.proofs.lemmas.List.Folds.{list_any-append}
+use Rattle.std.proofs.lemmas.Slice.Eq.{bytes_eq-Decides}
+use Rattle.rv_text.specs.Numeral.{number_of}
+use Rattle.rv_text.specs.Decimal.{has_leading_zero, decimal_of, DecimalIsReadBack}
+use Rattle.rv_text.specs.Hexadecimal.{word_digits, word_of, WordIsReadBack}
+use Rattle.rv_text.specs.Lines.{has_line_feed, text_of_lines}
+use Rattle.rv_text.specs.Pieces.{pieces_of}
+use Rattle.rv_collide.specs.Grammar.{HasAddress, IsInReach, IsWritable, end_line, entry_line, header_line, plan_line, schedule_lines, schedule_text, slot_text}
+use Rattle.rv_collide.specs.Plan.{IsPlan, Numbers, most_entries}
+use Rattle.rv_collide.specs.Reading.{address_of, entries_from, entry_of, first_line, hart_of, is_plan, numbers_of, plan_in, plan_of, schedule_in, schedule_of, slot_of, words_of}
+use Rattle.rv_collide.specs.declared.entry.Entry.{Entry}
+use Rattle.rv_collide.specs.declared.entry.Entry.TheVariants.{Stepped, Paused, Resumed, Armed, Disarmed}
+use Rattle.rv_collide.specs.internal.Before.{entries_before}
+use Rattle.rv_collide.proofs.CutLemmas.{Lacks, line_of, pieces_last, pieces_then}
+use Rattle.rv_collide.proofs.EntriesLemmas.{at_end, one_more}
+
+-- ---- digits have no byte below the digit 0
+
+digits_lack : (byte radix : ℕ) → byte < 48 → radix ≤ 36 → (text : List ℕ) → list_all (λ c. is_digit c radix) text ≡ true → Lacks byte text
+digits_lack byte radix low most [] all = refl
+digits_lack byte radix low most (c ∷ text) all =
+    let parts = and_parts (is_digit c radix) (list_all (λ c. is_digit c radix) text) all in
+    let digit : is_digit c radix ≡ true = parts.0 in
+    let other : (c == byte) ≡ false = grind (arith, nat_tests) in
+    or_from (c == byte) (list_any (λ b. b == byte) text) other (digits_lack byte radix low most text parts.1)
+
+number_lacks : (byte radix : ℕ) → byte < 48 → radix ≤ 36 → (text : List ℕ) (n : ℕ) → number_of radix text ≡ Some n → Lacks byte text
+unfolding number_of
+number_lacks byte radix low most text n reads = by_test (nat_lt 0 (length text)) (list_all (λ c. is_digit c radix) text) refl reads
+  where
+    by_test : (some all : Bool) → list_all (λ c. is_digit c radix) text ≡ all → cond (some && all) (Some (digits_value radix text)) None ≡ Some n → Lacks byte text
+    by_test true true all reads = digits_lack byte radix low most text all
+    by_test true false all reads = cc
+    by_test false all' all reads = cc
+
+word_lacks : (byte : ℕ) → byte < 48 → (text : List ℕ) (n : ℕ) → word_of text ≡ Some n → Lacks byte text
+unfolding word_of
+word_lacks byte low text n reads = by_test (length text == 8) reads
+  where
+    by_test : (eight : Bool) → cond eight (number_of 16 text) None ≡ Some n → Lacks byte text
+    by_test true reads = number_lacks byte 16 low (omega arith) text n reads
+    by_test false reads = cc
+
+word_length : (text : List ℕ) (n : ℕ) → word_of text ≡ Some n → length text ≡ 8
+unfolding word_of
+word_length text n reads = by_test (length text == 8) refl reads
+  where
+    by_test : (eight : Bool) → (length text == 8) ≡ eight → cond eight (number_of 16 text) None ≡ Some n → length text ≡ 8
+    by_test true is reads = grind (arith, nat_tests)
+    by_test false is reads = cc
+
+decimal_lacks : (byte : ℕ) → byte < 48 → (text : List ℕ) (n : ℕ) → decimal_of text ≡ Some n → Lacks byte text
+unfolding decimal_of
+decimal_lacks byte low text n reads = by_test (has_leading_zero text) reads
+  where
+    by_test : (zero : Bool) → cond zero None (number_of 10 text) ≡ Some n → Lacks byte text
+    by_test false reads = number_lacks byte 10 low (omega arith) text n reads
+    by_test true reads = cc
+
+-- ---- lines
+
+-- texts of lines are cut into them, with nothing after the last LF
+pub text_pieces : (lines : List (List ℕ)) → list_any has_line_feed lines ≡ false → pieces_of 10 (text_of_lines lines) ≡ lines ++ [] ∷ []
+text_pieces [] lack = refl
+text_pieces (line ∷ lines) lack =
+    let parts = or_parts (has_line_feed line) (list_any has_line_feed lines) lack in
+    ap (pieces_of 10) (append_assoc line (10 ∷ []) (text_of_lines lines)) ∙ pieces_then 10 line (text_of_lines lines) parts.0 ∙ ap (λ more. line ∷ more) (text_pieces lines parts.1)
+
+first_differs : (a b : ℕ) (xs ys : List ℕ) → (a == b) ≡ false → bytes_eq (a ∷ xs) (b ∷ ys) ≡ false
+first_differs a b xs ys other = rw other refl
+
+-- lines end with `end`, so that a first line among them has another after it
+line_then : (line : List ℕ) (lines more : List (List ℕ)) (last : List ℕ) → length line ≤ 64 → first_line (line ∷ lines ++ last ∷ more) ≡ Ok line
+line_then line [] more last short = line_of line last more short
+line_then line (next ∷ lines) more last short = line_of line next (lines ++ last ∷ more) short
+
+-- the lines of entries, `end`, and nothing
+abbrev lines_after : List Entry → List (List ℕ)
+lines_after entries = map entry_line entries ++ end_line ∷ [] ∷ []
+
+line_before : (line : List ℕ) (entries : List Entry) → length line ≤ 64 → first_line (line ∷ lines_after entries) ≡ Ok line
+line_before line [] short = line_of line end_line ([] ∷ []) short
+line_before line (entry ∷ entries) short = line_of line (entry_line entry) (lines_after entries) short
+
+module _ (decimals : DecimalIsReadBack) (words_back : WordIsReadBack) where
+  number_lacks_lf : (byte n : ℕ) → byte < 48 → n < 2 ^ 64 → Lacks byte (decimal n)
+  number_lacks_lf byte n low small = decimal_lacks byte low (decimal n) n (decimals n small)
+
+  address_lacks : (byte a : ℕ) → byte < 48 → a < 2 ^ 32 → Lacks byte (word_digits a)
+  address_lacks byte a low small = word_lacks byte low (word_digits a) a (words_back a small)
+
+  slot_lacks : (byte : ℕ) (slot : Option ℕ) → byte < 45 → IfSome slot (λ s. s ≤ 3) → Lacks byte (slot_text slot)
+  slot_lacks byte None low few =
+      let other : (45 == byte) ≡ false = grind (arith, nat_tests) in
+      rw other refl
+  slot_lacks byte (Some slot) low few = number_lacks_lf byte slot (omega arith) (omega arith)
+
+  hart_read : (hart : ℕ) → hart ≤ 15 → hart_of (decimal hart) ≡ Some hart
+  hart_read hart few =
+      let fits : nat_le hart 15 ≡ true = grind (arith, nat_tests) in
+      rw (decimals hart (omega arith), fits) refl
+
+  slot_read : (slot : Option ℕ) → IfSome slot (λ s. s ≤ 3) → slot_of (slot_text slot) ≡ Some slot
+  slot_read None few = refl
+  slot_read (Some slot) few =
+      let digit = decimal_digit slot (omega arith) in
+      let differs : (48 + slot == 45) ≡ false = grind (arith, nat_tests) in
+      let other : bytes_eq (decimal slot) (codes "-") ≡ false = rw digit (first_differs (48 + slot) 45 [] [] differs) in
+      let fits : nat_le slot 3 ≡ true = grind (arith, nat_tests) in
+      rw (other, decimals slot (omega arith), fits) refl
+
+  address_read : (a : ℕ) → a < 2 ^ 32 → address_of (word_digits a) ≡ Some a
+  address_read a small =
+      let same : bytes_eq (word_digits a) (word_digits a) ≡ true = (bytes_eq-Decides (word_digits a) (word_digits a)).1 refl in
+      rw (words_back a small, same) refl
+
+  entry_read : (e : Entry) → IsInReach e → HasAddress e → entry_of (entry_line e) ≡ Some e
+  unfolding entry_of entry_line
+  entry_read (Stepped hart) reach address =
+      rw (pieces_last 32 (decimal hart) (number_lacks_lf 32 hart (omega arith) (omega arith)), hart_read hart reach) refl
+  entry_read (Resumed hart) reach address =
+      rw (pieces_last 32 (decimal hart) (number_lacks_lf 32 hart (omega arith) (omega arith)), hart_read hart reach) refl
+  entry_read (Armed a) reach address =
+      rw (pieces_last 32 (word_digits a) (address_lacks 32 a (omega arith) address), address_read a address) refl
+  entry_read (Disarmed a) reach address =
+      rw (pieces_last 32 (word_digits a) (address_lacks 32 a (omega arith) address), address_read a address) refl
+  entry_read (Paused hart slot) reach address =
+      let text = slot_text slot in
+      let whole : (decimal hart ++ 32 ∷ []) ++ slot_text slot ≡ decimal hart ++ 32 ∷ slot_text slot = append_assoc (decimal hart) (32 ∷ []) (slot_text slot) in
+      let words = pieces_then 32 (decimal hart) (slot_text slot) (number_lacks_lf 32 hart (omega arith) (omega arith)) in
+      let last = pieces_last 32 (slot_text slot) (slot_lacks 32 slot (omega arith) reach.1) in
+      rw (whole, words, last, hart_read hart reach.0, slot_read slot reach.1) refl
+
+  entry_lacks : (e : Entry) → IsInReach e → HasAddress e → Lacks 10 (entry_line e)
+  unfolding entry_line
+  entry_lacks (Stepped hart) reach address = number_lacks_lf 10 hart (omega arith) (omega arith)
+  entry_lacks (Resumed hart) reach address = number_lacks_lf 10 hart (omega arith) (omega arith)
+  entry_lacks (Armed a) reach address = address_lacks 10 a (omega arith) address
+  entry_lacks (Disarmed a) reach address = address_lacks 10 a (omega arith) address
+  entry_lacks (Paused hart slot) reach address =
+      let front : Lacks 10 (decimal hart ++ 32 ∷ []) = list_any-append (λ b. b == 10) (decimal hart) (32 ∷ []) ∙ or_from _ _ (number_lacks_lf 10 hart (omega arith) (omega arith)) refl in
+      list_any-append (λ b. b == 10) (decimal hart ++ 32 ∷ []) (slot_text slot) ∙ or_from _ _ front (slot_lacks 10 slot (omega arith) reach.1)
+
+  slot_short : (slot : Option ℕ) → IfSome slot (λ s. s ≤ 3) → length (slot_text slot) ≤ 1
+  slot_short None few = omega arith
+  slot_short (Some slot) few = length-decimal-le 1 slot (omega arith) (omega arith) (omega arith)
+
+  entry_short : (e : Entry) → IsInReach e → HasAddress e → length (entry_line e) ≤ 64
+  unfolding entry_line
+  entry_short (Stepped hart) reach address = omega (arith, length-decimal-le 2 hart (omega arith) (omega arith) (omega arith))
+  entry_short (Resumed hart) reach address = omega (arith, length-decimal-le 2 hart (omega arith) (omega arith) (omega arith))
+  entry_short (Armed a) reach address = omega (arith, word_length (word_digits a) a (words_back a address))
+  entry_short (Disarmed a) reach address = omega (arith, word_length (word_digits a) a (words_back a address))
+  entry_short (Paused hart slot) reach address =
+      let two = length-decimal-le 2 hart (omega arith) (omega arith) (omega arith) in
+      let one = slot_short slot reach.1 in
+      simp length-append (omega (arith, two, one))
+
+  not_end : (e : Entry) → bytes_eq (entry_line e) end_line ≡ false
+  unfolding entry_line
+  not_end (Stepped hart) = refl
+  not_end (Paused hart slot) = refl
+  not_end (Resumed hart) = refl
+  not_end (Armed a) = refl
+  not_end (Disarmed a) = refl
+
+  entries_read : (entries : List Entry) (number room : ℕ) → All IsInReach entries → All HasAddress entries → length entries ≤ room → entries_from number room (lines_after entries) ≡ Ok entries
+  entries_read [] number room reach address few = at_end number room (end_line ∷ [] ∷ []) end_line ([] ∷ []) refl refl refl refl
+  entries_read (e ∷ entries) number room reach address few =
+      let here = All-head IsInReach e entries reach in
+      let there = All-head HasAddress e entries address in
+      let some : nat_lt 0 room ≡ true = grind (arith, nat_tests) in
+      let line = line_before (entry_line e) entries (entry_short e here there) in
+      one_more number room (entry_line e ∷ lines_after entries) (entry_line e) (lines_after entries) refl line e (not_end e) (entry_read e here there) some
+      ∙ ap (entries_before (e ∷ [])) (entries_read entries (number + 1) (room - 1) (All-tail IsInReach e entries reach) (All-tail HasAddress e entries address) (omega arith))
+
+  -- ---- the plan
+
+  plan_is : (n : Numbers) → plan_line n ≡ codes "harts " ++ (decimal n.harts ++ (codes " steps " ++ (decimal n.steps ++ (codes " arms " ++ (decimal n.arms ++ (codes " pause " ++ decimal n.pause))))))
+  unfolding plan_line
+  plan_is n = simp append_assoc
+
+  plan_words : (n : Numbers) → IsPlan n → words_of (plan_line n) ≡ codes "harts" ∷ decimal n.harts ∷ codes "steps" ∷ decimal n.steps ∷ codes "arms" ∷ decimal n.arms ∷ codes "pause" ∷ decimal n.pause ∷ []
+  plan_words n limits =
+      let harts = pieces_then 32 (decimal n.harts) (codes "steps " ++ (decimal n.steps ++ (codes " arms " ++ (decimal n.arms ++ (codes " pause " ++ decimal n.pause))))) (number_lacks_lf 32 n.harts (omega arith) (omega (arith, limits.harts))) in
+      let steps = pieces_then 32 (decimal n.steps) (codes "arms " ++ (decimal n.arms ++ (codes " pause " ++ decimal n.pause))) (number_lacks_lf 32 n.steps (omega arith) (omega (arith, limits.steps))) in
+      let arms = pieces_then 32 (decimal n.arms) (codes "pause " ++ decimal n.pause) (number_lacks_lf 32 n.arms (omega arith) (omega (arith, limits.arms))) in
+      let pause = pieces_last 32 (decimal n.pause) (number_lacks_lf 32 n.pause (omega arith) (omega (arith, limits.pause))) in
+      ap words_of (plan_is n) ∙ rw (harts, steps, arms, pause) refl
+
+  plan_fits : (n : Numbers) → IsPlan n → is_plan n ≡ true
+  plan_fits n limits =
+      let a : nat_le 1 n.harts ≡ true = grind (arith, nat_tests, limits.some_hart) in
+      let b : nat_le n.harts 16 ≡ true = grind (arith, nat_tests, limits.harts) in
+      let c : nat_le 1 n.steps ≡ true = grind (arith, nat_tests, limits.some_step) in
+      let d : nat_le n.steps 1_000_000 ≡ true = grind (arith, nat_tests, limits.steps) in
+      let e : nat_le n.arms 4096 ≡ true = grind (arith, nat_tests, limits.arms) in
+      let f : nat_le 1 n.pause ≡ true = grind (arith, nat_tests, limits.some_pause) in
+      let g : nat_le n.pause 65_535 ≡ true = grind (arith, nat_tests, limits.pause) in
+      rw (a, b, c, d, e, f, g) refl
+
+  numbers_read : (n : Numbers) → IsPlan n → numbers_of (codes "harts" ∷ decimal n.harts ∷ codes "steps" ∷ decimal n.steps ∷ codes "arms" ∷ decimal n.arms ∷ codes "pause" ∷ decimal n.pause ∷ []) ≡ Some n
+  unfolding numbers_of
+  numbers_read n limits =
+      rw (decimals n.harts (omega (arith, limits.harts)), decimals n.steps (omega (arith, limits.steps)), decimals n.arms (omega (arith, limits.arms)), decimals n.pause (omega (arith, limits.pause))) refl
+
+  plan_read : (n : Numbers) → IsPlan n → plan_of (plan_line n) ≡ Ok n
+  unfolding plan_of
+  plan_read n limits = rw (plan_words n limits, numbers_read n limits, plan_fits n limits) refl
+
+  plan_short : (n : Numbers) → IsPlan n → length (plan_line n) ≤ 64
+  plan_short n limits =
+      let harts = length-decimal-le 2 n.harts (omega arith) (omega (arith, limits.harts)) (omega (arith, limits.harts)) in
+      let steps = length-decimal-le 7 n.steps (omega arith) (omega (arith, limits.steps)) (omega (arith, limits.steps)) in
+      let arms = length-decimal-le 4 n.arms (omega arith) (omega (arith, limits.arms)) (omega (arith, limits.arms)) in
+      let pause = length-decimal-le 5 n.pause (omega arith) (omega (arith, limits.pause)) (omega (arith, limits.pause)) in
+      rw plan_is (simp length-append (omega (arith, harts, steps, arms, pause)))
+
+  plan_lacks : (n : Numbers) → IsPlan n → Lacks 10 (plan_line n)
+  plan_lacks n limits =
+      let harts = number_lacks_lf 10 n.harts (omega arith) (omega (arith, limits.harts)) in
+      let steps = number_lacks_lf 10 n.steps (omega arith) (omega (arith, limits.steps)) in
+      let arms = number_lacks_lf 10 n.arms (omega arith) (omega (arith, limits.arms)) in
+      let pause = number_lacks_lf 10 n.pause (omega arith) (omega (arith, limits.pause)) in
+      ap (list_any (λ b. b == 10)) (plan_is n) ∙ rw (list_any-append (λ b. b == 10) (decimal n.harts), harts, list_any-append (λ b. b == 10) (decimal n.steps), steps, list_any-append (λ b. b == 10) (decimal n.arms), arms) pause
+
+  -- ---- the whole
+
+  entries_lack : (entries : List Entry) → All IsInReach entries → All HasAddress entries → list_any has_line_feed (map entry_line entries ++ end_line ∷ []) ≡ false
+  entries_lack [] reach address = refl
+  entries_lack (e ∷ entries) reach address =
+      or_from _ _ (entry_lacks e (All-head IsInReach e entries reach) (All-head HasAddress e entries address))
+      (entries_lack entries (All-tail IsInReach e entries reach) (All-tail HasAddress e entries address))
+
+  pieces_are : (n : Numbers) (entries : List Entry) → IsPlan n → All IsInReach entries → All HasAddress entries → pieces_of 10 (schedule_text n entries) ≡ header_line ∷ plan_line n ∷ lines_after entries
+  unfolding schedule_text
+  pieces_are n entries limits reach address =
+      let lack : list_any has_line_feed (schedule_lines n entries) ≡ false = or_from _ _ (plan_lacks n limits) (entries_lack entries reach address) in
+      text_pieces (schedule_lines n entries) lack ∙ ap (λ more. header_line ∷ plan_line n ∷ more) (append_assoc (map entry_line entries) (end_line ∷ []) ([] ∷ []))
+
+  plan_there : (n : Numbers) (entries : List Entry) → IsPlan n → plan_in (plan_line n ∷ lines_after entries) ≡ Ok n
+  plan_there n entries limits = rw (line_before (plan_line n) entries (plan_short n limits)) (plan_read n limits)
+
+  pub schedule_read : (n : Numbers) (entries : List Entry) → IsPlan n → IsWritable n entries → All HasAddress entries → schedule_of (schedule_text n entries) ≡ Ok (record { numbers = n; entries = entries })
+  unfolding schedule_of schedule_in
+  schedule_read n entries limits writable address =
+      let pieces = pieces_are n entries limits writable.each address in
+      let plan = plan_there n entries limits in
+      let rest = entries_read entries 3 (most_entries n) writable.each address writable.few in
+      rw (pieces, plan, rest) refl

@@ -1,0 +1,14 @@
+use Rattle.rv_memory.specs.Flagged.{device}
+use Rattle.rv_collide.specs.Numbers.{numbers}
+use Rattle.rv_collide.proofs.BoundLemmas.{read_same, fault_same, text_front}
+use Rattle.rv_collide.proofs.schedule.reading.read_schedule.Goals as goal
+
+pub returns-clause-ok : goal.returns-clause-ok
+returns-clause-ok g c =
+    let front = text_front (g.R.Read.remaining (device c.args.reader.now)) _ c.deref.result.now c.deref.ensures.value c.in_ok-text.ensures.front in
+    read_same _ c.deref.result.now front c.read_text.result (λ said. record { numbers = numbers said.0; entries = said.1.items }) c.read_text.ensures.ok
+
+pub returns-clause-err : goal.returns-clause-err
+returns-clause-err g c =
+    let front = text_front (g.R.Read.remaining (device c.args.reader.now)) _ c.deref.result.now c.deref.ensures.value c.in_ok-text.ensures.front in
+    fault_same _ c.deref.result.now front c.read_text.result c.read_text.ensures.err

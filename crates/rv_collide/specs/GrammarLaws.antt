@@ -1,0 +1,25 @@
+-- What holds of the schedule's text.
+use Rattle.std.specs.Prelude.{◌≡◌, ℕ, ◌↔◌, Ok, All, List}
+use Rattle.rv_collide.specs.Grammar.{Grammar, HasAddress, IsWritable, schedule_text}
+use Rattle.rv_collide.specs.Numbers.{numbers}
+use Rattle.rv_collide.specs.Reading.{schedule_of}
+use Rattle.rv_collide.specs.declared.entry.Entry.{Entry}
+use Rattle.rv_collide.specs.declared.plan.Plan.{Plan}
+
+-- a text is read as a plan and its entries exactly where it is theirs
+abbrev pub ReadsTheGrammar : Type 0
+ReadsTheGrammar =
+    (text : List ℕ) (plan : Plan) (entries : List Entry) → (schedule_of text ≡ Ok (record { numbers = numbers plan; entries = entries })) ↔ Grammar text plan entries
+
+-- a text is of one plan and one list of entries at most
+abbrev pub TextHasOneSchedule : Type 0
+TextHasOneSchedule =
+    (text : List ℕ) (plan other : Plan) (entries others : List Entry) → Grammar text plan entries → Grammar text other others → (numbers plan ≡ numbers other) × (entries ≡ others)
+
+-- a plan and its entries have one text at most
+abbrev pub ScheduleHasOneText : Type 0
+ScheduleHasOneText = (text other : List ℕ) (plan : Plan) (entries : List Entry) → Grammar text plan entries → Grammar other plan entries → text ≡ other
+
+-- what a caller may write has a text
+abbrev pub ScheduleHasText : Type 0
+ScheduleHasText = (plan : Plan) (entries : List Entry) → IsWritable (numbers plan) entries → All HasAddress entries → Grammar (schedule_text (numbers plan) entries) plan entries

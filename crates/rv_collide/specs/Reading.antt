@@ -1,0 +1,174 @@
+-- What a schedule's text says, line by line, or its first line with a fault. That the texts that are read
+-- are those of the grammar is a law.
+use Rattle.std.specs.Prelude.{◌≡◌, ℕ, ◌+◌, ◌-◌, ⊤, Bool, true, false, MatchBool, ◌&&◌, ◌==◌, nat_lt, nat_le, if◌then◌else◌, Option, Some, None, option_and_then, option_map, Result, Ok, Err, List, [], ◌∷◌, length, drop, codes}
+use Rattle.std.specs.Option.{ok_or}
+use Rattle.std.specs.Str.{bytes_eq}
+use Rattle.rv_memory.specs.Chain.{◌>>=◌, want}
+use Rattle.rv_text.specs.Decimal.{decimal_of}
+use Rattle.rv_text.specs.Hexadecimal.{word_digits, word_of}
+use Rattle.rv_text.specs.Numeral.{up_to}
+use Rattle.rv_text.specs.Pieces.{pieces_of}
+use Rattle.rv_collide.specs.Grammar.{header_line, end_line}
+use Rattle.rv_collide.specs.Plan.{Numbers, most_entries}
+use Rattle.rv_collide.specs.declared.entry.Entry.{Entry}
+use Rattle.rv_collide.specs.declared.entry.Entry.TheVariants.{Stepped, Paused, Resumed, Armed, Disarmed}
+use Rattle.rv_collide.specs.declared.schedule.fault.ScheduleFault.{ScheduleFault}
+use Rattle.rv_collide.specs.declared.schedule.fault.ScheduleKind.{ScheduleKind}
+use Rattle.rv_collide.specs.declared.schedule.fault.ScheduleKind.TheVariants as kind
+
+-- ---- steps that may fail
+
+-- a fault of the line of that number
+abbrev pub at_line : {A : Type 0} → ℕ → Result A ScheduleKind → Result A ScheduleFault
+at_line number (Ok value) = Ok value
+at_line number (Err kind) = Err (record { line = number; kind = kind })
+
+-- ---- what a line says
+
+-- the words of a line, with one blank between two of them
+abbrev pub words_of : List ℕ → List (List ℕ)
+words_of line = pieces_of 32 line
+
+-- the number that follows the name, of the words' first two
+abbrev pub named : List ℕ → List (List ℕ) → Option ℕ
+named name [] = None
+named name (word ∷ []) = None
+named name (word ∷ numeral ∷ words) = if bytes_eq word name then decimal_of numeral else None
+
+abbrev option_then : {A B : Type 0} → Option A → (A → Option B) → Option B
+option_then o next = option_and_then next o
+
+-- the numbers of a plan line, of any size
+unfoldable pub numbers_of : List (List ℕ) → Option Numbers
+numbers_of words =
+    option_then (named (codes "harts") words) (λ harts.
+    option_then (named (codes "steps") (drop 2 words)) (λ steps.
+    option_then (named (codes "arms") (drop 4 words)) (λ arms.
+    option_then (named (codes "pause") (drop 6 words)) (λ pause.
+    if length words == 8 then Some (record { harts = harts; steps = steps; arms = arms; pause = pause }) else None))))
+
+-- the numbers are in the range of a plan
+abbrev pub is_plan : Numbers → Bool
+is_plan n =
+    nat_le 1 n.harts && nat_le n.harts 16 && nat_le 1 n.steps && nat_le n.steps 1_000_000 && nat_le n.arms 4096 && nat_le 1 n.pause && nat_le n.pause 65_535
+
+-- what a plan line says: its shape is tested first
+unfoldable pub plan_of : List ℕ → Result Numbers ScheduleKind
+plan_of line = do
+  numbers ← ok_or (numbers_of (words_of line)) kind.PlanLine
+  _ ← want (is_plan numbers) kind.PlanRange
+  Ok numbers
+
+abbrev pub hart_of : List ℕ → Option ℕ
+hart_of word = up_to 15 (decimal_of word)
+
+-- a slot, or `-` where there is none
+abbrev pub slot_of : List ℕ → Option (Option ℕ)
+slot_of word = if bytes_eq word (codes "-") then Some None else option_map Some (up_to 3 (decimal_of word))
+
+-- an address in eight digits, none of which is a capital letter
+abbrev pub address_of : List ℕ → Option ℕ
+address_of word = option_and_then (λ address. if bytes_eq (word_digits address) word then Some address else None) (word_of word)
+
+-- an entry of two words
+abbrev pub short_entry : List ℕ → List ℕ → Option Entry
+short_entry name word =
+    if bytes_eq name (codes "s") then option_map Stepped (hart_of word)
+    else if bytes_eq name (codes "r") then option_map Resumed (hart_of word)
+    else if bytes_eq name (codes "a") then option_map Armed (address_of word)
+    else if bytes_eq name (codes "d") then option_map Disarmed (address_of word)
+    else None
+
+-- an entry of three words
+abbrev pub pause_entry : List ℕ → List ℕ → List ℕ → Option Entry
+pause_entry name hart slot =
+    if bytes_eq name (codes "p") then option_then (hart_of hart) (λ h. option_map (Paused h) (slot_of slot)) else None
+
+abbrev pub entry_in : List (List ℕ) → Option Entry
+entry_in [] = None
+entry_in (name ∷ []) = None
+entry_in (name ∷ word ∷ []) = short_entry name word
+entry_in (name ∷ hart ∷ slot ∷ []) = pause_entry name hart slot
+entry_in (name ∷ hart ∷ slot ∷ word ∷ words) = None
+
+-- what a line of an entry says
+unfoldable pub entry_of : List ℕ → Option Entry
+entry_of line = entry_in (words_of line)
+
+-- ---- the lines
+
+-- The most bytes of a line, its LF not counted.
+abbrev pub most_line : ℕ
+most_line = 64
+
+-- The first line of a text that is cut at its LFs, the last piece being what no LF ends.
+abbrev pub first_line : List (List ℕ) → Result (List ℕ) ScheduleKind
+first_line [] = Err kind.NoEnd
+first_line (cut ∷ []) = if nat_lt most_line (length cut) then Err kind.TooLong else Err kind.NoEnd
+first_line (line ∷ next ∷ lines) = if nat_lt most_line (length line) then Err kind.TooLong else Ok line
+
+-- no byte is left after the LF
+abbrev pub is_over : List (List ℕ) → Bool
+is_over [] = true
+is_over (cut ∷ []) = length cut == 0
+is_over (line ∷ next ∷ lines) = false
+
+-- The entries of the lines, the first of which has the number, up to `end`. There is room for so many.
+unfoldable pub entries_from : ℕ → ℕ → List (List ℕ) → Result (List Entry) ScheduleFault
+entries_from number room [] = Err (record { line = number; kind = kind.NoEnd })
+entries_from number room (first ∷ lines) = do
+  line ← at_line number (first_line (first ∷ lines))
+  if bytes_eq line end_line then at_line (number + 1) (want (is_over lines) kind.AfterEnd >>= λ _. Ok []) else do
+    entry ← at_line number (ok_or (entry_of line) kind.Entry)
+    _ ← at_line number (want (nat_lt 0 room) kind.TooMany)
+    entries ← entries_from (number + 1) (room - 1) lines
+    Ok (entry ∷ entries)
+
+-- a plan's numbers and its entries
+pub record Schedule : Type 0 where
+  pub numbers : Numbers
+  pub entries : List Entry
+
+-- the first line is that of the format
+abbrev pub header_in : List (List ℕ) → Result (Unit {0}) ScheduleKind
+header_in lines = do
+  line ← first_line lines
+  want (bytes_eq line header_line) kind.Header
+
+-- the numbers of the plan, which the first line says
+abbrev pub plan_in : List (List ℕ) → Result Numbers ScheduleKind
+plan_in lines = do
+  line ← first_line lines
+  plan_of line
+
+-- what the lines of a schedule say
+unfoldable pub schedule_in : List (List ℕ) → Result Schedule ScheduleFault
+schedule_in lines = do
+  _ ← at_line 1 (header_in lines)
+  numbers ← at_line 2 (plan_in (drop 1 lines))
+  entries ← entries_from 3 (most_entries numbers) (drop 2 lines)
+  Ok (record { numbers = numbers; entries = entries })
+
+-- What a text says, or its first line with a fault. The text is cut at its LFs.
+unfoldable pub schedule_of : List ℕ → Result Schedule ScheduleFault
+schedule_of text = schedule_in (pieces_of 10 text)
+
+-- a fault of the text, and not of the reader or of memory
+abbrev pub is_of_text : ScheduleKind → Bool
+is_of_text kind.Read = false
+is_of_text kind.NoMemory = false
+is_of_text _ = true
+
+-- the fault is the one that is told of the text; that the reader failed or memory is out says nothing of it
+abbrev pub IsToldFault : {A : Type 0} → Result A ScheduleFault → ScheduleFault → Type 0
+IsToldFault said fault = MatchBool (is_of_text fault.kind) (said ≡ Err fault) ⊤
+
+-- the fault is that the reader failed
+abbrev pub is_read : ScheduleKind → Bool
+is_read kind.Read = true
+is_read _ = false
+
+-- something was refused because the reader failed
+abbrev pub fails_reading : {A : Type 0} → Result A ScheduleFault → Bool
+fails_reading (Ok value) = false
+fails_reading (Err fault) = is_read fault.kind

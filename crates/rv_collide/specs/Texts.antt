@@ -1,0 +1,42 @@
+-- The text that an ending is shown in.
+use Rattle.std.specs.Prelude.{ℕ, ◌+◌, List, [], ◌∷◌, ◌++◌, codes}
+use Rattle.std.specs.Fmt.{decimal}
+use Rattle.rv_hart.specs.Texts.{access_text}
+use Rattle.rv_text.specs.Hexadecimal.{word_digits}
+use Rattle.rv_text.specs.Lines.{text_of_lines}
+use Rattle.rv_break.specs.declared.claim.Seen.{Seen}
+use Rattle.rv_collide.specs.Grammar.{slot_text}
+use Rattle.rv_collide.specs.declared.ending.Ending.{Ending}
+use Rattle.rv_collide.specs.declared.ending.Verdict.{Verdict}
+use Rattle.rv_collide.specs.declared.ending.Verdict.TheVariants.{Hit, Changed, Quiet}
+
+-- `hit J hart H ACCESS`
+abbrev pub seen_text : Seen → List ℕ
+seen_text seen = codes "hit " ++ decimal seen.place ++ codes " hart " ++ decimal seen.hart ++ codes " " ++ access_text seen.access
+
+-- `hit` with what was seen, `changed`, or `quiet`
+abbrev pub verdict_text : Verdict → List ℕ
+verdict_text (Hit seen) = seen_text seen
+verdict_text Changed = codes "changed"
+verdict_text Quiet = codes "quiet"
+
+-- `ending N hart H ACCESS`
+abbrev pub pause_text : ℕ → Ending → List ℕ
+pause_text number e = codes "ending " ++ decimal number ++ codes " hart " ++ decimal e.hart ++ codes " " ++ access_text e.access
+
+-- ` old VALUE new VALUE`
+abbrev pub values_text : ℕ → ℕ → List ℕ
+values_text old new' = codes " old " ++ word_digits old ++ codes " new " ++ word_digits new'
+
+-- `ending N hart H ACCESS slot S VERDICT old VALUE new VALUE`, where S is `-` where the pause was unwatched
+unfoldable pub ending_line : ℕ → Ending → List ℕ
+ending_line number e = pause_text number e ++ codes " slot " ++ slot_text e.slot ++ codes " " ++ verdict_text e.verdict ++ values_text e.old e.new
+
+-- the lines of endings, the first of which has the number
+abbrev pub ending_lines : ℕ → List Ending → List (List ℕ)
+ending_lines number [] = []
+ending_lines number (ending ∷ endings) = ending_line number ending ∷ ending_lines (number + 1) endings
+
+-- the endings, counted from 0, an LF after each
+unfoldable pub endings_text : List Ending → List ℕ
+endings_text endings = text_of_lines (ending_lines 0 endings)

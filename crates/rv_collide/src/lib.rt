@@ -1,0 +1,12 @@
+//! The core: a machine whose harts are paused at armed addresses, the stored schedule of what was
+//! done to it, and the verdicts of its pauses.
+//!
+//! To the layer above, everything is told of a whole stored list of entries, by `specs/`: the machine is
+//! what the list's hart steps alone make of the image, and each ending is the verdict of its pause.
+#![tactic(auto)]
+
+pub mod ending;
+pub mod entry;
+pub mod plan;
+pub mod schedule;
+pub mod texts;

@@ -1,0 +1,93 @@
+//! The plan of a run.
+ghost use Rattle.std.specs.Prelude.{◌≡◌, ◌↔◌, IsSome, IfSome};
+ghost use Rattle.rv_collide.specs.Plan.{IsPlan};
+
+/// The most harts of a machine.
+pub const MOST_HARTS: u8 = 16;
+
+/// The most steps of a run.
+pub const MOST_STEPS: u32 = 1_000_000;
+
+/// The most addresses that are armed in a run.
+pub const MOST_ARMS: u32 = 4096;
+
+/// The longest pause, in steps of other harts.
+pub const MOST_PAUSE: u32 = 65_535;
+
+/// The numbers that a run is given: how many harts there are (1 to 16), how many steps they make together
+/// at most (1 to 1,000,000), how many addresses are armed in all at most (0 to 4096), and how many steps
+/// of other harts a pause lasts at least (1 to 65,535).
+#[derive(Clone, Copy, Debug, PartialEq, Eq)]
+pub struct Plan {
+    pub harts: u8,
+    pub steps: u32,
+    pub arms: u32,
+    pub pause: u32,
+    pub ghost in_range: { IsPlan (record { harts = harts; steps = steps; arms = arms; pause = pause }) },
+}
+
+impl Plan {
+    ghost use Rattle.rv_collide.specs.Numbers.{numbers};
+    ghost use Rattle.rv_collide.specs.Plan.{most_entries};
+
+    /// The plan of these numbers, where they are in range.
+    pub fn new(harts: u8, steps: u32, arms: u32, pause: u32) -> Option<Plan>
+        ensures valid { IsSome result
+            ↔ IsPlan (record { harts = harts; steps = steps; arms = arms; pause = pause }) }
+        ensures value { IfSome result (λ plan. numbers plan
+            ≡ record { harts = harts; steps = steps; arms = arms; pause = pause }) }
+    {
+        let machine = 1 <= harts && harts <= MOST_HARTS;
+        let run = 1 <= steps && steps <= MOST_STEPS && arms <= MOST_ARMS;
+        if machine && run && 1 <= pause && pause <= MOST_PAUSE {
+            Some(Plan {
+                harts,
+                steps,
+                arms,
+                pause,
+            })
+        } else {
+            None
+        }
+    }
+
+    /// How many entries a schedule of the plan has at most: `steps + 4 * arms`.
+    pub fn most_entries(&self) -> u32
+        ensures { result ≡ most_entries (numbers self.now) }
+    {
+        self.steps + 4 * self.arms
+    }
+}
+
+#[cfg(test)]
+mod tests {
+    use super::*;
+
+    #[test]
+    fn takes_numbers_in_range(rt: HostRuntime) {
+        let least = Plan::new(1, 1, 0, 1);
+        assert!(rt; least.is_some());
+        let most = Plan::new(16, 1_000_000, 4096, 65_535);
+        assert!(rt; most.is_some());
+        if let Some(plan) = most {
+            assert_eq!(rt; (plan.harts, plan.steps), (16, 1_000_000));
+            assert_eq!(rt; (plan.arms, plan.pause), (4096, 65_535));
+            assert_eq!(rt; plan.most_entries(), 1_016_384);
+        }
+    }
+
+    #[test]
+    fn refuses_numbers_out_of_range(rt: HostRuntime) {
+        for (harts, steps, arms, pause) in [
+            (0, 1, 0, 1),
+            (17, 1, 0, 1),
+            (1, 0, 0, 1),
+            (1, 1_000_001, 0, 1),
+            (1, 1, 4097, 1),
+            (1, 1, 0, 0),
+            (1, 1, 0, 65_536),
+        ] {
+            assert!(rt; Plan::new(harts, steps, arms, pause).is_none());
+        }
+    }
+}

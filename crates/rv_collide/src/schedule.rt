@@ -1,0 +1,16 @@
+//! The stored schedule's text: a plan and its entries, line by line.
+
+mod entry_line;
+mod fault;
+pub mod laws;
+mod line;
+mod plan_line;
+mod reading;
+pub(crate) mod writing;
+
+pub use fault::{ScheduleFault, ScheduleKind};
+pub use reading::read_schedule;
+pub use writing::write_schedule;
+
+#[cfg(test)]
+mod tests;

@@ -1,0 +1,24 @@
+//! What holds of the schedule's text. Each law is the contract of a function that does nothing else.
+
+ghost use Rattle.rv_collide.specs.GrammarLaws.{ReadsTheGrammar, TextHasOneSchedule, ScheduleHasOneText, ScheduleHasText};
+
+use rv_text::laws::{decimal_has_one_spelling, decimal_is_read_back, word_is_read_back};
+
+/// The texts that are read are those of the grammar, as what they were written from.
+pub fn reads_the_grammar()
+    ensures { ReadsTheGrammar }
+{
+    decimal_is_read_back();
+    decimal_has_one_spelling();
+    word_is_read_back();
+}
+
+/// A schedule has one spelling: a text is of one schedule at most, a schedule has one text at most, and
+/// one where it can be written.
+pub fn one_spelling()
+    ensures text { TextHasOneSchedule }
+    ensures schedule { ScheduleHasOneText }
+    ensures some { ScheduleHasText }
+{
+    reads_the_grammar();
+}

@@ -1,0 +1,485 @@
+use super::{ScheduleFault, ScheduleKind, read_schedule, write_schedule};
+use crate::entry::Entry;
+use crate::plan::Plan;
+use rv_memory::flagged::Flagged;
+use std::alloc::Global;
+use std::io::{self, ErrorKind, Read, Write};
+use std::process::Abort;
+use std::test::Fail;
+
+/// A text with every kind of entry.
+const TEXT: &[u8] = b"rvcollide schedule 1\n\
+    harts 2 steps 100 arms 4 pause 10\n\
+    a 00010004\n\
+    s 0\n\
+    p 0 0\n\
+    p 1 -\n\
+    r 0\n\
+    d 00010004\n\
+    end\n";
+
+const ENTRIES: [Entry; 6] = [
+    Entry::Armed(0x0001_0004),
+    Entry::Stepped(0),
+    Entry::Paused(0, Some(0)),
+    Entry::Paused(1, None),
+    Entry::Resumed(0),
+    Entry::Disarmed(0x0001_0004),
+];
+
+/// The line and the fault of a text.
+fn fault_of(alloc: Global, text: &[u8]) -> Option<(u32, ScheduleKind)> {
+    let fault = read_schedule(alloc, &mut Flagged::new(text)).err()?;
+    Some((fault.line, fault.kind))
+}
+
+#[test]
+fn reads_a_schedule(rt: HostRuntime) -> Result<(), Fail> {
+    let mut reader = Flagged::new(TEXT);
+    let (plan, entries) = read_schedule(rt.alloc(), &mut reader)
+        .ok()
+        .ok_or("refused")?;
+    assert!(rt; !reader.failed());
+    assert_eq!(rt; (plan.harts, plan.steps), (2, 100));
+    assert_eq!(rt; (plan.arms, plan.pause), (4, 10));
+    assert_eq!(rt; entries.as_slice(), ENTRIES.as_slice());
+    Ok(())
+}
+
+#[test]
+fn writes_a_schedule(rt: HostRuntime) -> Result<(), Fail> {
+    let plan = Plan::new(2, 100, 4, 10).ok_or("no plan")?;
+    let mut writer = Flagged::new(Vec::new(rt.alloc()));
+    assert_eq!(rt; write_schedule(&plan, &ENTRIES, &mut writer), Ok(()));
+    assert!(rt; !writer.failed());
+    assert_eq!(rt; writer.into_inner().as_slice(), TEXT);
+    Ok(())
+}
+
+/// The greatest numbers, a line of 64 bytes not being one of them, and no entries at all.
+#[test]
+fn reads_and_writes_the_limits(rt: HostRuntime) -> Result<(), Fail> {
+    let text: &[u8] = b"rvcollide schedule 1\n\
+        harts 16 steps 1000000 arms 4096 pause 65535\n\
+        s 15\np 15 3\np 10 -\nr 15\na ffffffff\nd 00000000\nend\n";
+    let (plan, entries) = read_schedule(rt.alloc(), &mut Flagged::new(text))
+        .ok()
+        .ok_or("refused")?;
+    assert_eq!(rt;
+        entries.as_slice(),
+        [
+            Entry::Stepped(15),
+            Entry::Paused(15, Some(3)),
+            Entry::Paused(10, None),
+            Entry::Resumed(15),
+            Entry::Armed(u32::MAX),
+            Entry::Disarmed(0),
+        ]
+        .as_slice()
+    );
+    let mut writer = Flagged::new(Vec::new(rt.alloc()));
+    assert_eq!(rt; plan.most_entries(), 1_016_384);
+    let none: &[u8] = b"rvcollide schedule 1\nharts 1 steps 1 arms 0 pause 1\nend\n";
+    let (plan, entries) = read_schedule(rt.alloc(), &mut Flagged::new(none))
+        .ok()
+        .ok_or("refused")?;
+    assert_eq!(rt; entries.len(), 0);
+    assert_eq!(rt; write_schedule(&plan, &[], &mut writer), Ok(()));
+    assert_eq!(rt; writer.into_inner().as_slice(), none);
+    Ok(())
+}
+
+/// Each prefix that lacks the last LF ends within the line that the cut lies in.
+#[test]
+fn tells_a_text_that_is_cut(rt: HostRuntime) {
+    let mut line = 1;
+    for (at, byte) in TEXT.iter().enumerate() {
+        if at < TEXT.len() {
+            assert_eq!(rt;
+                fault_of(rt.alloc(), &TEXT[..at]),
+                Some((line, ScheduleKind::NoEnd)),
+                "cut at {at}"
+            );
+        }
+        if *byte == b'\n' && line < 100 {
+            line += 1;
+        }
+    }
+}
+
+#[test]
+fn tells_the_fault_of_the_first_line(rt: HostRuntime) {
+    let alloc = rt.alloc();
+    for text in [
+        b"\n".as_slice(),
+        b"rvcollide schedule 2\nend\n",
+        b"rvcollide schedule 1 \nend\n",
+        b"rvcollide schedule 1\r\nend\n",
+        b" rvcollide schedule 1\nend\n",
+        b"Rvcollide schedule 1\nend\n",
+        b"rvcollide  schedule 1\n",
+        b"aaaaaaaaaaaaaaaaaaaaaaaaaaaaaaaaaaaaaaaaaaaaaaaaaaaaaaaaaaaaaaaa\n",
+    ] {
+        assert_eq!(rt;
+            fault_of(alloc, text),
+            Some((1, ScheduleKind::Header)),
+            "at {text:?}"
+        );
+    }
+    let letters: &[u8] = b"aaaaaaaaaaaaaaaaaaaaaaaaaaaaaaaaaaaaaaaaaaaaaaaaaaaaaaaaaaaaaaaaa";
+    assert_eq!(rt; fault_of(alloc, letters), Some((1, ScheduleKind::TooLong)));
+    assert_eq!(rt;
+        fault_of(
+            alloc,
+            b"aaaaaaaaaaaaaaaaaaaaaaaaaaaaaaaaaaaaaaaaaaaaaaaaaaaaaaaaaaaaaaaaa\nx\n"
+        ),
+        Some((1, ScheduleKind::TooLong))
+    );
+    assert_eq!(rt;
+        fault_of(alloc, &letters[..64]),
+        Some((1, ScheduleKind::NoEnd))
+    );
+    assert_eq!(rt; fault_of(alloc, b""), Some((1, ScheduleKind::NoEnd)));
+}
+
+/// The text with this second line and one entry.
+fn with_plan(alloc: Global, line: &[u8]) -> Option<(u32, ScheduleKind)> {
+    let mut text = Vec::new(alloc);
+    text.extend_from_slice(b"rvcollide schedule 1\n").ok()?;
+    text.extend_from_slice(line).ok()?;
+    text.extend_from_slice(b"\ns 0\nend\n").ok()?;
+    fault_of(alloc, &text)
+}
+
+#[test]
+fn tells_the_shape_of_the_plan(rt: HostRuntime) {
+    let alloc = rt.alloc();
+    for line in [
+        b"".as_slice(),
+        b"harts 02 steps 1 arms 0 pause 1",
+        b"harts 2 steps 1 arms 0 pause",
+        b"harts 2 steps 1 arms 0 pause ",
+        b"harts 2 steps 1 arms 0 pause 1 ",
+        b"harts 2 steps 1 arms 0 pause 1 slots 4",
+        b"harts 2  steps 1 arms 0 pause 1",
+        b" harts 2 steps 1 arms 0 pause 1",
+        b"harts 2 steps 1 arms 0 pause 1\r",
+        b"harts 2 steps 1 arms 00 pause 1",
+        b"harts 2 steps +1 arms 0 pause 1",
+        b"harts 2 steps 0x1 arms 0 pause 1",
+        b"steps 1 harts 2 arms 0 pause 1",
+        b"harts 99 steps 1 arms 0 pause x",
+        b"end",
+    ] {
+        assert_eq!(rt;
+            with_plan(alloc, line),
+            Some((2, ScheduleKind::PlanLine)),
+            "at {line:?}"
+        );
+    }
+    assert_eq!(rt;
+        with_plan(
+            alloc,
+            b"harts 2 steps 1 arms 0 pause 000000000000000000000000000000000000"
+        ),
+        Some((2, ScheduleKind::TooLong))
+    );
+}
+
+#[test]
+fn tells_the_range_of_the_plan(rt: HostRuntime) {
+    let alloc = rt.alloc();
+    for line in [
+        b"harts 17 steps 1 arms 0 pause 1".as_slice(),
+        b"harts 0 steps 1 arms 0 pause 1",
+        b"harts 257 steps 1 arms 0 pause 1",
+        b"harts 4294967297 steps 1 arms 0 pause 1",
+        b"harts 2 steps 0 arms 0 pause 1",
+        b"harts 2 steps 1000001 arms 0 pause 1",
+        b"harts 2 steps 1 arms 4097 pause 1",
+        b"harts 2 steps 1 arms 0 pause 0",
+        b"harts 2 steps 1 arms 0 pause 65536",
+        b"harts 2 steps 1 arms 0 pause 18446744073709551617",
+        b"harts 9 steps 99999999999999999999999999999999 arms 0 pause 1",
+    ] {
+        assert_eq!(rt;
+            with_plan(alloc, line),
+            Some((2, ScheduleKind::PlanRange)),
+            "at {line:?}"
+        );
+    }
+    assert_eq!(rt; with_plan(alloc, b"harts 1 steps 1 arms 0 pause 1"), None);
+}
+
+/// The text with these lines after the plan.
+fn with_lines(alloc: Global, lines: &[u8]) -> Option<(u32, ScheduleKind)> {
+    let mut text = Vec::new(alloc);
+    text.extend_from_slice(b"rvcollide schedule 1\nharts 1 steps 1 arms 0 pause 1\n")
+        .ok()?;
+    text.extend_from_slice(lines).ok()?;
+    fault_of(alloc, &text)
+}
+
+#[test]
+fn tells_a_line_that_is_no_entry(rt: HostRuntime) {
+    let alloc = rt.alloc();
+    for lines in [
+        b"\n".as_slice(),
+        b"s\nend\n",
+        b"s \nend\n",
+        b"s 16\nend\n",
+        b"s 00\nend\n",
+        b"s 01\nend\n",
+        b"s  1\nend\n",
+        b"s 1 \nend\n",
+        b" s 1\nend\n",
+        b"s 1\r\nend\n",
+        b"S 1\nend\n",
+        b"x 1\nend\n",
+        b"r -\nend\n",
+        b"r 16\nend\n",
+        b"p 0\nend\n",
+        b"p 0 4\nend\n",
+        b"p 0 00\nend\n",
+        b"p 0 - \nend\n",
+        b"p 0 --\nend\n",
+        b"p 0 -1\nend\n",
+        b"p 16 0\nend\n",
+        b"p - 0\nend\n",
+        b"p 0 0 0\nend\n",
+        b"s 0 0\nend\n",
+        b"a 0001000\nend\n",
+        b"a 000100040\nend\n",
+        b"a 0001000A\nend\n",
+        b"a 0x010004\nend\n",
+        b"a 00010004 0\nend\n",
+        b"d 0001000G\nend\n",
+        b"D 00010004\nend\n",
+        b"end \nend\n",
+        b"End\nend\n",
+    ] {
+        assert_eq!(rt;
+            with_lines(alloc, lines),
+            Some((3, ScheduleKind::Entry)),
+            "at {lines:?}"
+        );
+    }
+}
+
+#[test]
+fn tells_entries_past_the_last(rt: HostRuntime) {
+    let alloc = rt.alloc();
+    assert_eq!(rt; with_lines(alloc, b"s 0\nend\n"), None);
+    assert_eq!(rt;
+        with_lines(alloc, b"s 0\ns 0\nend\n"),
+        Some((4, ScheduleKind::TooMany))
+    );
+    assert_eq!(rt;
+        with_lines(alloc, b"s 0\ns 16\nend\n"),
+        Some((4, ScheduleKind::Entry)),
+        "the shape comes first"
+    );
+    assert_eq!(rt;
+        with_lines(alloc, b"s 0\ns 0"),
+        Some((4, ScheduleKind::NoEnd))
+    );
+}
+
+#[test]
+fn tells_what_stands_after_the_end(rt: HostRuntime) {
+    let alloc = rt.alloc();
+    for (lines, line) in [
+        (b"end\n\n".as_slice(), 4),
+        (b"end\ns 0\n", 4),
+        (b"end\n ", 4),
+        (b"s 0\nend\nend\n", 5),
+        (
+            b"end\naaaaaaaaaaaaaaaaaaaaaaaaaaaaaaaaaaaaaaaaaaaaaaaaaaaaaaaaaaaaaaaaaaaaaa\n",
+            4,
+        ),
+    ] {
+        assert_eq!(rt;
+            with_lines(alloc, lines),
+            Some((line, ScheduleKind::AfterEnd)),
+            "at {lines:?}"
+        );
+    }
+    assert_eq!(rt;
+        with_lines(alloc, b"s 0\nend"),
+        Some((4, ScheduleKind::NoEnd))
+    );
+    assert_eq!(rt; with_lines(alloc, b"s 0\n"), Some((4, ScheduleKind::NoEnd)));
+    assert_eq!(rt;
+        with_lines(
+            alloc,
+            b"s 000000000000000000000000000000000000000000000000000000000000000\nend\n"
+        ),
+        Some((3, ScheduleKind::TooLong))
+    );
+}
+
+/// Names as the program prints them.
+#[test]
+fn names_kinds(rt: HostRuntime) -> Result<(), Fail> {
+    for (kind, name) in [
+        (ScheduleKind::Read, "Read"),
+        (ScheduleKind::Header, "Header"),
+        (ScheduleKind::PlanLine, "PlanLine"),
+        (ScheduleKind::PlanRange, "PlanRange"),
+        (ScheduleKind::Entry, "Entry"),
+        (ScheduleKind::TooMany, "TooMany"),
+        (ScheduleKind::NoEnd, "NoEnd"),
+        (ScheduleKind::AfterEnd, "AfterEnd"),
+        (ScheduleKind::TooLong, "TooLong"),
+        (ScheduleKind::NoMemory, "NoMemory"),
+    ] {
+        let text = format!(in rt.alloc(); "{kind}")?;
+        assert_eq!(rt; text.as_str(), name);
+    }
+    Ok(())
+}
+
+/// A reader of the text, a byte a read, whose read numbered `fails_at` from 1 on fails.
+#[derive(Drop)]
+struct Failing {
+    read: usize,
+    calls: u64,
+    fails_at: u64,
+}
+
+impl Read for Failing {
+    fn read(&mut self, buf: &mut [u8]) -> io::Result<usize> {
+        self.calls = self.calls.saturating_add(1);
+        if self.calls == self.fails_at {
+            return Err(io::Error::from(ErrorKind::Interrupted));
+        }
+        if self.read >= TEXT.len() || buf.is_empty() {
+            return Ok(0);
+        }
+        buf[0] = TEXT[self.read];
+        self.read += 1;
+        Ok(1)
+    }
+}
+
+/// How many LFs stand in the first bytes of the text.
+fn lines_in(count: usize) -> u32 {
+    let mut lines = 0u32;
+    for (at, byte) in TEXT.iter().enumerate() {
+        if at < count && *byte == b'\n' {
+            lines = lines.saturating_add(1);
+        }
+    }
+    lines
+}
+
+#[test]
+fn tells_a_reader_that_fails(rt: HostRuntime) {
+    let alloc = rt.alloc();
+    let calls = TEXT.len() as u64 + 1;
+    for fails_at in 1..calls + 1 {
+        let mut reader = Flagged::new(Failing {
+            read: 0,
+            calls: 0,
+            fails_at,
+        });
+        let fault = read_schedule(alloc, &mut reader).err();
+        assert_eq!(rt;
+            fault,
+            Some(ScheduleFault {
+                line: lines_in(fails_at as usize - 1).saturating_add(1),
+                kind: ScheduleKind::Read,
+            }),
+            "at read {fails_at}"
+        );
+        assert!(rt; reader.failed());
+    }
+    let mut reader = Flagged::new(Failing {
+        read: 0,
+        calls: 0,
+        fails_at: calls + 1,
+    });
+    assert!(rt; read_schedule(alloc, &mut reader).is_ok());
+    assert!(rt; !reader.failed());
+}
+
+/// A reader that never ends.
+#[derive(Drop)]
+struct Endless {
+    bytes: u64,
+}
+
+impl Read for Endless {
+    fn read(&mut self, buf: &mut [u8]) -> io::Result<usize> {
+        self.bytes = self.bytes.saturating_add(buf.len() as u64);
+        Ok(buf.len())
+    }
+}
+
+#[test]
+fn refuses_a_reader_that_never_ends(rt: HostRuntime) {
+    let mut reader = Flagged::new(Endless { bytes: 0 });
+    let fault = read_schedule(rt.alloc(), &mut reader).err();
+    assert_eq!(rt;
+        fault,
+        Some(ScheduleFault {
+            line: 1,
+            kind: ScheduleKind::TooLong,
+        })
+    );
+    assert!(rt; !reader.failed());
+    assert_eq!(rt; reader.into_inner().bytes, 67_108_864);
+}
+
+/// A writer that takes one byte a write, and whose write numbered `fails_at` from 1 on fails.
+#[derive(Drop)]
+struct Sink {
+    taken: Vec<u8>,
+    calls: u64,
+    fails_at: u64,
+}
+
+impl Write for Sink {
+    fn write(&mut self, buf: &[u8]) -> io::Result<usize> {
+        self.calls = self.calls.saturating_add(1);
+        if self.calls == self.fails_at {
+            return Err(io::Error::from(ErrorKind::Interrupted));
+        }
+        match buf {
+            [] => Ok(0),
+            [first, ..] => {
+                self.taken.push(*first)?;
+                Ok(1)
+            }
+        }
+    }
+
+    fn flush(&mut self) -> io::Result<()> {
+        Ok(())
+    }
+}
+
+fn failing_at(alloc: Global, fails_at: u64) -> Flagged<Sink> {
+    Flagged::new(Sink {
+        taken: Vec::new(alloc),
+        calls: 0,
+        fails_at,
+    })
+}
+
+#[test]
+fn tells_a_writer_that_fails(rt: HostRuntime) -> Result<(), Fail> {
+    let plan = Plan::new(2, 100, 4, 10).ok_or("no plan")?;
+    let calls = TEXT.len() as u64;
+    for fails_at in 1..calls + 1 {
+        let mut writer = failing_at(rt.alloc(), fails_at);
+        assert!(rt; write_schedule(&plan, &ENTRIES, &mut writer).is_err());
+        assert!(rt; writer.failed(), "at write {fails_at}");
+        let taken = writer.into_inner().taken;
+        assert!(rt; TEXT.starts_with(&taken));
+    }
+    let mut writer = failing_at(rt.alloc(), calls + 1);
+    assert_eq!(rt; write_schedule(&plan, &ENTRIES, &mut writer), Ok(()));
+    assert!(rt; !writer.failed());
+    Ok(())
+}

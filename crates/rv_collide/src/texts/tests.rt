@@ -1,0 +1,51 @@
+use super::*;
+use rv_hart::access::Access;
+use rv_memory::flagged::Flagged;
+use std::test::Fail;
+
+/// `sw` to 0x00020000 by the instruction at 0x00010004.
+const STORE: Access = Access {
+    pc: 0x0001_0004,
+    first: 0x0002_0000,
+    size: 4,
+    read: false,
+    write: true,
+};
+
+fn ending(hart: u8, slot: Option<u8>, verdict: Verdict, new: u32) -> Ending {
+    Ending {
+        hart,
+        paused_at: 3,
+        resumed_at: 5,
+        access: STORE,
+        slot,
+        verdict,
+        old: 0,
+        new,
+    }
+}
+
+#[test]
+fn writes_endings(rt: HostRuntime) -> Result<(), Fail> {
+    let mut writer = Flagged::new(Vec::new(rt.alloc()));
+    let seen = Seen {
+        place: 4,
+        hart: 1,
+        access: STORE,
+    };
+    let endings = [
+        ending(0, Some(0), Verdict::Hit(seen), 1),
+        ending(5, None, Verdict::Changed, 0xdead_beef),
+        ending(15, Some(3), Verdict::Quiet, 0),
+    ];
+    assert_eq!(rt; write_endings(&mut writer, &endings), Ok(()));
+    assert_eq!(rt;
+        writer.into_inner().as_slice(),
+        b"ending 0 hart 0 pc 00010004 store 00020000 4 slot 0 \
+        hit 4 hart 1 pc 00010004 store 00020000 4 old 00000000 new 00000001\n\
+        ending 1 hart 5 pc 00010004 store 00020000 4 slot - changed old 00000000 new deadbeef\n\
+        ending 2 hart 15 pc 00010004 store 00020000 4 slot 3 quiet old 00000000 new 00000000\n"
+            .as_slice()
+    );
+    Ok(())
+}
