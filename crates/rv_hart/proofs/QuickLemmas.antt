@@ -6,10 +6,12 @@ use Rattle.std.proofs.lemmas.Option.{slice_get-get_or}
 use Rattle.rv_hart.specs.Act.{action_of}
 use Rattle.rv_hart.specs.Next.{is_print}
 use Rattle.rv_hart.specs.Step.{action_at_word, allowed, event_of, hart_after, loaded_by, memory_after, printed, written_by}
+use Rattle.rv_hart.specs.Words.{combined}
 use Rattle.rv_hart.specs.declared.access.Event.{Event}
 use Rattle.rv_hart.specs.declared.access.Event.TheVariants.{Moved}
 use Rattle.rv_hart.specs.declared.action.Action.{Action}
-use Rattle.rv_hart.specs.declared.action.Action.TheVariants.{Set, Load, Store}
+use Rattle.rv_hart.specs.declared.action.Action.TheVariants.{Set, Load, Store, Replace}
+use Rattle.rv_hart.specs.declared.action.Combine.{Combine}
 use Rattle.rv_hart.specs.declared.hart.Hart.{Hart}
 use Rattle.rv_hart.specs.declared.hart.Status.TheVariants.{Running}
 use Rattle.rv_hart.specs.declared.write.Write.{Write}
@@ -121,3 +123,21 @@ quick_store before after old new h address size value hart event found b aligned
     let action : Action = Store address size value in
     let begun = of_hart old h hart (Begins before action) found b in
     quick_step old new before after h 0 hart action (Some (record { address = address; size = size; value = value })) event found (store_runs before hart address size value begun aligned permitted) refl refl e harts memory refl refl sound
+
+replace_allowed : (m : Memory) (rd address value : ℕ) (combine : Combine) → (address % 4 == 0) ≡ true → permits m address 4 need.ReadWrite ≡ true → allowed m (Replace rd address combine value) ≡ Replace rd address combine value
+replace_allowed m rd address value combine aligned permitted = rw (aligned, permitted) refl
+
+replace_runs : (m : Memory) (hart : Hart) (rd address value : ℕ) (combine : Combine) → Begins m (Replace rd address combine value) hart → (address % 4 == 0) ≡ true → permits m address 4 need.ReadWrite ≡ true → RunsTo m hart (Replace rd address combine value)
+replace_runs m hart rd address value combine b aligned permitted =
+    record { running = b.running; next = sym (replace_allowed m rd address value combine aligned permitted) ∙ ap (allowed m) b.action_is }
+
+pub quick_replace : (before after : Memory) (old new : List Hart) (h rd address value loaded stored : ℕ) (combine : Combine) (hart : Hart) (event : Event) → slice_get old h ≡ Some hart → HartIs old h (Begins before (Replace rd address combine value)) → (address % 4 == 0) ≡ true → load_permitted before address 4 need.ReadWrite ≡ Some loaded →
+    stored ≡ combined combine loaded value → event ≡ event_of hart (Replace rd address combine value) → HartsAfter old new h loaded (Replace rd address combine value) (Some (record { address = address; size = 4; value = stored })) →
+    after ≡ memory_after before (Some (record { address = address; size = 4; value = stored })) → (IsSound before → IsSound after) → IsQuick old new before after h event
+quick_replace before after old new h rd address value loaded stored combine hart event found b aligned read s e harts memory sound =
+    let action : Action = Replace rd address combine value in
+    let begun = of_hart old h hart (Begins before action) found b in
+    let parts = permitted_parts (permits before address 4 need.ReadWrite) (load before address 4) loaded read in
+    let written : ℕ → Option Write = λ n. Some (record { address = address; size = 4; value = n }) in
+    quick_step old new before after h loaded hart action (Some (record { address = address; size = 4; value = stored })) event found (replace_runs before hart rd address value combine begun aligned parts.0) parts.1
+    (ap written s) e harts memory refl refl sound

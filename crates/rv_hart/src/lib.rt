@@ -2,6 +2,9 @@
 //!
 //! To the layer above, `Machine::step` is the relation of `specs/Step.antt`, which knows no breakpoint,
 //! no sampler and no pause; a refused step changes nothing.
+//!
+//! `act` and `effect` are the meaning's twins, one function a definition, and can make every step. `quick` is
+//! there for speed alone: it makes the common steps, and its contract is that they are the same.
 #![tactic(auto)]
 
 pub mod access;

@@ -1,12 +1,12 @@
 //! Speed: the common steps, each executed at one place with one look-up an access. `effect` is the meaning's
 //! twin; what is not taken here has changed nothing, and is for the functions there.
-ghost use Rattle.std.specs.Prelude.{◌≡◌, ◌<◌, None, length, not};
+ghost use Rattle.std.specs.Prelude.{◌≡◌, ◌<◌, None, length};
 ghost use Rattle.rv_hart.specs.internal.Able.{Fits, HasSize};
 ghost use Rattle.rv_hart.specs.internal.Harts.{HartsAfter};
 ghost use Rattle.rv_hart.specs.internal.Quick.{Begins, Fetches, HartIs, Tried, event_of_attempt};
 
 use crate::access::Access;
-use crate::act::act;
+use crate::act::{act, combined};
 use crate::action::Action;
 use crate::effect::{advance, is_aligned, see_and_advance};
 use crate::hart::{Hart, is_running};
@@ -96,6 +96,16 @@ fn dispatched<S: ByteStore>(
         Op::Sra => tried(store, harts, h, Op::Sra, word, access),
         Op::Or => tried(store, harts, h, Op::Or, word, access),
         Op::And => tried(store, harts, h, Op::And, word, access),
+        Op::Fence => tried(store, harts, h, Op::Fence, word, access),
+        Op::AmoswapW => tried(store, harts, h, Op::AmoswapW, word, access),
+        Op::AmoaddW => tried(store, harts, h, Op::AmoaddW, word, access),
+        Op::AmoxorW => tried(store, harts, h, Op::AmoxorW, word, access),
+        Op::AmoandW => tried(store, harts, h, Op::AmoandW, word, access),
+        Op::AmoorW => tried(store, harts, h, Op::AmoorW, word, access),
+        Op::AmominW => tried(store, harts, h, Op::AmominW, word, access),
+        Op::AmomaxW => tried(store, harts, h, Op::AmomaxW, word, access),
+        Op::AmominuW => tried(store, harts, h, Op::AmominuW, word, access),
+        Op::AmomaxuW => tried(store, harts, h, Op::AmomaxuW, word, access),
         _ => Attempt::Nothing,
     }
 }
@@ -148,7 +158,7 @@ fn begun<S: ByteStore>(
             let Some(loaded) = store.load_permitted(address, size, Need::Read) else {
                 return Attempt::Nothing;
             };
-            note(access, &harts[h as usize], address, size, true);
+            note(access, &harts[h as usize], address, size, true, false);
             advance_hart(harts, h, loaded, action);
             Attempt::Accessed
         }
@@ -163,7 +173,7 @@ fn begun<S: ByteStore>(
             {
                 return Attempt::Nothing;
             }
-            note(access, &harts[h as usize], address, size, false);
+            note(access, &harts[h as usize], address, size, false, true);
             let write = Write {
                 address,
                 size,
@@ -172,20 +182,64 @@ fn begun<S: ByteStore>(
             see_and_advance(harts, h, 0, action, Some(write));
             Attempt::Accessed
         }
+        Action::Replace { .. } => replaced(store, harts, h, action, access),
         _ => Attempt::Nothing,
     }
 }
 
-/// Notes an access that the hart makes, which reads or else writes.
+/// Takes an AMO that is permitted. It is not inlined: the nine of them share it.
+#[inline(never)]
+fn replaced<S: ByteStore>(
+    store: &mut S,
+    harts: &mut [Hart],
+    h: u8,
+    action: Action,
+    access: &mut Access,
+) -> Attempt
+    requires hart { h < length harts.old }
+    requires begins { HartIs harts.old h (Begins (S.memory store.old) action) }
+    ensures { Tried harts.old harts.new (S.memory store.old) (S.memory store.new) h (event_of_attempt result access.new) }
+{
+    memory_is_sound();
+    let Action::Replace {
+        address,
+        combine,
+        value,
+        ..
+    } = action
+    else {
+        return Attempt::Nothing;
+    };
+    if !is_aligned(address, 4) {
+        return Attempt::Nothing;
+    }
+    let Some(loaded) = store.load_permitted(address, 4, Need::ReadWrite) else {
+        return Attempt::Nothing;
+    };
+    let stored = combined(combine, loaded, value);
+    if !store.store_permitted(address, 4, stored, Need::Write) {
+        return Attempt::Nothing;
+    }
+    note(access, &harts[h as usize], address, 4, true, true);
+    let write = Write {
+        address,
+        size: 4,
+        value: stored,
+    };
+    see_and_advance(harts, h, loaded, action, Some(write));
+    Attempt::Accessed
+}
+
+/// Notes an access that the hart makes.
 #[inline(always)]
-fn note(access: &mut Access, hart: &Hart, first: u32, size: u8, reads: bool)
-    ensures { access.new ≡ record { pc = hart.now.pc; first = first; size = size; read = reads; write = not reads } }
+fn note(access: &mut Access, hart: &Hart, first: u32, size: u8, read: bool, write: bool)
+    ensures { access.new ≡ record { pc = hart.now.pc; first = first; size = size; read = read; write = write } }
 {
     access.pc = hart.pc;
     access.first = first;
     access.size = size;
-    access.read = reads;
-    access.write = !reads;
+    access.read = read;
+    access.write = write;
 }
 
 /// Moves a hart on by an action that writes nothing.
