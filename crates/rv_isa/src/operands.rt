@@ -116,8 +116,7 @@ fn field_5(bits: u32) -> u8
 fn immediate_i(word: u32) -> i32
     ensures { result ≡ fields.immediate_i word }
 {
-    let bits = (word >> 20) as i32;
-    if bits < 0x800 { bits } else { bits - 0x1000 }
+    word.cast_signed().wrapping_shr(20)
 }
 
 #[inline(always)]
