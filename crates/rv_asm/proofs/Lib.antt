@@ -1,0 +1,12 @@
+pub mod DigitLemmas
+pub mod EveryWord
+pub mod FormLemmas
+pub mod InstructionLemmas
+pub mod ListLemmas
+pub mod MnemonicTable
+pub mod NumberTexts
+pub mod PlainLemmas
+pub mod ReadingLemmas
+pub mod RegisterTable
+pub mod SpellingLemmas
+pub mod TextLemmas

@@ -1,0 +1,12 @@
+use Rattle.std.proofs.Common.{◌≡◌, length}
+use Rattle.std.specs.List.{list_all}
+use Rattle.rv_text.specs.Pieces.{pieces_of}
+use Rattle.rv_asm.specs.Operand.{operand}
+use Rattle.rv_asm.specs.Reading.{has_shape}
+use Rattle.rv_asm.proofs.reading.values.have_shape.Given as goal
+
+abbrev pub invariant-loop-piece : goal.invariant-loop-piece
+invariant-loop-piece l = list_all (λ piece. has_shape l.values (operand piece)) (pieces_of 44 l.text) ≡ list_all (λ piece. has_shape l.values (operand piece)) l.pieces
+
+abbrev pub decreases-loop-piece : goal.decreases-loop-piece
+decreases-loop-piece l = length l.pieces

@@ -1,0 +1,15 @@
+pub mod Alone
+pub mod Expressions
+pub mod Faults
+pub mod Instruction
+pub mod Keyword
+pub mod Laws
+pub mod Line
+pub mod Listing
+pub mod Mnemonics
+pub mod Number
+pub mod Operand
+pub mod OrderSet
+pub mod Reading
+pub mod Registers
+pub mod Text

@@ -1,0 +1,21 @@
+//! The assembler and the listing of RV32IA.
+//!
+//! To the layers above, a word's line in a listing is `specs/Line.antt`, and what a line of source says is
+//! `specs/Reading.antt`; each word's line is read back as that word.
+#![tactic(auto)]
+
+pub mod laws;
+mod listing;
+mod reading;
+mod statement;
+
+pub use listing::line::line_of;
+pub use listing::list::{ListFault, list};
+pub use reading::alone::word_at;
+pub use reading::expressions::Expressions;
+pub use reading::instruction::{aimed, load_pair, word_of};
+pub use reading::line::read_line;
+pub use statement::{AsmKind, Expression, Line, Name, Section, Statement};
+
+#[cfg(test)]
+mod tests;
