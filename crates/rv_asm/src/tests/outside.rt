@@ -1,6 +1,8 @@
 //! Words and their lines as another assembler has them.
 use crate::{line_of, word_at};
 use rv_text::hexadecimal::read_word;
+use std::alloc::Global;
+use std::process::Abort;
 use std::test::Fail;
 
 /// Addresses, words and lines of every form. The GNU assembler and linker encode these lines so.
@@ -147,17 +149,23 @@ const LISTING: &str = "\
     0001022c: e7222aaf amomaxu.w.aqrl x21, x18, (x4)\n\
 ";
 
+/// Asserts that the line's word is listed so, and read back.
+fn assert_agrees(rt: &impl Abort, alloc: Global, line: &str) -> Result<(), Fail> {
+    let (place, rest) = line.split_once(": ").ok_or("address")?;
+    let (digits, text) = rest.split_once(" ").ok_or("word")?;
+    let address = read_word(place.as_bytes()).ok_or("address")?;
+    let word = read_word(digits.as_bytes()).ok_or("word")?;
+    let listed = line_of(alloc, word, address)?;
+    assert!(rt; listed.as_bytes() == text.as_bytes());
+    assert!(rt; word_at(text, address) == Ok(word));
+    Ok(())
+}
+
 #[test]
 fn agrees_with_another_assembler(rt: HostRuntime) -> Result<(), Fail> {
     let mut seen = 0u32;
     for line in LISTING.lines() {
-        let (place, rest) = line.split_once(": ").ok_or("address")?;
-        let (digits, text) = rest.split_once(" ").ok_or("word")?;
-        let address = read_word(place.as_bytes()).ok_or("address")?;
-        let word = read_word(digits.as_bytes()).ok_or("word")?;
-        let listed = line_of(rt.alloc(), word, address)?;
-        assert_eq!(rt; listed.as_str(), text);
-        assert_eq!(rt; word_at(text, address), Ok(word), "{text}");
+        assert_agrees(&rt, rt.alloc(), line)?;
         seen = seen.wrapping_add(1);
     }
     assert_eq!(rt; seen, 140);
