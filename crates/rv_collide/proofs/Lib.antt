@@ -1,4 +1,5 @@
 pub mod BoundLemmas
+pub mod ChangedLemmas
 pub mod CutLemmas
 pub mod EndingLemmas
 pub mod EntriesLemmas
@@ -7,7 +8,11 @@ pub mod EntryLineLemmas
 pub mod FrontLemmas
 pub mod GrammarLemmas
 pub mod GrammarProof
+pub mod HeldLemmas
+pub mod LawLemmas
+pub mod OpenAt
 pub mod PlanLineLemmas
+pub mod Prefix
 pub mod ReadsBack
 pub mod ScheduleLemmas
 pub mod SpellLemmas

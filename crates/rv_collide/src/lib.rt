@@ -5,8 +5,11 @@
 //! what the list's hart steps alone make of the image, and each ending is the verdict of its pause.
 #![tactic(auto)]
 
+pub mod changed_laws;
 pub mod ending;
 pub mod entry;
+pub mod laws;
 pub mod plan;
+pub mod refused;
 pub mod schedule;
 pub mod texts;
