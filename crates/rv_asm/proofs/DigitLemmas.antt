@@ -1,9 +1,9 @@
-use Rattle.std.proofs.Common.{◌≡◌, ℕ, ◌+◌, ◌/◌, ◌%◌, ◌<◌, Bool, true, false, List, [], ◌∷◌, ◌++◌, length, get_or, nat_lt, refl, sym, ◌∙◌, arith}
+use Rattle.std.proofs.Common.{◌≡◌, ℕ, ◌%◌, ◌<◌, Bool, true, false, List, length, get_or, nat_lt, refl, arith}
 use Rattle.std.proofs.lemmas.List.Folds.{list_all_at}
 use Rattle.std.specs.List.{list_all}
-use Rattle.std.specs.Char.{digit_char, is_digit}
+use Rattle.std.specs.Char.{digit_char}
 use Rattle.std.proofs.lemmas.Bool.Decides.{nat_tests}
-use Rattle.rv_text.specs.Hexadecimal.{word_digits, hex_digits}
+use Rattle.rv_text.specs.Hexadecimal.{word_digits}
 
 digit_is_small : (d : ℕ) → nat_lt (digit_char (d % 16)) 128 ≡ true
 digit_is_small d = grind (arith, nat_tests)

@@ -1,50 +1,49 @@
 -- Every word's line is read as the word.
-use Rattle.std.proofs.Common.{◌≡◌, ℕ, ℤ, pos, negsuc, ◌+◌, ◌-◌, ◌/◌, ◌%◌, ◌^◌, ◌<◌, Bool, true, false, List, [], ◌∷◌, ◌++◌, Option, Some, None, Ok, Err, length, map, refl, ap, sym, ◌∙◌, arith, append-nil}
-use Rattle.std.specs.Prelude.{Result, ◌==◌, ◌&&◌, nat_lt, if◌then◌else◌, codes, unsigned_abs}
+use Rattle.std.proofs.Common.{◌≡◌, ℕ, ℤ, pos, negsuc, ◌+◌, ◌-◌, ◌/◌, ◌%◌, ◌^◌, ◌<◌, Bool, true, false, List, [], ◌∷◌, ◌++◌, Option, Some, None, Ok, Err, length, refl, ap, sym, ◌∙◌, arith, append-nil}
+use Rattle.std.specs.Prelude.{◌==◌, ◌&&◌, nat_lt, if◌then◌else◌, codes, unsigned_abs}
 use Rattle.std.specs.List.{list_all}
-use Rattle.std.specs.Char.{is_ascii}
 use Rattle.std.specs.Int.{cast_unsigned, w32}
 use Rattle.rv_isa.specs.Fields.{signed}
 use Rattle.rv_asm.specs.Laws.{EveryWordIsReadBack}
-use Rattle.std.specs.Fmt.{decimal, radix_digits, signed_decimal}
+use Rattle.std.specs.Fmt.{signed_decimal}
 use Rattle.std.proofs.lemmas.Bool.{and_parts}
 use Rattle.std.proofs.lemmas.Bool.Decides.{nat_tests}
 use Rattle.std.proofs.lemmas.Int.{ints}
 use Rattle.rv_isa.specs.Decoded.{decoded}
-use Rattle.rv_isa.specs.Instr.{Row, operands}
+use Rattle.rv_isa.specs.Instr.{operands}
 use Rattle.rv_isa.specs.Operands.{are_operands, is_within}
 use Rattle.rv_isa.specs.Table.{form_of}
 use Rattle.rv_isa.specs.declared.form.Form.{Form}
 use Rattle.rv_isa.specs.declared.form.Form.TheVariants as form
 use Rattle.rv_isa.specs.declared.instr.Instr.{Instr}
-use Rattle.rv_isa.proofs.EncodeLemmas.{Facts, facts, no_bit, same_operands}
+use Rattle.rv_isa.proofs.EncodeLemmas.{facts, no_bit, same_operands}
 use Rattle.rv_isa.proofs.EncodedRow.{encoded_only}
 use Rattle.rv_isa.proofs.RowLemmas.{decoded_row}
 use Rattle.rv_text.specs.Hexadecimal.{word_digits, WordIsReadBack}
 use Rattle.rv_memory.specs.Chain.{◌>>=◌}
-use Rattle.rv_asm.specs.Alone.{alone, keyword_word, one_word, text_word, unlabelled_word, word_said, word_in}
+use Rattle.rv_asm.specs.Alone.{alone, keyword_word, one_word, unlabelled_word, word_said, word_in}
 use Rattle.rv_asm.specs.Instruction.{distance, fields, instruction, word_of}
 use Rattle.rv_asm.specs.Keyword.{keyword_of}
 use Rattle.rv_asm.specs.Line.{instr_line, is_written, line, line_or_word, operands_text, target_of, with_operands, word_line}
 use Rattle.rv_asm.specs.Mnemonics.{is_indexed, mnemonic}
-use Rattle.rv_asm.specs.Operand.{operand, operands_of}
+use Rattle.rv_asm.specs.Operand.{operands_of}
 use Rattle.rv_asm.specs.Reading.{after_colon, first_word, instr_of, one_instr, operand_text, statement_of, uncommented}
 use Rattle.rv_asm.specs.Registers.{number_name}
-use Rattle.rv_asm.specs.Text.{before, is_name_byte, since}
+use Rattle.rv_asm.specs.Text.{is_name_byte, since}
 use Rattle.rv_asm.specs.declared.reading.keyword.Directive.TheVariants.{Word}
 use Rattle.rv_asm.specs.declared.reading.keyword.Keyword.{Keyword}
 use Rattle.rv_asm.specs.declared.reading.keyword.Keyword.TheVariants as keyword
 use Rattle.rv_asm.specs.declared.reading.mnemonic.Mnemonic.{Mnemonic}
-use Rattle.rv_asm.specs.declared.reading.text.Stop.TheVariants.{Blank, Comment, Filled, NameEnd}
+use Rattle.rv_asm.specs.declared.reading.text.Stop.TheVariants.{Blank, Filled, NameEnd}
 use Rattle.rv_asm.specs.declared.statement.AsmKind.TheVariants as kind
 use Rattle.rv_asm.specs.declared.statement.Statement.{Statement}
 use Rattle.rv_asm.specs.declared.statement.Statement.TheVariants as statement
 use Rattle.rv_asm.proofs.FormLemmas as forms
 use Rattle.rv_asm.proofs.InstructionLemmas.{instruction_is}
 use Rattle.rv_asm.proofs.MnemonicTable.{mnemonic_back, spelled, spelled_bytes}
-use Rattle.rv_asm.proofs.NumberTexts.{Reads, decimal_text, signed_text, upper_text, word_text}
+use Rattle.rv_asm.proofs.NumberTexts.{Reads, decimal_text, word_text}
 use Rattle.rv_asm.proofs.PlainLemmas.{all_append, ascii_all, before-append, before-all, clean_all, filled_front, is_clean, is_plain, last_piece, name_blank_all, name_plain_all, name_run_all, one_line, since-append, since-all, uncommented_all}
-use Rattle.rv_asm.proofs.RegisterTable.{Named, named}
+use Rattle.rv_asm.proofs.RegisterTable.{named}
 
 -- ---- from a line to its keyword and operands
 

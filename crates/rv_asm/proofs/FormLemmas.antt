@@ -1,25 +1,21 @@
 -- The operands of each format, as a listing writes them, are read as the instruction's.
-use Rattle.std.proofs.Common.{◌≡◌, ℕ, ℤ, pos, negsuc, ◌+◌, ◌-◌, ◌*◌, ◌/◌, ◌%◌, ◌^◌, ◌<◌, ◌≤◌, Bool, true, false, List, [], ◌∷◌, ◌++◌, Option, Some, None, Ok, length, map, refl, ap, sym, ◌∙◌, arith, length-append}
-use Rattle.std.specs.Prelude.{Result, ◌==◌, ◌&&◌, nat_lt, not, option_map, ◌≤ℤ◌, ◌+ℤ◌, ◌*ℤ◌, unsigned_abs}
+use Rattle.std.proofs.Common.{◌≡◌, ℕ, ℤ, pos, negsuc, ◌+◌, ◌/◌, ◌%◌, ◌^◌, ◌<◌, Bool, true, false, List, [], ◌∷◌, ◌++◌, Option, Some, Ok, length, refl, ap, sym, ◌∙◌, arith, length-append}
+use Rattle.std.specs.Prelude.{Result, ◌==◌, nat_lt, not, option_map, ◌≤ℤ◌, ◌+ℤ◌, ◌*ℤ◌, unsigned_abs}
 use Rattle.std.specs.List.{list_all}
-use Rattle.std.specs.Fmt.{decimal, radix_digits, signed_decimal}
-use Rattle.std.proofs.lemmas.Bool.{and_parts}
+use Rattle.std.specs.Fmt.{radix_digits, signed_decimal}
 use Rattle.std.proofs.lemmas.Bool.Decides.{nat_tests}
 use Rattle.std.proofs.lemmas.Int.{ints}
 use Rattle.rv_isa.specs.Instr.{operands}
-use Rattle.rv_isa.specs.Operands.{are_operands, is_immediate, is_within}
+use Rattle.rv_isa.specs.Operands.{are_operands, is_within}
 use Rattle.rv_isa.specs.declared.form.Form.TheVariants as form
 use Rattle.rv_isa.specs.declared.instr.Instr.{Instr}
-use Rattle.rv_isa.specs.declared.operands.Operands.{Operands as Fields}
 use Rattle.rv_isa.proofs.EncodeLemmas.{facts, no_bit, no_immediate, same_operands}
-use Rattle.rv_text.specs.Hexadecimal.{word_digits, WordIsReadBack}
-use Rattle.rv_text.specs.Pieces.{pieces_of}
-use Rattle.rv_asm.specs.Expressions.{bits_of}
+use Rattle.rv_text.specs.Hexadecimal.{WordIsReadBack}
 use Rattle.rv_asm.specs.Instruction.{fields}
-use Rattle.rv_asm.specs.Line.{operands_text, target_of, whole}
+use Rattle.rv_asm.specs.Line.{operands_text, target_of}
 use Rattle.rv_asm.specs.Mnemonics.{mnemonic, is_indexed}
 use Rattle.rv_asm.specs.Number.{number}
-use Rattle.rv_asm.specs.Operand.{at_base, counted, name_or_number, operand, operands_of}
+use Rattle.rv_asm.specs.Operand.{counted, name_or_number, operand, operands_of}
 use Rattle.rv_asm.specs.Reading.{expression_at, immediate_instr, indexed_instr, instr_of, one_instr, store_instr, within}
 use Rattle.rv_asm.specs.Registers.{number_name}
 use Rattle.rv_asm.specs.Text.{is_name}
@@ -33,7 +29,7 @@ use Rattle.rv_asm.specs.declared.statement.Statement.TheVariants as statement
 use Rattle.rv_asm.proofs.NumberTexts.{Reads, decimal_text, signed_text, upper_text, word_text}
 use Rattle.rv_asm.proofs.PlainLemmas.{after_comma, all_append, base_operand, is_plain, last_operand, memory_operand, no_commas, plain_operand}
 use Rattle.rv_asm.proofs.ReadingLemmas.{operands_some}
-use Rattle.rv_asm.proofs.RegisterTable.{Named, named}
+use Rattle.rv_asm.proofs.RegisterTable.{named}
 
 -- a text of one operand
 pub record Atom (text : List ℕ) (o : Option Operand) : Type 0 where

@@ -1,5 +1,5 @@
 -- Instructions are given by their operation and operands.
-use Rattle.std.proofs.Common.{◌≡◌, ◌<◌, ℕ, ℤ, pos, negsuc, ◌^◌, Bool, true, false, Option, Some, None, Result, Ok, Err, refl, ap, sym, ◌∙◌, arith}
+use Rattle.std.proofs.Common.{◌≡◌, ℤ, pos, negsuc, Bool, true, false, Option, Some, None, Ok, Err, refl, ap, sym, ◌∙◌, arith}
 use Rattle.std.specs.Prelude.{◌<ℤ◌, ◌+ℤ◌, ◌*ℤ◌, ◌&&◌, ◌↔◌, IsTrue, IsSome, IfSome}
 use Rattle.std.specs.Option.{ok_or}
 use Rattle.rv_isa.specs.Operands.{are_operands, is_immediate}
@@ -15,7 +15,6 @@ use Rattle.std.proofs.lemmas.Bool.Decides.{nat_tests}
 use Rattle.std.proofs.lemmas.Int.{ints}
 use Rattle.rv_asm.specs.Instruction.{fields, instruction, when_in_range}
 use Rattle.rv_asm.specs.Reading.{one_instr, ordered_instr, within}
-use Rattle.rv_asm.specs.declared.statement.AsmKind.{AsmKind}
 use Rattle.rv_asm.specs.declared.statement.AsmKind.TheVariants.{Range}
 
 when_given : (op : Op) (o : Operands) (b : Bool) (e : are_operands (form_of op) o ≡ b) (i : Instr) → are_operands (form_of op) o ≡ true → i.op ≡ op → operands i ≡ o → when_in_range op o b e ≡ Ok i

@@ -1,6 +1,5 @@
 -- The mnemonics of a listing, read back: a line an operation.
 use Rattle.std.proofs.Common.{◌≡◌, ℕ, Bool, true, false, List, ◌++◌, Ok, refl}
-use Rattle.std.specs.Prelude.{Result}
 use Rattle.std.specs.List.{list_all}
 use Rattle.rv_isa.specs.Form.{has_ordering}
 use Rattle.rv_isa.specs.Operands.{is_ordering}

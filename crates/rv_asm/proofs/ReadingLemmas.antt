@@ -1,12 +1,12 @@
 -- Operands and values as they are read.
-use Rattle.std.proofs.Common.{◌≡◌, ◌<◌, ℕ, Bool, true, false, List, [], ◌∷◌, Option, Some, None, length, drop, map, refl, ap, sym, ◌∙◌, arith}
+use Rattle.std.proofs.Common.{◌≡◌, ◌<◌, ℕ, true, List, [], ◌∷◌, Option, Some, None, length, drop, map, refl, ap, sym, ◌∙◌, arith}
 use Rattle.std.specs.Prelude.{option_map, option_and_then, is_some, slice_get}
 use Rattle.std.specs.List.{list_all}
 use Rattle.std.proofs.lemmas.Bool.{and_parts, and_from}
 use Rattle.rv_text.specs.Pieces.{pieces_of}
-use Rattle.rv_asm.specs.Expressions.{expression_of, expression_in, are_expressions}
+use Rattle.rv_asm.specs.Expressions.{expression_of, are_expressions}
 use Rattle.rv_asm.specs.Operand.{operand, operands_of, counted}
-use Rattle.rv_asm.specs.Reading.{is_in_range, is_byte}
+use Rattle.rv_asm.specs.Reading.{is_in_range}
 use Rattle.rv_asm.specs.declared.reading.operand.Operand.{Operand}
 use Rattle.rv_asm.specs.declared.reading.operand.Operand.TheVariants.{Name, Number, Memory, Base}
 use Rattle.rv_asm.specs.declared.reading.operand.Operands.TheVariants.{Three}

@@ -1,4 +1,4 @@
-use Rattle.std.specs.Prelude.{ℕ, ℤ, Bool, ⊤, if◌then◌else◌, Option, Some, None, Result, Ok, Err, List, [], ◌∷◌}
+use Rattle.std.specs.Prelude.{ℕ, ⊤, if◌then◌else◌, Option, Some, None, Result, Ok, Err, List, ◌∷◌}
 use Rattle.std.specs.List.{list_all}
 use Rattle.std.specs.Char.{is_ascii}
 use Rattle.rv_isa.specs.declared.op.Op.{Op}
@@ -9,7 +9,7 @@ use Rattle.rv_asm.specs.Instruction.{distance, fields, instruction, word_of}
 use Rattle.rv_asm.specs.Keyword.{keyword_of}
 use Rattle.rv_asm.specs.Operand.{operands_of}
 use Rattle.rv_asm.specs.Reading.{after_colon, first_word, is_short, operand_text, statement_of, uncommented}
-use Rattle.rv_asm.specs.Text.{before, since}
+use Rattle.rv_asm.specs.Text.{since}
 use Rattle.rv_asm.specs.declared.reading.keyword.Directive.{Directive}
 use Rattle.rv_asm.specs.declared.reading.keyword.Directive.TheVariants as directive
 use Rattle.rv_asm.specs.declared.reading.keyword.Keyword.{Keyword}

@@ -1,4 +1,4 @@
-use Rattle.std.specs.Prelude.{ℕ, ℤ, ◌%◌, ◌^◌, Bool, true, false, Option, Some, None, option_map, option_and_then, is_some, List}
+use Rattle.std.specs.Prelude.{ℕ, ℤ, ◌%◌, ◌^◌, Bool, Option, Some, None, option_map, option_and_then, is_some, List}
 use Rattle.std.specs.List.{list_all, filter_map}
 use Rattle.std.specs.Int.{cast_unsigned, w64}
 use Rattle.rv_asm.specs.Operand.{operand}

@@ -1,4 +1,4 @@
-use Rattle.std.specs.Prelude.{◌≡◌, ℕ, ℤ, pos, ◌+◌, ◌-◌, ◌*◌, ◌/◌, ◌%◌, ◌^◌, Bool, true, false, Result, Ok, Err, refl}
+use Rattle.std.specs.Prelude.{◌≡◌, ℕ, ℤ, pos, ◌+◌, ◌-◌, ◌/◌, ◌%◌, ◌^◌, Bool, true, false, Result, Ok, Err, refl}
 use Rattle.rv_isa.specs.Fields.{signed}
 use Rattle.rv_isa.specs.internal.Encoded.{assembled}
 use Rattle.rv_isa.specs.Instr.{operands}

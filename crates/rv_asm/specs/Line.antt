@@ -1,4 +1,4 @@
-use Rattle.std.specs.Prelude.{ℕ, ℤ, Bool, true, false, ◌+◌, ◌/◌, ◌%◌, ◌^◌, ◌==◌, ◌&&◌, nat_lt, if◌then◌else◌, Option, Some, None, List, [], ◌∷◌, ◌++◌, codes, unsigned_abs}
+use Rattle.std.specs.Prelude.{ℕ, ℤ, Bool, true, false, ◌+◌, ◌/◌, ◌%◌, ◌^◌, ◌==◌, ◌&&◌, nat_lt, if◌then◌else◌, Option, Some, None, List, [], ◌++◌, codes, unsigned_abs}
 use Rattle.std.specs.Fmt.{decimal, signed_decimal, radix_digits}
 use Rattle.std.specs.Int.{cast_unsigned, w32}
 use Rattle.rv_isa.specs.Decoded.{decoded}

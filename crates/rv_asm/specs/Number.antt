@@ -1,4 +1,4 @@
-use Rattle.std.specs.Prelude.{ℕ, ℤ, pos, ◌^◌, ◌-◌, ◌==◌, ◌&&◌, nat_le, neg_ℤ, if◌then◌else◌, Option, Some, None, option_map, List, [], ◌∷◌, drop, slice_index}
+use Rattle.std.specs.Prelude.{ℕ, ℤ, pos, ◌^◌, ◌-◌, ◌==◌, ◌&&◌, nat_le, neg_ℤ, if◌then◌else◌, Option, Some, None, option_map, List, ◌∷◌, drop, slice_index}
 use Rattle.rv_text.specs.Numeral.{number_of}
 
 -- A number: an optional `-`, then decimal digits, or `0x` and hexadecimal digits in either case.

@@ -1,4 +1,4 @@
-use Rattle.std.specs.Prelude.{ℕ, ℤ, Bool, false, ◌==◌, ◌&&◌, if◌then◌else◌, Option, Some, None, option_map, option_and_then, List, [], ◌∷◌, map}
+use Rattle.std.specs.Prelude.{ℕ, Bool, false, ◌==◌, ◌&&◌, if◌then◌else◌, Option, Some, None, option_map, option_and_then, List, [], ◌∷◌, map}
 use Rattle.rv_text.specs.Pieces.{pieces_of}
 use Rattle.rv_asm.specs.Number.{number}
 use Rattle.rv_asm.specs.Text.{is_name, is_empty, before, since}

@@ -1,4 +1,4 @@
-use Rattle.std.specs.Prelude.{ℕ, ℤ, pos, Bool, true, false, ◌==◌, ◌/◌, ◌%◌, if◌then◌else◌, Option, option_map, List, [], ◌++◌, codes}
+use Rattle.std.specs.Prelude.{ℕ, ℤ, pos, ◌==◌, ◌/◌, ◌%◌, if◌then◌else◌, Option, option_map, List, [], ◌++◌, codes}
 use Rattle.std.specs.List.{find, range_with_len}
 use Rattle.std.specs.Str.{bytes_eq}
 

@@ -1,6 +1,5 @@
-use Rattle.std.specs.Prelude.{ℕ, ℤ, pos, negsuc, ◌+ℤ◌, ◌*ℤ◌, Bool, true, false, not, ◌==◌, ◌&&◌, nat_lt, nat_le, ⊤, if◌then◌else◌, Option, Some, None, Result, Ok, Err, List, [], ◌∷◌, is_some}
-use Rattle.std.specs.List.{find, list_all, filter_map, range_with_len}
-use Rattle.std.specs.Str.{bytes_eq}
+use Rattle.std.specs.Prelude.{ℕ, ℤ, pos, negsuc, ◌+ℤ◌, ◌*ℤ◌, Bool, true, false, not, ◌==◌, ⊤, if◌then◌else◌, Option, Some, None, Result, Ok, Err, List, [], ◌∷◌, is_some}
+use Rattle.std.specs.List.{list_all}
 use Rattle.std.specs.Char.{is_ascii}
 use Rattle.rv_isa.specs.Operands.{is_within}
 use Rattle.rv_isa.specs.Table.{form_of}
@@ -30,7 +29,7 @@ use Rattle.rv_asm.specs.declared.reading.mnemonic.Mnemonic.{Mnemonic}
 use Rattle.rv_asm.specs.declared.reading.operand.Operand.{Operand}
 use Rattle.rv_asm.specs.declared.reading.operand.Operand.TheVariants.{Name, Number, Memory, Base}
 use Rattle.rv_asm.specs.declared.reading.operand.Operands.{Operands}
-use Rattle.rv_asm.specs.declared.reading.operand.Operands.TheVariants.{Empty, One, Two, Three, More}
+use Rattle.rv_asm.specs.declared.reading.operand.Operands.TheVariants.{Empty, One, Two, Three}
 use Rattle.rv_asm.specs.declared.reading.text.Stop.TheVariants.{Comment, NameEnd, Blank, Filled}
 use Rattle.rv_asm.specs.declared.reading.values.Values.{Values}
 use Rattle.rv_asm.specs.declared.reading.values.Values.TheVariants as values

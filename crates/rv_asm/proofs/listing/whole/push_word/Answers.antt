@@ -1,4 +1,4 @@
-use Rattle.std.proofs.Common.{◌≡◌, ◌<◌, length, arith}
+use Rattle.std.proofs.Common.{arith}
 use Rattle.std.proofs.lemmas.Grind.{common_steps}
 use Rattle.rv_asm.proofs.DigitLemmas.{digit_small}
 use Rattle.rv_asm.proofs.listing.whole.push_word.Goals as goal
