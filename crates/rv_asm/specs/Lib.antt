@@ -1,9 +1,12 @@
 pub mod Alone
+pub mod Assembled
+pub mod Bytes
 pub mod Expressions
 pub mod Faults
 pub mod Instruction
 pub mod Keyword
 pub mod Laws
+pub mod Layout
 pub mod Line
 pub mod Listing
 pub mod Mnemonics
@@ -12,4 +15,6 @@ pub mod Operand
 pub mod OrderSet
 pub mod Reading
 pub mod Registers
+pub mod Size
 pub mod Text
+pub mod internal

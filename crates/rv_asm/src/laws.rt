@@ -1,5 +1,5 @@
-//! What holds of every line of a listing. The law is the contract of a function that does nothing.
-ghost use Rattle.rv_asm.specs.Laws.{EveryWordIsReadBack};
+//! What holds of every line, listed or assembled. Each law is the contract of a function that does nothing.
+ghost use Rattle.rv_asm.specs.Laws.{EachLineStands, EachWordIsDecoded, EveryWordIsReadBack};
 
 use rv_text::laws::word_is_read_back;
 
@@ -9,3 +9,13 @@ pub fn every_word_is_read_back()
 {
     word_is_read_back();
 }
+
+/// In a source without a fault the bytes of each line stand at the line's own address.
+pub fn each_line_stands()
+    ensures { EachLineStands }
+{}
+
+/// The word of each instruction is decoded as that instruction.
+pub fn each_word_is_decoded()
+    ensures { EachWordIsDecoded }
+{}

@@ -1,0 +1,18 @@
+use Rattle.std.proofs.Common.{◌≡◌, None, ◌++◌, ap, sym, ◌∙◌}
+use Rattle.std.specs.Prelude.{slice_get}
+use Rattle.rv_asm.specs.Bytes.{word_bytes}
+use Rattle.rv_asm.proofs.BytesLemmas.{values-more, values-fault, values-done}
+use Rattle.rv_asm.proofs.passes.bytes.words.Goals as goal
+
+pub loop-value-preserved : goal.loop-value-preserved
+loop-value-preserved c =
+    values-more word_bytes c.args.labels.now c.loop-value.bytes.items c.extend_from_slice.new.self.items _ c.in-Some.value c.loop-value.values c.next_value.new.self c.in-Ok.word c.in-Some.ensures.first c.in-Some.ensures.rest (sym c.in-Ok.ensures) ((c.in_ok-extend_from_slice-in-Ok.ensures {u = tt}).items ∙ ap (λ bytes. c.loop-value.bytes.items ++ bytes) c.to_le_bytes.ensures) c.loop-value.invariant
+
+pub returns-in-Err : goal.returns-in-Err
+returns-in-Err c =
+    sym (values-fault word_bytes c.args.labels.now c.loop-value.bytes.items _ c.in-Some.value c.loop-value.values c.in-Err.kind c.in-Some.ensures.first (sym c.in-Err.ensures) c.loop-value.invariant)
+
+pub returns : goal.returns
+returns c =
+    let none : None ≡ slice_get c.loop-value.values 0 = cc (c.in_default.ensures.first) in
+    sym (values-done word_bytes c.args.labels.now c.loop-value.bytes.items _ c.loop-value.values none c.loop-value.invariant)

@@ -1,0 +1,16 @@
+use Rattle.std.proofs.Common.{◌≡◌, ◌+◌, length, All, ap, sym, ◌∙◌, rules}
+use Rattle.std.specs.Prelude.{codes}
+use Rattle.rv_elf.specs.Contents.{IsImage, IsSymbol, contents}
+use Rattle.rv_asm.specs.Layout.{spot_of}
+use Rattle.rv_asm.specs.Assembled.{Ends, symbols_of, ends_of, entry_of, text_segment, data_segments}
+use Rattle.rv_asm.proofs.ImageLemmas.{is_image_of}
+use Rattle.rv_asm.proofs.passes.image.image_of.Goals as goal
+
+pub image_with-requires : goal.image_with-requires
+image_with-requires c =
+    is_image_of c.args.labels c.args.sections.text.items c.args.sections.writable.items c.entry_of-entry.result c.in_ok-segments.segments.items c.in_ok-symbols.symbols.items
+    c.requires
+    (search rules)
+    (search rules)
+    (search rules)
+    (c.in_ok-symbols.ensures {u = tt}).sound
