@@ -6,7 +6,8 @@ use Rattle.rv_hart.specs.State.{State}
 use Rattle.rv_hart.specs.Step.{step_of}
 use Rattle.rv_hart.specs.declared.access.Event.{Event}
 use Rattle.rvcollide.specs.StepsLaw.{StepsAreTheRun}
-use Rattle.rvcollide.specs.Words.{stepped, ◌>>=◌}
+use Rattle.rv_memory.specs.Chain.{◌>>=◌}
+use Rattle.rvcollide.specs.Words.{stepped}
 use Rattle.rvcollide.specs.declared.words.fault.WordsFault.{WordsFault}
 
 abbrev Same : Result State WordsFault → Option State → Type 0

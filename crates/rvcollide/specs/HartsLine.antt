@@ -4,13 +4,13 @@ use Rattle.rv_text.specs.Decimal.{decimal_of}
 use Rattle.rvcollide.specs.Prefix.{after}
 use Rattle.rvcollide.specs.declared.words.input.TheConstants.{MOST_HARTS}
 
-infixl 10 ◌>>=◌
-abbrev ◌>>=◌ : {A B : Type 0} → Option A → (A → Option B) → Option B
-o >>= f = option_and_then f o
+abbrev pub unless_none : ℕ → Option ℕ
+unless_none harts = if harts == 0 then None else Some harts
 
--- how many harts the line `harts N` says, 1 to 16
+-- the number of harts that a text writes, 1 to 16
+abbrev pub harts_in : List ℕ → Option ℕ
+harts_in number = option_and_then unless_none (up_to MOST_HARTS (decimal_of number))
+
+-- how many harts the line `harts N` says
 unfoldable pub harts_of : List ℕ → Option ℕ
-harts_of line = do
-  number ← after (codes "harts ") line
-  harts ← up_to MOST_HARTS (decimal_of number)
-  if harts == 0 then None else Some harts
+harts_of line = option_and_then harts_in (after (codes "harts ") line)

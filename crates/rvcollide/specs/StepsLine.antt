@@ -1,21 +1,15 @@
-use Rattle.std.specs.Prelude.{ℕ, ◌==◌, nat_le, if◌then◌else◌, Option, Some, None, option_and_then, List, [], ◌∷◌, length, codes}
+use Rattle.std.specs.Prelude.{ℕ, ◌==◌, nat_le, if◌then◌else◌, Option, Some, None, option_and_then, option_map, List, [], ◌∷◌, length, codes}
 use Rattle.rv_text.specs.Numeral.{up_to}
 use Rattle.rv_text.specs.Decimal.{decimal_of}
 use Rattle.rv_text.specs.Pieces.{pieces_of}
 use Rattle.rvcollide.specs.Prefix.{after}
 use Rattle.rvcollide.specs.declared.words.input.TheConstants.{MOST_STEP, MOST_STEPS}
 
-infixl 10 ◌>>=◌
-abbrev ◌>>=◌ : {A B : Type 0} → Option A → (A → Option B) → Option B
-o >>= f = option_and_then f o
-
 -- the numbers that the texts write, 0 to 15, if each writes one
 abbrev pub numbers_of : List (List ℕ) → Option (List ℕ)
 numbers_of [] = Some []
-numbers_of (text ∷ texts) = do
-  number ← up_to MOST_STEP (decimal_of text)
-  numbers ← numbers_of texts
-  Some (number ∷ numbers)
+numbers_of (text ∷ texts) =
+    option_and_then (λ number. option_map (λ numbers. number ∷ numbers) (numbers_of texts)) (up_to MOST_STEP (decimal_of text))
 
 -- the steps, unless they are too many
 abbrev pub unless_many : List ℕ → Option (List ℕ)

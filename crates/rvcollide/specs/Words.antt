@@ -2,6 +2,7 @@ use Rattle.std.specs.Prelude.{ℕ, ◌+◌, ◌*◌, true, false, nat_lt, if◌t
 use Rattle.std.specs.Int.{to_le_bytes, w32}
 use Rattle.std.specs.List.{flat_map}
 use Rattle.std.specs.Option.{ok_or}
+use Rattle.rv_memory.specs.Chain.{◌>>=◌}
 use Rattle.rv_memory.specs.Extent.{Extent}
 use Rattle.rv_hart.specs.State.{State, start}
 use Rattle.rv_hart.specs.Step.{step_of}
@@ -13,11 +14,6 @@ use Rattle.rvcollide.specs.WordsInput.{WordsInput, input_of}
 use Rattle.rvcollide.specs.declared.words.fault.WordsFault.{WordsFault}
 use Rattle.rvcollide.specs.declared.words.fault.WordsFault.TheVariants.{Line, Step, TooLong}
 use Rattle.rvcollide.specs.declared.words.guest.TheConstants.{TEXT_START, DATA_START, DATA_LENGTH}
-
-infixl 10 ◌>>=◌
-abbrev pub ◌>>=◌ : {A B : Type 0} → Result A WordsFault → (A → Result B WordsFault) → Result B WordsFault
-(Ok a) >>= f = f a
-(Err fault) >>= f = Err fault
 
 -- ---- the guest
 

@@ -1,4 +1,5 @@
 use Rattle.std.specs.Prelude.{◌≡◌, ℕ, ◌+◌, ◌≤◌, ⊤, nat_lt, if◌then◌else◌, Option, Some, None, option_and_then, Result, Ok, Err, List, [], ◌∷◌, length, drop, slice_get}
+use Rattle.rv_memory.specs.Chain.{◌>>=◌}
 use Rattle.rv_text.specs.Hexadecimal.{word_of}
 use Rattle.rv_text.specs.Lines.{lines_of}
 use Rattle.rvcollide.specs.HartsLine.{harts_of}
@@ -19,11 +20,6 @@ pub record IsInLimits (input : WordsInput) : Type 0 where
   pub harts : input.harts ≤ MOST_HARTS
   pub steps : length input.steps ≤ MOST_STEPS
   pub words : length input.words ≤ MOST_WORDS
-
-infixl 10 ◌>>=◌
-abbrev pub ◌>>=◌ : {A B : Type 0} → Result A ℕ → (A → Result B ℕ) → Result B ℕ
-(Ok a) >>= f = f a
-(Err line) >>= f = Err line
 
 -- what the line of that number says, from 1 on; where it is malformed or missing, its number is told
 abbrev pub told_at : {A : Type 0} → ℕ → Option A → Result A ℕ
