@@ -8,12 +8,12 @@ use Rattle.rv_hart.specs.declared.access.Event.{Event}
 use Rattle.rvcollide.specs.StepsLaw.{StepsAreTheRun}
 use Rattle.rv_memory.specs.Chain.{◌>>=◌}
 use Rattle.rvcollide.specs.Words.{stepped}
-use Rattle.rvcollide.specs.declared.words.fault.WordsFault.{WordsFault}
+use Rattle.rvcollide.specs.declared.fault.Fault.{Fault}
 
-abbrev Same : Result State WordsFault → Option State → Type 0
+abbrev Same : Result State Fault → Option State → Type 0
 Same r o = (t : State) → ((r ≡ Ok t) → (o ≡ Some t)) × ((o ≡ Some t) → (r ≡ Ok t))
 
-same_at : (o : Option (Event × State)) (fault : WordsFault) (number : ℕ) (steps : List ℕ) → ((s : State) → Same (stepped number s steps) (run s steps)) → Same (ok_or o fault >>= λ step. stepped number step.1 steps) (option_and_then (λ step. run step.1 steps) o)
+same_at : (o : Option (Event × State)) (fault : Fault) (number : ℕ) (steps : List ℕ) → ((s : State) → Same (stepped number s steps) (run s steps)) → Same (ok_or o fault >>= λ step. stepped number step.1 steps) (option_and_then (λ step. run step.1 steps) o)
 same_at None fault number steps same t = (λ h. cc, λ h. cc)
 same_at (Some step) fault number steps same t = same step.1 t
 

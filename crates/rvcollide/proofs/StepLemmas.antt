@@ -12,7 +12,7 @@ use Rattle.rv_hart.specs.declared.access.Event.{Event}
 use Rattle.rv_hart.specs.declared.machine.StepFault.{StepFault}
 use Rattle.rv_hart.specs.declared.machine.StepFault.TheVariants.{NoHart, NotRunning, OutputFull, NoMemory}
 use Rattle.rvcollide.specs.Words.{refusal, stepped}
-use Rattle.rvcollide.specs.declared.words.fault.WordsFault.TheVariants.{Step}
+use Rattle.rvcollide.specs.declared.fault.Fault.TheVariants.{Step}
 
 abbrev answer : StepFault → Result Event StepFault
 answer fault = Err fault

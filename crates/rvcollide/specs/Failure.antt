@@ -1,13 +1,13 @@
-use Rattle.std.specs.Prelude.{ℕ, Bool, true, false, List, [], codes}
+use Rattle.std.specs.Prelude.{ℕ, Bool, true, false, Option, Some, List, [], codes}
 use Rattle.std.specs.declared.io.ErrorKind.{ErrorKind}
 use Rattle.std.specs.declared.io.ErrorKind.TheVariants as kind
-use Rattle.rvcollide.specs.FaultText.{fault_text, status}
+use Rattle.rvcollide.specs.FaultText.{fault_output, status}
 use Rattle.rvcollide.specs.declared.command.LineFault.{LineFault}
 use Rattle.rvcollide.specs.declared.command.LineFault.TheVariants as fault
 use Rattle.rvcollide.specs.declared.failure.Failure.{Failure}
 use Rattle.rvcollide.specs.declared.failure.Failure.TheVariants.{Line, NotText, Told}
-use Rattle.rvcollide.specs.declared.words.fault.WordsFault.{WordsFault}
-use Rattle.rvcollide.specs.declared.words.fault.WordsFault.TheVariants.{NoMemory, Write}
+use Rattle.rvcollide.specs.declared.fault.Fault.{Fault}
+use Rattle.rvcollide.specs.declared.fault.Fault.TheVariants.{NoMemory, Write}
 
 -- the exit status: 2 for a refused command line, and else the fault's
 abbrev pub status_of : Failure → ℕ
@@ -22,12 +22,12 @@ is_told NotText = false
 is_told (Told fault) = false
 
 -- what the program still tells of it, after its own name
-abbrev pub failure_text : Failure → List ℕ
-failure_text Line = []
-failure_text NotText = codes "an argument is not UTF-8"
-failure_text (Told fault) = fault_text fault
+abbrev pub failure_output : Failure → Option (List ℕ)
+failure_output Line = Some []
+failure_output NotText = Some (codes "an argument is not UTF-8")
+failure_output (Told fault) = fault_output fault
 
-abbrev pub told : WordsFault → Failure
+abbrev pub told : Fault → Failure
 told fault = Told fault
 
 abbrev pub memory : Failure

@@ -3,8 +3,8 @@ use Rattle.std.specs.Fmt.{decimal}
 use Rattle.rv_text.specs.Lines.{text_of_lines}
 use Rattle.rv_hart.specs.Texts.{access_text, state_text}
 use Rattle.rvcollide.specs.Words.{start_of, told_input, refusal}
-use Rattle.rvcollide.specs.declared.words.fault.WordsFault.{WordsFault}
-use Rattle.rvcollide.specs.declared.words.fault.WordsFault.TheVariants.{Line, Step, TooLong, Read, Write, NoMemory}
+use Rattle.rvcollide.specs.declared.fault.Fault.{Fault}
+use Rattle.rvcollide.specs.declared.fault.Fault.TheVariants.{Line, Step, Load, TooLong, Read, Write, NoMemory}
 use Rattle.rv_hart.specs.Conflict.{Conflict}
 use Rattle.rv_hart.specs.Next.{next_access, access_of_step}
 use Rattle.rv_hart.specs.Run.{run}
@@ -78,10 +78,11 @@ abbrev pub RefusesStep : State → List ℕ → ℕ → StepFault → Type 0
 RefusesStep s steps number fault = IsSomeAnd (slice_get steps number) (IsRefused s fault)
 
 -- bytes that are too many, or their first malformed line, or a step that is refused at some place of the run
-abbrev pub IsHuntFault : List ℕ → WordsFault → Type 0
+abbrev pub IsHuntFault : List ℕ → Fault → Type 0
 IsHuntFault bytes (Line number) = told_input bytes ≡ Err (Line number)
 IsHuntFault bytes (Step number fault) =
     IsOkAnd (told_input bytes) (λ input. RefusesStep (start_of input) input.steps number fault)
+IsHuntFault bytes (Load fault) = ⊥
 IsHuntFault bytes TooLong = told_input bytes ≡ Err TooLong
 IsHuntFault bytes Read = ⊤
 IsHuntFault bytes Write = ⊤

@@ -3,6 +3,7 @@ pub mod Failure
 pub mod FaultText
 pub mod HartsLine
 pub mod Hunt
+pub mod Images
 pub mod Malformed
 pub mod Notice
 pub mod Prefix
@@ -10,7 +11,7 @@ pub mod Reading
 pub mod StepsLaw
 pub mod StepsLine
 pub mod Words
-pub mod WordsFault
+pub mod Fault
 pub mod WordsInput
 pub mod WordsText
 pub mod internal

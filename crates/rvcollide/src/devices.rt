@@ -1,5 +1,5 @@
 //! Readers and writers that fail, and what each engine owes them.
-use crate::words::fault::WordsFault;
+use crate::fault::Fault;
 use rv_memory::buffered::Buffered;
 use rv_memory::flagged::Flagged;
 use std::alloc::Global;
@@ -90,7 +90,7 @@ fn failing_at(alloc: Global, fails_at: u64, takes_none: bool) -> Buffered<Sink> 
 
 /// Asserts that an engine tells each failure of its writer: at each of its calls in turn, the last of which
 /// is a flush. It calls no failed writer again, and tells no failure where there was none.
-pub fn assert_tells_each_failing_call<F: Fn(&mut Buffered<Sink>) -> Result<(), WordsFault>>(
+pub fn assert_tells_each_failing_call<F: Fn(&mut Buffered<Sink>) -> Result<(), Fault>>(
     rt: &impl Abort,
     alloc: Global,
     takes_none: bool,
@@ -110,7 +110,7 @@ pub fn assert_tells_each_failing_call<F: Fn(&mut Buffered<Sink>) -> Result<(), W
             assert!(rt; flush_failed, "the last call is a flush");
             return;
         }
-        assert_eq!(rt; outcome, Err(WordsFault::Write), "at call {fails_at}");
+        assert_eq!(rt; outcome, Err(Fault::Write), "at call {fails_at}");
         assert_eq!(rt; device.calls, fails_at, "the failed call was the last");
         flush_failed = device.flush_failed;
     }
@@ -119,7 +119,7 @@ pub fn assert_tells_each_failing_call<F: Fn(&mut Buffered<Sink>) -> Result<(), W
 
 /// Asserts that an engine tells each failure of its reader: at each of its reads in turn, the last of which
 /// is the one at the end. It tells no failure where there was none.
-pub fn assert_tells_each_failing_read<F: Fn(&mut Flagged<Failing<'_>>) -> Result<(), WordsFault>>(
+pub fn assert_tells_each_failing_read<F: Fn(&mut Flagged<Failing<'_>>) -> Result<(), Fault>>(
     rt: &impl Abort,
     text: &[u8],
     engine: F,
@@ -139,7 +139,7 @@ pub fn assert_tells_each_failing_read<F: Fn(&mut Flagged<Failing<'_>>) -> Result
             assert!(rt; device.reads < fails_at, "each read was made to fail");
             return;
         }
-        assert_eq!(rt; outcome, Err(WordsFault::Read), "at read {fails_at}");
+        assert_eq!(rt; outcome, Err(Fault::Read), "at read {fails_at}");
         assert_eq!(rt; device.reads, fails_at, "the failed read was the last");
     }
     assert!(rt; false, "some reader does not fail");

@@ -1,9 +1,9 @@
-ghost use Rattle.std.specs.Prelude.{◌≡◌, Some};
+ghost use Rattle.std.specs.Prelude.{◌≡◌};
 ghost use Rattle.std.specs.IoError.{error_kind};
 ghost use Rattle.rvcollide.specs.Failure as spec;
 
 use crate::command::LineFault;
-use crate::words::fault::WordsFault;
+use crate::fault::Fault;
 use std::alloc::AllocError;
 use std::{fmt, io};
 
@@ -15,7 +15,7 @@ pub enum Failure {
     /// An argument is not UTF-8, and so the command line is refused.
     NotText,
     /// A fault that is told in one line.
-    Told(WordsFault),
+    Told(Fault),
 }
 
 impl Failure {
@@ -42,7 +42,7 @@ impl Failure {
 
 /// What is still to be told of the failure, after the program's name.
 impl fmt::Display for Failure {
-    ghost output = { λ failure. Some (spec.failure_text failure) };
+    ghost output = { λ failure. spec.failure_output failure };
 
     fn fmt<W: fmt::Write>(&self, f: &mut fmt::Formatter<W>) -> fmt::Result {
         match self {
@@ -53,10 +53,10 @@ impl fmt::Display for Failure {
     }
 }
 
-impl From<WordsFault> for Failure {
+impl From<Fault> for Failure {
     ghost from_gives = { λ fault made. made ≡ spec.told fault };
 
-    fn from(fault: WordsFault) -> Failure {
+    fn from(fault: Fault) -> Failure {
         Failure::Told(fault)
     }
 }
@@ -65,7 +65,7 @@ impl From<AllocError> for Failure {
     ghost from_gives = { λ _ made. made ≡ spec.memory };
 
     fn from(_: AllocError) -> Failure {
-        Failure::Told(WordsFault::NoMemory)
+        Failure::Told(Fault::NoMemory)
     }
 }
 
@@ -75,7 +75,7 @@ impl From<LineFault> for Failure {
     fn from(fault: LineFault) -> Failure {
         match fault {
             LineFault::Line => Failure::Line,
-            LineFault::NoMemory => Failure::Told(WordsFault::NoMemory),
+            LineFault::NoMemory => Failure::Told(Fault::NoMemory),
         }
     }
 }
@@ -87,9 +87,9 @@ impl From<io::Error> for Failure {
 
     fn from(error: io::Error) -> Failure {
         match error.kind() {
-            io::ErrorKind::OutOfMemory => Failure::Told(WordsFault::NoMemory),
+            io::ErrorKind::OutOfMemory => Failure::Told(Fault::NoMemory),
             io::ErrorKind::InvalidData => Failure::NotText,
-            _ => Failure::Told(WordsFault::Write),
+            _ => Failure::Told(Fault::Write),
         }
     }
 }

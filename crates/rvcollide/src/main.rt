@@ -9,15 +9,18 @@ pub mod command;
 #[cfg(test)]
 pub mod devices;
 pub mod failure;
+pub mod fault;
 pub mod hunt;
+pub mod image;
+pub mod list;
 pub mod malformed;
 pub mod words;
 
 use crate::command::{Job, LineFault, Notice, command_of, notice_of};
 use crate::failure::Failure;
+use crate::fault::Fault;
 use crate::hunt::engine::run_hunt;
 use crate::words::engine::run_words;
-use crate::words::fault::WordsFault;
 use rv_memory::buffered::Buffered;
 use rv_memory::flagged::Flagged;
 use std::env;
@@ -42,7 +45,7 @@ fn run(rt: &HostRuntime) -> Result<(), Failure> {
     match command_of(alloc, &words) {
         Ok(job) => run_job(rt, job),
         Err(LineFault::Line) => tell(rt, &words),
-        Err(LineFault::NoMemory) => Err(Failure::Told(WordsFault::NoMemory)),
+        Err(LineFault::NoMemory) => Err(Failure::Told(Fault::NoMemory)),
     }
 }
 

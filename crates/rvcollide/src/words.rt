@@ -1,7 +1,6 @@
 //! The command `words`: harts stepped over a list of instruction words.
 
 pub mod engine;
-pub mod fault;
 pub mod guest;
 pub mod input;
 pub mod laws;

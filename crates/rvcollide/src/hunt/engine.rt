@@ -5,11 +5,11 @@ ghost use Rattle.rv_memory.specs.Buffered as buffer;
 ghost use Rattle.rv_memory.specs.Flagged as flag;
 ghost use Rattle.rv_text.specs.Lines.{text_of_lines};
 ghost use Rattle.rvcollide.specs.Hunt as spec;
-ghost use Rattle.rvcollide.specs.WordsFault.{fails_by, is_read, is_write};
+ghost use Rattle.rvcollide.specs.Fault.{fails_by, is_read, is_write};
 
 use crate::arguments::{Address, PauseLength};
+use crate::fault::Fault;
 use crate::hunt::{HuntFault, Report, hunt};
-use crate::words::fault::WordsFault;
 use crate::words::guest::machine_of;
 use crate::words::input::read_input;
 use rv_hart::machine::Machine;
@@ -29,7 +29,7 @@ struct Outcome {
     report: Option<Report>,
 }
 
-fn hunt_input(alloc: Global, text: &[u8], pc: u32, pause: u32) -> Result<Outcome, WordsFault>
+fn hunt_input(alloc: Global, text: &[u8], pc: u32, pause: u32) -> Result<Outcome, Fault>
     requires { length text.now ≤ INPUT_LIMIT }
     ensures ok { IfOk result (λ o. spec.Hunts text.now o.machine.state o.report) }
     ensures err { IfErr result (spec.IsHuntFault text.now) }
@@ -43,8 +43,8 @@ fn hunt_input(alloc: Global, text: &[u8], pc: u32, pause: u32) -> Result<Outcome
             machine,
             report: hunted.report,
         }),
-        Err(HuntFault::Step { number, fault }) => Err(WordsFault::Step { number, fault }),
-        Err(HuntFault::NoMemory) => Err(WordsFault::NoMemory),
+        Err(HuntFault::Step { number, fault }) => Err(Fault::Step { number, fault }),
+        Err(HuntFault::NoMemory) => Err(Fault::NoMemory),
     }
 }
 
@@ -83,7 +83,7 @@ pub fn run_hunt<R: Read, W: Write>(
     writer: &mut Buffered<W>,
     pc: Address,
     pause: PauseLength,
-) -> Result<(), WordsFault>
+) -> Result<(), Fault>
     ensures text { OnOk result (IfSome (R.remaining (flag.device reader.old)) (spec.WritesHunt
         (Appends (buffer.written W.contents writer.old) (buffer.sent W.contents writer.new)))) }
     ensures refused { IfErr result (λ fault. IfSome (R.remaining (flag.device reader.old)) (λ bytes.

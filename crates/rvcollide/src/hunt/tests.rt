@@ -1,7 +1,7 @@
 use crate::arguments::{Address, PauseLength};
 use crate::devices::{Endless, assert_tells_each_failing_call, assert_tells_each_failing_read};
+use crate::fault::Fault;
 use crate::hunt::engine::run_hunt;
-use crate::words::fault::WordsFault;
 use crate::words::tests::long_input;
 use rv_hart::machine::StepFault;
 use rv_memory::buffered::Buffered;
@@ -75,17 +75,17 @@ fn writes_a_report_and_harts(rt: HostRuntime) {
 fn refuses_as_words_does(rt: HostRuntime) {
     let alloc = rt.alloc();
     for (input, fault) in [
-        (b"harts 2\nsteps 0 16\n".as_slice(), WordsFault::Line(2)),
+        (b"harts 2\nsteps 0 16\n".as_slice(), Fault::Line(2)),
         (
             b"harts 2\nsteps 0 0 0 5\n00020337\n00a32023\n",
-            WordsFault::Step {
+            Fault::Step {
                 number: 3,
                 fault: StepFault::NoHart,
             },
         ),
         (
             b"harts 1\nsteps 0 0\n",
-            WordsFault::Step {
+            Fault::Step {
                 number: 1,
                 fault: StepFault::NotRunning,
             },
@@ -116,7 +116,7 @@ fn refuses_an_endless_input(rt: HostRuntime) {
         Address(0x10004),
         PauseLength(1),
     );
-    assert_eq!(rt; outcome, Err(WordsFault::TooLong));
+    assert_eq!(rt; outcome, Err(Fault::TooLong));
     assert!(rt; !reader.failed());
     assert_eq!(rt; writer.into_inner().len(), 0);
 }

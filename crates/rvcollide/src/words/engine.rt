@@ -4,10 +4,10 @@ ghost use Rattle.std.specs.Io.KnownBytes.{Appends, Keeps};
 ghost use Rattle.rv_memory.specs.Buffered as buffer;
 ghost use Rattle.rv_memory.specs.Flagged as flag;
 ghost use Rattle.rvcollide.specs.Words as spec;
-ghost use Rattle.rvcollide.specs.WordsFault.{IsToldFault, fails_by, is_read, is_write};
+ghost use Rattle.rvcollide.specs.Fault.{IsToldFault, fails_by, is_read, is_write};
 ghost use Rattle.rvcollide.specs.declared.words.input.TheConstants.{MOST_STEPS};
 
-use crate::words::fault::WordsFault;
+use crate::fault::Fault;
 use crate::words::guest::{machine_of, step};
 use crate::words::input::read_input;
 use rv_hart::machine::Machine;
@@ -19,7 +19,7 @@ use std::alloc::Global;
 use std::io::{Read, Write};
 
 /// Makes the steps, up to the first that is refused.
-fn make_steps(machine: &mut Machine<Flat>, steps: &[u8]) -> Result<(), WordsFault>
+fn make_steps(machine: &mut Machine<Flat>, steps: &[u8]) -> Result<(), Fault>
     requires few { length steps.now ≤ MOST_STEPS }
     requires room { length machine.old.state.output + length steps.now ≤ machine.old.limit }
     ensures ok { OnOk result (spec.stepped 0 machine.old.state steps.now ≡ Ok machine.new.state) }
@@ -29,7 +29,7 @@ fn make_steps(machine: &mut Machine<Flat>, steps: &[u8]) -> Result<(), WordsFaul
 {
     for (number, h) in steps.iter().enumerate() {
         if let Err(fault) = step(machine, *h) {
-            return Err(WordsFault::Step {
+            return Err(Fault::Step {
                 number: number as u32,
                 fault,
             });
@@ -40,7 +40,7 @@ fn make_steps(machine: &mut Machine<Flat>, steps: &[u8]) -> Result<(), WordsFaul
 
 /// The machine after the steps of an input.
 #[tactic(auto, unfolding(crate::specs::Words::state_of))]
-fn machine_after(alloc: Global, text: &[u8]) -> Result<Machine<Flat>, WordsFault>
+fn machine_after(alloc: Global, text: &[u8]) -> Result<Machine<Flat>, Fault>
     requires { length text.now ≤ INPUT_LIMIT }
     ensures ok { IfOk result (λ machine. spec.state_of text.now ≡ Ok machine.state) }
     ensures err { IfErr result (IsToldFault (spec.state_of text.now)) }
@@ -54,10 +54,7 @@ fn machine_after(alloc: Global, text: &[u8]) -> Result<Machine<Flat>, WordsFault
 }
 
 #[tactic(auto, unfolding(crate::specs::Words::state_of))]
-fn read_machine<R: Read>(
-    alloc: Global,
-    reader: &mut Flagged<R>,
-) -> Result<Machine<Flat>, WordsFault>
+fn read_machine<R: Read>(alloc: Global, reader: &mut Flagged<R>) -> Result<Machine<Flat>, Fault>
     ensures ok { IfOk result (λ machine. IfSome (R.remaining (flag.device reader.old)) (λ bytes.
         spec.state_of bytes ≡ Ok machine.state)) }
     ensures err { IfErr result (λ fault. IfSome (R.remaining (flag.device reader.old)) (λ bytes.
@@ -76,7 +73,7 @@ pub fn run_words<R: Read, W: Write>(
     alloc: Global,
     reader: &mut Flagged<R>,
     writer: &mut Buffered<W>,
-) -> Result<(), WordsFault>
+) -> Result<(), Fault>
     ensures text { OnOk result (IfSome (R.remaining (flag.device reader.old)) (λ bytes.
         IsOkAnd (spec.words_text bytes)
         (Appends (buffer.written W.contents writer.old) (buffer.sent W.contents writer.new)))) }

@@ -1,6 +1,6 @@
 use crate::devices::{Endless, assert_tells_each_failing_call, assert_tells_each_failing_read};
+use crate::fault::Fault;
 use crate::words::engine::run_words;
-use crate::words::fault::WordsFault;
 use rv_hart::machine::StepFault;
 use rv_memory::buffered::Buffered;
 use rv_memory::flagged::Flagged;
@@ -19,7 +19,7 @@ fn assert_writes(rt: &impl Abort, alloc: Global, input: &[u8], text: &[u8]) {
 }
 
 /// The fault of an input, of which nothing is written.
-fn fault_of(rt: &impl Abort, alloc: Global, input: &[u8]) -> Option<WordsFault> {
+fn fault_of(rt: &impl Abort, alloc: Global, input: &[u8]) -> Option<Fault> {
     let mut writer = Buffered::new(alloc, Vec::new(alloc));
     let fault = run_words(alloc, &mut Flagged::new(input), &mut writer).err();
     assert!(rt; !writer.failed());
@@ -101,12 +101,12 @@ fn shows_reservations(rt: HostRuntime) {
 fn tells_what_is_refused(rt: HostRuntime) {
     let alloc = rt.alloc();
     for (input, fault) in [
-        (b"".as_slice(), WordsFault::Line(1)),
-        (b"harts 17\nsteps 1\nx\n", WordsFault::Line(1)),
-        (b"harts 1\n", WordsFault::Line(2)),
-        (b"harts 1\nsteps 16\n", WordsFault::Line(2)),
-        (b"harts 1\nsteps 1\nx\n", WordsFault::Line(3)),
-        (b"harts 1\nsteps 0\n00500093\r\n", WordsFault::Line(3)),
+        (b"".as_slice(), Fault::Line(1)),
+        (b"harts 17\nsteps 1\nx\n", Fault::Line(1)),
+        (b"harts 1\n", Fault::Line(2)),
+        (b"harts 1\nsteps 16\n", Fault::Line(2)),
+        (b"harts 1\nsteps 1\nx\n", Fault::Line(3)),
+        (b"harts 1\nsteps 0\n00500093\r\n", Fault::Line(3)),
     ] {
         assert_eq!(rt; fault_of(&rt, alloc, input), Some(fault), "at {input:?}");
     }
@@ -124,7 +124,7 @@ fn tells_what_is_refused(rt: HostRuntime) {
             StepFault::NotRunning,
         ),
     ] {
-        let told = WordsFault::Step { number, fault };
+        let told = Fault::Step { number, fault };
         assert_eq!(rt; fault_of(&rt, alloc, input), Some(told), "at {input:?}");
     }
 }
@@ -174,26 +174,26 @@ fn refuses_an_endless_input(rt: HostRuntime) {
     let mut reader = Flagged::new(Endless);
     let mut writer = Buffered::new(alloc, Vec::new(alloc));
     let outcome = run_words(alloc, &mut reader, &mut writer);
-    assert_eq!(rt; outcome, Err(WordsFault::TooLong));
+    assert_eq!(rt; outcome, Err(Fault::TooLong));
     assert!(rt; !reader.failed());
     assert_eq!(rt; writer.into_inner().len(), 0);
 }
 
 #[test]
 fn tells_faults(rt: HostRuntime) -> Result<(), Fail> {
-    let step = |number: u32, fault: StepFault| WordsFault::Step { number, fault };
+    let step = |number: u32, fault: StepFault| Fault::Step { number, fault };
     for (fault, text, status) in [
-        (WordsFault::Line(16_387), "words line 16387", 1),
+        (Fault::Line(16_387), "words line 16387", 1),
         (step(0, StepFault::NoHart), "words step 0 NoHart", 1),
         (
             step(99_999, StepFault::NotRunning),
             "words step 99999 NotRunning",
             1,
         ),
-        (WordsFault::TooLong, "input TooLong", 1),
-        (WordsFault::Read, "read", 3),
-        (WordsFault::Write, "write", 3),
-        (WordsFault::NoMemory, "memory", 4),
+        (Fault::TooLong, "input TooLong", 1),
+        (Fault::Read, "read", 3),
+        (Fault::Write, "write", 3),
+        (Fault::NoMemory, "memory", 4),
     ] {
         let told = format!(in rt.alloc(); "{fault}")?;
         assert_eq!(rt; told.as_str(), text);

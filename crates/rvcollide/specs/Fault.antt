@@ -1,48 +1,63 @@
 use Rattle.std.specs.Prelude.{◌≡◌, ⊤, Bool, true, false, Result, Ok, Err}
+use Rattle.rv_asm.specs.declared.listing.list.ListFault.{ListFault}
+use Rattle.rv_asm.specs.declared.listing.list.ListFault.TheVariants as list
+use Rattle.rv_elf.specs.declared.fault.LoadFault.{LoadFault}
+use Rattle.rv_elf.specs.declared.fault.LoadFault.TheVariants as load
 use Rattle.rv_memory.specs.declared.flagged.ReadFault.{ReadFault}
 use Rattle.rv_memory.specs.declared.flagged.ReadFault.TheVariants as read
-use Rattle.rvcollide.specs.declared.words.fault.WordsFault.{WordsFault}
-use Rattle.rvcollide.specs.declared.words.fault.WordsFault.TheVariants.{Line, Step, TooLong, Read, Write, NoMemory}
+use Rattle.rvcollide.specs.declared.fault.Fault.{Fault}
+use Rattle.rvcollide.specs.declared.fault.Fault.TheVariants.{Line, Step, Load, TooLong, Read, Write, NoMemory}
 use Rattle.rvcollide.specs.declared.words.input.InputFault.{InputFault}
 use Rattle.rvcollide.specs.declared.words.input.InputFault.TheVariants as input
 
-abbrev pub fault_of_input : InputFault → WordsFault
+abbrev pub fault_of_input : InputFault → Fault
 fault_of_input (input.Line number) = Line number
 fault_of_input input.NoMemory = NoMemory
 
-abbrev pub fault_of_read : ReadFault → WordsFault
+abbrev pub fault_of_load : LoadFault → Fault
+fault_of_load load.NoMemory = NoMemory
+fault_of_load fault = Load fault
+
+abbrev pub fault_of_list : ListFault → Fault
+fault_of_list list.Write = Write
+fault_of_list list.NoMemory = NoMemory
+
+abbrev pub fault_of_read : ReadFault → Fault
 fault_of_read read.Read = Read
 fault_of_read read.TooLong = TooLong
 fault_of_read read.NoMemory = NoMemory
 
 -- the fault is the one that is told of an input; that a device failed or memory is out says nothing of it
-abbrev pub IsToldFault : {A : Type 0} → Result A WordsFault → WordsFault → Type 0
+abbrev pub IsToldFault : {A : Type 0} → Result A Fault → Fault → Type 0
 IsToldFault told (Line number) = told ≡ Err (Line number)
 IsToldFault told (Step number fault) = told ≡ Err (Step number fault)
+IsToldFault told (Load fault) = told ≡ Err (Load fault)
 IsToldFault told TooLong = told ≡ Err TooLong
 IsToldFault told Read = ⊤
 IsToldFault told Write = ⊤
 IsToldFault told NoMemory = ⊤
 
 -- the fault is that the reader failed
-abbrev pub is_read : WordsFault → Bool
+abbrev pub is_read : Fault → Bool
 is_read (Line number) = false
 is_read (Step number fault) = false
+is_read (Load fault) = false
 is_read TooLong = false
 is_read Read = true
 is_read Write = false
 is_read NoMemory = false
 
 -- the fault is that the writer failed
-abbrev pub is_write : WordsFault → Bool
+abbrev pub is_write : Fault → Bool
 is_write (Line number) = false
 is_write (Step number fault) = false
+is_write (Load fault) = false
 is_write TooLong = false
 is_write Read = false
 is_write Write = true
 is_write NoMemory = false
 
 -- something was refused, and the fault passes the test
-abbrev pub fails_by : {A : Type 0} → (WordsFault → Bool) → Result A WordsFault → Bool
+abbrev pub fails_by : {A : Type 0} → (Fault → Bool) → Result A Fault → Bool
 fails_by test (Ok a) = false
 fails_by test (Err fault) = test fault

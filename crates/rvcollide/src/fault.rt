@@ -1,0 +1,134 @@
+ghost use Rattle.std.specs.Prelude.{◌≡◌};
+ghost use Rattle.rvcollide.specs.FaultText as spec;
+ghost use Rattle.rvcollide.specs.Fault.{fault_of_input, fault_of_list, fault_of_load, fault_of_read};
+ghost use Rattle.rvcollide.specs.declared.fault.Fault.TheVariants as fault;
+
+use crate::words::input::InputFault;
+use rv_asm::ListFault;
+use rv_elf::LoadFault;
+use rv_hart::machine::StepFault;
+use rv_memory::flagged::{ReadFault, WriteFault};
+use rv_memory::store::NoMemory;
+use std::fmt;
+
+/// Why a command does not write its text.
+#[derive(Clone, Copy, Debug, PartialEq, Eq)]
+pub enum Fault {
+    /// The first malformed line of an input of `words`, from 1 on.
+    Line(u32),
+    /// The first step of `words` that is refused, from 0 on, and why: there is no such hart, or it does not run.
+    Step { number: u32, fault: StepFault },
+    /// The first test of an image that its file fails.
+    Load(LoadFault),
+    /// The input has more bytes than an input may have.
+    TooLong,
+    /// The reader failed.
+    Read,
+    /// The writer failed.
+    Write,
+    NoMemory,
+}
+
+impl Fault {
+    /// The exit status of a program that tells the fault.
+    pub fn status(self) -> u8
+        ensures { result ≡ spec.status self }
+    {
+        match self {
+            Fault::Line(_) | Fault::Step { .. } | Fault::Load(_) | Fault::TooLong => 1,
+            Fault::Read | Fault::Write => 3,
+            Fault::NoMemory => 4,
+        }
+    }
+}
+
+impl From<InputFault> for Fault {
+    ghost from_gives = { λ given made. made ≡ fault_of_input given };
+
+    fn from(given: InputFault) -> Fault {
+        match given {
+            InputFault::Line(number) => Fault::Line(number),
+            InputFault::NoMemory => Fault::NoMemory,
+        }
+    }
+}
+
+impl From<LoadFault> for Fault {
+    ghost from_gives = { λ given made. made ≡ fault_of_load given };
+
+    fn from(given: LoadFault) -> Fault {
+        match given {
+            LoadFault::NoMemory => Fault::NoMemory,
+            fault => Fault::Load(fault),
+        }
+    }
+}
+
+impl From<ListFault> for Fault {
+    ghost from_gives = { λ given made. made ≡ fault_of_list given };
+
+    fn from(given: ListFault) -> Fault {
+        match given {
+            ListFault::Write => Fault::Write,
+            ListFault::NoMemory => Fault::NoMemory,
+        }
+    }
+}
+
+impl From<ReadFault> for Fault {
+    ghost from_gives = { λ given made. made ≡ fault_of_read given };
+
+    fn from(given: ReadFault) -> Fault {
+        match given {
+            ReadFault::Read => Fault::Read,
+            ReadFault::TooLong => Fault::TooLong,
+            ReadFault::NoMemory => Fault::NoMemory,
+        }
+    }
+}
+
+impl From<WriteFault> for Fault {
+    ghost from_gives = { λ _ made. made ≡ fault.Write };
+
+    fn from(_: WriteFault) -> Fault {
+        Fault::Write
+    }
+}
+
+impl From<NoMemory> for Fault {
+    ghost from_gives = { λ _ made. made ≡ fault.NoMemory };
+
+    fn from(_: NoMemory) -> Fault {
+        Fault::NoMemory
+    }
+}
+
+/// The fault's text, after the program's name.
+impl fmt::Display for Fault {
+    ghost output = { λ told. spec.fault_output told };
+
+    fn fmt<W: fmt::Write>(&self, f: &mut fmt::Formatter<W>) -> fmt::Result {
+        match self {
+            Fault::Line(number) => write!(f, "words line {number}"),
+            Fault::Step { number, fault } => {
+                write!(f, "words step {number} {}", step_fault_name(*fault))
+            }
+            Fault::Load(fault) => write!(f, "load {fault}"),
+            Fault::TooLong => f.write_str("input TooLong"),
+            Fault::Read => f.write_str("read"),
+            Fault::Write => f.write_str("write"),
+            Fault::NoMemory => f.write_str("memory"),
+        }
+    }
+}
+
+fn step_fault_name(fault: StepFault) -> &'static str
+    ensures { result.now ≡ spec.step_fault_name fault }
+{
+    match fault {
+        StepFault::NoHart => "NoHart",
+        StepFault::NotRunning => "NotRunning",
+        StepFault::OutputFull => "OutputFull",
+        StepFault::NoMemory => "NoMemory",
+    }
+}
