@@ -14,9 +14,9 @@ fn file_of(alloc: Global, words: &[u32]) -> Result<Vec<u8>, AllocError> {
             0, 0, 0, 1, 0, 0, 0, 0x54, 0, 0, 0, 0, 0, 1, 0, 0, 0, 1, 0,
         ],
     )?;
-    let length = (words.len() as u32).wrapping_mul(4);
-    file.extend_from_slice(&length.to_le_bytes())?;
-    file.extend_from_slice(&length.to_le_bytes())?;
+    let length = (words.len() as u64).wrapping_mul(4).to_le_bytes();
+    file.extend_from_slice(&length[..4])?;
+    file.extend_from_slice(&length[..4])?;
     file.extend_from_slice(&[5, 0, 0, 0, 1, 0, 0, 0])?;
     for word in words {
         file.extend_from_slice(&word.to_le_bytes())?;
