@@ -158,7 +158,7 @@ step_to : (s : State) (hart : ℕ) (o : Option (Event × State)) → step_of s h
 step_to s hart None e h = cc
 step_to s hart (Some (event, after)) e h = record { event = event; after = after; is = e }
 
-runs_in : (start s : State) (entries : List Entry) (place hart : ℕ) → state_at start entries place ≡ Some s → runs_at start entries place hart ≡ true → is_running_hart (slice_get s.harts hart) ≡ true
+pub runs_in : (start s : State) (entries : List Entry) (place hart : ℕ) → state_at start entries place ≡ Some s → runs_at start entries place hart ≡ true → is_running_hart (slice_get s.harts hart) ≡ true
 unfolding runs_at
 runs_in start s entries place hart at runs = sym (ap (λ (o : Option State). option_map_or (λ (s : State). is_running_hart (slice_get s.harts hart)) o false) at) ∙ runs
 

@@ -1,3 +1,4 @@
+pub mod Answers
 pub mod Armed
 pub mod ChangedLaws
 pub mod Entries
@@ -14,7 +15,9 @@ pub mod Numbers
 pub mod Pause
 pub mod Plan
 pub mod Reading
+pub mod Replays
 pub mod StateAt
+pub mod Stored
 pub mod Texts
 pub mod Verdict
 pub mod internal

@@ -1,2 +1,3 @@
 pub mod Before
 pub mod Capped
+pub mod Core

@@ -6,10 +6,15 @@
 #![tactic(auto)]
 
 pub mod changed_laws;
+pub mod collider;
 pub mod ending;
 pub mod entry;
 pub mod laws;
+mod open_pause;
 pub mod plan;
 pub mod refused;
+pub mod replay;
 pub mod schedule;
+#[cfg(test)]
+mod tests;
 pub mod texts;

@@ -1,4 +1,4 @@
-ghost use Rattle.std.specs.Prelude.{◌≡◌, ◌≢◌, ℕ, ◌<◌, ◌≤◌, ◌%◌, ◌↔◌, ◌+◌, Some, None, length, IsTrue, false, IsSome, IfSome, IfOk, IfErr, OnOk, OnErr, unwrap_or, slice_get, All};
+ghost use Rattle.std.specs.Prelude.{◌≡◌, ◌^◌, ◌≢◌, ℕ, ◌<◌, ◌≤◌, ◌%◌, ◌↔◌, ◌+◌, Some, None, length, IsTrue, false, IsSome, IfSome, IfOk, IfErr, OnOk, OnErr, unwrap_or, slice_get, All};
 ghost use Rattle.rv_hart.specs.internal.Able.{IsAble};
 ghost use Rattle.rv_hart.specs.internal.Machine as machine;
 ghost use Rattle.rv_hart.specs.internal.Next as own;
@@ -153,6 +153,13 @@ impl<S: ByteStore> Machine<S> {
         } else {
             None
         }
+    }
+
+    /// No byte stands past the last address.
+    pub fn no_byte_past_the_last(&self)
+        ensures { (address : ℕ) → 2 ^ 32 ≤ address → memory.byte self.now.state.memory address ≡ None }
+    {
+        let _limit = self.limit;
     }
 
     /// The bytes printed so far.

@@ -1,0 +1,24 @@
+use Rattle.std.proofs.Common.{◌≡◌, Some, None, sym, ap, ◌∙◌}
+use Rattle.std.specs.Prelude.{is_some}
+use Rattle.rv_collide.specs.Plan.{Numbers}
+use Rattle.rv_collide.specs.Stored.{setting_of}
+use Rattle.rv_collide.proofs.Calls.{resume_no_hart, resume_not_paused, resume_ok, not_below, is_below}
+use Rattle.rv_collide.proofs.collider.Collider.resume.Goals as goal
+
+pub returns-then-h-plan-clause-err : goal.returns-then-h-plan-clause-err
+returns-then-h-plan-clause-err g c = resume_no_hart (setting_of c.args.self.now) c.args.self.now.entries c.args.h (not_below c.args.h c.plan.result.harts c.args.self.now.plan.harts (ap (λ (n : Numbers). n.harts) c.plan.ensures) c.if-h-plan.true)
+
+pub end-requires : goal.end-requires
+end-requires g c = resume_ok (setting_of c.args.self.now) c.args.self.now.entries c.args.h (is_below c.args.h c.plan.result.harts c.args.self.now.plan.harts (ap (λ (n : Numbers). n.harts) c.plan.ensures) c.if-h-plan.false) (sym c.in-Some.ensures.some)
+
+pub returns-in-None-clause-err : goal.returns-in-None-clause-err
+returns-in-None-clause-err g c = resume_not_paused (setting_of c.args.self.now) c.args.self.now.entries c.args.h (is_below c.args.h c.plan.result.harts c.args.self.now.plan.harts (ap (λ (n : Numbers). n.harts) c.plan.ensures) c.if-h-plan.false) (sym c.in-None.ensures.some)
+
+pub returns-in-Some-clause-ok : goal.returns-in-Some-clause-ok
+returns-in-Some-clause-ok g c = record {
+  adds = record {
+    is_forced = resume_ok (setting_of c.args.self.now) c.args.self.now.entries c.args.h (is_below c.args.h c.plan.result.harts c.args.self.now.plan.harts (ap (λ (n : Numbers). n.harts) c.plan.ensures) c.if-h-plan.false) (sym c.in-Some.ensures.some);
+    is_added = c.end.ensures.after;
+  };
+  ending = c.end.ensures.ending;
+}

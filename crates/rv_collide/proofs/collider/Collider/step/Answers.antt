@@ -1,0 +1,52 @@
+use Rattle.std.proofs.Common.{◌≡◌, ◌+◌, ◌*◌, ◌≤◌, ◌<◌, ℕ, Bool, true, false, List, length, Option, Some, None, Ok, Err, sym, ap, subst, ◌∙◌, arith}
+use Rattle.std.specs.Prelude.{option_map}
+use Rattle.std.specs.Vec.{vec_capacity}
+use Rattle.rv_hart.specs.Next.{accessed}
+use Rattle.rv_break.specs.Breakpoints.{Breaks}
+use Rattle.rv_collide.specs.Forced.{Turn, forced}
+use Rattle.rv_collide.specs.Numbers.{numbers}
+use Rattle.rv_collide.specs.Stored.{Stored, setting_of, stored}
+use Rattle.rv_collide.specs.declared.entry.Entry.{Entry}
+use Rattle.rv_collide.specs.declared.entry.Entry.TheVariants.{Stepped}
+use Rattle.rv_collide.specs.internal.Core.{IsCore, slots_seen}
+use Rattle.rv_collide.proofs.Growth.{core_step, turn_parts}
+use Rattle.rv_collide.proofs.LawLemmas.{runs_in}
+use Rattle.rv_collide.proofs.StepFaults.{only_memory}
+use Rattle.rv_collide.proofs.Rooms.{room_to_step}
+use Rattle.rv_collide.proofs.collider.Collider.step.Goals as goal
+
+pub returns-in-Err-clause-memory : goal.returns-in-Err-clause-memory
+returns-in-Err-clause-memory g c =
+    let s = setting_of (stored c.self.inside.image.value (numbers c.self.inside.plan) c.self.inside.entries.items) in
+    let ok = subst (λ (v : Stored). forced (setting_of v) v.entries (Turn c.args.h) ≡ Ok (Stepped c.args.h)) (sym c.self.view_is) c.requires in
+    let parts = turn_parts s c.self.inside.entries.items c.args.h (Stepped c.args.h) ok in
+    let runs = runs_in s.start c.self.inside.machine.state c.self.inside.entries.items (length c.self.inside.entries.items) c.args.h c.self.invariant.0.now parts.runs in
+    let left = parts.left in
+    let printed = c.self.invariant.0.output in
+    let limit = c.self.invariant.0.limit in
+    let room : length c.self.inside.machine.state.output < c.self.inside.machine.limit = omega arith in
+    only_memory c.self.inside.machine c.args.h c.in-Err.field-0 c.step.result c.in-Err.is runs room c.step.ensures.no_hart c.step.ensures.not_running c.step.ensures.output_full c.step.ensures.no_memory
+
+pub push_reserved-requires : goal.push_reserved-requires
+push_reserved-requires g c =
+    let s = setting_of (stored c.self.inside.image.value (numbers c.self.inside.plan) c.self.inside.entries.items) in
+    let ok = subst (λ (v : Stored). forced (setting_of v) v.entries (Turn c.args.h) ≡ Ok (Stepped c.args.h)) (sym c.self.view_is) c.requires in
+    let parts = turn_parts s c.self.inside.entries.items c.args.h (Stepped c.args.h) ok in
+    let lt = room_to_step s c.self.inside.entries.items (length c.self.inside.endings.items) (vec_capacity c.self.inside.entries) c.self.invariant.0.room c.self.invariant.1.for_entries parts.left in
+    omega (arith, c.self.inside.entries.ok.0)
+
+pub invariant_of-self-2 : goal.invariant_of-self-2
+invariant_of-self-2 g c =
+    let s = setting_of (stored c.self.inside.image.value (numbers c.self.inside.plan) c.self.inside.entries.items) in
+    let ok = subst (λ (v : Stored). forced (setting_of v) v.entries (Turn c.args.h) ≡ Ok (Stepped c.args.h)) (sym c.self.view_is) c.requires in
+    let size = c.len.ensures ∙ c.self.inside.entries.ok.0 in (
+      subst (λ (ys : List Entry). IsCore s ys c.step.new.self c.show.new.breaks c.self.inside.openings.items c.self.inside.endings.items (c.self.inside.steps + 1) c.self.inside.arms) (sym c.push_reserved.ensures.items)
+          (core_step c.reservations_and_accesses.ensures.next c.what_no_step_does.ensures.output s c.self.inside.entries.items c.self.inside.machine c.step.new.self c.self.inside.breaks c.show.new.breaks c.self.inside.openings.items c.self.inside.endings.items c.self.inside.steps c.self.inside.arms c.args.h c.in-Ok.event c.self.invariant.0 ok c.in-Ok.ensures.step c.step.ensures.harts c.step.ensures.limit
+          (ap (λ (b : Breaks). b.armed) c.show.ensures)
+          (ap (λ (b : Breaks). b.slots) c.show.ensures ∙ ap (λ n. slots_seen (option_map (λ access. record { place = n; hart = c.args.h; access = access }) (accessed c.in-Ok.event)) c.self.inside.breaks.slots) size)),
+      record {
+        for_entries = subst (λ (n : ℕ). s.plan.steps + 4 * s.plan.arms ≤ n) (sym c.push_reserved.ensures.capacity) c.self.invariant.1.for_entries;
+        for_openings = c.self.invariant.1.for_openings;
+        for_endings = c.self.invariant.1.for_endings;
+      },
+    )

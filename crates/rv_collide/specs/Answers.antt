@@ -1,0 +1,64 @@
+-- What the calls of a core answer.
+use Rattle.std.specs.Prelude.{◌≡◌, ℕ, true, ◌⊎◌, Bool, IsTrue, IsSome, is_ok, Option, Some, None, IsSomeAnd, List, length, slice_get, Ok, Err}
+use Rattle.rv_collide.specs.Entries.{steps}
+use Rattle.rv_collide.specs.Forced.{Call, Turn, Resume, forced}
+use Rattle.rv_collide.specs.Legal.{IsLegal}
+use Rattle.rv_collide.specs.Pause.{ended, opening_of}
+use Rattle.rv_collide.specs.StateAt.{state_at}
+use Rattle.rv_collide.specs.Stored.{Stored, added, setting_of}
+use Rattle.rv_collide.specs.Verdict.{ending_at}
+use Rattle.rv_collide.specs.declared.collider.Turned.{Turned}
+use Rattle.rv_collide.specs.declared.collider.Turned.TheVariants as turned
+use Rattle.rv_collide.specs.declared.ending.Ending.{Ending}
+use Rattle.rv_collide.specs.declared.entry.Entry.{Entry}
+use Rattle.rv_collide.specs.declared.entry.Entry.TheVariants.{Stepped, Paused, Resumed}
+use Rattle.rv_collide.specs.declared.refused.Refused.{Refused}
+use Rattle.rv_collide.specs.declared.refused.Refused.TheVariants.{NoMemory}
+use Rattle.std.specs.FinSet.{contains}
+use Rattle.rv_collide.specs.Armed.{armed}
+use Rattle.rv_collide.specs.Next.{next, plain}
+use Rattle.rv_hart.specs.State.{State}
+use Rattle.rv_hart.specs.declared.access.Access.{Access}
+use Rattle.rv_hart.specs.Step.{step_of}
+use Rattle.rv_hart.specs.declared.access.Event.{Event}
+
+-- what holds of each core
+pub record AreFacts (c : Stored) : Type 0 where
+  pub legal : IsLegal (setting_of c) c.entries
+  pub state : IsSome (state_at (setting_of c).start c.entries (length c.entries))
+
+-- the call is accepted: it adds the entry that it is forced to add, and nothing else
+pub record Adds (old new : Stored) (call : Call) (entry : Entry) : Type 0 where
+  pub is_forced : forced (setting_of old) old.entries call ≡ Ok entry
+  pub is_added : new ≡ added old entry
+
+-- the step of a hart at the end of the schedule is this event
+pub record IsEvent (c : Stored) (h : ℕ) (event : Event) : Type 0 where
+  pub state : State
+  pub after : State
+  pub reached : state_at (setting_of c).start c.entries (length c.entries) ≡ Some state
+  pub step : step_of state h ≡ Some (event, after)
+
+abbrev pub Turns : Stored → Stored → ℕ → Turned → Type 0
+Turns old new h (turned.Stepped event) = Adds old new (Turn h) (Stepped h) × IsEvent old h event
+Turns old new h (turned.Paused slot) = Adds old new (Turn h) (Paused h slot)
+
+-- a turn is refused as it is forced to be, or for want of memory, which comes last
+abbrev pub IsRefusedTurn : Stored → ℕ → Refused → Bool → Type 0
+IsRefusedTurn c h fault can_refuse =
+    (forced (setting_of c) c.entries (Turn h) ≡ Err fault) ⊎ ((fault ≡ NoMemory) × IsTrue can_refuse × (forced (setting_of c) c.entries (Turn h) ≡ Ok (Stepped h)))
+
+-- a resumption answers the ending of its pause
+pub record Resumes (old new : Stored) (h : ℕ) (told : Ending) : Type 0 where
+  pub adds : Adds old new (Resume h) (Resumed h)
+  pub ending : ending_at (setting_of new).start new.entries (length old.entries) ≡ Some told
+
+-- the bytes printed
+abbrev pub IsOutput : Stored → List ℕ → Type 0
+IsOutput c output = IsSomeAnd (state_at (setting_of c).start c.entries (length c.entries)) (λ s. output ≡ s.output)
+
+-- the hart would make the access, a plain one, at an armed address
+pub record IsArmedAccess (c : Stored) (h : ℕ) (access : Access) : Type 0 where
+  pub is_plain : plain (setting_of c).start c.entries (length c.entries) h ≡ Some access
+  pub is_next : next (setting_of c).start c.entries (length c.entries) h ≡ Some access
+  pub is_armed : contains (armed (setting_of c).start c.entries) access.pc ≡ true

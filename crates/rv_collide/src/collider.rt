@@ -1,0 +1,565 @@
+//! The core: one machine, its breakpoints, and the stored schedule of the calls that it accepted.
+ghost use Rattle.std.specs.Prelude.{◌≡◌, ◌⊎◌, ℕ, ◌<◌, ◌≤◌, ◌+◌, ◌*◌, ◌++◌, ◌∷◌, [], ◌==◌, not, Bool, nat_lt, Ok, Err, Some, None, IfOk, IfErr, OnOk, OnErr, IfSome, IfNone, IsSome, unwrap_or, if◌then◌else◌, count_by, ◌%◌, false, true, IsTrue, length, slice_get, option_and_then, option_map, is_some, is_none, find, filter, filter_map, map, vec_len, vec_capacity, MatchResult};
+ghost use Rattle.std.specs.FinSet as set;
+ghost use Rattle.rv_collide.specs.Armed.{armed, arms};
+ghost use Rattle.rv_collide.specs.Entries.{steps};
+ghost use Rattle.rv_collide.specs.Forced.{forced, Turn, Resume, Arm, Disarm, turn_entry, least_free};
+ghost use Rattle.rv_collide.specs.Next.{next, plain, runs_at};
+ghost use Rattle.rv_collide.specs.Numbers.{numbers};
+ghost use Rattle.rv_collide.specs.Pause.{opening_of, ended};
+ghost use Rattle.rv_collide.specs.StateAt.{state_at};
+ghost use Rattle.rv_collide.specs.Stored.{added, setting_of, Stored, stored};
+ghost use Rattle.rv_collide.specs.Verdict.{ending_at, endings, verdict_of};
+ghost use Rattle.rv_collide.specs.Answers as answer;
+ghost use Rattle.rv_collide.specs.internal.Core.{slots_freed, slots_seen};
+ghost use Rattle.rv_break.specs.Slots as break_slots;
+ghost use Rattle.rv_hart.specs.Next.{accessed};
+ghost use Rattle.rv_hart.specs.State.{is_running, start as first_state};
+ghost use Rattle.rv_memory.specs.Memory.{byte, load, IsSize};
+
+use crate::ending::{Ending, Verdict};
+use crate::entry::Entry;
+use crate::open_pause::OpenPause;
+use crate::plan::Plan;
+use crate::refused::Refused;
+use rv_break::breakpoints::Breakpoints;
+use rv_break::claim::{ARMED_LIMIT, Seen};
+use rv_elf::Image;
+use rv_hart::access::{Access, Event};
+use rv_hart::hart::Status;
+use rv_hart::laws::{reservations_and_accesses, what_no_step_does};
+use rv_hart::machine::Machine;
+use rv_memory::region::Region;
+use rv_memory::store::{ByteStore, NoMemory};
+use std::alloc::Global;
+use std::marker::Model;
+use std::snapshot::Snapshot;
+
+/// What an accepted turn was: a step of the hart, or its pause with the slot that watches it, if one was
+/// free.
+#[derive(Clone, Copy, Debug, PartialEq, Eq)]
+pub enum Turned {
+    Stepped(Event),
+    Paused(Option<u8>),
+}
+
+/// A machine that pauses its harts at armed addresses, with the stored schedule of its calls. To
+/// contracts it is that schedule alone, with its image and its plan: all else follows from them.
+#[derive(Drop)]
+pub struct Collider<S: ByteStore> {
+    image: Snapshot<Image>,
+    plan: Plan,
+    machine: Machine<S>,
+    breaks: Breakpoints,
+    openings: Vec<OpenPause>,
+    entries: Vec<Entry>,
+    endings: Vec<Ending>,
+    steps: u32,
+    arms: u32,
+}
+
+/// What a run leaves.
+#[derive(Drop)]
+pub struct Finished {
+    pub plan: Plan,
+    pub entries: Vec<Entry>,
+    pub endings: Vec<Ending>,
+    pub output: Vec<u8>,
+}
+
+impl<S: ByteStore> Model for Collider<S> {
+    ghost use Rattle.rv_collide.specs.Numbers.{numbers};
+    ghost use Rattle.rv_collide.specs.Stored.{Stored, stored, setting_of};
+    ghost use Rattle.rv_collide.specs.internal.Core.{IsCore, IsRoomy};
+
+    ghost Value = { Stored };
+
+    ghost view = { λ c. stored c.image.value (numbers c.plan) c.entries.items };
+
+    ghost invariant = { λ c.
+        IsCore (setting_of (stored c.image.value (numbers c.plan) c.entries.items)) c.entries.items
+        c.machine c.breaks c.openings.items c.endings.items c.steps c.arms
+        × IsRoomy (setting_of (stored c.image.value (numbers c.plan) c.entries.items)) c.entries
+        c.openings c.endings };
+}
+
+impl<S: ByteStore> Collider<S> {
+    /// A machine of the image with the plan's harts, all at the entry. Room is made for all that the plan
+    /// allows: `steps + 4 * arms` entries, `arms` endings, `steps` bytes of output.
+    pub fn new(alloc: Global, image: &Image, plan: Plan) -> Result<Collider<S>, NoMemory>
+        ensures { IfOk result (λ c. c ≡ stored image.now (numbers plan) []) }
+    {
+        let machine = machine_of(alloc, image, plan)?;
+        let breaks = Breakpoints::new(alloc)?;
+        let openings = Vec::with_capacity(alloc, plan.arms as usize)?;
+        let entries = Vec::with_capacity(alloc, plan.most_entries() as usize)?;
+        let endings = Vec::with_capacity(alloc, plan.arms as usize)?;
+        Ok(Collider {
+            image: Snapshot::of(image),
+            plan,
+            machine,
+            breaks,
+            openings,
+            entries,
+            endings,
+            steps: 0,
+            arms: 0,
+        })
+    }
+
+    /// What holds of each core: its schedule is legal, and has a state at its end.
+    pub fn facts(&self)
+        ensures { answer.AreFacts self.now }
+    {
+        let _steps = self.steps;
+    }
+
+    /// One turn of a hart: a pause where it stands at an armed address and would make a plain load or
+    /// store, else one step.
+    pub fn turn(&mut self, h: u8) -> Result<Turned, Refused>
+        ensures ok { IfOk result (λ turned. answer.Turns self.old self.new h turned) }
+        ensures err { IfErr result (λ fault. answer.IsRefusedTurn self.old h fault S.can_refuse) }
+        ensures refused { OnErr result (self.new ≡ self.old) }
+    {
+        if h >= self.plan().harts {
+            return Err(Refused::NoHart);
+        }
+        if !self.runs(h) {
+            return Err(Refused::NotRunning);
+        }
+        if self.opening(h).is_some() {
+            return Err(Refused::Paused);
+        }
+        if !self.has_steps_left() {
+            return Err(Refused::StepsSpent);
+        }
+        match self.armed_access(h) {
+            Some(access) => Ok(Turned::Paused(self.pause(h, access))),
+            None => Ok(Turned::Stepped(self.step(h)?)),
+        }
+    }
+
+    /// Ends the pause of a hart.
+    pub fn resume(&mut self, h: u8) -> Result<Ending, Refused>
+        ensures ok { IfOk result (λ ending. answer.Resumes self.old self.new h ending) }
+        ensures err { IfErr result (λ fault. forced (setting_of self.old) self.old.entries (Resume h) ≡ Err fault) }
+        ensures refused { OnErr result (self.new ≡ self.old) }
+    {
+        if h >= self.plan().harts {
+            return Err(Refused::NoHart);
+        }
+        match self.opening(h) {
+            None => Err(Refused::NotPaused),
+            Some(_) => Ok(self.end(h)),
+        }
+    }
+
+    /// Arms an address.
+    pub fn arm(&mut self, pc: u32) -> Result<(), Refused>
+        ensures ok { IfOk result (λ _. answer.Adds self.old self.new (Arm pc) (Entry.Armed pc)) }
+        ensures err { IfErr result (λ fault. forced (setting_of self.old) self.old.entries (Arm pc) ≡ Err fault) }
+        ensures refused { OnErr result (self.new ≡ self.old) }
+    {
+        if !self.has_arms_left() {
+            return Err(Refused::ArmsSpent);
+        }
+        if pc % 4 != 0 {
+            return Err(Refused::Misaligned);
+        }
+        if self.is_armed(pc) {
+            return Err(Refused::AlreadyArmed);
+        }
+        if !self.add_armed(pc) {
+            return Err(Refused::ArmedFull);
+        }
+        Ok(())
+    }
+
+    /// Disarms an address.
+    pub fn disarm(&mut self, pc: u32) -> Result<(), Refused>
+        ensures ok { IfOk result (λ _. answer.Adds self.old self.new (Disarm pc) (Entry.Disarmed pc)) }
+        ensures err { IfErr result (λ fault. forced (setting_of self.old) self.old.entries (Disarm pc) ≡ Err fault) }
+        ensures refused { OnErr result (self.new ≡ self.old) }
+    {
+        if !self.is_armed(pc) {
+            return Err(Refused::NotArmed);
+        }
+        self.add_disarmed(pc);
+        Ok(())
+    }
+
+    /// The machine as it is now.
+    pub fn machine(&self) -> &Machine<S>
+        ensures { state_at (setting_of self.now).start self.now.entries (length self.now.entries) ≡ Some result.now.state }
+    {
+        &self.machine
+    }
+
+    /// The plan.
+    pub fn plan(&self) -> Plan
+        ensures { numbers result ≡ self.now.plan }
+    {
+        self.plan
+    }
+
+    /// How many entries the stored schedule has.
+    pub fn entries(&self) -> u32
+        ensures { result ≡ length self.now.entries }
+    {
+        self.entries.len() as u32
+    }
+
+    /// An entry of the stored schedule.
+    pub fn entry(&self, n: u32) -> Entry
+        requires { n < length self.now.entries }
+        ensures { slice_get self.now.entries n ≡ Some result }
+    {
+        self.entries[n as usize]
+    }
+
+    /// How many pauses have ended.
+    pub fn endings(&self) -> u32
+        ensures { result ≡ length (endings (setting_of self.now).start self.now.entries) }
+    {
+        self.endings.len() as u32
+    }
+
+    /// The ending of a pause, in the order in which they ended.
+    pub fn ending(&self, n: u32) -> Ending
+        requires { n < length (endings (setting_of self.now).start self.now.entries) }
+        ensures { slice_get (endings (setting_of self.now).start self.now.entries) n ≡ Some result }
+    {
+        self.endings[n as usize]
+    }
+
+    /// The place of a hart's open pause.
+    pub fn paused(&self, h: u8) -> Option<u32>
+        ensures { result ≡ option_map (λ o. o.place) (opening_of self.now.entries h) }
+    {
+        match self.opening(h) {
+            None => None,
+            Some(open) => Some(open.place),
+        }
+    }
+
+    /// Whether the address is armed.
+    pub fn is_armed(&self, pc: u32) -> bool
+        ensures { result ≡ set.contains (armed (setting_of self.now).start self.now.entries) pc }
+    {
+        self.breaks.is_armed(pc)
+    }
+
+    /// Hands out what the run leaves.
+    pub fn finish(self) -> Finished
+        ensures plan { numbers result.plan ≡ self.plan }
+        ensures entries { result.entries.items ≡ self.entries }
+        ensures endings { result.endings.items ≡ endings (setting_of self).start self.entries }
+        ensures output { answer.IsOutput self result.output.items }
+    {
+        Finished {
+            plan: self.plan,
+            entries: self.entries,
+            endings: self.endings,
+            output: self.machine.into_output(),
+        }
+    }
+}
+
+/// The parts of the calls.
+impl<S: ByteStore> Collider<S> {
+    /// Whether a hart runs.
+    fn runs(&self, h: u8) -> bool
+        requires { h < self.now.plan.harts }
+        ensures { result ≡ runs_at (setting_of self.now).start self.now.entries (length self.now.entries) h }
+    {
+        is_running(self.machine.status(h))
+    }
+
+    /// The open pause of a hart.
+    fn opening(&self, h: u8) -> Option<OpenPause>
+        ensures some { is_some result ≡ is_some (opening_of self.now.entries h) }
+        ensures place { option_map (λ p. p.place) result ≡ option_map (λ o. o.place) (opening_of self.now.entries h) }
+    {
+        opening_among(&self.openings, h)
+    }
+
+    fn has_steps_left(&self) -> bool
+        ensures { result ≡ nat_lt (length (steps self.now.entries)) self.now.plan.steps }
+    {
+        self.steps < self.plan.steps
+    }
+
+    fn has_arms_left(&self) -> bool
+        ensures { result ≡ nat_lt (count_by arms self.now.entries) self.now.plan.arms }
+    {
+        self.arms < self.plan.arms
+    }
+
+    /// The access that a hart would make at an armed address, where it is a plain one.
+    fn armed_access(&self, h: u8) -> Option<Access>
+        requires { h < self.now.plan.harts }
+        ensures some { IfSome result (λ access. answer.IsArmedAccess self.now h access) }
+        ensures none { IfNone result (turn_entry (setting_of self.now) self.now.entries h
+            (plain (setting_of self.now).start self.now.entries (length self.now.entries) h) ≡ Entry.Stepped h) }
+    {
+        if self.breaks.is_armed(self.machine.pc(h)) {
+            self.machine.next_plain(h)
+        } else {
+            None
+        }
+    }
+
+    /// Pauses a hart that would make the access.
+    fn pause(&mut self, h: u8, access: Access) -> Option<u8>
+        requires armed { answer.IsArmedAccess self.old h access }
+        requires forced { forced (setting_of self.old) self.old.entries (Turn h) ≡ Ok (Entry.Paused h (least_free self.old.entries)) }
+        ensures slot { result ≡ least_free self.old.entries }
+        ensures after { self.new ≡ added self.old (Entry.Paused h result) }
+    {
+        reservations_and_accesses();
+        let _was_armed = self.breaks.take_code(access.pc);
+        let slot = self.breaks.claim(h, access);
+        let old = bytes(&self.machine, access);
+        self.openings.push_reserved(OpenPause {
+            hart: h,
+            place: self.entries.len() as u32,
+            slot,
+            access,
+            old,
+        });
+        self.entries.push_reserved(Entry::Paused(h, slot));
+        slot
+    }
+
+    /// Lets a hart make a step.
+    fn step(&mut self, h: u8) -> Result<Event, Refused>
+        requires { forced (setting_of self.old) self.old.entries (Turn h) ≡ Ok (Entry.Stepped h) }
+        ensures ok { IfOk result (λ event. answer.IsEvent self.old h event) }
+        ensures after { OnOk result (self.new ≡ added self.old (Entry.Stepped h)) }
+        ensures err { IfErr result (λ fault. fault ≡ Refused.NoMemory) }
+        ensures memory { OnErr result (IsTrue S.can_refuse) }
+        ensures refused { OnErr result (self.new ≡ self.old) }
+    {
+        reservations_and_accesses();
+        what_no_step_does();
+        let event = match self.machine.step(h) {
+            Ok(event) => event,
+            Err(_) => return Err(Refused::NoMemory),
+        };
+        show(&mut self.breaks, self.entries.len() as u32, h, event);
+        self.steps += 1;
+        self.entries.push_reserved(Entry::Stepped(h));
+        Ok(event)
+    }
+
+    /// Arms an address that is not armed, where fewer than the most are; answers whether it did.
+    fn add_armed(&mut self, pc: u32) -> bool
+        requires left { IsTrue (nat_lt (count_by arms self.old.entries) self.old.plan.arms) }
+        requires aligned { pc % 4 ≡ 0 }
+        requires absent { set.contains (armed (setting_of self.old).start self.old.entries) pc ≡ false }
+        ensures room { result ≡ nat_lt (set.len (armed (setting_of self.old).start self.old.entries)) ARMED_LIMIT }
+        ensures after { self.new ≡ (if result then added self.old (Entry.Armed pc) else self.old) }
+    {
+        if !self.breaks.arm(pc) {
+            return false;
+        }
+        self.arms += 1;
+        self.entries.push_reserved(Entry::Armed(pc));
+        true
+    }
+
+    /// Disarms an armed address.
+    fn add_disarmed(&mut self, pc: u32)
+        requires { set.contains (armed (setting_of self.old).start self.old.entries) pc ≡ true }
+        ensures { self.new ≡ added self.old (Entry.Disarmed pc) }
+    {
+        let _was_armed = self.breaks.disarm(pc);
+        self.entries.push_reserved(Entry::Disarmed(pc));
+    }
+
+    /// Ends the open pause of a hart.
+    fn end(&mut self, h: u8) -> Ending
+        requires { forced (setting_of self.old) self.old.entries (Resume h) ≡ Ok (Entry.Resumed h) }
+        ensures ending { ending_at (setting_of self.new).start self.new.entries (length self.old.entries) ≡ Some result }
+        ensures after { self.new ≡ added self.old (Entry.Resumed h) }
+    {
+        reservations_and_accesses();
+        let open = taken(&mut self.openings, h);
+        let seen = released(&mut self.breaks, open.slot);
+        let new = bytes(&self.machine, open.access);
+        let ending = ending_of(open, self.entries.len() as u32, seen, new);
+        self.entries.push_reserved(Entry::Resumed(h));
+        self.endings.push_reserved(ending);
+        ending
+    }
+}
+
+/// The machine of an image with a plan's harts. What an image is leaves no fault but want of memory.
+fn machine_of<S: ByteStore>(
+    alloc: Global,
+    image: &Image,
+    plan: Plan,
+) -> Result<Machine<S>, NoMemory>
+    ensures state { IfOk result (λ m. m.state ≡ first_state image.now.segments image.now.entry plan.harts) }
+    ensures limit { IfOk result (λ m. m.limit ≡ plan.steps) }
+{
+    let regions = regions_of(alloc, image.segments())?;
+    match Machine::new(alloc, regions, image.entry(), plan.harts, plan.steps) {
+        Ok(machine) => Ok(machine),
+        Err(_) => Err(NoMemory),
+    }
+}
+
+fn regions_of(alloc: Global, segments: &[Region]) -> Result<Vec<Region>, NoMemory>
+    ensures { IfOk result (λ copies. copies.items ≡ segments.now) }
+{
+    let mut copies = Vec::new(alloc);
+    for segment in segments {
+        copies.push(segment.copy(alloc)?)?;
+    }
+    Ok(copies)
+}
+
+/// Shows the claims what a step accessed.
+fn show(breaks: &mut Breakpoints, place: u32, h: u8, event: Event)
+    ensures { breaks.new ≡ record breaks.old {
+      slots = slots_seen (option_map (λ access. record { place = place; hart = h; access = access })
+          (accessed event)) breaks.old.slots;
+    } }
+{
+    if let Event::Moved(Some(access)) = event {
+        breaks.see(place, h, access);
+    }
+}
+
+fn is_running(status: Status) -> bool
+    ensures { result ≡ is_running status }
+{
+    match status {
+        Status::Running => true,
+        Status::Exited(_) | Status::Stopped(_) => false,
+    }
+}
+
+/// The open pause of a hart among the open ones.
+fn opening_among(openings: &[OpenPause], h: u8) -> Option<OpenPause>
+    ensures { result ≡ find (λ p. p.hart == h) openings.now }
+{
+    match openings {
+        [] => None,
+        [first, rest @ ..] => {
+            if first.hart == h {
+                Some(*first)
+            } else {
+                opening_among(rest, h)
+            }
+        }
+    }
+}
+
+/// Takes the open pause of a hart out.
+fn taken(openings: &mut Vec<OpenPause>, h: u8) -> OpenPause
+    requires { IsSome (find (λ p. p.hart == h) openings.old.items) }
+    ensures pause { find (λ p. p.hart == h) openings.old.items ≡ Some result }
+    ensures others { openings.new.items ≡ filter (λ p. not (p.hart == h)) openings.old.items }
+    ensures capacity { vec_capacity openings.new ≡ vec_capacity openings.old }
+{
+    match opening_among(openings, h) {
+        None => unreachable!(),
+        Some(open) => {
+            keep_others(openings, h);
+            open
+        }
+    }
+}
+
+fn keep_others(openings: &mut Vec<OpenPause>, h: u8)
+    ensures items { openings.new.items ≡ filter (λ p. not (p.hart == h)) openings.old.items }
+    ensures capacity { vec_capacity openings.new ≡ vec_capacity openings.old }
+{
+    openings.retain(|p| p.hart != h);
+}
+
+/// Frees the data breakpoint of a pause, if one watched it; what it has seen.
+fn released(breaks: &mut Breakpoints, slot: Option<u8>) -> Option<Seen>
+    requires { IfSome slot (λ s. break_slots.IsClaimed breaks.old.slots s) }
+    ensures seen { result ≡ option_and_then (break_slots.seen_at breaks.old.slots) slot }
+    ensures after { breaks.new ≡ record breaks.old { slots = slots_freed slot breaks.old.slots } }
+{
+    match slot {
+        None => None,
+        Some(slot) => breaks.release(slot),
+    }
+}
+
+fn ending_of(open: OpenPause, resumed_at: u32, seen: Option<Seen>, new: u32) -> Ending
+    ensures { result ≡ record {
+      hart = open.hart;
+      paused_at = open.place;
+      resumed_at = resumed_at;
+      access = open.access;
+      slot = open.slot;
+      verdict = verdict_of seen (open.old == new);
+      old = open.old;
+      new = new;
+    } }
+{
+    Ending {
+        hart: open.hart,
+        paused_at: open.place,
+        resumed_at,
+        access: open.access,
+        slot: open.slot,
+        verdict: verdict(seen, open.old == new),
+        old: open.old,
+        new,
+    }
+}
+
+fn verdict(seen: Option<Seen>, same: bool) -> Verdict
+    ensures { result ≡ verdict_of seen same }
+{
+    match seen {
+        Some(seen) => Verdict::Hit(seen),
+        None => {
+            if same {
+                Verdict::Quiet
+            } else {
+                Verdict::Changed
+            }
+        }
+    }
+}
+
+/// The bytes of an access as a little-endian number.
+fn bytes<S: ByteStore>(machine: &Machine<S>, access: Access) -> u32
+    requires { IsSize access.size }
+    ensures { result ≡ load machine.now.state.memory access.first access.size }
+{
+    let one = byte_at(machine, access.first, 0);
+    if access.size == 1 {
+        return one;
+    }
+    let two = byte_at(machine, access.first, 1);
+    if access.size == 2 {
+        return one + 256 * two;
+    }
+    let three = byte_at(machine, access.first, 2);
+    let four = byte_at(machine, access.first, 3);
+    one + 256 * (two + 256 * (three + 256 * four))
+}
+
+/// A byte at an offset, or 0 outside of memory.
+fn byte_at<S: ByteStore>(machine: &Machine<S>, first: u32, offset: u32) -> u32
+    ensures value { result ≡ unwrap_or (byte machine.now.state.memory (first + offset)) 0 }
+    ensures below { result < 256 }
+{
+    machine.no_byte_past_the_last();
+    match first.checked_add(offset) {
+        None => 0,
+        Some(address) => match machine.byte(address) {
+            None => 0,
+            Some(byte) => u32::from(byte),
+        },
+    }
+}
