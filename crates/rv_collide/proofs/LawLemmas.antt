@@ -70,7 +70,7 @@ seen_parts place None access seen h = cc
 seen_parts place (Some hart) None seen h = cc
 seen_parts place (Some hart) (Some access) seen h = sym (ap (λ (s : Seen). s.place) (some_same (record { place = place; hart = hart; access = access }) seen h))
 
-seen_place : (start : State) (entries : List Entry) (place : ℕ) (seen : Seen) → seen_at start entries place ≡ Some seen → seen.place ≡ place
+pub seen_place : (start : State) (entries : List Entry) (place : ℕ) (seen : Seen) → seen_at start entries place ≡ Some seen → seen.place ≡ place
 unfolding seen_at
 seen_place start entries place seen h = seen_parts place (stepped_at entries place) (made start entries place) seen h
 

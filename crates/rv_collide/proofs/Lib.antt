@@ -26,6 +26,7 @@ pub mod PlanLineLemmas
 pub mod Prefix
 pub mod ReadsBack
 pub mod Replayed
+pub mod ReportLemmas
 pub mod Resumptions
 pub mod Rooms
 pub mod ScheduleLemmas

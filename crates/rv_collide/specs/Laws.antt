@@ -9,6 +9,7 @@ use Rattle.rv_collide.specs.Legal.{IsLegal}
 use Rattle.rv_collide.specs.Pause.{Pause}
 use Rattle.rv_collide.specs.StateAt.{state_at}
 use Rattle.rv_collide.specs.Verdict.{verdict}
+use Rattle.rv_collide.specs.declared.ending.Verdict.{Verdict}
 use Rattle.rv_collide.specs.declared.ending.Verdict.TheVariants.{Hit}
 use Rattle.rv_collide.specs.declared.entry.Entry.{Entry}
 use Rattle.rv_hart.specs.Conflict.{Conflict}
@@ -34,6 +35,18 @@ pub record Reported (start : State) (entries : List Entry) (pause : Pause) (acce
 abbrev pub ReportsAreRaces : Type 0
 ReportsAreRaces =
     (start : State) (entries : List Entry) (pause : Pause) (access : Access) (seen : Seen) → paused_access start entries pause ≡ Some access → verdict start entries pause access ≡ Hit seen → Reported start entries pause access seen
+
+-- A report of the access, or of one that was made before it.
+pub record Tells (told : Verdict) (seen : Seen) : Type 0 where
+  pub first : Seen
+  pub hit : told ≡ Hit first
+  pub no_later : first.place ≤ seen.place
+
+-- Of a pause that a data breakpoint watched no conflicting access is lost: where another hart made one within
+-- it, it ends in a report.
+abbrev pub ConflictsAreReported : Type 0
+ConflictsAreReported =
+    (start : State) (entries : List Entry) (pause : Pause) (access : Access) (slot : ℕ) (seen : Seen) → pause.slot ≡ Some slot → paused_access start entries pause ≡ Some access → Reported start entries pause access seen → Tells (verdict start entries pause access) seen
 
 -- A legal list has a state at each of its places.
 abbrev pub LegalHasStates : Type 0

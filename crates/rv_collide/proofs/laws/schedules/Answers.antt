@@ -11,6 +11,7 @@ use Rattle.rv_collide.proofs.Endings.{endings_resume, endings_stay}
 use Rattle.rv_collide.proofs.Resumptions.{apart_push, slots_resume}
 use Rattle.rv_collide.proofs.Slots.{slots_pause, slots_shown}
 use Rattle.rv_collide.proofs.Lists.{set_range, first_free, any_is_some, map_same}
+use Rattle.rv_collide.proofs.ReportLemmas.{complete}
 use Rattle.rv_collide.proofs.laws.schedules.Goals as goal
 
 pub returns-clause-same_steps : goal.returns-clause-same_steps
@@ -18,6 +19,9 @@ returns-clause-same_steps c = same_steps
 
 pub returns-clause-reports : goal.returns-clause-reports
 returns-clause-reports c = reports
+
+pub returns-clause-complete : goal.returns-clause-complete
+returns-clause-complete c = complete
 
 pub returns-clause-states : goal.returns-clause-states
 returns-clause-states c = states c.reservations_and_accesses.ensures.running
