@@ -11,6 +11,8 @@ pub mod Endings
 pub mod EntriesLemmas
 pub mod EntriesSoFar
 pub mod EntryLineLemmas
+pub mod Facts
+pub mod Fits
 pub mod FrontLemmas
 pub mod GrammarLemmas
 pub mod GrammarProof

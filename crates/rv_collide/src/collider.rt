@@ -19,6 +19,7 @@ ghost use Rattle.rv_memory.specs.Memory.{byte, load, IsSize};
 
 use crate::ending::{Ending, Verdict};
 use crate::entry::Entry;
+use crate::laws::schedules;
 use crate::open_pause::OpenPause;
 use crate::plan::Plan;
 use crate::refused::Refused;
@@ -30,7 +31,7 @@ use rv_hart::hart::Status;
 use rv_hart::laws::{reservations_and_accesses, what_no_step_does};
 use rv_hart::machine::Machine;
 use rv_memory::region::Region;
-use rv_memory::store::{ByteStore, NoMemory};
+use rv_memory::store::{ByteStore, MemFault, NoMemory};
 use std::alloc::Global;
 use std::marker::Model;
 use std::snapshot::Snapshot;
@@ -107,11 +108,14 @@ impl<S: ByteStore> Collider<S> {
         })
     }
 
-    /// What holds of each core: its schedule is legal, and has a state at its end.
+    /// What holds of each core: its schedule is legal, and has a state at its end; its harts' reservations
+    /// are held by what was done before; each of its reports names a conflicting access of another hart
+    /// within the pause.
     pub fn facts(&self)
         ensures { answer.AreFacts self.now }
     {
         let _steps = self.steps;
+        schedules();
     }
 
     /// One turn of a hart: a pause where it stands at an armed address and would make a plain load or
@@ -406,7 +410,17 @@ fn machine_of<S: ByteStore>(
     let regions = regions_of(alloc, image.segments())?;
     match Machine::new(alloc, regions, image.entry(), plan.harts, plan.steps) {
         Ok(machine) => Ok(machine),
-        Err(_) => Err(NoMemory),
+        Err(fault) => Err(no_memory(fault)),
+    }
+}
+
+/// Want of memory, where no other fault is left.
+fn no_memory(fault: MemFault) -> NoMemory
+    requires { fault ≡ MemFault.NoMemory }
+{
+    match fault {
+        MemFault::NoMemory => NoMemory,
+        MemFault::PastEnd | MemFault::Overlap | MemFault::TooLarge => unreachable!(),
     }
 }
 
@@ -492,26 +506,26 @@ fn released(breaks: &mut Breakpoints, slot: Option<u8>) -> Option<Seen>
     }
 }
 
-fn ending_of(open: OpenPause, resumed_at: u32, seen: Option<Seen>, new: u32) -> Ending
+fn ending_of(pause: OpenPause, resumed_at: u32, seen: Option<Seen>, new: u32) -> Ending
     ensures { result ≡ record {
-      hart = open.hart;
-      paused_at = open.place;
+      hart = pause.hart;
+      paused_at = pause.place;
       resumed_at = resumed_at;
-      access = open.access;
-      slot = open.slot;
-      verdict = verdict_of seen (open.old == new);
-      old = open.old;
+      access = pause.access;
+      slot = pause.slot;
+      verdict = verdict_of seen (pause.old == new);
+      old = pause.old;
       new = new;
     } }
 {
     Ending {
-        hart: open.hart,
-        paused_at: open.place,
+        hart: pause.hart,
+        paused_at: pause.place,
         resumed_at,
-        access: open.access,
-        slot: open.slot,
-        verdict: verdict(seen, open.old == new),
-        old: open.old,
+        access: pause.access,
+        slot: pause.slot,
+        verdict: verdict(seen, pause.old == new),
+        old: pause.old,
         new,
     }
 }
