@@ -4,7 +4,10 @@ use crate::entry::Entry::{self, Armed, Disarmed, Paused, Resumed, Stepped};
 use crate::plan::Plan;
 use crate::refused::Refused;
 use crate::replay::{ReplayFault, Why, replay};
+use crate::texts::write_ending;
 use rv_elf::Image;
+use rv_hart::texts::write_state;
+use rv_memory::flagged::Flagged;
 use rv_memory::flat::Flat;
 use rv_memory::region::Region;
 use std::alloc::Global;
@@ -74,6 +77,23 @@ fn endings(
     let finished = collider.finish();
     assert_eq!(rt; finished.entries.as_slice(), entries);
     Ok(finished.endings)
+}
+
+/// A register of a hart.
+fn register(rt: &impl Abort, collider: &Collider<Flat>, h: u8, r: u8) -> u32 {
+    let machine = collider.machine();
+    assert!(rt; h < machine.harts() && r <= 31);
+    machine.register(h, r)
+}
+
+/// What is shown of a schedule that was told again: the endings, the harts and the output.
+fn text_of(alloc: Global, collider: &Collider<Flat>) -> Result<Vec<u8>, Fail> {
+    let mut writer = Flagged::new(Vec::new(alloc));
+    for number in 0..collider.endings() {
+        write_ending(&mut writer, u64::from(number), &collider.ending(number))?;
+    }
+    write_state(&mut writer, collider.machine())?;
+    Ok(writer.into_inner())
 }
 
 /// Of each ending the hart, the place of a hit, and the old and new bytes.

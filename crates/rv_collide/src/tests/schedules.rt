@@ -180,7 +180,7 @@ fn a_paused_harts_reservation_lasts_until_another_stores(rt: HostRuntime) -> Res
         Stepped(0),
     ];
     let collider = told(&rt, rt.alloc(), &words, 2, &kept)?;
-    assert_eq!(rt; collider.machine().register(0, 8), 0);
+    assert_eq!(rt; register(&rt, &collider, 0, 8), 0);
     let ended = [
         Armed(0x10014),
         Stepped(0),
@@ -195,7 +195,7 @@ fn a_paused_harts_reservation_lasts_until_another_stores(rt: HostRuntime) -> Res
         Stepped(0),
     ];
     let collider = told(&rt, rt.alloc(), &words, 2, &ended)?;
-    assert_eq!(rt; collider.machine().register(0, 8), 1);
+    assert_eq!(rt; register(&rt, &collider, 0, 8), 1);
     assert_eq!(rt; collider.endings(), 1);
     assert_eq!(rt; collider.ending(0).verdict, Verdict::Quiet);
     Ok(())
