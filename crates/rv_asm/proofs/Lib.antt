@@ -23,6 +23,7 @@ pub mod SourceLemmas
 pub mod SpellingLemmas
 pub mod SpotLemmas
 pub mod StepLemmas
+pub mod SymbolLemmas
 pub mod TextLemmas
 pub mod WalkLemmas
 pub mod StandingLemmas

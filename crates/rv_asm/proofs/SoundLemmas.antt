@@ -197,3 +197,23 @@ is_sound source labels text datas labels_are none text_is datas_is some = record
 
   entry : IsEntry (length text) (entry_of labels text)
   entry = is_entry (length text) (spot_of labels (codes "_start")) some whole (λ spot found. spot_word labels (codes "_start") spot (rw labels_are all.words) found)
+
+-- the labels of a section ascend
+pub ascends : (source : List ℕ) → first_fault (labels_of (lines_placed source)) (lines_placed source) ≡ None → IsAscending (ends_of (section_bytes Text (labels_of (lines_placed source)) (lines_placed source)) (section_bytes Data (labels_of (lines_placed source)) (lines_placed source))) (labels_of (lines_placed source))
+ascends source none = all.ascending where
+  labels : List Label
+  labels = labels_of (lines_placed source)
+
+  ends : Ends
+  ends = ends_of (section_bytes Text labels (lines_placed source)) (section_bytes Data labels (lines_placed source))
+
+  total : (s : Section) → end_in ends s ≡ start_of s + reach labels s first_place (lines_placed source)
+  total Text = omega arith
+  total Data = omega arith
+
+  limits : (s : Section) → bytes_before s first_place ≤ limit_of s
+  limits Text = omega arith
+  limits Data = omega arith
+
+  all : IsLaid labels ends first_place (lines_placed source)
+  all = laid labels ends (source_lines source) first_place none limits refl total

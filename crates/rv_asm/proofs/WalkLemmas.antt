@@ -19,11 +19,11 @@ pub kind_most : (s : Section) → kind_in s ≤ 2
 kind_most Text = lit≤ tt
 kind_most Data = lit≤ tt
 
-least-cons : (s : Section) (end : ℕ) (label : Label) (labels : List Label) (same : Bool) → is_same s label.spot.section ≡ same → least_address s end (label ∷ labels) ≡ (if same then min label.spot.address (least_address s end labels) else least_address s end labels)
+pub least-cons : (s : Section) (end : ℕ) (label : Label) (labels : List Label) (same : Bool) → is_same s label.spot.section ≡ same → least_address s end (label ∷ labels) ≡ (if same then min label.spot.address (least_address s end labels) else least_address s end labels)
 unfolding least_address
 least-cons s end label labels same is = rw is refl
 
-next-cons : (s : Section) (address end : ℕ) (label : Label) (labels : List Label) (same above : Bool) → is_same s label.spot.section ≡ same → nat_lt address label.spot.address ≡ above → next_address s address end (label ∷ labels) ≡ (if same && above then min label.spot.address (next_address s address end labels) else next_address s address end labels)
+pub next-cons : (s : Section) (address end : ℕ) (label : Label) (labels : List Label) (same above : Bool) → is_same s label.spot.section ≡ same → nat_lt address label.spot.address ≡ above → next_address s address end (label ∷ labels) ≡ (if same && above then min label.spot.address (next_address s address end labels) else next_address s address end labels)
 unfolding next_address
 next-cons s address end label labels same above is is_above = rw (is, is_above) refl
 
@@ -125,7 +125,7 @@ walks-more ends label labels walks low are = at label.spot.section refl low wher
         each one two Text = one
         each one two Data = two
 
-first_low : (ends : Ends) (label : Label) (labels : List Label) → IsAscending ends (label ∷ labels) → label.spot.address ≤ least_address label.spot.section (end_in ends label.spot.section) labels
+pub first_low : (ends : Ends) (label : Label) (labels : List Label) → IsAscending ends (label ∷ labels) → label.spot.address ≤ least_address label.spot.section (end_in ends label.spot.section) labels
 unfolding IsAscending
 first_low ends label labels is = is.0
 

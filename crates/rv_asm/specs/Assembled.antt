@@ -13,7 +13,7 @@ use Rattle.rv_asm.specs.declared.passes.place.PlacedLine.{PlacedLine}
 use Rattle.rv_asm.specs.declared.passes.place.Label.{Label}
 use Rattle.rv_asm.specs.declared.passes.place.Spot.{Spot}
 use Rattle.rv_asm.specs.declared.statement.AsmKind.{AsmKind}
-use Rattle.rv_asm.specs.declared.statement.AsmKind.TheVariants.{LabelTwice, TooLarge, Empty}
+use Rattle.rv_asm.specs.declared.statement.AsmKind.TheVariants.{LabelTwice, TooLarge, Empty, NoMemory}
 use Rattle.rv_asm.specs.declared.statement.Section.{Section}
 use Rattle.rv_asm.specs.declared.statement.Section.TheVariants.{Text, Data}
 use Rattle.rv_asm.specs.declared.statement.Statement.{Statement}
@@ -148,3 +148,7 @@ assembled_lines labels lines =
 -- what a source describes
 unfoldable pub assembled : List ℕ → Result Contents AsmFault
 assembled source = assembled_lines (labels_of (lines_placed source)) (lines_placed source)
+
+-- what may be told in place of either, where a growth was refused
+abbrev pub no_memory : AsmFault
+no_memory = record { line = 0; kind = NoMemory }

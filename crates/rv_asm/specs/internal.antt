@@ -4,4 +4,3 @@ pub mod Spots
 pub mod Listed
 pub mod Walks
 pub mod Sound
-pub mod NoMemory

@@ -1,7 +1,6 @@
 //! From a source to its image.
 ghost use Rattle.std.specs.Prelude.{◌≡◌, ◌⊎◌, Ok, Err, IfOk, IfErr};
 ghost use Rattle.rv_asm.specs.Assembled as spec;
-ghost use Rattle.rv_asm.specs.internal.NoMemory.{no_memory};
 
 use crate::fault::AsmFault;
 use crate::passes::image::image_of;
@@ -36,7 +35,7 @@ fn assembled(alloc: Global, source: &[u8]) -> Result<Result<Image, AsmFault>, No
 /// place of either, where a growth was refused.
 pub fn assemble(alloc: Global, source: &str) -> Result<Image, AsmFault>
     ensures ok { IfOk result (λ image. spec.assembled source.now ≡ Ok image) }
-    ensures err { IfErr result (λ fault. (spec.assembled source.now ≡ Err fault) ⊎ (fault ≡ no_memory)) }
+    ensures err { IfErr result (λ fault. (spec.assembled source.now ≡ Err fault) ⊎ (fault ≡ spec.no_memory)) }
 {
     match assembled(alloc, source.as_bytes()) {
         Ok(answer) => answer,
