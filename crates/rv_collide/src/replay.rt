@@ -14,11 +14,15 @@ use crate::refused::Refused;
 use rv_elf::Image;
 use rv_memory::store::ByteStore;
 use std::alloc::Global;
+use thiserror::Error;
 
-/// Why an entry is not what a call would add there: the call is refused, or it adds another entry.
-#[derive(Clone, Copy, Debug, PartialEq, Eq)]
+/// Why an entry is not what a call would add there: the call is refused, or it adds another entry. The
+/// first is told by the refusal's name.
+#[derive(Clone, Copy, Debug, PartialEq, Eq, Error)]
 pub enum Why {
+    #[error("{0}")]
     Refused(Refused),
+    #[error("Differs")]
     Differs,
 }
 
