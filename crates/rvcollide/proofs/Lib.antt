@@ -6,6 +6,7 @@ pub mod LeafLemmas
 pub mod LineLemmas
 pub mod ReadBack
 pub mod ReadsLine
+pub mod ReplayLemmas
 pub mod RunLemmas
 pub mod StepLemmas
 pub mod WordLemmas

@@ -1,12 +1,17 @@
-use Rattle.std.specs.Prelude.{◌≡◌, ⊤, Bool, true, false, Result, Ok, Err}
+use Rattle.std.specs.Prelude.{◌≡◌, ⊤, Bool, true, false, if◌then◌else◌, Result, Ok, Err}
 use Rattle.rv_asm.specs.declared.listing.list.ListFault.{ListFault}
 use Rattle.rv_asm.specs.declared.listing.list.ListFault.TheVariants as list
+use Rattle.rv_collide.specs.Reading as schedule
+use Rattle.rv_collide.specs.Reading.{is_of_text}
+use Rattle.rv_collide.specs.declared.replay.ReplayFault.{ReplayFault}
+use Rattle.rv_collide.specs.declared.replay.ReplayFault.TheVariants as replay
+use Rattle.rv_collide.specs.declared.schedule.fault.ScheduleFault.{ScheduleFault}
 use Rattle.rv_elf.specs.declared.fault.LoadFault.{LoadFault}
 use Rattle.rv_elf.specs.declared.fault.LoadFault.TheVariants as load
 use Rattle.rv_memory.specs.declared.flagged.ReadFault.{ReadFault}
 use Rattle.rv_memory.specs.declared.flagged.ReadFault.TheVariants as read
 use Rattle.rvcollide.specs.declared.fault.Fault.{Fault}
-use Rattle.rvcollide.specs.declared.fault.Fault.TheVariants.{Line, Step, Load, TooLong, Read, Write, NoMemory}
+use Rattle.rvcollide.specs.declared.fault.Fault.TheVariants.{Line, Step, Load, Schedule, Entry, TooLong, Read, Write, NoMemory}
 use Rattle.rvcollide.specs.declared.words.input.InputFault.{InputFault}
 use Rattle.rvcollide.specs.declared.words.input.InputFault.TheVariants as input
 
@@ -22,6 +27,14 @@ abbrev pub fault_of_list : ListFault → Fault
 fault_of_list list.Write = Write
 fault_of_list list.NoMemory = NoMemory
 
+-- what a reader or memory did is told as of any input
+abbrev pub fault_of_schedule : ScheduleFault → Fault
+fault_of_schedule fault = if is_of_text fault.kind then Schedule fault else (if schedule.is_read fault.kind then Read else NoMemory)
+
+abbrev pub fault_of_replay : ReplayFault → Fault
+fault_of_replay replay.NoMemory = NoMemory
+fault_of_replay (replay.Entry place why) = Entry place why
+
 abbrev pub fault_of_read : ReadFault → Fault
 fault_of_read read.Read = Read
 fault_of_read read.TooLong = TooLong
@@ -32,6 +45,8 @@ abbrev pub IsToldFault : {A : Type 0} → Result A Fault → Fault → Type 0
 IsToldFault told (Line number) = told ≡ Err (Line number)
 IsToldFault told (Step number fault) = told ≡ Err (Step number fault)
 IsToldFault told (Load fault) = told ≡ Err (Load fault)
+IsToldFault told (Schedule fault) = told ≡ Err (Schedule fault)
+IsToldFault told (Entry place why) = told ≡ Err (Entry place why)
 IsToldFault told TooLong = told ≡ Err TooLong
 IsToldFault told Read = ⊤
 IsToldFault told Write = ⊤
@@ -42,6 +57,8 @@ abbrev pub is_read : Fault → Bool
 is_read (Line number) = false
 is_read (Step number fault) = false
 is_read (Load fault) = false
+is_read (Schedule fault) = false
+is_read (Entry place why) = false
 is_read TooLong = false
 is_read Read = true
 is_read Write = false
@@ -52,6 +69,8 @@ abbrev pub is_write : Fault → Bool
 is_write (Line number) = false
 is_write (Step number fault) = false
 is_write (Load fault) = false
+is_write (Schedule fault) = false
+is_write (Entry place why) = false
 is_write TooLong = false
 is_write Read = false
 is_write Write = true

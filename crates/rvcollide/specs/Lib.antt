@@ -8,6 +8,7 @@ pub mod Malformed
 pub mod Notice
 pub mod Prefix
 pub mod Reading
+pub mod Replay
 pub mod StepsLaw
 pub mod StepsLine
 pub mod Words

@@ -1,10 +1,12 @@
 ghost use Rattle.std.specs.Prelude.{◌≡◌};
 ghost use Rattle.rvcollide.specs.FaultText as spec;
-ghost use Rattle.rvcollide.specs.Fault.{fault_of_input, fault_of_list, fault_of_load, fault_of_read};
+ghost use Rattle.rvcollide.specs.Fault.{fault_of_input, fault_of_list, fault_of_load, fault_of_read, fault_of_replay, fault_of_schedule};
 ghost use Rattle.rvcollide.specs.declared.fault.Fault.TheVariants as fault;
 
 use crate::words::input::InputFault;
 use rv_asm::ListFault;
+use rv_collide::replay::{ReplayFault, Why};
+use rv_collide::schedule::{ScheduleFault, ScheduleKind};
 use rv_elf::LoadFault;
 use rv_hart::machine::StepFault;
 use rv_memory::flagged::{ReadFault, WriteFault};
@@ -20,6 +22,10 @@ pub enum Fault {
     Step { number: u32, fault: StepFault },
     /// The first test of an image that its file fails.
     Load(LoadFault),
+    /// The first line of a schedule's text that has a fault, and its fault.
+    Schedule(ScheduleFault),
+    /// The first entry of a schedule, from 0 on, that is not what a call would add there, and why.
+    Entry { place: u32, why: Why },
     /// The input has more bytes than an input may have.
     TooLong,
     /// The reader failed.
@@ -35,7 +41,12 @@ impl Fault {
         ensures { result ≡ spec.status self }
     {
         match self {
-            Fault::Line(_) | Fault::Step { .. } | Fault::Load(_) | Fault::TooLong => 1,
+            Fault::Line(_)
+            | Fault::Step { .. }
+            | Fault::Load(_)
+            | Fault::Schedule(_)
+            | Fault::Entry { .. }
+            | Fault::TooLong => 1,
             Fault::Read | Fault::Write => 3,
             Fault::NoMemory => 4,
         }
@@ -60,6 +71,30 @@ impl From<LoadFault> for Fault {
         match given {
             LoadFault::NoMemory => Fault::NoMemory,
             fault => Fault::Load(fault),
+        }
+    }
+}
+
+/// What a reader or memory did is told as of any input.
+impl From<ScheduleFault> for Fault {
+    ghost from_gives = { λ given made. made ≡ fault_of_schedule given };
+
+    fn from(given: ScheduleFault) -> Fault {
+        match given.kind {
+            ScheduleKind::Read => Fault::Read,
+            ScheduleKind::NoMemory => Fault::NoMemory,
+            _ => Fault::Schedule(given),
+        }
+    }
+}
+
+impl From<ReplayFault> for Fault {
+    ghost from_gives = { λ given made. made ≡ fault_of_replay given };
+
+    fn from(given: ReplayFault) -> Fault {
+        match given {
+            ReplayFault::NoMemory => Fault::NoMemory,
+            ReplayFault::Entry { place, why } => Fault::Entry { place, why },
         }
     }
 }
@@ -114,6 +149,8 @@ impl fmt::Display for Fault {
                 write!(f, "words step {number} {}", step_fault_name(*fault))
             }
             Fault::Load(fault) => write!(f, "load {fault}"),
+            Fault::Schedule(fault) => write!(f, "schedule line {} {}", fault.line, fault.kind),
+            Fault::Entry { place, why } => write!(f, "replay entry {place} {why}"),
             Fault::TooLong => f.write_str("input TooLong"),
             Fault::Read => f.write_str("read"),
             Fault::Write => f.write_str("write"),

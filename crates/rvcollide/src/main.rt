@@ -14,6 +14,7 @@ pub mod hunt;
 pub mod image;
 pub mod list;
 pub mod malformed;
+pub mod replay;
 pub mod words;
 
 use crate::command::{Job, LineFault, Notice, command_of, notice_of};

@@ -1,0 +1,8 @@
+//! The command `replay`: the calls of a schedule are made again on an image, and what its pauses have shown
+//! is written.
+
+pub mod engine;
+mod input;
+mod report;
+#[cfg(test)]
+mod tests;

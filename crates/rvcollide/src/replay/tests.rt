@@ -1,0 +1,390 @@
+use crate::devices::{Endless, assert_tells_each_failing_call, assert_tells_each_failing_read};
+use crate::fault::Fault;
+use crate::replay::engine::run_replay;
+use rv_elf::{Image, write};
+use rv_memory::buffered::Buffered;
+use rv_memory::flagged::Flagged;
+use rv_memory::region::Region;
+use std::alloc::Global;
+use std::process::Abort;
+use std::test::Fail;
+
+/// `lui x6,0x20`, `sw x10,0(x6)`, `lw x5,0(x6)`, `ecall`.
+const P: &[u32] = &[0x0002_0337, 0x00a3_2023, 0x0003_2283, 0x0000_0073];
+
+/// After the `lui`: `lbu x5,1(x6)`, `sb x10,2(x6)`, `sw x10,0(x6)`, `ecall`.
+const BYTES: &[u32] = &[
+    0x0002_0337,
+    0x0013_4283,
+    0x00a3_0123,
+    0x00a3_2023,
+    0x0000_0073,
+];
+
+/// After the `lui`: `beq x10,x0,0x00010010`, `sw x10,0(x6)`, `ecall`, `lr.w x5,(x6)`, `sc.w x7,x5,(x6)`, `ecall`.
+const RESERVES: &[u32] = &[
+    0x0002_0337,
+    0x0005_0663,
+    0x00a3_2023,
+    0x0000_0073,
+    0x1003_22af,
+    0x1853_23af,
+    0x0000_0073,
+];
+
+/// After the `lui`: `beq x10,x0,0x00010010`, `amoadd.w x5,x7,(x6)`, `ecall`, `lw x5,0(x6)`, `ecall`.
+const ADDS: &[u32] = &[
+    0x0002_0337,
+    0x0005_0663,
+    0x0073_22af,
+    0x0000_0073,
+    0x0003_2283,
+    0x0000_0073,
+];
+
+/// The same with `sc.w x7,x5,(x6)` in place of the `amoadd.w`.
+const FAILS: &[u32] = &[
+    0x0002_0337,
+    0x0005_0663,
+    0x1853_23af,
+    0x0000_0073,
+    0x0003_2283,
+    0x0000_0073,
+];
+
+/// After the `lui`: `lw x5,2(x6)`.
+const TRAPS: &[u32] = &[0x0002_0337, 0x0023_2283];
+
+/// The file of an image: words at 00010000, R and X, and 4,096 zero bytes at 00020000, R and W.
+fn file_of(rt: &impl Abort, alloc: Global, words: &[u32]) -> Result<Vec<u8>, Fail> {
+    let mut bytes = Vec::new(alloc);
+    for word in words {
+        bytes.extend_from_slice(&word.to_le_bytes())?;
+    }
+    let len = bytes.len();
+    assert!(rt; 1 <= len && len <= 65_536);
+    let mut segments = Vec::new(alloc);
+    segments.push(Region {
+        start: 0x10000,
+        bytes,
+        len: len as u32,
+        r: true,
+        w: false,
+        x: true,
+    })?;
+    segments.push(Region {
+        start: 0x20000,
+        bytes: Vec::new(alloc),
+        len: 4096,
+        r: true,
+        w: true,
+        x: false,
+    })?;
+    let image = Image::new(0x10000, segments, Vec::new(alloc)).ok_or("an image")?;
+    Ok(write(alloc, &image)?)
+}
+
+/// The text of a schedule: the plan's numbers, and the lines of its entries.
+fn text_of(alloc: Global, plan: &str, entries: &str) -> Result<String, Fail> {
+    let text = format!(in alloc; "rvcollide schedule 1\n{plan}\n{entries}end\n")?;
+    Ok(text)
+}
+
+/// Each schedule is of two harts where nothing else is said.
+#[test]
+fn writes_endings_harts_and_output(rt: HostRuntime) -> Result<(), Fail> {
+    let alloc = rt.alloc();
+    for (name, words, plan, entries, text) in [
+        (
+            "a store within a pause",
+            P,
+            TWO,
+            "a 00010004\ns 0\ns 1\np 0 0\ns 1\nr 0\n",
+            b"ending 0 hart 0 pc 00010004 store 00020000 4 slot 0 \
+            hit 4 hart 1 pc 00010004 store 00020000 4 old 00000000 new 00000001\n\
+            hart 0 running pc 00010004 x2 c0010000 x6 00020000 x11 00000002\n\
+            hart 1 running pc 00010008 x2 c0020000 x6 00020000 x10 00000001 x11 00000002\n\
+            out\n"
+                .as_slice(),
+        ),
+        (
+            "a store after the pause",
+            P,
+            TWO,
+            "a 00010004\ns 0\ns 1\np 0 0\nr 0\ns 1\n",
+            b"ending 0 hart 0 pc 00010004 store 00020000 4 slot 0 quiet old 00000000 new 00000000\n\
+            hart 0 running pc 00010004 x2 c0010000 x6 00020000 x11 00000002\n\
+            hart 1 running pc 00010008 x2 c0020000 x6 00020000 x10 00000001 x11 00000002\n\
+            out\n",
+        ),
+        (
+            "a store of the bytes that stand there",
+            P,
+            TWO,
+            "a 00010004\ns 0\ns 1\np 1 0\ns 0\nr 1\n",
+            b"ending 0 hart 1 pc 00010004 store 00020000 4 slot 0 \
+            hit 4 hart 0 pc 00010004 store 00020000 4 old 00000000 new 00000000\n\
+            hart 0 running pc 00010008 x2 c0010000 x6 00020000 x11 00000002\n\
+            hart 1 running pc 00010004 x2 c0020000 x6 00020000 x10 00000001 x11 00000002\n\
+            out\n",
+        ),
+        (
+            "a fifth pause is unwatched",
+            P,
+            SIX,
+            "s 0\ns 1\ns 2\ns 3\ns 4\ns 5\na 00010004\np 1 0\na 00010004\np 2 1\na 00010004\n\
+            p 3 2\na 00010004\np 4 3\na 00010004\np 5 -\ns 0\nr 1\nr 2\nr 3\nr 4\nr 5\n",
+            b"ending 0 hart 1 pc 00010004 store 00020000 4 slot 0 \
+            hit 16 hart 0 pc 00010004 store 00020000 4 old 00000000 new 00000000\n\
+            ending 1 hart 2 pc 00010004 store 00020000 4 slot 1 \
+            hit 16 hart 0 pc 00010004 store 00020000 4 old 00000000 new 00000000\n\
+            ending 2 hart 3 pc 00010004 store 00020000 4 slot 2 \
+            hit 16 hart 0 pc 00010004 store 00020000 4 old 00000000 new 00000000\n\
+            ending 3 hart 4 pc 00010004 store 00020000 4 slot 3 \
+            hit 16 hart 0 pc 00010004 store 00020000 4 old 00000000 new 00000000\n\
+            ending 4 hart 5 pc 00010004 store 00020000 4 slot - quiet old 00000000 new 00000000\n\
+            hart 0 running pc 00010008 x2 c0010000 x6 00020000 x11 00000006\n\
+            hart 1 running pc 00010004 x2 c0020000 x6 00020000 x10 00000001 x11 00000006\n\
+            hart 2 running pc 00010004 x2 c0030000 x6 00020000 x10 00000002 x11 00000006\n\
+            hart 3 running pc 00010004 x2 c0040000 x6 00020000 x10 00000003 x11 00000006\n\
+            hart 4 running pc 00010004 x2 c0050000 x6 00020000 x10 00000004 x11 00000006\n\
+            hart 5 running pc 00010004 x2 c0060000 x6 00020000 x10 00000005 x11 00000006\n\
+            out\n",
+        ),
+        (
+            "an unwatched pause reads again",
+            P,
+            SIX,
+            "s 0\ns 1\ns 2\ns 3\ns 4\ns 5\na 00010004\np 1 0\na 00010004\np 2 1\na 00010004\n\
+            p 3 2\na 00010004\np 4 3\na 00010004\np 5 -\ns 0\nr 1\ns 1\nr 2\nr 3\nr 4\nr 5\n",
+            b"ending 0 hart 1 pc 00010004 store 00020000 4 slot 0 \
+            hit 16 hart 0 pc 00010004 store 00020000 4 old 00000000 new 00000000\n\
+            ending 1 hart 2 pc 00010004 store 00020000 4 slot 1 \
+            hit 16 hart 0 pc 00010004 store 00020000 4 old 00000000 new 00000001\n\
+            ending 2 hart 3 pc 00010004 store 00020000 4 slot 2 \
+            hit 16 hart 0 pc 00010004 store 00020000 4 old 00000000 new 00000001\n\
+            ending 3 hart 4 pc 00010004 store 00020000 4 slot 3 \
+            hit 16 hart 0 pc 00010004 store 00020000 4 old 00000000 new 00000001\n\
+            ending 4 hart 5 pc 00010004 store 00020000 4 slot - changed old 00000000 new 00000001\n\
+            hart 0 running pc 00010008 x2 c0010000 x6 00020000 x11 00000006\n\
+            hart 1 running pc 00010008 x2 c0020000 x6 00020000 x10 00000001 x11 00000006\n\
+            hart 2 running pc 00010004 x2 c0030000 x6 00020000 x10 00000002 x11 00000006\n\
+            hart 3 running pc 00010004 x2 c0040000 x6 00020000 x10 00000003 x11 00000006\n\
+            hart 4 running pc 00010004 x2 c0050000 x6 00020000 x10 00000004 x11 00000006\n\
+            hart 5 running pc 00010004 x2 c0060000 x6 00020000 x10 00000005 x11 00000006\n\
+            out\n",
+        ),
+        (
+            "a load of byte 1 and a store of byte 2",
+            BYTES,
+            TWO,
+            "s 0\ns 1\ns 1\na 00010004\np 0 0\ns 1\nr 0\n",
+            b"ending 0 hart 0 pc 00010004 load 00020001 1 slot 0 quiet old 00000000 new 00000000\n\
+            hart 0 running pc 00010004 x2 c0010000 x6 00020000 x11 00000002\n\
+            hart 1 running pc 0001000c x2 c0020000 x6 00020000 x10 00000001 x11 00000002\n\
+            out\n",
+        ),
+        (
+            "a load of byte 1 and a store of the word",
+            BYTES,
+            TWO,
+            "s 0\ns 1\ns 1\na 00010004\np 0 0\ns 1\ns 1\nr 0\n",
+            b"ending 0 hart 0 pc 00010004 load 00020001 1 slot 0 \
+            hit 6 hart 1 pc 0001000c store 00020000 4 old 00000000 new 00000000\n\
+            hart 0 running pc 00010004 x2 c0010000 x6 00020000 x11 00000002\n\
+            hart 1 running pc 00010010 x2 c0020000 x6 00020000 x10 00000001 x11 00000002\n\
+            out\n",
+        ),
+        (
+            "two loads",
+            BYTES,
+            TWO,
+            "s 0\ns 1\na 00010004\np 0 0\ns 1\nr 0\n",
+            b"ending 0 hart 0 pc 00010004 load 00020001 1 slot 0 quiet old 00000000 new 00000000\n\
+            hart 0 running pc 00010004 x2 c0010000 x6 00020000 x11 00000002\n\
+            hart 1 running pc 00010008 x2 c0020000 x6 00020000 x10 00000001 x11 00000002\n\
+            out\n",
+        ),
+        (
+            "a store ends a reservation",
+            RESERVES,
+            TWO,
+            "s 0\ns 0\ns 1\ns 1\ns 0\ns 1\ns 0\n",
+            b"hart 0 running pc 00010018 x2 c0010000 x6 00020000 x7 00000001 x11 00000002\n\
+            hart 1 running pc 0001000c x2 c0020000 x6 00020000 x10 00000001 x11 00000002\n\
+            out\n",
+        ),
+        (
+            "no store, and SC succeeds",
+            RESERVES,
+            TWO,
+            "s 0\ns 0\ns 1\ns 1\ns 0\ns 0\n",
+            b"hart 0 running pc 00010018 x2 c0010000 x6 00020000 x11 00000002\n\
+            hart 1 running pc 00010008 x2 c0020000 x6 00020000 x10 00000001 x11 00000002\n\
+            out\n",
+        ),
+        (
+            "a pause ends no reservation, and the LR is the first access that conflicts",
+            RESERVES,
+            TWO,
+            "a 00010008\ns 0\ns 0\ns 1\ns 1\np 1 0\ns 0\ns 0\nr 1\n",
+            b"ending 0 hart 1 pc 00010008 store 00020000 4 slot 0 \
+            hit 6 hart 0 pc 00010010 load 00020000 4 old 00000000 new 00000000\n\
+            hart 0 running pc 00010018 x2 c0010000 x6 00020000 x11 00000002\n\
+            hart 1 running pc 00010008 x2 c0020000 x6 00020000 x10 00000001 x11 00000002\n\
+            out\n",
+        ),
+        (
+            "an AMO reads and writes",
+            ADDS,
+            TWO,
+            "a 00010010\ns 0\ns 0\np 0 0\ns 1\ns 1\ns 1\nr 0\n",
+            b"ending 0 hart 0 pc 00010010 load 00020000 4 slot 0 \
+            hit 6 hart 1 pc 00010008 both 00020000 4 old 00000000 new 00000000\n\
+            hart 0 running pc 00010010 x2 c0010000 x6 00020000 x11 00000002\n\
+            hart 1 running pc 0001000c x2 c0020000 x6 00020000 x10 00000001 x11 00000002\n\
+            out\n",
+        ),
+        (
+            "a failing SC makes no access",
+            FAILS,
+            TWO,
+            "a 00010010\ns 0\ns 0\np 0 0\ns 1\ns 1\ns 1\nr 0\n",
+            b"ending 0 hart 0 pc 00010010 load 00020000 4 slot 0 quiet old 00000000 new 00000000\n\
+            hart 0 running pc 00010010 x2 c0010000 x6 00020000 x11 00000002\n\
+            hart 1 running pc 0001000c x2 c0020000 x6 00020000 x7 00000001 x10 00000001 x11 00000002\n\
+            out\n",
+        ),
+        (
+            "an access that traps is no pause, and the address stays armed",
+            TRAPS,
+            ONE,
+            "a 00010004\ns 0\ns 0\nd 00010004\n",
+            b"hart 0 stopped 4 pc 00010004 x2 c0010000 x6 00020000 x11 00000001\n\
+            out\n",
+        ),
+        (
+            "a pause ends where no steps are left",
+            P,
+            SHORT,
+            "a 00010004\ns 0\np 0 0\ns 1\na 00010004\nr 0\n",
+            b"ending 0 hart 0 pc 00010004 store 00020000 4 slot 0 quiet old 00000000 new 00000000\n\
+            hart 0 running pc 00010004 x2 c0010000 x6 00020000 x11 00000002\n\
+            hart 1 running pc 00010004 x2 c0020000 x6 00020000 x10 00000001 x11 00000002\n\
+            out\n",
+        ),
+    ] {
+        let image = file_of(&rt, alloc, words)?;
+        let schedule = text_of(alloc, plan, entries)?;
+        let mut writer = Buffered::new(alloc, Vec::new(alloc));
+        let outcome = run_replay(
+            alloc,
+            &mut Flagged::new(image.as_slice()),
+            &mut Flagged::new(schedule.as_bytes()),
+            &mut writer,
+        );
+        assert_eq!(rt; outcome, Ok(()), "{name}");
+        assert_eq!(rt; writer.into_inner().as_slice(), text, "{name}");
+    }
+    Ok(())
+}
+
+const ONE: &str = "harts 1 steps 100 arms 8 pause 10";
+
+const TWO: &str = "harts 2 steps 100 arms 8 pause 10";
+
+const SIX: &str = "harts 6 steps 100 arms 8 pause 10";
+
+const SHORT: &str = "harts 2 steps 2 arms 2 pause 10";
+
+/// The image's faults are told before the schedule's, and those before an entry's.
+#[test]
+fn tells_the_first_fault(rt: HostRuntime) -> Result<(), Fail> {
+    let alloc = rt.alloc();
+    let p = file_of(&rt, alloc, P)?;
+    let traps = file_of(&rt, alloc, TRAPS)?;
+    let good = p.as_slice();
+    for (image, plan, entries, told) in [
+        (b"".as_slice(), "harts 0", "s 16\n", "load Truncated"),
+        (&[0; 88], TWO, "s 0\n", "load NotElf"),
+        (good, "harts 2", "s 3\n", "schedule line 2 PlanLine"),
+        (good, SHORT, "s 3\nx\n", "schedule line 4 Entry"),
+        (good, SHORT, "s 3\ns 1\nend\n", "schedule line 6 AfterEnd"),
+        (good, SHORT, "s 3\n", "replay entry 0 NoHart"),
+        (good, TWO, "s 0\nr 1\n", "replay entry 1 NotPaused"),
+        (
+            traps.as_slice(),
+            ONE,
+            "a 00010004\ns 0\np 0 0\n",
+            "replay entry 2 Differs",
+        ),
+        (
+            good,
+            SHORT,
+            "a 00010004\ns 0\np 0 0\ns 1\na 00010004\ns 1\n",
+            "replay entry 5 StepsSpent",
+        ),
+    ] {
+        let schedule = text_of(alloc, plan, entries)?;
+        let mut writer = Buffered::new(alloc, Vec::new(alloc));
+        let outcome = run_replay(
+            alloc,
+            &mut Flagged::new(image),
+            &mut Flagged::new(schedule.as_bytes()),
+            &mut writer,
+        );
+        let fault = outcome.err().ok_or(told)?;
+        let text = format!(in alloc; "{fault}")?;
+        assert_eq!(rt; text.as_str(), told);
+        assert_eq!(rt; fault.status(), 1, "{told}");
+        assert_eq!(rt; writer.into_inner().len(), 0, "{told}");
+    }
+    let mut writer = Buffered::new(alloc, Vec::new(alloc));
+    let outcome = run_replay(
+        alloc,
+        &mut Flagged::new(Endless),
+        &mut Flagged::new(b"".as_slice()),
+        &mut writer,
+    );
+    assert_eq!(rt; outcome, Err(Fault::TooLong));
+    assert_eq!(rt; writer.into_inner().len(), 0);
+    Ok(())
+}
+
+#[test]
+fn tells_a_device_that_fails(rt: HostRuntime) -> Result<(), Fail> {
+    let alloc = rt.alloc();
+    let image = file_of(&rt, alloc, P)?;
+    // The endings alone are more than the writer gathers.
+    let mut entries = String::from_str(alloc, "s 0\n")?;
+    for _ in 0..60 {
+        entries.push_str("a 00010004\np 0 0\nr 0\n")?;
+    }
+    let schedule = text_of(alloc, "harts 1 steps 2 arms 60 pause 10", entries.as_str())?;
+    for takes_none in [false, true] {
+        assert_tells_each_failing_call(&rt, alloc, takes_none, |writer| {
+            run_replay(
+                alloc,
+                &mut Flagged::new(image.as_slice()),
+                &mut Flagged::new(schedule.as_bytes()),
+                writer,
+            )
+        });
+    }
+    let good = text_of(alloc, TWO, "s 0\n")?;
+    assert_tells_each_failing_read(&rt, image.as_slice(), |reader| {
+        let mut writer = Buffered::new(alloc, Vec::new(alloc));
+        let mut schedule = Flagged::new(good.as_bytes());
+        run_replay(alloc, reader, &mut schedule, &mut writer)
+    });
+    assert_tells_each_failing_read(&rt, good.as_bytes(), |reader| {
+        let mut writer = Buffered::new(alloc, Vec::new(alloc));
+        run_replay(
+            alloc,
+            &mut Flagged::new(image.as_slice()),
+            reader,
+            &mut writer,
+        )
+    });
+    Ok(())
+}
