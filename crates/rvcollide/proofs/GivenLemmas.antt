@@ -1,62 +1,62 @@
 -- What a job says of the words that spell it.
-use Rattle.std.proofs.Common.{◌≡◌, ℕ, zero, suc, refl, subst, sym, true, false, List, Option, Some, None, [], ◌∷◌, inl, inr, arith, codes, ◌≤◌, length, leb-true}
-use Rattle.std.specs.Prelude.{Bool, ◌⊎◌, IfSome, nat_le}
-use Rattle.std.specs.List.{Any}
+use Rattle.std.proofs.Common.{◌≡◌, ℕ, zero, suc, refl, subst, sym, true, false, List, Option, Some, None, [], ◌∷◌, arith, codes, length}
+use Rattle.std.specs.Prelude.{Bool, Contains, IfSome, option_and_then, option_map}
 use Rattle.std.specs.Str.{bytes_eq}
 use Rattle.std.proofs.lemmas.Slice.Eq.{bytes_eq-Decides}
 use Rattle.clap.specs.Walk.{Text}
-use Rattle.rv_text.specs.Hexadecimal.{word_of}
-use Rattle.rv_text.specs.Numeral.{number_of, up_to}
-use Rattle.rvcollide.specs.Command.{IsGiven, arguments, at_place, command_job, from, hunt_of, job_of, pause_of, words_of}
-use Rattle.rvcollide.specs.declared.command.Job.{Job}
+use Rattle.rvcollide.specs.Command.{Asked, IsGiven, arguments, asm_of, command_job, is_option, job_of, list_of, replay_of, words_of}
 
-later : (P : Text → Type 0) (word : Text) (words : List Text) → Any P words → Any P (word ∷ words)
-later P word words any = (suc any.0, any.1, omega arith, any.3, any.4)
+later : (x word : Text) (words : List Text) → Contains words x → Contains (word ∷ words) x
+later x word words (k, below, is) = (suc k, omega arith, is)
 
-first_or_later : (P : Text → Type 0) (word : Text) (words : List Text) → Any P (word ∷ words) → P word ⊎ Any P words
-first_or_later P word words (zero, x, lt, at, holds) = inl (subst P (sym at) holds)
-first_or_later P word words (suc k, x, lt, at, holds) = inr (k, x, omega arith, at, holds)
+-- each argument is one of the words
+record Stand (rest given : List Text) : Type 0 where
+  pub each : (x : Text) → Contains given x → Contains rest x
 
--- an argument is one of the words
-argument_stands : (P : Text → Type 0) (rest : List Text) → Any P (arguments rest) → Any P rest
-argument_stands P [] any = any
-argument_stands P (word ∷ rest) any = go (bytes_eq word (codes "--")) refl (argument_stands P rest)
+arguments_stand : (rest : List Text) → IfSome (arguments rest) (Stand rest)
+arguments_stand [] = record { each = λ x one. one }
+arguments_stand (word ∷ rest) = go (bytes_eq word (codes "--")) (is_option word) refl refl (arguments rest) refl (arguments_stand rest)
   where
-    go : (b : Bool) → bytes_eq word (codes "--") ≡ b → (Any P (arguments rest) → Any P rest) → Any P (word ∷ rest)
-    go true dashes below = later P word rest (rw dashes at any)
-    go false other below = elim (first_or_later P word (arguments rest) (rw other at any)) [
-      | inl here ↦ (0, word, omega arith, refl, here)
-      | inr there ↦ later P word rest (below there)
-    ]
+    more : (given : List Text) → Stand rest given → (x : Text) → Contains (word ∷ given) x → Contains (word ∷ rest) x
+    more given stand x (zero, below, is) = (0, omega arith, is)
+    more given stand x (suc k, below, is) = later x word rest (stand.each x (k, omega arith, is))
 
-pause_fits : (o : Option ℕ) → IfSome (from 1 (up_to 65535 o)) (λ n. (1 ≤ n) × (n ≤ 65535))
-pause_fits None = tt
-pause_fits (Some n) = go (nat_le n 65535) (nat_le 1 n) refl refl
-  where
-    go : (most least : Bool) → nat_le n 65535 ≡ most → nat_le 1 n ≡ least → IfSome (from 1 (up_to 65535 (Some n))) (λ m. (1 ≤ m) × (m ≤ 65535))
-    go true true most least = rw (most, least) (leb-true 1 n least, leb-true n 65535 most)
-    go true false most least = rw (most, least) tt
-    go false least is_most is_least = rw is_most tt
+    go : (dashes option : Bool) → bytes_eq word (codes "--") ≡ dashes → is_option word ≡ option → (o : Option (List Text)) → arguments rest ≡ o → IfSome o (Stand rest)
+        → IfSome (arguments (word ∷ rest)) (Stand (word ∷ rest))
+    go true option is_dashes is_no_option o is below = rw is_dashes (record { each = λ x one. later x word rest one })
+    go false true no_dashes is_option o is below = rw (no_dashes, is_option) tt
+    go false false no_dashes no_option None is below = rw (no_dashes, no_option, is) tt
+    go false false no_dashes no_option (Some given) is below = rw (no_dashes, no_option, is) (record { each = more given below })
 
-hunt_given : (n : Text) (rest given : List Text) → ((P : Text → Type 0) → Any P given → Any P rest) → IfSome (hunt_of given) (IsGiven (n ∷ codes "hunt" ∷ rest))
-hunt_given n rest [] stands = tt
-hunt_given n rest (pc ∷ []) stands = tt
-hunt_given n rest (pc ∷ pause ∷ []) stands = go (word_of pc) (pause_of pause) refl refl (pause_fits (number_of 10 pause))
-  where
-    go : (address length : Option ℕ) → word_of pc ≡ address → pause_of pause ≡ length → IfSome (pause_of pause) (λ m. (1 ≤ m) × (m ≤ 65535))
-        → IfSome (at_place (word_of pc) (pause_of pause)) (IsGiven (n ∷ codes "hunt" ∷ rest))
-    go None length no_address is_length fits = rw no_address tt
-    go (Some address) None is_address no_length fits = rw (is_address, no_length) tt
-    go (Some address) (Some length) is_address is_length fits =
-        let first : Any (λ word. word_of word ≡ Some address) rest = stands _ (0, pc, omega arith, refl, is_address) in
-        let second : Any (λ word. pause_of word ≡ Some length) rest = stands _ (1, pause, omega arith, refl, is_length) in
-        let range : (1 ≤ length) × (length ≤ 65535) = rw is_length at fits in
-        rw (is_address, is_length) (refl, first, second, range.0, range.1)
-hunt_given n rest (pc ∷ pause ∷ more ∷ others) stands = tt
+-- what holds of each job that the arguments may spell holds of the one that they do
+given_by : (rest : List Text) (meaning : List Text → Option Asked) (P : Asked → Type 0) → ((given : List Text) → Stand rest given → IfSome (meaning given) P)
+    → (o : Option (List Text)) → IfSome o (Stand rest) → IfSome (option_and_then meaning o) P
+given_by rest meaning P holds None stand = tt
+given_by rest meaning P holds (Some given) stand = holds given stand
 
-words_given : (n : Text) (rest given : List Text) → IfSome (words_of given) (IsGiven (n ∷ codes "words" ∷ rest))
-words_given n rest [] = refl
-words_given n rest (more ∷ others) = tt
+first : (x : Text) (words : List Text) → Contains (x ∷ words) x
+first x words = (0, omega arith, refl)
+
+words_given : (n : Text) (rest given : List Text) → Stand rest given → IfSome (words_of given) (IsGiven (n ∷ codes "words" ∷ rest))
+words_given n rest [] stand = refl
+words_given n rest (more ∷ others) stand = tt
+
+asm_given : (n : Text) (rest given : List Text) → Stand rest given → IfSome (asm_of given) (IsGiven (n ∷ codes "asm" ∷ rest))
+asm_given n rest [] stand = tt
+asm_given n rest (source ∷ []) stand = tt
+asm_given n rest (source ∷ image ∷ []) stand = (refl, stand.each source (first source (image ∷ [])), stand.each image (later image source (image ∷ []) (first image [])))
+asm_given n rest (source ∷ image ∷ more ∷ others) stand = tt
+
+list_given : (n : Text) (rest given : List Text) → Stand rest given → IfSome (list_of given) (IsGiven (n ∷ codes "list" ∷ rest))
+list_given n rest [] stand = tt
+list_given n rest (image ∷ []) stand = (refl, stand.each image (first image []))
+list_given n rest (image ∷ more ∷ others) stand = tt
+
+replay_given : (n : Text) (rest given : List Text) → Stand rest given → IfSome (replay_of given) (IsGiven (n ∷ codes "replay" ∷ rest))
+replay_given n rest [] stand = tt
+replay_given n rest (image ∷ []) stand = tt
+replay_given n rest (image ∷ schedule ∷ []) stand = (refl, stand.each image (first image (schedule ∷ [])), stand.each schedule (later schedule image (schedule ∷ []) (first schedule [])))
+replay_given n rest (image ∷ schedule ∷ more ∷ others) stand = tt
 
 pub job_given : (words : List Text) → IfSome (job_of words) (IsGiven words)
 unfolding job_of
@@ -64,17 +64,28 @@ job_given [] = tt
 job_given (n ∷ []) = tt
 job_given (n ∷ name ∷ rest) = by_words (bytes_eq (codes "words") name) refl
   where
-    Given : Text → Option Job → Type 0
+    Given : Text → Option Asked → Type 0
     Given w o = IfSome o (IsGiven (n ∷ w ∷ rest))
 
-    by_hunt : (b : Bool) → bytes_eq (codes "words") name ≡ false → bytes_eq (codes "hunt") name ≡ b → Given name (command_job name rest)
-    by_hunt true no_words hunt = subst (λ (w : Text). Given w (command_job w rest)) ((bytes_eq-Decides (codes "hunt") name).0 hunt)
-        (hunt_given n rest (arguments rest) (λ P. argument_stands P rest))
-    by_hunt false no_words no_hunt = rw (no_words, no_hunt) tt
+    found : (w : Text) → bytes_eq w name ≡ true → Given w (command_job w rest) → Given name (command_job name rest)
+    found w same given = subst (λ (v : Text). Given v (command_job v rest)) ((bytes_eq-Decides w name).0 same) given
+
+    by_replay : (b : Bool) → bytes_eq (codes "words") name ≡ false → bytes_eq (codes "asm") name ≡ false → bytes_eq (codes "list") name ≡ false
+        → bytes_eq (codes "replay") name ≡ b → Given name (command_job name rest)
+    by_replay true no_words no_asm no_list replay = found (codes "replay") replay (given_by rest replay_of _ (replay_given n rest) (arguments rest) (arguments_stand rest))
+    by_replay false no_words no_asm no_list no_replay = rw (no_words, no_asm, no_list, no_replay) tt
+
+    by_list : (b : Bool) → bytes_eq (codes "words") name ≡ false → bytes_eq (codes "asm") name ≡ false → bytes_eq (codes "list") name ≡ b → Given name (command_job name rest)
+    by_list true no_words no_asm list = found (codes "list") list (given_by rest list_of _ (list_given n rest) (arguments rest) (arguments_stand rest))
+    by_list false no_words no_asm no_list = by_replay (bytes_eq (codes "replay") name) no_words no_asm no_list refl
+
+    by_asm : (b : Bool) → bytes_eq (codes "words") name ≡ false → bytes_eq (codes "asm") name ≡ b → Given name (command_job name rest)
+    by_asm true no_words asm = found (codes "asm") asm (given_by rest asm_of _ (asm_given n rest) (arguments rest) (arguments_stand rest))
+    by_asm false no_words no_asm = by_list (bytes_eq (codes "list") name) no_words no_asm refl
 
     by_words : (b : Bool) → bytes_eq (codes "words") name ≡ b → Given name (command_job name rest)
-    by_words true words = subst (λ (w : Text). Given w (command_job w rest)) ((bytes_eq-Decides (codes "words") name).0 words) (words_given n rest (arguments rest))
-    by_words false no_words = by_hunt (bytes_eq (codes "hunt") name) no_words refl
+    by_words true words = found (codes "words") words (given_by rest words_of _ (words_given n rest) (arguments rest) (arguments_stand rest))
+    by_words false no_words = by_asm (bytes_eq (codes "asm") name) no_words refl
 
-pub given_at : (words : List Text) (job : Job) → job_of words ≡ Some job → IsGiven words job
-given_at words job is = rw is at (job_given words)
+pub given_at : (words : List Text) (asked : Asked) → job_of words ≡ Some asked → IsGiven words asked
+given_at words asked is = rw is at (job_given words)

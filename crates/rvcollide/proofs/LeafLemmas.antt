@@ -1,23 +1,19 @@
 -- What `clap` makes of the words after a command's name.
-use Rattle.std.proofs.Common.{eqb-true, ◌≡◌, ◌∙◌, ℕ, refl, ap, ap₂, sym, subst, true, false, true≢false, List, Option, Some, None, [], ◌∷◌, inl, inr, cond, length, codes, fold}
-use Rattle.std.specs.Prelude.{nat_lt, Bool, ◌==◌, ◌||◌, ◌&&◌, slice_get, unwrap_or, if◌then◌else◌}
+use Rattle.std.proofs.Common.{◌≡◌, ◌∙◌, ℕ, refl, ap, ap₂, sym, subst, true, false, true≢false, List, Option, Some, None, [], ◌∷◌, inl, inr, cond, codes, fold}
+use Rattle.std.specs.Prelude.{Bool, ◌==◌, ◌||◌, slice_get, unwrap_or, if◌then◌else◌, option_and_then, option_map}
 use Rattle.std.specs.Str.{bytes_eq}
-use Rattle.clap.specs.Faults.{check_fault, defaults_fault, settle_fault, turn_fault, walk_fault}
+use Rattle.clap.specs.Faults.{check_fault, defaults_fault, settle_fault, step_fault, turn_fault, walk_fault}
 use Rattle.clap.specs.Kinds.{Kinds, or_else}
 use Rattle.clap.specs.Simple.{Shape, built, new_shape}
-use Rattle.clap.specs.Walk.{Row, Rule, Text, Walk, finished, is_empty, settled, walked}
+use Rattle.clap.specs.Walk.{Row, Rule, Text, Walk, after_step, finished, is_empty, settled, value, walked}
 use Rattle.clap.specs.declared.builder.value_parser.Reading.TheVariants.{AsWritten}
 use Rattle.clap.specs.declared.parser.matches.ValueSource.TheVariants.{CommandLine}
 use Rattle.clap.proofs.OnLiterals.{clap_on_literals}
 use Rattle.std.proofs.lemmas.Slice.Eq.{bytes_eq-Decides}
-use Rattle.rv_text.specs.Hexadecimal.{word_of}
-use Rattle.rv_text.specs.Numeral.{number_of}
-use Rattle.rvcollide.proofs.WordLemmas.{IsRequestOr, Requests, first_stays, has_hyphen, stand, turn_is}
-use Rattle.rvcollide.specs.Command.{arguments, at_place, hunt_of, words_of}
+use Rattle.rvcollide.proofs.WordLemmas.{IsRequestOr, Requests, first_stays, held, stand, turn_is}
+use Rattle.rvcollide.specs.Command.{Asked, Words, arguments, asm_of, is_option, list_of, replay_of, words_of}
 use Rattle.rvcollide.specs.Reading.{program}
-use Rattle.rvcollide.specs.internal.Reading.{hunt_in}
-use Rattle.rvcollide.specs.declared.command.Job.{Job}
-use Rattle.rvcollide.specs.declared.command.Job.TheVariants.{Words}
+use Rattle.rvcollide.specs.internal.Reading.{asm_in, list_in, replay_in}
 
 -- the commands as `clap` builds them
 abbrev pub leaf : ℕ → Shape
@@ -27,81 +23,154 @@ pub request_or : (b : Bool) (a : Rule) (o : Option Rule) → IsRequestOr (Some a
 request_or true a o is other = is
 request_or false a o is other = other
 
+pub if_false : {X : Type 0} (b : Bool) (some : X) (none : X) → b ≡ false → cond b some none ≡ none
+if_false true some none e = absurd (true≢false e)
+if_false false some none e = refl
+
 -- ---- the job that the words give from here on
 
-abbrev ended : Shape → (List Row → Option Job) → Kinds → Walk → Option Job
+abbrev ended : Shape → (List Row → Option Asked) → Kinds → Walk → Option Asked
 ended s job_in faults end = if is_empty (or_else faults (or_else [] (or_else (settle_fault s.rules s.args_override_self end.held)
     (or_else (defaults_fault (settled s.rules end.held).rows s.rules) (check_fault s (finished s.rules end.held) false))))) then job_in (finished s.rules end.held) else None
 
-abbrev pub outcome : Shape → (List Row → Option Job) → Walk → List Text → Option Job
+abbrev pub outcome : Shape → (List Row → Option Asked) → Walk → List Text → Option Asked
 outcome s job_in w rest = ended s job_in (walk_fault s [] w rest) (fold (walked s.rules []) w rest)
 
-refused : (s : Shape) (job_in : List Row → Option Job) (w : Walk) (word : Text) (rest : List Text) → is_empty (turn_fault s [] w word) ≡ false
+refused : (s : Shape) (job_in : List Row → Option Asked) (w : Walk) (word : Text) (rest : List Text) → is_empty (turn_fault s [] w word) ≡ false
     → outcome s job_in w (word ∷ rest) ≡ None
 unfolding walk_fault
 refused s job_in w word rest fault = rw (first_stays _ _ (first_stays _ _ fault)) refl
 
-goes_on : (s : Shape) (job_in : List Row → Option Job) (w next : Walk) (word : Text) (rest : List Text) → turn_fault s [] w word ≡ [] → walked s.rules [] w word ≡ next
+goes_on : (s : Shape) (job_in : List Row → Option Asked) (w next : Walk) (word : Text) (rest : List Text) → turn_fault s [] w word ≡ [] → walked s.rules [] w word ≡ next
     → outcome s job_in w (word ∷ rest) ≡ outcome s job_in next rest
 unfolding walk_fault
 goes_on s job_in w next word rest passed moved =
     ap₂ (λ (faults : Kinds) (v : Walk). ended s job_in (or_else faults (walk_fault s [] v rest)) (fold (walked s.rules []) v rest)) passed moved
 
+-- ---- the arguments, one after another
+
 pub is_dashes : (word : Text) → bytes_eq word (codes "--") ≡ true → codes "--" ≡ word
 is_dashes word same = sym ((bytes_eq-Decides word (codes "--")).0 same)
 
-other_argument : (word : Text) (rest : List Text) → bytes_eq word (codes "--") ≡ false → word ∷ arguments rest ≡ arguments (word ∷ rest)
-other_argument word rest other = rw other refl
+option_refused : (word : Text) (rest : List Text) → bytes_eq word (codes "--") ≡ false → is_option word ≡ true → None ≡ arguments (word ∷ rest)
+option_refused word rest other option = rw (other, option) refl
 
--- ---- numbers do not begin with a hyphen
+argument_first : (word : Text) (rest : List Text) → bytes_eq word (codes "--") ≡ false → is_option word ≡ false
+    → option_map (λ given. word ∷ given) (arguments rest) ≡ arguments (word ∷ rest)
+argument_first word rest other plain = rw (other, plain) refl
 
-and_right : (a b : Bool) → b ≡ false → (a && b) ≡ false
-and_right true b e = e
-and_right false b e = refl
+with_first : (meaning : List Text → Option Asked) (word : Text) (o : Option (List Text))
+    → option_and_then (λ given. meaning (word ∷ given)) o ≡ option_and_then meaning (option_map (λ given. word ∷ given) o)
+with_first meaning word None = refl
+with_first meaning word (Some given) = refl
 
-pub if_false : {X : Type 0} (b : Bool) (some : X) (none : X) → b ≡ false → cond b some none ≡ none
-if_false true some none e = absurd (true≢false e)
-if_false false some none e = refl
+never : (meaning : List Text → Option Asked) (word : Text) → ((given : List Text) → meaning (word ∷ given) ≡ None) → (o : Option (List Text))
+    → None ≡ option_and_then meaning (option_map (λ given. word ∷ given) o)
+never meaning word none None = refl
+never meaning word none (Some given) = sym (none given)
 
-no_decimal : (word : Text) → has_hyphen word ≡ true → number_of 10 word ≡ None
-unfolding number_of
-no_decimal [] hyphen = absurd (true≢false (sym hyphen))
-no_decimal (x ∷ xs) hyphen =
-    subst (λ (y : ℕ). number_of 10 (y ∷ xs) ≡ None) (sym (eqb-true x 45 hyphen)) (if_false _ _ _ (and_right (nat_lt 0 (length (45 ∷ xs))) _ refl))
+-- where a command stands between two of its words
+pub record Stop : Type 0 where
+  pub rows : List Row
+  pub pending : Option (Text × List Text)
+  pub position : ℕ
 
-no_hexadecimal : (word : Text) → has_hyphen word ≡ true → number_of 16 word ≡ None
-unfolding number_of
-no_hexadecimal [] hyphen = absurd (true≢false (sym hyphen))
-no_hexadecimal (x ∷ xs) hyphen =
-    subst (λ (y : ℕ). number_of 16 (y ∷ xs) ≡ None) (sym (eqb-true x 45 hyphen)) (if_false _ _ _ (and_right (nat_lt 0 (length (45 ∷ xs))) _ refl))
+abbrev pub at : Stop → Bool → Walk
+at stop is_trailing = stand stop.rows stop.pending stop.position is_trailing
 
-if_same : {X : Type 0} (b : Bool) (some : X) (none : X) → some ≡ none → cond b some none ≡ none
-if_same true some none e = e
-if_same false some none e = refl
+-- `clap` reads the words after the stop as the job that this function says
+record Reads (s : Shape) (job_in : List Row → Option Asked) (stop : Stop) (meaning : List Text → Option Asked) : Type 0 where
+  pub trailing : (rest : List Text) → outcome s job_in (at stop true) rest ≡ meaning rest
+  pub plain : (rest : List Text) → outcome s job_in (at stop false) rest ≡ option_and_then meaning (arguments rest)
 
-no_word : (word : Text) → has_hyphen word ≡ true → word_of word ≡ None
-unfolding word_of
-no_word word hyphen = if_same (length word == 8) _ _ (no_hexadecimal word hyphen)
+-- what is known where the words end, and of `--`
+record Ends (s : Shape) (job_in : List Row → Option Asked) (stop : Stop) (meaning : List Text → Option Asked) : Type 0 where
+  pub requests : Requests s.rules
+  pub trailing : outcome s job_in (at stop true) [] ≡ meaning []
+  pub plain : outcome s job_in (at stop false) [] ≡ meaning []
+  pub dashes_pass : turn_fault s [] (at stop false) (codes "--") ≡ []
+  pub dashes_go_on : walked s.rules [] (at stop false) (codes "--") ≡ at stop true
 
-none_at : (pc : Option ℕ) → at_place pc None ≡ None
-none_at None = refl
-none_at (Some address) = refl
+-- a word more goes to the next stop
+record Takes (s : Shape) (stop : Stop) (next : Text → Stop) : Type 0 where
+  pub trailing_pass : (word : Text) → turn_fault s [] (at stop true) word ≡ []
+  pub trailing_goes_on : (word : Text) → walked s.rules [] (at stop true) word ≡ at (next word) true
+  pub pass : (word : Text) → step_fault s stop.position (held stop.rows stop.pending) value ≡ []
+  pub goes_on : (word : Text) → after_step s.rules word (at stop false) (held stop.rows stop.pending) value ≡ at (next word) false
 
-no_pause : (pc word : Text) (rest : List Text) → has_hyphen word ≡ true → hunt_of (pc ∷ word ∷ rest) ≡ None
-no_pause pc word [] hyphen = rw (no_decimal word hyphen) (none_at (word_of pc))
-no_pause pc word (x ∷ xs) hyphen = refl
+-- no word more is taken
+record IsFull (s : Shape) (stop : Stop) (meaning : List Text → Option Asked) : Type 0 where
+  pub trailing : (word : Text) → is_empty (turn_fault s [] (at stop true) word) ≡ false
+  pub plain : is_empty (step_fault s stop.position (held stop.rows stop.pending) value) ≡ false
+  pub none : (word : Text) (rest : List Text) → meaning (word ∷ rest) ≡ None
 
-no_pc : (word : Text) (rest : List Text) → has_hyphen word ≡ true → hunt_of (word ∷ rest) ≡ None
-no_pc word [] hyphen = refl
-no_pc word (pause ∷ []) hyphen = rw (no_word word hyphen) refl
-no_pc word (pause ∷ x ∷ xs) hyphen = refl
+-- the words from a stop on, where a word that is neither `--` nor an option is met as stated
+plain_reads : (s : Shape) (job_in : List Row → Option Asked) (stop : Stop) (meaning : List Text → Option Asked) → Ends s job_in stop meaning
+    → ((rest : List Text) → outcome s job_in (at stop true) rest ≡ meaning rest)
+    → ((word : Text) (rest : List Text) → turn_fault s [] (at stop false) word ≡ step_fault s stop.position (held stop.rows stop.pending) value
+    → walked s.rules [] (at stop false) word ≡ after_step s.rules word (at stop false) (held stop.rows stop.pending) value
+    → outcome s job_in (at stop false) (word ∷ rest) ≡ option_and_then meaning (option_map (λ given. word ∷ given) (arguments rest)))
+    → (rest : List Text) → outcome s job_in (at stop false) rest ≡ option_and_then meaning (arguments rest)
+plain_reads s job_in stop meaning ends trailing more [] = ends.plain
+plain_reads s job_in stop meaning ends trailing more (word ∷ rest) = go (bytes_eq word (codes "--")) refl
+  where
+    go : (b : Bool) → bytes_eq word (codes "--") ≡ b → outcome s job_in (at stop false) (word ∷ rest) ≡ option_and_then meaning (arguments (word ∷ rest))
+    go true dashes = subst (λ (w : Text). outcome s job_in (at stop false) (w ∷ rest) ≡ option_and_then meaning (arguments (w ∷ rest))) (is_dashes word dashes)
+        (goes_on s job_in (at stop false) (at stop true) (codes "--") rest ends.dashes_pass ends.dashes_go_on ∙ trailing rest)
+    go false other = elim (turn_is s [] word stop.rows stop.pending stop.position ends.requests refl other) [
+      | inl fault ↦ refused s job_in (at stop false) word rest fault.1 ∙ ap (option_and_then meaning) (option_refused word rest other fault.0)
+      | inr taken ↦ more word rest taken.1 taken.2 ∙ ap (option_and_then meaning) (argument_first word rest other taken.0)
+    ]
+
+full_reads : (s : Shape) (job_in : List Row → Option Asked) (stop : Stop) (meaning : List Text → Option Asked) → Ends s job_in stop meaning → IsFull s stop meaning
+    → Reads s job_in stop meaning
+full_reads s job_in stop meaning ends full = record { trailing = trailing; plain = plain_reads s job_in stop meaning ends trailing more }
+  where
+    trailing : (rest : List Text) → outcome s job_in (at stop true) rest ≡ meaning rest
+    trailing [] = ends.trailing
+    trailing (word ∷ rest) = refused s job_in (at stop true) word rest (full.trailing word) ∙ sym (full.none word rest)
+
+    more : (word : Text) (rest : List Text) → turn_fault s [] (at stop false) word ≡ step_fault s stop.position (held stop.rows stop.pending) value
+        → walked s.rules [] (at stop false) word ≡ after_step s.rules word (at stop false) (held stop.rows stop.pending) value
+        → outcome s job_in (at stop false) (word ∷ rest) ≡ option_and_then meaning (option_map (λ given. word ∷ given) (arguments rest))
+    more word rest fault step = refused s job_in (at stop false) word rest (ap is_empty fault ∙ full.plain) ∙ never meaning word (full.none word) (arguments rest)
+
+next_reads : (s : Shape) (job_in : List Row → Option Asked) (stop : Stop) (meaning : List Text → Option Asked) (next : Text → Stop) → Ends s job_in stop meaning
+    → Takes s stop next → ((word : Text) → Reads s job_in (next word) (λ rest. meaning (word ∷ rest))) → Reads s job_in stop meaning
+next_reads s job_in stop meaning next ends takes later = record { trailing = trailing; plain = plain_reads s job_in stop meaning ends trailing more }
+  where
+    trailing : (rest : List Text) → outcome s job_in (at stop true) rest ≡ meaning rest
+    trailing [] = ends.trailing
+    trailing (word ∷ rest) =
+        goes_on s job_in (at stop true) (at (next word) true) word rest (takes.trailing_pass word) (takes.trailing_goes_on word) ∙ (later word).trailing rest
+
+    more : (word : Text) (rest : List Text) → turn_fault s [] (at stop false) word ≡ step_fault s stop.position (held stop.rows stop.pending) value
+        → walked s.rules [] (at stop false) word ≡ after_step s.rules word (at stop false) (held stop.rows stop.pending) value
+        → outcome s job_in (at stop false) (word ∷ rest) ≡ option_and_then meaning (option_map (λ given. word ∷ given) (arguments rest))
+    more word rest fault step =
+        goes_on s job_in (at stop false) (at (next word) false) word rest (fault ∙ takes.pass word) (step ∙ takes.goes_on word)
+        ∙ (later word).plain rest ∙ with_first meaning word (arguments rest)
+
+-- ---- the stops of a command
+
+abbrev pub at_first : Stop
+at_first = record { rows = []; pending = None; position = 1 }
+
+abbrev at_second : Text → Text → Stop
+at_second id word = record { rows = []; pending = Some (id, word ∷ []); position = 2 }
+
+abbrev row : Text → Text → Row
+row id word = record { id = id; values = word ∷ []; count = None; source = Some CommandLine; reading = AsWritten }
+
+abbrev at_third : Text → Text → Text → Text → Stop
+at_third id word next_id next = record { rows = row id word ∷ []; pending = Some (next_id, next ∷ []); position = 3 }
 
 -- ---- `words`
 
 abbrev pub words_leaf : Shape
 words_leaf = leaf 0
 
-abbrev pub words_job : List Row → Option Job
+abbrev pub words_job : List Row → Option Asked
 words_job rows = Some Words
 
 words_requests : Requests words_leaf.rules
@@ -110,112 +179,112 @@ words_requests = record {
   short = λ x. request_or (104 == x || false) _ None (refl, λ again rows. refl) tt;
 }
 
-abbrev pub words_at : Bool → Walk
-words_at is_trailing = stand [] None 1 is_trailing
-
-words_trailing : (rest : List Text) → outcome words_leaf words_job (words_at true) rest ≡ words_of rest
+words_reads : Reads words_leaf words_job at_first words_of
 unfolding clap_on_literals
-words_trailing [] = refl
-words_trailing (word ∷ rest) = refused words_leaf words_job (words_at true) word rest refl
+words_reads = full_reads words_leaf words_job at_first words_of
+    (record { requests = words_requests; trailing = refl; plain = refl; dashes_pass = refl; dashes_go_on = refl })
+    (record { trailing = λ word. refl; plain = refl; none = λ word rest. refl })
 
-pub words_outcome : (rest : List Text) → outcome words_leaf words_job (words_at false) rest ≡ words_of (arguments rest)
-unfolding clap_on_literals
-words_outcome [] = refl
-words_outcome (word ∷ rest) = go (bytes_eq word (codes "--")) refl
-  where
-    go : (b : Bool) → bytes_eq word (codes "--") ≡ b → outcome words_leaf words_job (words_at false) (word ∷ rest) ≡ words_of (arguments (word ∷ rest))
-    go true dashes = subst (λ (w : Text). outcome words_leaf words_job (words_at false) (w ∷ rest) ≡ words_of (arguments (w ∷ rest))) (is_dashes word dashes)
-        (goes_on words_leaf words_job (words_at false) (words_at true) (codes "--") rest refl refl ∙ words_trailing rest)
-    go false other =
-        let met : outcome words_leaf words_job (words_at false) (word ∷ rest) ≡ words_of (word ∷ arguments rest) = elim (turn_is words_leaf [] word [] None 1 words_requests refl other) [
-          | inl fault ↦ refused words_leaf words_job (words_at false) word rest fault.1
-          | inr taken ↦ refused words_leaf words_job (words_at false) word rest (ap is_empty taken.0)
-        ] in
-        met ∙ ap (words_of) (other_argument word rest other)
+-- ---- `asm SOURCE IMAGE`
 
--- ---- `hunt PC PAUSE`
+abbrev pub asm_leaf : Shape
+asm_leaf = leaf 1
 
-abbrev pub hunt_leaf : Shape
-hunt_leaf = leaf 1
-
-hunt_requests : Requests hunt_leaf.rules
-hunt_requests = record {
+asm_requests : Requests asm_leaf.rules
+asm_requests = record {
   long = λ name. request_or (bytes_eq (codes "help") name || false) _ None (refl, λ again rows. refl) tt;
   short = λ x. request_or (104 == x || false) _ None (refl, λ again rows. refl) tt;
 }
 
--- before the first word, after one and after two
-abbrev at_0 : Bool → Walk
-at_0 is_trailing = stand [] None 1 is_trailing
-
-abbrev at_1 : Text → Bool → Walk
-at_1 pc is_trailing = stand [] (Some (codes "PC", pc ∷ [])) 2 is_trailing
-
-abbrev row : Text → Row
-row pc = record { id = codes "PC"; values = pc ∷ []; count = None; source = Some CommandLine; reading = AsWritten }
-
-abbrev at_2 : Text → Text → Bool → Walk
-at_2 pc pause is_trailing = stand (row pc ∷ []) (Some (codes "PAUSE", pause ∷ [])) 3 is_trailing
-
-abbrev hunted : Walk → List Text → Option Job
-hunted = outcome hunt_leaf hunt_in
-
-trailing_2 : (pc pause : Text) (rest : List Text) → hunted (at_2 pc pause true) rest ≡ hunt_of (pc ∷ pause ∷ rest)
+asm_third : (source image : Text) → Reads asm_leaf asm_in (at_third (codes "SOURCE") source (codes "IMAGE") image) (λ rest. asm_of (source ∷ image ∷ rest))
 unfolding clap_on_literals
-trailing_2 pc pause [] = refl
-trailing_2 pc pause (word ∷ rest) = refused hunt_leaf hunt_in (at_2 pc pause true) word rest refl
+asm_third source image = full_reads asm_leaf asm_in (at_third (codes "SOURCE") source (codes "IMAGE") image) (λ rest. asm_of (source ∷ image ∷ rest))
+    (record { requests = asm_requests; trailing = refl; plain = refl; dashes_pass = refl; dashes_go_on = refl })
+    (record { trailing = λ word. refl; plain = refl; none = λ word rest. refl })
 
-trailing_1 : (pc : Text) (rest : List Text) → hunted (at_1 pc true) rest ≡ hunt_of (pc ∷ rest)
+asm_second : (source : Text) → Reads asm_leaf asm_in (at_second (codes "SOURCE") source) (λ rest. asm_of (source ∷ rest))
 unfolding clap_on_literals
-trailing_1 pc [] = refl
-trailing_1 pc (pause ∷ rest) = goes_on hunt_leaf hunt_in (at_1 pc true) (at_2 pc pause true) pause rest refl refl ∙ trailing_2 pc pause rest
+asm_second source = next_reads asm_leaf asm_in (at_second (codes "SOURCE") source) (λ rest. asm_of (source ∷ rest)) (at_third (codes "SOURCE") source (codes "IMAGE"))
+    (record { requests = asm_requests; trailing = refl; plain = refl; dashes_pass = refl; dashes_go_on = refl })
+    (record { trailing_pass = λ word. refl; trailing_goes_on = λ word. refl; pass = λ word. refl; goes_on = λ word. refl })
+    (asm_third source)
 
-trailing_0 : (rest : List Text) → hunted (at_0 true) rest ≡ hunt_of rest
+asm_reads : Reads asm_leaf asm_in at_first asm_of
 unfolding clap_on_literals
-trailing_0 [] = refl
-trailing_0 (pc ∷ rest) = goes_on hunt_leaf hunt_in (at_0 true) (at_1 pc true) pc rest refl refl ∙ trailing_1 pc rest
+asm_reads = next_reads asm_leaf asm_in at_first asm_of (at_second (codes "SOURCE"))
+    (record { requests = asm_requests; trailing = refl; plain = refl; dashes_pass = refl; dashes_go_on = refl })
+    (record { trailing_pass = λ word. refl; trailing_goes_on = λ word. refl; pass = λ word. refl; goes_on = λ word. refl })
+    asm_second
 
-from_2 : (pc pause : Text) (rest : List Text) → hunted (at_2 pc pause false) rest ≡ hunt_of (pc ∷ pause ∷ arguments rest)
-unfolding clap_on_literals
-from_2 pc pause [] = refl
-from_2 pc pause (word ∷ rest) = go (bytes_eq word (codes "--")) refl
-  where
-    go : (b : Bool) → bytes_eq word (codes "--") ≡ b → hunted (at_2 pc pause false) (word ∷ rest) ≡ hunt_of (pc ∷ pause ∷ arguments (word ∷ rest))
-    go true dashes = subst (λ (w : Text). hunted (at_2 pc pause false) (w ∷ rest) ≡ hunt_of (pc ∷ pause ∷ arguments (w ∷ rest))) (is_dashes word dashes)
-        (goes_on hunt_leaf hunt_in (at_2 pc pause false) (at_2 pc pause true) (codes "--") rest refl refl ∙ trailing_2 pc pause rest)
-    go false other =
-        let met : hunted (at_2 pc pause false) (word ∷ rest) ≡ hunt_of (pc ∷ pause ∷ word ∷ arguments rest) = elim (turn_is hunt_leaf [] word (row pc ∷ []) (Some (codes "PAUSE", pause ∷ [])) 3 hunt_requests refl other) [
-          | inl fault ↦ refused hunt_leaf hunt_in (at_2 pc pause false) word rest fault.1
-          | inr taken ↦ refused hunt_leaf hunt_in (at_2 pc pause false) word rest (ap is_empty taken.0)
-        ] in
-        met ∙ ap (λ (given : List Text). hunt_of (pc ∷ pause ∷ given)) (other_argument word rest other)
+-- ---- `list IMAGE`
 
-from_1 : (pc : Text) (rest : List Text) → hunted (at_1 pc false) rest ≡ hunt_of (pc ∷ arguments rest)
-unfolding clap_on_literals
-from_1 pc [] = refl
-from_1 pc (word ∷ rest) = go (bytes_eq word (codes "--")) refl
-  where
-    go : (b : Bool) → bytes_eq word (codes "--") ≡ b → hunted (at_1 pc false) (word ∷ rest) ≡ hunt_of (pc ∷ arguments (word ∷ rest))
-    go true dashes = subst (λ (w : Text). hunted (at_1 pc false) (w ∷ rest) ≡ hunt_of (pc ∷ arguments (w ∷ rest))) (is_dashes word dashes)
-        (goes_on hunt_leaf hunt_in (at_1 pc false) (at_1 pc true) (codes "--") rest refl refl ∙ trailing_1 pc rest)
-    go false other =
-        let met : hunted (at_1 pc false) (word ∷ rest) ≡ hunt_of (pc ∷ word ∷ arguments rest) = elim (turn_is hunt_leaf [] word [] (Some (codes "PC", pc ∷ [])) 2 hunt_requests refl other) [
-          | inl fault ↦ refused hunt_leaf hunt_in (at_1 pc false) word rest fault.1 ∙ sym (no_pause pc word (arguments rest) fault.0)
-          | inr taken ↦ goes_on hunt_leaf hunt_in (at_1 pc false) (at_2 pc word false) word rest taken.0 taken.1 ∙ from_2 pc word rest
-        ] in
-        met ∙ ap (λ (given : List Text). hunt_of (pc ∷ given)) (other_argument word rest other)
+abbrev pub list_leaf : Shape
+list_leaf = leaf 2
 
-pub hunt_outcome : (rest : List Text) → outcome hunt_leaf hunt_in (at_0 false) rest ≡ hunt_of (arguments rest)
+list_requests : Requests list_leaf.rules
+list_requests = record {
+  long = λ name. request_or (bytes_eq (codes "help") name || false) _ None (refl, λ again rows. refl) tt;
+  short = λ x. request_or (104 == x || false) _ None (refl, λ again rows. refl) tt;
+}
+
+list_second : (image : Text) → Reads list_leaf list_in (at_second (codes "IMAGE") image) (λ rest. list_of (image ∷ rest))
 unfolding clap_on_literals
-hunt_outcome [] = refl
-hunt_outcome (word ∷ rest) = go (bytes_eq word (codes "--")) refl
-  where
-    go : (b : Bool) → bytes_eq word (codes "--") ≡ b → hunted (at_0 false) (word ∷ rest) ≡ hunt_of (arguments (word ∷ rest))
-    go true dashes = subst (λ (w : Text). hunted (at_0 false) (w ∷ rest) ≡ hunt_of (arguments (w ∷ rest))) (is_dashes word dashes)
-        (goes_on hunt_leaf hunt_in (at_0 false) (at_0 true) (codes "--") rest refl refl ∙ trailing_0 rest)
-    go false other =
-        let met : hunted (at_0 false) (word ∷ rest) ≡ hunt_of (word ∷ arguments rest) = elim (turn_is hunt_leaf [] word [] None 1 hunt_requests refl other) [
-          | inl fault ↦ refused hunt_leaf hunt_in (at_0 false) word rest fault.1 ∙ sym (no_pc word (arguments rest) fault.0)
-          | inr taken ↦ goes_on hunt_leaf hunt_in (at_0 false) (at_1 word false) word rest taken.0 taken.1 ∙ from_1 word rest
-        ] in
-        met ∙ ap (hunt_of) (other_argument word rest other)
+list_second image = full_reads list_leaf list_in (at_second (codes "IMAGE") image) (λ rest. list_of (image ∷ rest))
+    (record { requests = list_requests; trailing = refl; plain = refl; dashes_pass = refl; dashes_go_on = refl })
+    (record { trailing = λ word. refl; plain = refl; none = λ word rest. refl })
+
+list_reads : Reads list_leaf list_in at_first list_of
+unfolding clap_on_literals
+list_reads = next_reads list_leaf list_in at_first list_of (at_second (codes "IMAGE"))
+    (record { requests = list_requests; trailing = refl; plain = refl; dashes_pass = refl; dashes_go_on = refl })
+    (record { trailing_pass = λ word. refl; trailing_goes_on = λ word. refl; pass = λ word. refl; goes_on = λ word. refl })
+    list_second
+
+-- ---- `replay IMAGE SCHEDULE`
+
+abbrev pub replay_leaf : Shape
+replay_leaf = leaf 3
+
+replay_requests : Requests replay_leaf.rules
+replay_requests = record {
+  long = λ name. request_or (bytes_eq (codes "help") name || false) _ None (refl, λ again rows. refl) tt;
+  short = λ x. request_or (104 == x || false) _ None (refl, λ again rows. refl) tt;
+}
+
+replay_third : (image schedule : Text)
+    → Reads replay_leaf replay_in (at_third (codes "IMAGE") image (codes "SCHEDULE") schedule) (λ rest. replay_of (image ∷ schedule ∷ rest))
+unfolding clap_on_literals
+replay_third image schedule = full_reads replay_leaf replay_in (at_third (codes "IMAGE") image (codes "SCHEDULE") schedule) (λ rest. replay_of (image ∷ schedule ∷ rest))
+    (record { requests = replay_requests; trailing = refl; plain = refl; dashes_pass = refl; dashes_go_on = refl })
+    (record { trailing = λ word. refl; plain = refl; none = λ word rest. refl })
+
+replay_second : (image : Text) → Reads replay_leaf replay_in (at_second (codes "IMAGE") image) (λ rest. replay_of (image ∷ rest))
+unfolding clap_on_literals
+replay_second image = next_reads replay_leaf replay_in (at_second (codes "IMAGE") image) (λ rest. replay_of (image ∷ rest)) (at_third (codes "IMAGE") image (codes "SCHEDULE"))
+    (record { requests = replay_requests; trailing = refl; plain = refl; dashes_pass = refl; dashes_go_on = refl })
+    (record { trailing_pass = λ word. refl; trailing_goes_on = λ word. refl; pass = λ word. refl; goes_on = λ word. refl })
+    (replay_third image)
+
+replay_reads : Reads replay_leaf replay_in at_first replay_of
+unfolding clap_on_literals
+replay_reads = next_reads replay_leaf replay_in at_first replay_of (at_second (codes "IMAGE"))
+    (record { requests = replay_requests; trailing = refl; plain = refl; dashes_pass = refl; dashes_go_on = refl })
+    (record { trailing_pass = λ word. refl; trailing_goes_on = λ word. refl; pass = λ word. refl; goes_on = λ word. refl })
+    replay_second
+
+-- ---- what each command's words give
+
+abbrev pub words_at : Bool → Walk
+words_at = at at_first
+
+pub words_outcome : (rest : List Text) → outcome words_leaf words_job (words_at false) rest ≡ option_and_then words_of (arguments rest)
+words_outcome = words_reads.plain
+
+pub asm_outcome : (rest : List Text) → outcome asm_leaf asm_in (words_at false) rest ≡ option_and_then asm_of (arguments rest)
+asm_outcome = asm_reads.plain
+
+pub list_outcome : (rest : List Text) → outcome list_leaf list_in (words_at false) rest ≡ option_and_then list_of (arguments rest)
+list_outcome = list_reads.plain
+
+pub replay_outcome : (rest : List Text) → outcome replay_leaf replay_in (words_at false) rest ≡ option_and_then replay_of (arguments rest)
+replay_outcome = replay_reads.plain

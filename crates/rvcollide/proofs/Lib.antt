@@ -10,3 +10,4 @@ pub mod ReplayLemmas
 pub mod RunLemmas
 pub mod StepLemmas
 pub mod WordLemmas
+pub mod SourceLemmas

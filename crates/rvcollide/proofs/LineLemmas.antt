@@ -16,11 +16,9 @@ use Rattle.clap.specs.declared.parser.matches.Found.{Found}
 use Rattle.clap.proofs.OnLiterals.{clap_on_literals}
 use Rattle.clap.proofs.WalkLemmas.{first_value-rows}
 use Rattle.rvcollide.specs.Command.{job_of}
-use Rattle.rvcollide.specs.Malformed.{malformed_in, malformed_read}
 use Rattle.rvcollide.specs.Notice.{is_request}
 use Rattle.rvcollide.specs.Reading.{program}
 use Rattle.rvcollide.specs.internal.Reading.{job_in, job_read}
-use Rattle.rvcollide.specs.declared.malformed.Place.{Place}
 use Rattle.rvcollide.proofs.LeafLemmas.{if_false}
 use Rattle.rvcollide.proofs.ReadsLine.{reads_line}
 
@@ -85,24 +83,3 @@ pub refusal_told : (kinds : Kinds) (e : Error) (b : Bool) → HasKind kinds e �
     → b ≡ false → (not (is_empty kinds) && list_all is_request kinds) ≡ false
 refusal_told kinds e b (inl memory) other shown f = absurd (other memory)
 refusal_told kinds e b (inr among) other shown f = and_right (not (is_empty kinds)) _ (refusal_among (kind_of e) kinds among (sym shown ∙ f))
-
--- ---- the malformed word that is told
-
-pub malformed_found : (words : List Text) (m : ArgMatches) (P : Place × Text → Type 0) → fault_of program words ≡ []
-    → subcommand_rows_of m ≡ subcommand_of program words → IfSome (option_and_then malformed_in (subcommand_rows_of m)) P → IfSome (malformed_read words) P
-unfolding malformed_read
-malformed_found words m P none rows told =
-    let accepted : malformed_read words ≡ option_and_then malformed_in (subcommand_of program words) = ap (λ (kinds : Kinds). if is_empty kinds then option_and_then malformed_in (subcommand_of program words) else None) none in
-    let same : malformed_read words ≡ option_and_then malformed_in (subcommand_rows_of m) = accepted ∙ ap (option_and_then malformed_in) (sym rows) in
-    subst (λ (o : Option (Place × Text)). IfSome o P) (sym same) told
-
-none_is : (o : Option (Place × Text)) (P : Place × Text → Type 0) → o ≡ None → IfSome o P
-none_is None P none = tt
-none_is (Some x) P none = cc
-
-pub malformed_only_accepted : (words : List Text) (e : Error) (P : Place × Text → Type 0) → HasKind (fault_of program words) e → kind_of e ≢ kind.OutOfMemory
-    → IfSome (malformed_read words) P
-unfolding malformed_read
-malformed_only_accepted words e P (inl memory) other = absurd (other memory)
-malformed_only_accepted words e P (inr among) other =
-    none_is (malformed_read words) P (if_false _ _ _ (among_some (kind_of e) (fault_of program words) among))

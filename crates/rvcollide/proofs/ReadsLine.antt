@@ -10,10 +10,10 @@ use Rattle.clap.proofs.OnLiterals.{clap_on_literals}
 use Rattle.clap.proofs.FaultLemmas.{stopped_fault}
 use Rattle.clap.proofs.WalkLemmas.{walk_stopped}
 use Rattle.rvcollide.proofs.WordLemmas.{Requests, first_stays, turn_is}
-use Rattle.rvcollide.proofs.LeafLemmas.{hunt_leaf, hunt_outcome, if_false, is_dashes, leaf, outcome, request_or, words_at, words_job, words_leaf, words_outcome}
+use Rattle.rvcollide.proofs.LeafLemmas.{asm_leaf, asm_outcome, if_false, is_dashes, leaf, list_leaf, list_outcome, outcome, replay_leaf, replay_outcome, request_or, words_at, words_job, words_leaf, words_outcome}
 use Rattle.rvcollide.specs.Command.{command_job, job_of}
 use Rattle.rvcollide.specs.Reading.{program}
-use Rattle.rvcollide.specs.internal.Reading.{hunt_in, job_in, job_read}
+use Rattle.rvcollide.specs.internal.Reading.{asm_in, job_in, job_read, list_in, replay_in}
 
 abbrev Built : App
 Built = built program
@@ -41,21 +41,43 @@ words_fault n rest =
     ap₂ through (all_left (codes "words") rest) (stopped_fault Built.top (names_of Built) (walk_from nothing_held) (codes "words", []) rest)
     ∙ nothing_next (level_fault (leaf 0) [] nothing_held rest false [])
 
-hunt_fault : (n : Text) (rest : List Text) → fault_of program (n ∷ codes "hunt" ∷ rest) ≡ level_fault (leaf 1) [] nothing_held rest false []
-unfolding clap_on_literals
-hunt_fault n rest =
-    ap₂ through (all_left (codes "hunt") rest) (stopped_fault Built.top (names_of Built) (walk_from nothing_held) (codes "hunt", []) rest)
-    ∙ nothing_next (level_fault (leaf 1) [] nothing_held rest false [])
-
 words_job_is : (n : Text) (rest : List Text) → job_read (n ∷ codes "words" ∷ rest) ≡ outcome words_leaf words_job (words_at false) rest
 unfolding clap_on_literals job_read
 words_job_is n rest =
     ap₂ (λ (kinds : Kinds) (w : Walk). if is_empty kinds then option_and_then job_in (entered Built w.stopped) else None) (words_fault n rest) (all_left (codes "words") rest)
 
-hunt_job : (n : Text) (rest : List Text) → job_read (n ∷ codes "hunt" ∷ rest) ≡ outcome hunt_leaf hunt_in (words_at false) rest
+asm_fault : (n : Text) (rest : List Text) → fault_of program (n ∷ codes "asm" ∷ rest) ≡ level_fault (leaf 1) [] nothing_held rest false []
+unfolding clap_on_literals
+asm_fault n rest =
+    ap₂ through (all_left (codes "asm") rest) (stopped_fault Built.top (names_of Built) (walk_from nothing_held) (codes "asm", []) rest)
+    ∙ nothing_next (level_fault (leaf 1) [] nothing_held rest false [])
+
+asm_job_is : (n : Text) (rest : List Text) → job_read (n ∷ codes "asm" ∷ rest) ≡ outcome asm_leaf asm_in (words_at false) rest
 unfolding clap_on_literals job_read
-hunt_job n rest =
-    ap₂ (λ (kinds : Kinds) (w : Walk). if is_empty kinds then option_and_then job_in (entered Built w.stopped) else None) (hunt_fault n rest) (all_left (codes "hunt") rest)
+asm_job_is n rest =
+    ap₂ (λ (kinds : Kinds) (w : Walk). if is_empty kinds then option_and_then job_in (entered Built w.stopped) else None) (asm_fault n rest) (all_left (codes "asm") rest)
+
+list_fault : (n : Text) (rest : List Text) → fault_of program (n ∷ codes "list" ∷ rest) ≡ level_fault (leaf 2) [] nothing_held rest false []
+unfolding clap_on_literals
+list_fault n rest =
+    ap₂ through (all_left (codes "list") rest) (stopped_fault Built.top (names_of Built) (walk_from nothing_held) (codes "list", []) rest)
+    ∙ nothing_next (level_fault (leaf 2) [] nothing_held rest false [])
+
+list_job_is : (n : Text) (rest : List Text) → job_read (n ∷ codes "list" ∷ rest) ≡ outcome list_leaf list_in (words_at false) rest
+unfolding clap_on_literals job_read
+list_job_is n rest =
+    ap₂ (λ (kinds : Kinds) (w : Walk). if is_empty kinds then option_and_then job_in (entered Built w.stopped) else None) (list_fault n rest) (all_left (codes "list") rest)
+
+replay_fault : (n : Text) (rest : List Text) → fault_of program (n ∷ codes "replay" ∷ rest) ≡ level_fault (leaf 3) [] nothing_held rest false []
+unfolding clap_on_literals
+replay_fault n rest =
+    ap₂ through (all_left (codes "replay") rest) (stopped_fault Built.top (names_of Built) (walk_from nothing_held) (codes "replay", []) rest)
+    ∙ nothing_next (level_fault (leaf 3) [] nothing_held rest false [])
+
+replay_job_is : (n : Text) (rest : List Text) → job_read (n ∷ codes "replay" ∷ rest) ≡ outcome replay_leaf replay_in (words_at false) rest
+unfolding clap_on_literals job_read
+replay_job_is n rest =
+    ap₂ (λ (kinds : Kinds) (w : Walk). if is_empty kinds then option_and_then job_in (entered Built w.stopped) else None) (replay_fault n rest) (all_left (codes "replay") rest)
 
 -- ---- no other word is a command
 
@@ -76,24 +98,43 @@ top_requests = record {
       (request_or (86 == x || false) _ _ (refl, λ again rows. refl) tt);
 }
 
-none_met : (word : Text) → bytes_eq (codes "words") word ≡ false → bytes_eq (codes "hunt") word ≡ false → bytes_eq (codes "help") word ≡ false
-    → subcommand_met (names_of Built) idle word ≡ None
-none_met word no_words no_hunt no_help = rw (no_words, no_hunt, no_help) refl
+-- the word is no command's name
+record Unmet (word : Text) : Type 0 where
+  pub no_words : bytes_eq (codes "words") word ≡ false
+  pub no_asm : bytes_eq (codes "asm") word ≡ false
+  pub no_list : bytes_eq (codes "list") word ≡ false
+  pub no_replay : bytes_eq (codes "replay") word ≡ false
+
+none_met : (word : Text) → Unmet word → bytes_eq (codes "help") word ≡ false → subcommand_met (names_of Built) idle word ≡ None
+none_met word unmet no_help = rw (unmet.no_words, unmet.no_asm, unmet.no_list, unmet.no_replay, no_help) refl
 
 turn_refused : (n word : Text) (rest : List Text) → is_empty (turn_fault Built.top (names_of Built) (words_at false) word) ≡ false → job_read (n ∷ word ∷ rest) ≡ None
 unfolding clap_on_literals job_read
 turn_refused n word rest fault = if_false _ _ _ (first_stays _ _ (first_stays _ _ fault))
 
-other_is_none : (n word : Text) (rest : List Text) → bytes_eq (codes "words") word ≡ false → bytes_eq (codes "hunt") word ≡ false → bytes_eq (codes "help") word ≡ false
-    → bytes_eq word (codes "--") ≡ false → job_read (n ∷ word ∷ rest) ≡ None
-other_is_none n word rest no_words no_hunt no_help other =
-    elim (turn_is Built.top (names_of Built) word [] None 1 top_requests (none_met word no_words no_hunt no_help) other) [
+other_is_none : (n word : Text) (rest : List Text) → Unmet word → bytes_eq (codes "help") word ≡ false → bytes_eq word (codes "--") ≡ false → job_read (n ∷ word ∷ rest) ≡ None
+other_is_none n word rest unmet no_help other =
+    elim (turn_is Built.top (names_of Built) word [] None 1 top_requests (none_met word unmet no_help) other) [
       | inl fault ↦ turn_refused n word rest fault.1
-      | inr taken ↦ turn_refused n word rest (ap is_empty taken.0)
+      | inr taken ↦ turn_refused n word rest (ap is_empty taken.1)
     ]
 
 is_word : (name word : Text) → bytes_eq name word ≡ true → name ≡ word
 is_word name word same = (bytes_eq-Decides name word).0 same
+
+no_command : (n word : Text) (rest : List Text) → Unmet word → job_read (n ∷ word ∷ rest) ≡ None
+no_command n word rest unmet = by_help (bytes_eq (codes "help") word) refl
+  where
+    None_at : Text → Type 0
+    None_at w = job_read (n ∷ w ∷ rest) ≡ None
+
+    by_dashes : (b : Bool) → bytes_eq (codes "help") word ≡ false → bytes_eq word (codes "--") ≡ b → None_at word
+    by_dashes true no_help dashes = subst None_at (is_dashes word dashes) (dashes_are_none n rest)
+    by_dashes false no_help other = other_is_none n word rest unmet no_help other
+
+    by_help : (b : Bool) → bytes_eq (codes "help") word ≡ b → None_at word
+    by_help true help = subst None_at (is_word (codes "help") word help) (help_is_none n rest)
+    by_help false no_help = by_dashes (bytes_eq word (codes "--")) no_help refl
 
 -- the job that `clap` finds is the one that the line spells
 pub reads_line : (words : List Text) → job_read words ≡ job_of words
@@ -105,22 +146,24 @@ reads_line (n ∷ word ∷ rest) = by_words (bytes_eq (codes "words") word) refl
     Same : Text → Type 0
     Same w = job_read (n ∷ w ∷ rest) ≡ command_job w rest
 
-    by_dashes : (b : Bool) → bytes_eq (codes "words") word ≡ false → bytes_eq (codes "hunt") word ≡ false → bytes_eq (codes "help") word ≡ false
-        → bytes_eq word (codes "--") ≡ b → job_read (n ∷ word ∷ rest) ≡ None
-    by_dashes true no_words no_hunt no_help dashes = subst (λ (w : Text). job_read (n ∷ w ∷ rest) ≡ None) (is_dashes word dashes) (dashes_are_none n rest)
-    by_dashes false no_words no_hunt no_help other = other_is_none n word rest no_words no_hunt no_help other
+    nothing : Unmet word → None ≡ command_job word rest
+    nothing unmet = rw (unmet.no_words, unmet.no_asm, unmet.no_list, unmet.no_replay) refl
 
-    by_help : (b : Bool) → bytes_eq (codes "words") word ≡ false → bytes_eq (codes "hunt") word ≡ false → bytes_eq (codes "help") word ≡ b
-        → job_read (n ∷ word ∷ rest) ≡ None
-    by_help true no_words no_hunt help = subst (λ (w : Text). job_read (n ∷ w ∷ rest) ≡ None) (is_word (codes "help") word help) (help_is_none n rest)
-    by_help false no_words no_hunt no_help = by_dashes (bytes_eq word (codes "--")) no_words no_hunt no_help refl
+    by_replay : (b : Bool) → bytes_eq (codes "words") word ≡ false → bytes_eq (codes "asm") word ≡ false → bytes_eq (codes "list") word ≡ false
+        → bytes_eq (codes "replay") word ≡ b → Same word
+    by_replay true no_words no_asm no_list replay = subst Same (is_word (codes "replay") word replay) (replay_job_is n rest ∙ replay_outcome rest)
+    by_replay false no_words no_asm no_list no_replay =
+        let unmet : Unmet word = record { no_words = no_words; no_asm = no_asm; no_list = no_list; no_replay = no_replay } in
+        no_command n word rest unmet ∙ nothing unmet
 
-    by_hunt : (b : Bool) → bytes_eq (codes "words") word ≡ false → bytes_eq (codes "hunt") word ≡ b → Same word
-    by_hunt true no_words hunt = subst Same (is_word (codes "hunt") word hunt) (hunt_job n rest ∙ hunt_outcome rest)
-    by_hunt false no_words no_hunt =
-        let nothing : None ≡ command_job word rest = rw (no_words, no_hunt) refl in
-        by_help (bytes_eq (codes "help") word) no_words no_hunt refl ∙ nothing
+    by_list : (b : Bool) → bytes_eq (codes "words") word ≡ false → bytes_eq (codes "asm") word ≡ false → bytes_eq (codes "list") word ≡ b → Same word
+    by_list true no_words no_asm list = subst Same (is_word (codes "list") word list) (list_job_is n rest ∙ list_outcome rest)
+    by_list false no_words no_asm no_list = by_replay (bytes_eq (codes "replay") word) no_words no_asm no_list refl
+
+    by_asm : (b : Bool) → bytes_eq (codes "words") word ≡ false → bytes_eq (codes "asm") word ≡ b → Same word
+    by_asm true no_words asm = subst Same (is_word (codes "asm") word asm) (asm_job_is n rest ∙ asm_outcome rest)
+    by_asm false no_words no_asm = by_list (bytes_eq (codes "list") word) no_words no_asm refl
 
     by_words : (b : Bool) → bytes_eq (codes "words") word ≡ b → Same word
     by_words true words = subst Same (is_word (codes "words") word words) (words_job_is n rest ∙ words_outcome rest)
-    by_words false no_words = by_hunt (bytes_eq (codes "hunt") word) no_words refl
+    by_words false no_words = by_asm (bytes_eq (codes "asm") word) no_words refl

@@ -1,11 +1,8 @@
-use Rattle.std.specs.Prelude.{◌≡◌, ◌≤◌, ℕ, drop, slice_get, List, [], ◌∷◌, map, Option, Some, None, option_map, option_and_then, codes, if◌then◌else◌, nat_le}
+use Rattle.std.specs.Prelude.{◌≡◌, ℕ, ◌==◌, ◌&&◌, Bool, false, is_some, drop, slice_get, List, [], ◌∷◌, map, Contains, Option, Some, None, option_map, option_and_then, codes, if◌then◌else◌}
 use Rattle.std.specs.Borrow.{Bor}
-use Rattle.std.specs.List.{Any}
-use Rattle.std.specs.Str.{bytes_eq}
-use Rattle.rv_text.specs.Numeral.{number_of, up_to}
-use Rattle.rv_text.specs.Hexadecimal.{word_of}
+use Rattle.std.specs.Str.{bytes_eq, chars}
 use Rattle.rvcollide.specs.declared.command.Job.{Job}
-use Rattle.rvcollide.specs.declared.command.Job.TheVariants.{Words, Hunt}
+use Rattle.rvcollide.specs.declared.command.Job.TheVariants as job
 
 -- Which job a command line asks for. A word is the list of its bytes.
 
@@ -13,49 +10,70 @@ use Rattle.rvcollide.specs.declared.command.Job.TheVariants.{Words, Hunt}
 abbrev pub texts : List (Bor (List ℕ)) → List (List ℕ)
 texts words = map (λ word. word.now) words
 
--- the number, if it is at least the limit
-abbrev pub from : ℕ → Option ℕ → Option ℕ
-from least None = None
-from least (Some n) = if nat_le least n then Some n else None
+-- a job, with its paths as texts
+pub data Asked : Type 0 where
+  Words : Asked
+  Asm : (source image : List ℕ) → Asked
+  Listing : (image : List ℕ) → Asked
+  Replay : (image schedule : List ℕ) → Asked
 
--- a pause's length: 1 to 65,535 in decimal digits, with no sign
-abbrev pub pause_of : List ℕ → Option ℕ
-pause_of text = from 1 (up_to 65535 (number_of 10 text))
+-- what a job asks for: each of its paths in its own role
+abbrev pub asked : Job → Asked
+asked job.Words = Words
+asked (job.Asm source image) = Asm source.0.now image.0.now
+asked (job.List image) = Listing image.0.now
+asked (job.Replay image schedule) = Replay image.0.now schedule.0.now
 
--- a pause of this length at this address
-abbrev pub at_place : Option ℕ → Option ℕ → Option Job
-at_place pc pause = option_and_then (λ address. option_map (λ length. Hunt (record { 0 = address }) (record { 0 = length })) pause) pc
+-- a hyphen and a character after it begin an option, and no command has options
+abbrev pub is_option : List ℕ → Bool
+is_option [] = false
+is_option (byte ∷ rest) = byte == 45 && is_some (slice_get (chars rest) 0)
 
--- the words after a command's name, without a first `--`, which only says that no option follows
-abbrev pub arguments : List (List ℕ) → List (List ℕ)
-arguments [] = []
-arguments (word ∷ rest) = if bytes_eq word (codes "--") then rest else word ∷ arguments rest
+-- the arguments among the words after a command's name. A first `--` is none and says that no option follows.
+abbrev pub arguments : List (List ℕ) → Option (List (List ℕ))
+arguments [] = Some []
+arguments (word ∷ rest) =
+    if bytes_eq word (codes "--") then Some rest
+    else (if is_option word then None
+    else option_map (λ given. word ∷ given) (arguments rest))
 
 -- `words` has no argument
-abbrev pub words_of : List (List ℕ) → Option Job
+abbrev pub words_of : List (List ℕ) → Option Asked
 words_of [] = Some Words
 words_of _ = None
 
--- `hunt PC PAUSE`: an address of eight hexadecimal digits in either case, and a pause's length
-abbrev pub hunt_of : List (List ℕ) → Option Job
-hunt_of (pc ∷ pause ∷ []) = at_place (word_of pc) (pause_of pause)
-hunt_of _ = None
+-- `asm SOURCE IMAGE`
+abbrev pub asm_of : List (List ℕ) → Option Asked
+asm_of (source ∷ image ∷ []) = Some (Asm source image)
+asm_of _ = None
+
+-- `list IMAGE`
+abbrev pub list_of : List (List ℕ) → Option Asked
+list_of (image ∷ []) = Some (Listing image)
+list_of _ = None
+
+-- `replay IMAGE SCHEDULE`
+abbrev pub replay_of : List (List ℕ) → Option Asked
+replay_of (image ∷ schedule ∷ []) = Some (Replay image schedule)
+replay_of _ = None
 
 -- the job of the command of this name with these words after it
-abbrev pub command_job : List ℕ → List (List ℕ) → Option Job
+abbrev pub command_job : List ℕ → List (List ℕ) → Option Asked
 command_job name rest =
-    if bytes_eq (codes "words") name then words_of (arguments rest)
-    else (if bytes_eq (codes "hunt") name then hunt_of (arguments rest)
-    else None)
+    if bytes_eq (codes "words") name then option_and_then words_of (arguments rest)
+    else (if bytes_eq (codes "asm") name then option_and_then asm_of (arguments rest)
+    else (if bytes_eq (codes "list") name then option_and_then list_of (arguments rest)
+    else (if bytes_eq (codes "replay") name then option_and_then replay_of (arguments rest)
+    else None)))
 
 -- the job that a line asks for: the program's name, the command's, and the command's words
-unfoldable pub job_of : List (List ℕ) → Option Job
+unfoldable pub job_of : List (List ℕ) → Option Asked
 job_of (name ∷ command ∷ rest) = command_job command rest
 job_of _ = None
 
--- each required word of the job stands in the line, and each number lies in its range
-abbrev pub IsGiven : List (List ℕ) → Job → Type 0
+-- the command's name and each path of the job stand in the line
+abbrev pub IsGiven : List (List ℕ) → Asked → Type 0
 IsGiven words Words = slice_get words 1 ≡ Some (codes "words")
-IsGiven words (Hunt pc pause) = (slice_get words 1 ≡ Some (codes "hunt"))
-    × Any (λ word. word_of word ≡ Some pc.0) (drop 2 words) × Any (λ word. pause_of word ≡ Some pause.0) (drop 2 words)
-    × (1 ≤ pause.0) × (pause.0 ≤ 65535)
+IsGiven words (Asm source image) = (slice_get words 1 ≡ Some (codes "asm")) × Contains (drop 2 words) source × Contains (drop 2 words) image
+IsGiven words (Listing image) = (slice_get words 1 ≡ Some (codes "list")) × Contains (drop 2 words) image
+IsGiven words (Replay image schedule) = (slice_get words 1 ≡ Some (codes "replay")) × Contains (drop 2 words) image × Contains (drop 2 words) schedule

@@ -1,4 +1,7 @@
 use Rattle.std.specs.Prelude.{◌≡◌, ⊤, Bool, true, false, if◌then◌else◌, Result, Ok, Err}
+use Rattle.rv_asm.specs.declared.fault.AsmFault.{AsmFault}
+use Rattle.rv_asm.specs.declared.statement.AsmKind.{AsmKind}
+use Rattle.rv_asm.specs.declared.statement.AsmKind.TheVariants as kind
 use Rattle.rv_asm.specs.declared.listing.list.ListFault.{ListFault}
 use Rattle.rv_asm.specs.declared.listing.list.ListFault.TheVariants as list
 use Rattle.rv_collide.specs.Reading as schedule
@@ -11,13 +14,21 @@ use Rattle.rv_elf.specs.declared.fault.LoadFault.TheVariants as load
 use Rattle.rv_memory.specs.declared.flagged.ReadFault.{ReadFault}
 use Rattle.rv_memory.specs.declared.flagged.ReadFault.TheVariants as read
 use Rattle.rvcollide.specs.declared.fault.Fault.{Fault}
-use Rattle.rvcollide.specs.declared.fault.Fault.TheVariants.{Line, Step, Load, Schedule, Entry, TooLong, Read, Write, NoMemory}
+use Rattle.rvcollide.specs.declared.fault.Fault.TheVariants.{Line, Step, Asm, Load, Schedule, Entry, TooLong, Read, Write, NoMemory}
 use Rattle.rvcollide.specs.declared.words.input.InputFault.{InputFault}
 use Rattle.rvcollide.specs.declared.words.input.InputFault.TheVariants as input
 
 abbrev pub fault_of_input : InputFault → Fault
 fault_of_input (input.Line number) = Line number
 fault_of_input input.NoMemory = NoMemory
+
+-- that memory is out is no fault of the source
+abbrev pub fault_of_kind : AsmFault → AsmKind → Fault
+fault_of_kind fault kind.NoMemory = NoMemory
+fault_of_kind fault _ = Asm fault
+
+abbrev pub fault_of_asm : AsmFault → Fault
+fault_of_asm fault = fault_of_kind fault fault.kind
 
 abbrev pub fault_of_load : LoadFault → Fault
 fault_of_load load.NoMemory = NoMemory
@@ -44,6 +55,7 @@ fault_of_read read.NoMemory = NoMemory
 abbrev pub IsToldFault : {A : Type 0} → Result A Fault → Fault → Type 0
 IsToldFault told (Line number) = told ≡ Err (Line number)
 IsToldFault told (Step number fault) = told ≡ Err (Step number fault)
+IsToldFault told (Asm fault) = told ≡ Err (Asm fault)
 IsToldFault told (Load fault) = told ≡ Err (Load fault)
 IsToldFault told (Schedule fault) = told ≡ Err (Schedule fault)
 IsToldFault told (Entry place why) = told ≡ Err (Entry place why)
@@ -56,6 +68,7 @@ IsToldFault told NoMemory = ⊤
 abbrev pub is_read : Fault → Bool
 is_read (Line number) = false
 is_read (Step number fault) = false
+is_read (Asm fault) = false
 is_read (Load fault) = false
 is_read (Schedule fault) = false
 is_read (Entry place why) = false
@@ -68,6 +81,7 @@ is_read NoMemory = false
 abbrev pub is_write : Fault → Bool
 is_write (Line number) = false
 is_write (Step number fault) = false
+is_write (Asm fault) = false
 is_write (Load fault) = false
 is_write (Schedule fault) = false
 is_write (Entry place why) = false

@@ -1,9 +1,11 @@
 use Rattle.std.specs.Prelude.{ℕ, Option, Some, None, List, ◌++◌, codes}
 use Rattle.std.specs.Fmt.{decimal}
+use Rattle.rv_asm.specs.declared.statement.AsmKind.{AsmKind}
+use Rattle.rv_asm.specs.declared.statement.AsmKind.TheVariants as kind
 use Rattle.rv_hart.specs.declared.machine.StepFault.{StepFault}
 use Rattle.rv_hart.specs.declared.machine.StepFault.TheVariants as refused
 use Rattle.rvcollide.specs.declared.fault.Fault.{Fault}
-use Rattle.rvcollide.specs.declared.fault.Fault.TheVariants.{Line, Step, Load, Schedule, Entry, TooLong, Read, Write, NoMemory}
+use Rattle.rvcollide.specs.declared.fault.Fault.TheVariants.{Line, Step, Asm, Load, Schedule, Entry, TooLong, Read, Write, NoMemory}
 
 abbrev pub step_fault_name : StepFault → List ℕ
 step_fault_name refused.NoHart = codes "NoHart"
@@ -11,11 +13,23 @@ step_fault_name refused.NotRunning = codes "NotRunning"
 step_fault_name refused.OutputFull = codes "OutputFull"
 step_fault_name refused.NoMemory = codes "NoMemory"
 
+abbrev pub asm_fault_name : AsmKind → List ℕ
+asm_fault_name kind.Word = codes "Word"
+asm_fault_name kind.Register = codes "Register"
+asm_fault_name kind.Range = codes "Range"
+asm_fault_name kind.LabelTwice = codes "LabelTwice"
+asm_fault_name kind.LabelUnknown = codes "LabelUnknown"
+asm_fault_name kind.Directive = codes "Directive"
+asm_fault_name kind.TooLarge = codes "TooLarge"
+asm_fault_name kind.NoMemory = codes "NoMemory"
+asm_fault_name kind.Empty = codes "Empty"
+
 -- what the program writes of a fault, after its own name; the names of load faults are rv_elf's, those of
 -- faults of schedules and of entries rv_collide's
 abbrev pub fault_output : Fault → Option (List ℕ)
 fault_output (Line number) = Some (codes "words line " ++ decimal number)
 fault_output (Step number fault) = Some (codes "words step " ++ (decimal number ++ (codes " " ++ step_fault_name fault)))
+fault_output (Asm fault) = Some (codes "asm line " ++ (decimal fault.line ++ (codes " " ++ asm_fault_name fault.kind)))
 fault_output (Load fault) = None
 fault_output (Schedule fault) = None
 fault_output (Entry place why) = None
@@ -28,6 +42,7 @@ fault_output NoMemory = Some (codes "memory")
 abbrev pub status : Fault → ℕ
 status (Line number) = 1
 status (Step number fault) = 1
+status (Asm fault) = 1
 status (Load fault) = 1
 status (Schedule fault) = 1
 status (Entry place why) = 1

@@ -4,7 +4,7 @@ use Rattle.rv_text.specs.Lines.{text_of_lines}
 use Rattle.rv_hart.specs.Texts.{access_text, state_text}
 use Rattle.rvcollide.specs.Words.{start_of, told_input, refusal}
 use Rattle.rvcollide.specs.declared.fault.Fault.{Fault}
-use Rattle.rvcollide.specs.declared.fault.Fault.TheVariants.{Line, Step, Load, Schedule, Entry, TooLong, Read, Write, NoMemory}
+use Rattle.rvcollide.specs.declared.fault.Fault.TheVariants.{Line, Step, Asm, Load, Schedule, Entry, TooLong, Read, Write, NoMemory}
 use Rattle.rv_hart.specs.Conflict.{Conflict}
 use Rattle.rv_hart.specs.Next.{next_access, access_of_step}
 use Rattle.rv_hart.specs.Run.{run}
@@ -82,6 +82,7 @@ abbrev pub IsHuntFault : List ℕ → Fault → Type 0
 IsHuntFault bytes (Line number) = told_input bytes ≡ Err (Line number)
 IsHuntFault bytes (Step number fault) =
     IsOkAnd (told_input bytes) (λ input. RefusesStep (start_of input) input.steps number fault)
+IsHuntFault bytes (Asm fault) = ⊥
 IsHuntFault bytes (Load fault) = ⊥
 IsHuntFault bytes (Schedule fault) = ⊥
 IsHuntFault bytes (Entry place why) = ⊥

@@ -4,11 +4,11 @@ pub mod FaultText
 pub mod HartsLine
 pub mod Hunt
 pub mod Images
-pub mod Malformed
 pub mod Notice
 pub mod Prefix
 pub mod Reading
 pub mod Replay
+pub mod Sources
 pub mod StepsLaw
 pub mod StepsLine
 pub mod Words

@@ -14,16 +14,29 @@ required_word name = record (new_rule name) { required = true }
 abbrev pub words_shape : Shape
 words_shape = new_shape (codes "words")
 
-abbrev pub hunt_shape : Shape
-hunt_shape = record (new_shape (codes "hunt")) {
-  rules = required_word (codes "PC") ∷ required_word (codes "PAUSE") ∷ [];
+abbrev pub asm_shape : Shape
+asm_shape = record (new_shape (codes "asm")) {
+  rules = required_word (codes "SOURCE") ∷ required_word (codes "IMAGE") ∷ [];
+}
+
+abbrev pub list_shape : Shape
+list_shape = record (new_shape (codes "list")) {
+  rules = required_word (codes "IMAGE") ∷ [];
+}
+
+abbrev pub replay_shape : Shape
+replay_shape = record (new_shape (codes "replay")) {
+  rules = required_word (codes "IMAGE") ∷ required_word (codes "SCHEDULE") ∷ [];
 }
 
 abbrev pub without_commands : App
 without_commands = on_top (λ s. record s { has_version = true; subcommand_required = true }) (new_app (codes "rvcollide"))
 
+abbrev pub with_texts : App
+with_texts = with_subcommand (with_subcommand without_commands words_shape) asm_shape
+
 abbrev pub program : App
-program = with_subcommand (with_subcommand without_commands words_shape) hunt_shape
+program = with_subcommand (with_subcommand with_texts list_shape) replay_shape
 
 -- `clap` finds no fault in the words
 abbrev pub is_accepted : List Text → Bool

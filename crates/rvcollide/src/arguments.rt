@@ -1,5 +1,17 @@
 //! The arguments of commands. Each has a type of its own, so that none is taken for another.
 
+/// The path of a source.
+#[derive(Clone, Copy, Debug, PartialEq, Eq)]
+pub struct SourcePath<'a>(pub &'a str);
+
+/// The path of an image.
+#[derive(Clone, Copy, Debug, PartialEq, Eq)]
+pub struct ImagePath<'a>(pub &'a str);
+
+/// The path of a schedule.
+#[derive(Clone, Copy, Debug, PartialEq, Eq)]
+pub struct SchedulePath<'a>(pub &'a str);
+
 /// The address of an instruction.
 #[derive(Clone, Copy, Debug, PartialEq, Eq)]
 pub struct Address(pub u32);

@@ -1,5 +1,5 @@
 //! The command line: which job its words ask for. `clap` reads the words, and this module says which
-//! commands there are, and reads the numbers.
+//! commands there are.
 ghost use Rattle.std.specs.Prelude.{◌≡◌, ◌⊎◌, ◌≢◌, IfErr, IfOk, IfSome, MatchResult, Some, None, true, false, option_and_then, option_map};
 ghost use Rattle.std.specs.String.{string_bytes};
 ghost use Rattle.clap.specs.Faults.{fault_of};
@@ -10,27 +10,35 @@ ghost use Rattle.clap.specs.Values.{kind_of};
 ghost use Rattle.clap.specs.Walk.{first_of, rows_of, rule_of};
 ghost use Rattle.clap.specs.declared.builder.command.Command.TheViews.{out-Command as fields_of};
 ghost use Rattle.rvcollide.specs.Command as spec;
-ghost use Rattle.rvcollide.specs.Malformed as malformed;
 ghost use Rattle.rvcollide.specs.Notice as notice;
 ghost use Rattle.rvcollide.specs.Reading as reading;
 ghost use Rattle.rvcollide.specs.internal.Reading as jobs;
 
-use crate::arguments::{Address, PauseLength};
-use crate::malformed::malformed_in;
+use crate::arguments::{ImagePath, SchedulePath, SourcePath};
 use clap::error::ErrorKind;
 use clap::{Arg, ArgMatches, Command, Error};
-use rv_text::hexadecimal::read_word;
-use rv_text::numeral::read_number;
 use std::alloc::{AllocError, Global};
 use std::fmt::Display;
 
 /// What a command line asks for.
 #[derive(Clone, Copy, Debug, PartialEq, Eq)]
-pub enum Job {
+pub enum Job<'a> {
     /// `words`: run the words of the standard input.
     Words,
-    /// `hunt PC PAUSE`: the same, with one pause before an access at `pc`.
-    Hunt { pc: Address, pause: PauseLength },
+    /// `asm SOURCE IMAGE`: make the image of a source.
+    Asm {
+        source: SourcePath<'a>,
+        image: ImagePath<'a>,
+    },
+    /// `list IMAGE`: list an image.
+    List {
+        image: ImagePath<'a>,
+    },
+    /// `replay IMAGE SCHEDULE`: run a schedule again.
+    Replay {
+        image: ImagePath<'a>,
+        schedule: SchedulePath<'a>,
+    },
 }
 
 /// Why a command line gives no job.
@@ -53,9 +61,9 @@ pub enum Notice {
 
 /// The job that the words of a command line ask for, the program's name first. `Line` comes where they
 /// spell none, and also where they ask for the help or the version: `notice_of` has those texts.
-pub fn command_of<'a>(alloc: Global, words: &'a [&'a str]) -> Result<Job, LineFault>
-    ensures job { IfOk result (λ job. spec.job_of (spec.texts words.entry.now) ≡ Some job) }
-    ensures given { IfOk result (spec.IsGiven (spec.texts words.entry.now)) }
+pub fn command_of<'a>(alloc: Global, words: &'a [&'a str]) -> Result<Job<'a>, LineFault>
+    ensures job { IfOk result (λ job. spec.job_of (spec.texts words.entry.now) ≡ Some (spec.asked job)) }
+    ensures given { IfOk result (λ job. spec.IsGiven (spec.texts words.entry.now) (spec.asked job)) }
     ensures line { IfErr result (λ e. e ≡ LineFault.Line → spec.job_of (spec.texts words.entry.now) ≡ None) }
 {
     match read_line(alloc, words) {
@@ -64,17 +72,14 @@ pub fn command_of<'a>(alloc: Global, words: &'a [&'a str]) -> Result<Job, LineFa
     }
 }
 
-/// What to write of a line that `command_of` refuses. The words are the same. Where `clap` finds no fault in
-/// them the text tells the first that is malformed; else it is `clap`'s.
+/// What to write of a line that `command_of` refuses. The words are the same, and the text is `clap`'s.
 pub fn notice_of<'a>(alloc: Global, words: &'a [&'a str]) -> Result<Notice, LineFault>
     ensures answer { IfOk result (λ n. notice.is_answer n ≡ true → notice.asks (spec.texts words.entry.now) ≡ true) }
     ensures refusal { IfOk result (λ n. notice.is_answer n ≡ false → notice.only_asks (spec.texts words.entry.now) ≡ false) }
-    ensures malformed { IfOk result (λ n. IfSome (malformed.malformed_read (spec.texts words.entry.now))
-        (malformed.IsRefusalOf n)) }
     ensures memory { IfErr result (λ e. e ≡ LineFault.NoMemory) }
 {
     match read_line(alloc, words) {
-        Ok(matches) => refused(alloc, &matches),
+        Ok(_) => refused(alloc),
         Err(error) => shown(alloc, &error),
     }
 }
@@ -93,20 +98,15 @@ fn shown(alloc: Global, error: &Error) -> Result<Notice, LineFault>
     }
 }
 
-/// The refusal of a line that `clap` accepts.
-fn refused(alloc: Global, matches: &ArgMatches<'_>) -> Result<Notice, LineFault>
+/// The refusal of a line in which `clap` finds no fault.
+fn refused(alloc: Global) -> Result<Notice, LineFault>
     ensures notice { IfOk result (λ n. notice.is_answer n ≡ false) }
-    ensures told { IfOk result (λ n. IfSome (option_and_then malformed.malformed_in (subcommand_rows_of matches.now))
-        (malformed.IsRefusalOf n)) }
     ensures memory { IfErr result (λ e. e ≡ LineFault.NoMemory) }
 {
-    match malformed_in(matches) {
-        Some(word) => Ok(Notice::Refusal(text(alloc, &word)?)),
-        None => Ok(Notice::Refusal(text(alloc, &NO_FAULT)?)),
-    }
+    Ok(Notice::Refusal(text(alloc, &NO_FAULT)?))
 }
 
-/// What is told where no word is malformed.
+/// What is told of such a line.
 const NO_FAULT: &str = "error: the command line is refused\n";
 
 fn text<T: Display>(alloc: Global, shown: &T) -> Result<String, LineFault>
@@ -141,12 +141,21 @@ fn read_line<'a>(alloc: Global, words: &'a [&'a str]) -> Result<ArgMatches<'a>, 
 fn program<'a>(alloc: Global) -> Result<Command<'a>, AllocError>
     ensures { IfOk result (λ c. app_of c ≡ reading.program) }
 {
+    with_texts(alloc)?
+        .subcommand(list_command(alloc)?)?
+        .subcommand(replay_command(alloc)?)
+}
+
+/// The program with the commands that read texts.
+fn with_texts<'a>(alloc: Global) -> Result<Command<'a>, AllocError>
+    ensures { IfOk result (λ c. app_of c ≡ reading.with_texts) }
+{
     Command::new(alloc, "rvcollide")
         .version("0.1.0")
         .about("Hunts data races in RV32IA programs.")
         .subcommand_required(true)
         .subcommand(words_command(alloc))?
-        .subcommand(hunt_command(alloc)?)
+        .subcommand(asm_command(alloc)?)
 }
 
 fn words_command<'a>(alloc: Global) -> Command<'a>
@@ -156,15 +165,34 @@ fn words_command<'a>(alloc: Global) -> Command<'a>
     Command::new(alloc, "words").about("Runs the words of the standard input")
 }
 
-fn hunt_command<'a>(alloc: Global) -> Result<Command<'a>, AllocError>
-    ensures { IfOk result (λ c. (shape_of c ≡ reading.hunt_shape) × ((fields_of c).has_globals ≡ false)) }
+fn asm_command<'a>(alloc: Global) -> Result<Command<'a>, AllocError>
+    ensures { IfOk result (λ c. (shape_of c ≡ reading.asm_shape) × ((fields_of c).has_globals ≡ false)) }
 {
-    Command::new(alloc, "hunt")
-        .about("Runs them with one pause before an access")
-        .arg(required_word(alloc, "PC").help(
-            "Address of the instruction, eight hexadecimal digits",
+    Command::new(alloc, "asm")
+        .about("Makes the image of a source")
+        .arg(required_word(alloc, "SOURCE").help(
+            "File with a source, in the assembler's language",
         ))?
-        .arg(required_word(alloc, "PAUSE").help("Steps that the pause lasts, 1 to 65535"))
+        .arg(required_word(alloc, "IMAGE").help(
+            "File that is made, ELF32; a refused source makes none",
+        ))
+}
+
+fn list_command<'a>(alloc: Global) -> Result<Command<'a>, AllocError>
+    ensures { IfOk result (λ c. (shape_of c ≡ reading.list_shape) × ((fields_of c).has_globals ≡ false)) }
+{
+    Command::new(alloc, "list")
+        .about("Lists the instructions of an image")
+        .arg(required_word(alloc, "IMAGE").help("ELF32 file"))
+}
+
+fn replay_command<'a>(alloc: Global) -> Result<Command<'a>, AllocError>
+    ensures { IfOk result (λ c. (shape_of c ≡ reading.replay_shape) × ((fields_of c).has_globals ≡ false)) }
+{
+    Command::new(alloc, "replay")
+        .about("Runs a schedule again, and writes its endings and the state after it")
+        .arg(required_word(alloc, "IMAGE").help("ELF32 file"))?
+        .arg(required_word(alloc, "SCHEDULE").help("File with a schedule"))
 }
 
 /// An argument that has to stand at its place.
@@ -176,46 +204,60 @@ fn required_word<'a>(alloc: Global, name: &'a str) -> Arg<'a>
 }
 
 /// The job that `clap` found.
-fn job_in(matches: &ArgMatches<'_>) -> Option<Job>
-    ensures { result ≡ option_and_then jobs.job_in (subcommand_rows_of matches.now) }
+fn job_in<'a>(matches: &ArgMatches<'a>) -> Option<Job<'a>>
+    ensures { option_map spec.asked result ≡ option_and_then jobs.job_in (subcommand_rows_of matches.now) }
 {
     let (name, given) = matches.subcommand()?;
     job_at(name, given)
 }
 
 /// The job of the command of this name.
-fn job_at(name: &str, given: &ArgMatches<'_>) -> Option<Job>
-    ensures { result ≡ jobs.job_in (name.now, rows_of (found_of given.now)) }
+fn job_at<'a>(name: &str, given: &ArgMatches<'a>) -> Option<Job<'a>>
+    ensures { option_map spec.asked result ≡ jobs.job_in (name.now, rows_of (found_of given.now)) }
 {
     match name {
         "words" => Some(Job::Words),
-        "hunt" => hunt_of(given),
+        "asm" => asm_of(given),
+        "list" => list_of(given),
+        "replay" => replay_of(given),
         _ => None,
     }
 }
 
-fn hunt_of(given: &ArgMatches<'_>) -> Option<Job>
-    ensures { result ≡ jobs.hunt_in (rows_of (found_of given.now)) }
+fn asm_of<'a>(given: &ArgMatches<'a>) -> Option<Job<'a>>
+    ensures { option_map spec.asked result ≡ jobs.asm_in (rows_of (found_of given.now)) }
 {
-    let pc = read_word(text_of(given, "PC")?.as_bytes())?;
-    let pause = read_pause(text_of(given, "PAUSE")?)?;
-    Some(Job::Hunt {
-        pc: Address(pc),
-        pause: PauseLength(pause),
+    let source = text_of(given, "SOURCE")?;
+    let image = text_of(given, "IMAGE")?;
+    Some(Job::Asm {
+        source: SourcePath(source),
+        image: ImagePath(image),
     })
 }
 
-/// A pause's length, 1 to 65,535.
-pub fn read_pause(text: &str) -> Option<u32>
-    ensures { result ≡ spec.pause_of text.now }
+fn list_of<'a>(given: &ArgMatches<'a>) -> Option<Job<'a>>
+    ensures { option_map spec.asked result ≡ jobs.list_in (rows_of (found_of given.now)) }
 {
-    let pause = read_number(text.as_bytes(), 10, 65_535)?;
-    if pause >= 1 { Some(pause) } else { None }
+    let image = text_of(given, "IMAGE")?;
+    Some(Job::List {
+        image: ImagePath(image),
+    })
+}
+
+fn replay_of<'a>(given: &ArgMatches<'a>) -> Option<Job<'a>>
+    ensures { option_map spec.asked result ≡ jobs.replay_in (rows_of (found_of given.now)) }
+{
+    let image = text_of(given, "IMAGE")?;
+    let schedule = text_of(given, "SCHEDULE")?;
+    Some(Job::Replay {
+        image: ImagePath(image),
+        schedule: SchedulePath(schedule),
+    })
 }
 
 /// The word that was given for an argument.
 #[tactic(auto, using(crate::proofs::LineLemmas::text_found))]
-pub fn text_of<'a>(given: &ArgMatches<'a>, name: &str) -> Option<&'a str>
+fn text_of<'a>(given: &ArgMatches<'a>, name: &str) -> Option<&'a str>
     ensures { option_map (λ s. s.now) result ≡ first_of name.now (rows_of (found_of given.now)) }
 {
     given.get_str(name)

@@ -1,10 +1,10 @@
 ghost use Rattle.std.specs.Prelude.{◌≡◌};
 ghost use Rattle.rvcollide.specs.FaultText as spec;
-ghost use Rattle.rvcollide.specs.Fault.{fault_of_input, fault_of_list, fault_of_load, fault_of_read, fault_of_replay, fault_of_schedule};
+ghost use Rattle.rvcollide.specs.Fault.{fault_of_asm, fault_of_input, fault_of_list, fault_of_load, fault_of_read, fault_of_replay, fault_of_schedule};
 ghost use Rattle.rvcollide.specs.declared.fault.Fault.TheVariants as fault;
 
 use crate::words::input::InputFault;
-use rv_asm::ListFault;
+use rv_asm::{AsmFault, AsmKind, ListFault};
 use rv_collide::replay::{ReplayFault, Why};
 use rv_collide::schedule::{ScheduleFault, ScheduleKind};
 use rv_elf::LoadFault;
@@ -20,6 +20,8 @@ pub enum Fault {
     Line(u32),
     /// The first step of `words` that is refused, from 0 on, and why: there is no such hart, or it does not run.
     Step { number: u32, fault: StepFault },
+    /// The first fault of a source.
+    Asm(AsmFault),
     /// The first test of an image that its file fails.
     Load(LoadFault),
     /// The first line of a schedule's text that has a fault, and its fault.
@@ -43,6 +45,7 @@ impl Fault {
         match self {
             Fault::Line(_)
             | Fault::Step { .. }
+            | Fault::Asm(_)
             | Fault::Load(_)
             | Fault::Schedule(_)
             | Fault::Entry { .. }
@@ -60,6 +63,17 @@ impl From<InputFault> for Fault {
         match given {
             InputFault::Line(number) => Fault::Line(number),
             InputFault::NoMemory => Fault::NoMemory,
+        }
+    }
+}
+
+impl From<AsmFault> for Fault {
+    ghost from_gives = { λ given made. made ≡ fault_of_asm given };
+
+    fn from(given: AsmFault) -> Fault {
+        match given.kind {
+            AsmKind::NoMemory => Fault::NoMemory,
+            _ => Fault::Asm(given),
         }
     }
 }
@@ -148,6 +162,9 @@ impl fmt::Display for Fault {
             Fault::Step { number, fault } => {
                 write!(f, "words step {number} {}", step_fault_name(*fault))
             }
+            Fault::Asm(fault) => {
+                write!(f, "asm line {} {}", fault.line, asm_fault_name(fault.kind))
+            }
             Fault::Load(fault) => write!(f, "load {fault}"),
             Fault::Schedule(fault) => write!(f, "schedule line {} {}", fault.line, fault.kind),
             Fault::Entry { place, why } => write!(f, "replay entry {place} {why}"),
@@ -167,5 +184,21 @@ fn step_fault_name(fault: StepFault) -> &'static str
         StepFault::NotRunning => "NotRunning",
         StepFault::OutputFull => "OutputFull",
         StepFault::NoMemory => "NoMemory",
+    }
+}
+
+fn asm_fault_name(kind: AsmKind) -> &'static str
+    ensures { result.now ≡ spec.asm_fault_name kind }
+{
+    match kind {
+        AsmKind::Word => "Word",
+        AsmKind::Register => "Register",
+        AsmKind::Range => "Range",
+        AsmKind::LabelTwice => "LabelTwice",
+        AsmKind::LabelUnknown => "LabelUnknown",
+        AsmKind::Directive => "Directive",
+        AsmKind::TooLarge => "TooLarge",
+        AsmKind::NoMemory => "NoMemory",
+        AsmKind::Empty => "Empty",
     }
 }

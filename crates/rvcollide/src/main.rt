@@ -1,26 +1,31 @@
 //! `rvcollide`: its command line, its commands as engines over readers and writers, and the program that
-//! runs one of them on the standard input and output.
+//! runs one of them on files and the standard input and output.
 //!
 //! Each engine writes the text that `specs/` states of the bytes that it reads, and nothing else.
 #![tactic(auto)]
 
 pub mod arguments;
+pub mod asm;
 pub mod command;
 #[cfg(test)]
 pub mod devices;
 pub mod failure;
 pub mod fault;
+pub mod files;
 pub mod hunt;
 pub mod image;
 pub mod list;
-pub mod malformed;
+pub mod new_file;
 pub mod replay;
 pub mod words;
 
+use crate::asm::run_asm;
 use crate::command::{Job, LineFault, Notice, command_of, notice_of};
 use crate::failure::Failure;
 use crate::fault::Fault;
-use crate::hunt::engine::run_hunt;
+use crate::files::{InputFile, OutputFile};
+use crate::list::run_list;
+use crate::replay::engine::run_replay;
 use crate::words::engine::run_words;
 use rv_memory::buffered::Buffered;
 use rv_memory::flagged::Flagged;
@@ -44,21 +49,32 @@ fn run(rt: &HostRuntime) -> Result<(), Failure> {
     let arguments: Vec<String> = env::args(rt)?.collect(alloc)?;
     let words: Vec<&str> = arguments.iter().map(|word| word.as_str()).collect(alloc)?;
     match command_of(alloc, &words) {
-        Ok(job) => run_job(rt, job),
+        Ok(job) => Ok(run_job(rt, job)?),
         Err(LineFault::Line) => tell(rt, &words),
         Err(LineFault::NoMemory) => Err(Failure::Told(Fault::NoMemory)),
     }
 }
 
-fn run_job(rt: &HostRuntime, job: Job) -> Result<(), Failure> {
+/// Runs the engine of a job: the one place where a path becomes a file.
+fn run_job(rt: &HostRuntime, job: Job<'_>) -> Result<(), Fault> {
     let alloc = rt.alloc();
-    let mut reader = Flagged::new(rt.stdin());
     let mut writer = Buffered::new(alloc, rt.stdout());
     match job {
-        Job::Words => run_words(alloc, &mut reader, &mut writer)?,
-        Job::Hunt { pc, pause } => run_hunt(alloc, &mut reader, &mut writer, pc, pause)?,
+        Job::Words => run_words(alloc, &mut Flagged::new(rt.stdin()), &mut writer),
+        Job::Asm { source, image } => {
+            let mut reader = Flagged::new(InputFile::new(rt, source.0));
+            run_asm(alloc, &mut reader, &mut OutputFile::new(rt, image.0))
+        }
+        Job::List { image } => {
+            let mut reader = Flagged::new(InputFile::new(rt, image.0));
+            run_list(alloc, &mut reader, &mut writer)
+        }
+        Job::Replay { image, schedule } => {
+            let mut image = Flagged::new(InputFile::new(rt, image.0));
+            let mut schedule = Flagged::new(InputFile::new(rt, schedule.0));
+            run_replay(alloc, &mut image, &mut schedule, &mut writer)
+        }
     }
-    Ok(())
 }
 
 /// Writes why the words give no job, or the help that they ask for.

@@ -1,26 +1,34 @@
-use Rattle.std.specs.Prelude.{List, Option, Some, None, option_and_then, codes, if◌then◌else◌}
+use Rattle.std.specs.Prelude.{List, Option, Some, None, option_and_then, option_map, codes, if◌then◌else◌}
 use Rattle.std.specs.Str.{bytes_eq}
 use Rattle.clap.specs.Words.{Row, Text, first_of, subcommand_of}
-use Rattle.rv_text.specs.Hexadecimal.{word_of}
-use Rattle.rvcollide.specs.Command.{at_place, pause_of}
+use Rattle.rvcollide.specs.Command.{Asked, Words, Asm, Listing, Replay}
 use Rattle.rvcollide.specs.Reading.{is_accepted, program}
-use Rattle.rvcollide.specs.declared.command.Job.{Job}
-use Rattle.rvcollide.specs.declared.command.Job.TheVariants.{Words}
 
 -- The job in what `clap` finds. It is proved to be the one that the words spell.
 
--- the job in what `clap` found for `hunt`
-abbrev pub hunt_in : List Row → Option Job
-hunt_in rows = option_and_then (λ pc. option_and_then (λ pause. at_place (word_of pc) (pause_of pause))
-    (first_of (codes "PAUSE") rows)) (first_of (codes "PC") rows)
+-- the job in what `clap` found for `asm`
+abbrev pub asm_in : List Row → Option Asked
+asm_in rows = option_and_then (λ source. option_map (λ image. Asm source image)
+    (first_of (codes "IMAGE") rows)) (first_of (codes "SOURCE") rows)
+
+-- the same for `list`
+abbrev pub list_in : List Row → Option Asked
+list_in rows = option_map (λ image. Listing image) (first_of (codes "IMAGE") rows)
+
+-- the same for `replay`
+abbrev pub replay_in : List Row → Option Asked
+replay_in rows = option_and_then (λ image. option_map (λ schedule. Replay image schedule)
+    (first_of (codes "SCHEDULE") rows)) (first_of (codes "IMAGE") rows)
 
 -- the job of the command that `clap` met
-abbrev pub job_in : Text × List Row → Option Job
+abbrev pub job_in : Text × List Row → Option Asked
 job_in p =
     if bytes_eq p.0 (codes "words") then Some Words
-    else (if bytes_eq p.0 (codes "hunt") then hunt_in p.1
-    else None)
+    else (if bytes_eq p.0 (codes "asm") then asm_in p.1
+    else (if bytes_eq p.0 (codes "list") then list_in p.1
+    else (if bytes_eq p.0 (codes "replay") then replay_in p.1
+    else None)))
 
 -- the job that `clap` finds
-unfoldable pub job_read : List Text → Option Job
+unfoldable pub job_read : List Text → Option Asked
 job_read words = if is_accepted words then option_and_then job_in (subcommand_of program words) else None

@@ -1,218 +1,127 @@
 use super::*;
 use std::test::Fail;
 
-const AT_4: Job = Job::Hunt {
-    pc: Address(0x1_0004),
-    pause: PauseLength(1),
+const ASM: Job = Job::Asm {
+    source: SourcePath("a.s"),
+    image: ImagePath("a.elf"),
 };
 
+/// Each command, with the first two hyphens at each place, and with paths that look like other words.
 #[test]
 fn reads_each_command(rt: HostRuntime) {
     let alloc = rt.alloc();
-    assert_eq!(rt; command_of(alloc, &["rvcollide", "words"]), Ok(Job::Words));
-    assert_eq!(rt;
-        command_of(alloc, &["rvcollide", "hunt", "00010004", "1"]),
-        Ok(AT_4)
-    );
-}
-
-#[test]
-fn reads_digits_in_either_case_and_leading_zeros(rt: HostRuntime) {
-    let alloc = rt.alloc();
-    let hunt = Ok(Job::Hunt {
-        pc: Address(0xffff_abcd),
-        pause: PauseLength(65_535),
-    });
-    assert_eq!(rt; command_of(alloc, &["", "hunt", "FFFFabcd", "65535"]), hunt);
-    assert_eq!(rt;
-        command_of(alloc, &["", "hunt", "ffffABCD", "00065535"]),
-        hunt
-    );
-}
-
-#[test]
-fn passes_over_the_first_two_hyphens(rt: HostRuntime) {
-    let alloc = rt.alloc();
-    let line = Err(LineFault::Line);
-    assert_eq!(rt; command_of(alloc, &["", "words", "--"]), Ok(Job::Words));
-    assert_eq!(rt;
-        command_of(alloc, &["", "hunt", "--", "00010004", "1"]),
-        Ok(AT_4)
-    );
-    assert_eq!(rt;
-        command_of(alloc, &["", "hunt", "00010004", "--", "1"]),
-        Ok(AT_4)
-    );
-    assert_eq!(rt;
-        command_of(alloc, &["", "hunt", "00010004", "1", "--"]),
-        Ok(AT_4)
-    );
-    assert_eq!(rt; command_of(alloc, &["", "words", "--", "--"]), line);
-    assert_eq!(rt; command_of(alloc, &["", "--", "words"]), line);
-}
-
-#[test]
-fn refuses_what_is_no_command(rt: HostRuntime) {
-    let alloc = rt.alloc();
-    let line = Err(LineFault::Line);
-    assert_eq!(rt; command_of(alloc, &[]), line);
-    assert_eq!(rt; command_of(alloc, &["words"]), line);
-    assert_eq!(rt; command_of(alloc, &["", ""]), line);
-    assert_eq!(rt; command_of(alloc, &["", "word"]), line);
-    assert_eq!(rt; command_of(alloc, &["", "Words"]), line);
-    assert_eq!(rt; command_of(alloc, &["", "--words"]), line);
-    assert_eq!(rt; command_of(alloc, &["", "words", "words"]), line);
-    assert_eq!(rt; command_of(alloc, &["", "words", "-"]), line);
-}
-
-#[test]
-fn refuses_each_missing_or_extra_word(rt: HostRuntime) {
-    let alloc = rt.alloc();
-    let line = Err(LineFault::Line);
-    assert_eq!(rt; command_of(alloc, &["", "hunt"]), line);
-    assert_eq!(rt; command_of(alloc, &["", "hunt", "00010004"]), line);
-    assert_eq!(rt;
-        command_of(alloc, &["", "hunt", "00010004", "1", "1"]),
-        line
-    );
-    assert_eq!(rt; command_of(alloc, &["", "hunt", "1", "00010004"]), line);
-}
-
-#[test]
-fn refuses_what_is_no_address(rt: HostRuntime) {
-    let alloc = rt.alloc();
-    let line = Err(LineFault::Line);
-    assert_eq!(rt; command_of(alloc, &["", "hunt", "0010004", "1"]), line);
-    assert_eq!(rt; command_of(alloc, &["", "hunt", "000010004", "1"]), line);
-    assert_eq!(rt; command_of(alloc, &["", "hunt", "0001000g", "1"]), line);
-    assert_eq!(rt; command_of(alloc, &["", "hunt", "0x010004", "1"]), line);
-    assert_eq!(rt; command_of(alloc, &["", "hunt", "+0010004", "1"]), line);
-    assert_eq!(rt; command_of(alloc, &["", "hunt", "", "1"]), line);
-}
-
-#[test]
-fn refuses_what_is_no_pause(rt: HostRuntime) {
-    let alloc = rt.alloc();
-    let line = Err(LineFault::Line);
-    assert_eq!(rt; command_of(alloc, &["", "hunt", "00010004", "0"]), line);
-    assert_eq!(rt; command_of(alloc, &["", "hunt", "00010004", "65536"]), line);
-    assert_eq!(rt;
-        command_of(alloc, &["", "hunt", "00010004", "18446744073709551617"]),
-        line
-    );
-    assert_eq!(rt; command_of(alloc, &["", "hunt", "00010004", "-1"]), line);
-    assert_eq!(rt; command_of(alloc, &["", "hunt", "00010004", "+1"]), line);
-    assert_eq!(rt; command_of(alloc, &["", "hunt", "00010004", "1x"]), line);
-    assert_eq!(rt; command_of(alloc, &["", "hunt", "00010004", ""]), line);
-}
-
-#[test]
-fn refuses_a_line_that_asks_for_a_text(rt: HostRuntime) {
-    let alloc = rt.alloc();
-    let line = Err(LineFault::Line);
-    assert_eq!(rt; command_of(alloc, &["", "--help"]), line);
-    assert_eq!(rt; command_of(alloc, &["", "help"]), line);
-    assert_eq!(rt; command_of(alloc, &["", "--version"]), line);
-    assert_eq!(rt; command_of(alloc, &["", "hunt", "--help"]), line);
-}
-
-fn answer(notice: Notice) -> Option<String> {
-    match notice {
-        Notice::Answer(text) => Some(text),
-        Notice::Refusal(_) => None,
-    }
-}
-
-#[test]
-fn answers_help_and_version(rt: HostRuntime) -> Result<(), Fail> {
-    let alloc = rt.alloc();
-    let version = answer(
-        notice_of(alloc, &["rvcollide", "--version"])
-            .ok()
-            .ok_or("memory")?,
-    )
-    .ok_or("an answer")?;
-    assert_eq!(rt; version.as_str(), "rvcollide 0.1.0\n");
-    let help = answer(
-        notice_of(alloc, &["rvcollide", "--help"])
-            .ok()
-            .ok_or("memory")?,
-    )
-    .ok_or("an answer")?;
-    assert!(rt; help.as_str().contains("Usage: rvcollide <COMMAND>"));
-    let short = answer(notice_of(alloc, &["rvcollide", "-h"]).ok().ok_or("memory")?).ok_or(
-        "an answer",
-    )?;
-    assert_eq!(rt; short.as_str(), help.as_str());
-    let named = answer(
-        notice_of(alloc, &["rvcollide", "help"])
-            .ok()
-            .ok_or("memory")?,
-    )
-    .ok_or("an answer")?;
-    assert_eq!(rt; named.as_str(), help.as_str());
-    let hunt = answer(
-        notice_of(alloc, &["rvcollide", "hunt", "--help"])
-            .ok()
-            .ok_or("memory")?,
-    )
-    .ok_or("an answer")?;
-    assert!(rt; hunt.as_str().contains("Usage: rvcollide hunt <PC> <PAUSE>"));
-    Ok(())
-}
-
-fn refusal(notice: Notice) -> Option<String> {
-    match notice {
-        Notice::Answer(_) => None,
-        Notice::Refusal(text) => Some(text),
-    }
-}
-
-#[test]
-fn says_why_a_line_is_refused(rt: HostRuntime) -> Result<(), Fail> {
-    let alloc = rt.alloc();
-    let nothing = refusal(notice_of(alloc, &["rvcollide"]).ok().ok_or("memory")?).ok_or(
-        "a refusal",
-    )?;
-    assert!(rt; nothing.as_str().starts_with("error: "));
-    let missing = refusal(
-        notice_of(alloc, &["rvcollide", "hunt", "00010004"])
-            .ok()
-            .ok_or("memory")?,
-    )
-    .ok_or("a refusal")?;
-    assert!(rt; missing.as_str().contains("<PAUSE>"));
-    Ok(())
-}
-
-/// A malformed word is told, with the place where it stands and what may stand there.
-#[test]
-fn says_which_word_is_malformed(rt: HostRuntime) -> Result<(), Fail> {
-    let alloc = rt.alloc();
-    for (pc, pause, text) in [
-        (
-            "0001000g",
-            "1",
-            "error: invalid value '0001000g' for '<PC>': it is not eight hexadecimal digits\n\n\
-            For more information, try '--help'.\n",
-        ),
-        (
-            "0001000g",
-            "0",
-            "error: invalid value '0001000g' for '<PC>': it is not eight hexadecimal digits\n\n\
-            For more information, try '--help'.\n",
-        ),
-        (
-            "00010004",
-            "65536",
-            "error: invalid value '65536' for '<PAUSE>': it is not a number from 1 to 65535\n\n\
-            For more information, try '--help'.\n",
-        ),
+    let list = Job::List {
+        image: ImagePath("a.elf"),
+    };
+    let replay = Job::Replay {
+        image: ImagePath("a.elf"),
+        schedule: SchedulePath("a.txt"),
+    };
+    let odd = Job::Replay {
+        image: ImagePath("-"),
+        schedule: SchedulePath(""),
+    };
+    for (words, job) in [
+        (["rvcollide", "words"].as_slice(), Job::Words),
+        (["rvcollide", "asm", "a.s", "a.elf"].as_slice(), ASM),
+        (["rvcollide", "list", "a.elf"].as_slice(), list),
+        (["rvcollide", "replay", "a.elf", "a.txt"].as_slice(), replay),
+        (["", "words", "--"].as_slice(), Job::Words),
+        (["", "asm", "--", "a.s", "a.elf"].as_slice(), ASM),
+        (["", "asm", "a.s", "--", "a.elf"].as_slice(), ASM),
+        (["", "asm", "a.s", "a.elf", "--"].as_slice(), ASM),
+        (["", "replay", "-", ""].as_slice(), odd),
     ] {
-        let words = ["rvcollide", "hunt", pc, pause];
-        let notice = notice_of(alloc, &words);
-        let told = refusal(notice.ok().ok_or("memory")?).ok_or("a refusal")?;
-        assert_eq!(rt; told.as_str(), text);
+        assert_eq!(rt; command_of(alloc, words), Ok(job), "at {words:?}");
+    }
+    for path in ["--", "-h", "words", "é"] {
+        let job = Job::List {
+            image: ImagePath(path),
+        };
+        assert_eq!(rt; command_of(alloc, &["", "list", "--", path]), Ok(job));
+    }
+}
+
+/// What is no command, words that are missing or too many, options, and what asks for a text.
+#[test]
+fn refuses_other_lines(rt: HostRuntime) {
+    let alloc = rt.alloc();
+    assert_eq!(rt; command_of(alloc, &[]), Err(LineFault::Line));
+    for words in [
+        ["words"].as_slice(),
+        ["", ""].as_slice(),
+        ["", "word"].as_slice(),
+        ["", "List", "a"].as_slice(),
+        ["", "--words"].as_slice(),
+        ["", "--", "words"].as_slice(),
+        ["", "words", "words"].as_slice(),
+        ["", "words", "-"].as_slice(),
+        ["", "words", "--", "--"].as_slice(),
+        ["", "asm", "a.s"].as_slice(),
+        ["", "asm", "a.s", "a.elf", "b"].as_slice(),
+        ["", "list"].as_slice(),
+        ["", "list", "a", "b"].as_slice(),
+        ["", "list", "-a"].as_slice(),
+        ["", "list", "--a"].as_slice(),
+        ["", "list", "a", "-é"].as_slice(),
+        ["", "replay", "a.elf"].as_slice(),
+        ["", "replay", "a.elf", "a.txt", "-"].as_slice(),
+        ["", "hunt", "00010004", "1"].as_slice(),
+        ["", "--help"].as_slice(),
+        ["", "help"].as_slice(),
+        ["", "--version"].as_slice(),
+        ["", "asm", "a.s", "--help"].as_slice(),
+    ] {
+        let job = command_of(alloc, words);
+        assert_eq!(rt; job, Err(LineFault::Line), "at {words:?}");
+    }
+}
+
+/// The text of a notice, and whether it is an answer.
+fn parts(notice: Notice) -> (bool, String) {
+    match notice {
+        Notice::Answer(text) => (true, text),
+        Notice::Refusal(text) => (false, text),
+    }
+}
+
+#[test]
+fn says_what_a_line_lacks(rt: HostRuntime) -> Result<(), Fail> {
+    let alloc = rt.alloc();
+    for (words, answers, part) in [
+        (
+            ["rvcollide", "--version"].as_slice(),
+            true,
+            "rvcollide 0.1.0\n",
+        ),
+        (
+            ["rvcollide", "-h"].as_slice(),
+            true,
+            "Usage: rvcollide <COMMAND>",
+        ),
+        (
+            ["rvcollide", "help"].as_slice(),
+            true,
+            "Usage: rvcollide <COMMAND>",
+        ),
+        (
+            ["rvcollide", "asm", "--help"].as_slice(),
+            true,
+            "Usage: rvcollide asm <SOURCE> <IMAGE>",
+        ),
+        (
+            ["rvcollide", "replay", "-h"].as_slice(),
+            true,
+            "Usage: rvcollide replay <IMAGE> <SCHEDULE>",
+        ),
+        (["rvcollide"].as_slice(), false, "error: "),
+        (["rvcollide", "asm", "a.s"].as_slice(), false, "<IMAGE>"),
+        (["rvcollide", "list", "a", "b"].as_slice(), false, "'b'"),
+    ] {
+        let notice = notice_of(alloc, words);
+        let (is_answer, text) = parts(notice.ok().ok_or("memory")?);
+        assert_eq!(rt; is_answer, answers, "at {words:?}");
+        assert!(rt; text.as_str().contains(part), "at {words:?}");
     }
     Ok(())
 }
@@ -221,9 +130,9 @@ fn says_which_word_is_malformed(rt: HostRuntime) -> Result<(), Fail> {
 #[test]
 fn tells_want_of_memory(rt: HostRuntime) {
     let alloc = rt.alloc();
-    let job = command_of(alloc, &["rvcollide", "hunt", "00010004", "1"]);
-    assert!(rt; job == Ok(AT_4) || job == Err(LineFault::NoMemory));
-    let line = command_of(alloc, &["rvcollide", "hunt", "00010004", "1", "1"]);
+    let job = command_of(alloc, &["rvcollide", "asm", "a.s", "a.elf"]);
+    assert!(rt; job == Ok(ASM) || job == Err(LineFault::NoMemory));
+    let line = command_of(alloc, &["rvcollide", "list", "a.elf", "b"]);
     assert!(rt; line == Err(LineFault::Line) || line == Err(LineFault::NoMemory));
     let help = notice_of(alloc, &["rvcollide", "--help"]);
     assert!(rt; matches!(help, Ok(Notice::Answer(_)) | Err(LineFault::NoMemory)));

@@ -68,19 +68,13 @@ fn refuses_what_is_no_image(rt: HostRuntime) -> Result<(), Fail> {
 }
 
 #[test]
-fn tells_a_reader_that_fails(rt: HostRuntime) -> Result<(), Fail> {
+fn tells_failing_devices(rt: HostRuntime) -> Result<(), Fail> {
     let alloc = rt.alloc();
-    let file = file_of(alloc, &[0x0002_0337])?;
-    assert_tells_each_failing_read(&rt, file.as_slice(), |reader| {
+    let small = file_of(alloc, &[0x0002_0337])?;
+    assert_tells_each_failing_read(&rt, small.as_slice(), |reader| {
         let mut writer = Buffered::new(alloc, Vec::new(alloc));
         run_list(alloc, reader, &mut writer)
     });
-    Ok(())
-}
-
-#[test]
-fn tells_a_writer_that_fails(rt: HostRuntime) -> Result<(), Fail> {
-    let alloc = rt.alloc();
     let file = file_of(alloc, &[0x0002_0337; 200])?;
     for takes_none in [false, true] {
         assert_tells_each_failing_call(&rt, alloc, takes_none, |writer| {

@@ -1,6 +1,6 @@
 use Rattle.std.proofs.Common.{rules}
 use Rattle.std.proofs.lemmas.Result.{IfOk-weaker}
-use Rattle.rvcollide.specs.Command.{texts}
+use Rattle.rvcollide.specs.Command.{asked, texts}
 use Rattle.rvcollide.proofs.GivenLemmas.{given_at}
 use Rattle.rvcollide.proofs.command.command_of.Goals as goal
 
@@ -9,4 +9,4 @@ returns-in-Ok-clause-job c = search rules
 
 pub returns-in-Ok-clause-given : goal.returns-in-Ok-clause-given
 returns-in-Ok-clause-given c =
-    IfOk-weaker c.ok_or.result _ _ (λ job is. given_at (texts c.args.words.now) job is) (returns-in-Ok-clause-job c)
+    IfOk-weaker c.ok_or.result _ _ (λ job is. given_at (texts c.args.words.now) (asked job) is) (returns-in-Ok-clause-job c)

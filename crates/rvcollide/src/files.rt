@@ -1,0 +1,92 @@
+//! Files of the system, by their paths.
+ghost use Rattle.std.specs.Prelude.{◌≡◌, ◌||◌, false, is_err};
+
+use crate::new_file::NewFile;
+use rv_memory::flagged::{Flagged, WriteFault, flush, write_whole};
+use std::fs;
+use std::io::{self, Read};
+use std::rt::Files;
+
+/// A file that is opened when it is first read. So a file that cannot be opened is a reader that fails, and where a
+/// command reads two files, a fault of the first is told before it is tried to open the second.
+#[derive(Drop)]
+pub struct InputFile<'a, R: Files> {
+    rt: &'a R,
+    path: &'a str,
+    file: Option<R::File>,
+}
+
+impl<'a, R: Files> InputFile<'a, R> {
+    pub fn new(rt: &'a R, path: &'a str) -> InputFile<'a, R> {
+        InputFile {
+            rt,
+            path,
+            file: None,
+        }
+    }
+}
+
+impl<R: Files> Read for InputFile<'_, R> {
+    fn read(&mut self, buf: &mut [u8]) -> io::Result<usize> {
+        if let Some(file) = &mut self.file {
+            return file.read(buf);
+        }
+        let mut file = fs::open(self.rt, self.path)?;
+        let read = file.read(buf);
+        self.file = Some(file);
+        read
+    }
+}
+
+/// A file that is made when its bytes are known.
+#[derive(Drop)]
+pub struct OutputFile<'a, R: Files> {
+    rt: &'a R,
+    path: &'a str,
+    is_made: bool,
+    failed: bool,
+}
+
+impl<'a, R: Files> OutputFile<'a, R> {
+    pub fn new(rt: &'a R, path: &'a str) -> OutputFile<'a, R> {
+        OutputFile {
+            rt,
+            path,
+            is_made: false,
+            failed: false,
+        }
+    }
+}
+
+/// Makes a file of the bytes at the path, or puts them in place of those of the file that is there.
+fn write_file<R: Files>(rt: &R, path: &str, bytes: &[u8]) -> Result<(), WriteFault> {
+    let Ok(file) = fs::create(rt, path) else {
+        return Err(WriteFault);
+    };
+    let mut writer = Flagged::new(file);
+    write_whole(&mut writer, bytes)?;
+    flush(&mut writer)
+}
+
+impl<R: Files> NewFile for OutputFile<'_, R> {
+    ghost use Rattle.std.specs.Prelude.{⊤};
+
+    ghost is_made = { λ file. file.is_made };
+
+    // No contract of the system's says which bytes a file has.
+    ghost Holds = { λ file bytes. ⊤ };
+
+    ghost has_failed = { λ file. file.failed };
+
+    fn make(&mut self, bytes: &[u8]) -> Result<(), WriteFault> {
+        self.is_made = true;
+        let written = write_file(self.rt, self.path, bytes);
+        if written.is_err() {
+            self.failed = true;
+        }
+        written
+    }
+}
+
+#[cfg(test)]
+mod tests;
