@@ -2,13 +2,14 @@
 mod outside;
 
 use crate::{
-    AsmKind, Expression, Line, Section, Statement, line_of, list, load_pair, read_line, word_at,
-    word_of,
+    AsmKind, Expression, Line, ListFault, Section, Statement, line_of, list, load_pair, read_line,
+    word_at, word_of,
 };
 use rv_elf::Image;
 use rv_memory::flagged::Flagged;
 use rv_memory::region::Region;
 use std::alloc::Global;
+use std::io::{self, ErrorKind, Write};
 use std::process::Abort;
 use std::test::Fail;
 
@@ -300,4 +301,48 @@ fn lists_whole_words_of_file_bytes(rt: HostRuntime) -> Result<(), Fail> {
     let text = writer.into_inner();
     assert_eq!(rt; text.as_slice(), b"00010004: 00000073 ecall\n".as_slice());
     Ok(())
+}
+
+/// A writer whose call numbered `fails_at` from 1 on fails.
+#[derive(Drop)]
+struct Sink {
+    calls: u64,
+    fails_at: u64,
+}
+
+impl Write for Sink {
+    fn write(&mut self, buf: &[u8]) -> io::Result<usize> {
+        self.calls = self.calls.saturating_add(1);
+        if self.calls == self.fails_at {
+            return Err(io::Error::from(ErrorKind::Interrupted));
+        }
+        Ok(buf.len())
+    }
+
+    fn flush(&mut self) -> io::Result<()> {
+        Ok(())
+    }
+}
+
+/// Each write fails in turn: it is told, and the writer is not called again.
+#[test]
+fn list_tells_a_writer_that_fails(rt: HostRuntime) -> Result<(), Fail> {
+    let alloc = rt.alloc();
+    let image = image_of(alloc, &[0x93, 0, 0x50, 0, 0x37, 3, 2, 0], HERE, HERE)?;
+    for fails_at in 1..100 {
+        let mut writer = Flagged::new(Sink { calls: 0, fails_at });
+        let outcome = list(alloc, &image, &mut writer);
+        assert!(rt; writer.failed() == outcome.is_err(), "at write {fails_at}");
+        let calls = writer.into_inner().calls;
+        if outcome.is_ok() {
+            assert!(rt;
+                calls < fails_at && fails_at > 2,
+                "each write was made to fail"
+            );
+            return Ok(());
+        }
+        assert_eq!(rt; outcome, Err(ListFault::Write));
+        assert_eq!(rt; calls, fails_at, "the failed write was the last");
+    }
+    Err(Fail::from("some writer does not fail"))
 }
