@@ -1,0 +1,91 @@
+//! Worked schedules, each told again, and the classes of their endings.
+use super::*;
+use rv_collide::collider::Collider;
+use rv_collide::entry::Entry::{self, Armed, Paused, Resumed, Stepped};
+use rv_collide::plan::Plan;
+use rv_collide::replay::replay;
+use rv_memory::flat::Flat;
+
+/// The ending of the schedule, told again for two harts.
+fn told(alloc: Global, image: &Image, entries: &[Entry]) -> Result<Ending, Fail> {
+    let plan = Plan::new(2, 1000, 200, 10).ok_or("a plan")?;
+    let collider: Collider<Flat> = replay(alloc, image, plan, entries)?;
+    let finished = collider.finish();
+    Ok(*finished.endings.first().ok_or("an ending")?)
+}
+
+/// `lui x6,0x20`, `lw x5,0(x6)`, `addi x5,x5,1`, `sw x5,0(x6)`, `ecall`.
+const COUNTER: [u32; 5] = [
+    0x0002_0337,
+    0x0003_2283,
+    0x0012_8293,
+    0x0053_2023,
+    0x0000_0073,
+];
+
+const COUNTED: [Entry; 8] = [
+    Armed(0x1000c),
+    Stepped(0),
+    Stepped(0),
+    Stepped(0),
+    Paused(0, Some(0)),
+    Stepped(1),
+    Stepped(1),
+    Resumed(0),
+];
+
+#[test]
+fn two_harts_count(rt: HostRuntime) -> Result<(), Fail> {
+    let image = image(&rt, rt.alloc(), &COUNTER)?;
+    let ending = told(rt.alloc(), &image, &COUNTED)?;
+    assert_eq!(rt; ending.access.pc, 0x1000c);
+    match ending.verdict {
+        Verdict::Hit(seen) => assert_eq!(rt; (seen.place, seen.access.pc), (6, 0x10004)),
+        _ => assert!(rt; false, "a hit"),
+    }
+    assert_eq!(rt; classify(&image, &ending, &[]), Class::Counter);
+    assert_eq!(rt; classify(&image, &ending, &[(0x20000, 4)]), Class::Named);
+    Ok(())
+}
+
+/// `lui x6,0x20`, `beq x10,x0,0x00010014`, `addi x8,x0,2`, `sw x8,0(x6)`, `ecall`, `lw x5,0(x6)`, an ANDI of
+/// x5 into x7, `ecall`.
+fn flag_words(mask: u32) -> [u32; 8] {
+    [
+        0x0002_0337,
+        0x0005_0863,
+        0x0020_0413,
+        0x0083_2023,
+        0x0000_0073,
+        0x0003_2283,
+        mask,
+        0x0000_0073,
+    ]
+}
+
+const POLLED: [Entry; 9] = [
+    Armed(0x10014),
+    Stepped(0),
+    Stepped(0),
+    Stepped(1),
+    Stepped(1),
+    Paused(0, Some(0)),
+    Stepped(1),
+    Stepped(1),
+    Resumed(0),
+];
+
+#[test]
+fn a_flag_is_polled_through_a_mask(rt: HostRuntime) -> Result<(), Fail> {
+    for (mask, want) in [(0x0012_f393, Class::Flag), (0x0022_f393, Class::Kept)] {
+        let image = image(&rt, rt.alloc(), &flag_words(mask))?;
+        let ending = told(rt.alloc(), &image, &POLLED)?;
+        assert_eq!(rt; (ending.old, ending.new), (0, 2));
+        match ending.verdict {
+            Verdict::Hit(seen) => assert_eq!(rt; (seen.place, seen.access.pc), (7, 0x1000c)),
+            _ => assert!(rt; false, "a hit"),
+        }
+        assert_eq!(rt; classify(&image, &ending, &[]), want);
+    }
+    Ok(())
+}
