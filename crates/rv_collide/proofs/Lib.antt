@@ -6,6 +6,7 @@ pub mod Bytes
 pub mod Calls
 pub mod ChangedLemmas
 pub mod CutLemmas
+pub mod DrivenLemmas
 pub mod EndingLemmas
 pub mod Endings
 pub mod EntriesLemmas
@@ -14,6 +15,7 @@ pub mod EntryLineLemmas
 pub mod Facts
 pub mod Fits
 pub mod FrontLemmas
+pub mod Fronts
 pub mod GrammarLemmas
 pub mod GrammarProof
 pub mod Growth

@@ -1,6 +1,10 @@
+pub mod Able
 pub mod Answers
 pub mod Armed
 pub mod ChangedLaws
+pub mod Drawn
+pub mod Draws
+pub mod DriverLaws
 pub mod Entries
 pub mod First
 pub mod Forced

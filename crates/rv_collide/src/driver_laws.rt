@@ -1,0 +1,13 @@
+//! Laws of seeded runs, in a user's words. The function's contract is the laws.
+ghost use Rattle.rv_collide.specs.DriverLaws as law;
+
+/// An image, a plan, the words of a generator and the sites that they pick make one seeded run at most. Such a
+/// run is a legal schedule, in which no pause ends before it is due and only its draws arm addresses, and it
+/// ends where no pause is open and no hart is able.
+pub fn seeded_runs()
+    ensures one { law.OneRunAtMost }
+    ensures legal { law.DrawnIsLegal }
+    ensures long { law.DrawnIsLong }
+    ensures arms { law.DrawnIsArmedByDraws }
+    ensures ended { law.DrawnHasEnded }
+{}
