@@ -13,6 +13,7 @@ use Rattle.rv_collide.specs.Verdict.{ending, ending_at}
 use Rattle.rv_collide.specs.declared.ending.Ending.{Ending}
 use Rattle.rv_collide.specs.declared.ending.Verdict.TheVariants.{Hit}
 use Rattle.rv_collide.specs.declared.entry.Entry.{Entry}
+use Rattle.rv_collide.specs.internal.Core.{HasRoom}
 use Rattle.rv_hart.specs.State.{State}
 use Rattle.rv_hart.specs.declared.access.Access.{Access}
 use Rattle.rv_collide.proofs.LawLemmas.{some_same}
@@ -41,9 +42,10 @@ reported : ReportsAreRaces → (start : State) (entries : List Entry) (pause : P
 unfolding ending
 reported races start entries pause access seen would hit = races start entries pause access seen would hit
 
-pub facts_of : ReservationsAreHeld → ReportsAreRaces → (c : Stored) (s : State) → IsLegal (setting_of c) c.entries → state_at (setting_of c).start c.entries (length c.entries) ≡ Some s → AreFacts c
-facts_of held races c s legal at = record {
+pub facts_of : ReservationsAreHeld → ReportsAreRaces → (c : Stored) (s : State) → IsLegal (setting_of c) c.entries → state_at (setting_of c).start c.entries (length c.entries) ≡ Some s → (told : ℕ) → HasRoom (setting_of c) c.entries told → AreFacts c
+facts_of held races c s legal at told room = record {
   legal = legal;
+  few = let f = room.few in let a = room.arms_left in let n = room.steps_left in omega arith;
   state = subst IsSome (sym at) refl;
   reservations = λ t is. held c.image.segments c.image.entry c.plan.harts c.entries (length c.entries) t (omega arith) is;
   reports = λ place told seen is hit.

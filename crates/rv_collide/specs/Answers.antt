@@ -1,11 +1,12 @@
 -- What the calls of a core answer.
-use Rattle.std.specs.Prelude.{◌≡◌, ◌↔◌, ℕ, true, ◌⊎◌, Bool, IsTrue, IsSome, is_ok, Option, Some, None, IsSomeAnd, List, length, slice_get, Ok, Err}
+use Rattle.std.specs.Prelude.{◌≡◌, ◌↔◌, ℕ, ◌≤◌, true, ◌⊎◌, Bool, IsTrue, IsSome, is_ok, Option, Some, None, IsSomeAnd, List, length, slice_get, Ok, Err}
 use Rattle.rv_collide.specs.Entries.{steps}
 use Rattle.rv_collide.specs.Forced.{Call, Turn, Resume, forced}
 use Rattle.rv_collide.specs.Held.{Held}
 use Rattle.rv_collide.specs.Laws.{Reported}
 use Rattle.rv_collide.specs.Legal.{IsLegal}
 use Rattle.rv_collide.specs.Pause.{Pause, ended, opening_of}
+use Rattle.rv_collide.specs.Plan.{most_entries}
 use Rattle.rv_collide.specs.StateAt.{state_at}
 use Rattle.rv_collide.specs.Stored.{Stored, added, setting_of}
 use Rattle.rv_collide.specs.Verdict.{ending_at}
@@ -31,11 +32,12 @@ use Rattle.rv_hart.specs.declared.access.Event.{Event}
 abbrev pub pause_of : Ending → Pause
 pause_of told = record { hart = told.hart; slot = told.slot; paused_at = told.paused_at; resumed_at = told.resumed_at }
 
--- What holds of each core: its schedule is legal, and has a state at its end; there each hart's reservation
--- is held by what was done before; and each ending whose verdict is a hit reports a conflicting access of
--- another hart within its pause.
+-- What holds of each core: its schedule is legal, no longer than its plan allows, and has a state at its
+-- end; there each hart's reservation is held by what was done before; and each ending whose verdict is a hit
+-- reports a conflicting access of another hart within its pause.
 pub record AreFacts (c : Stored) : Type 0 where
   pub legal : IsLegal (setting_of c) c.entries
+  pub few : length c.entries ≤ most_entries c.plan
   pub state : IsSome (state_at (setting_of c).start c.entries (length c.entries))
   pub reservations : (s : State) → state_at (setting_of c).start c.entries (length c.entries) ≡ Some s → (hart address : ℕ) → (reservation_at s hart ≡ Some address) ↔ Held (setting_of c).start c.entries (length c.entries) hart address
   pub reports : (place : ℕ) (told : Ending) (seen : Seen) → ending_at (setting_of c).start c.entries place ≡ Some told → told.verdict ≡ Hit seen → Reported (setting_of c).start c.entries (pause_of told) told.access seen

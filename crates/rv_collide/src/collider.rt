@@ -108,9 +108,9 @@ impl<S: ByteStore> Collider<S> {
         })
     }
 
-    /// What holds of each core: its schedule is legal, and has a state at its end; its harts' reservations
-    /// are held by what was done before; each of its reports names a conflicting access of another hart
-    /// within the pause.
+    /// What holds of each core: its schedule is legal, no longer than its plan allows, and has a state at
+    /// its end; its harts' reservations are held by what was done before; each of its reports names a
+    /// conflicting access of another hart within the pause.
     pub fn facts(&self)
         ensures { answer.AreFacts self.now }
     {
