@@ -1,6 +1,5 @@
 pub mod Fits
 pub mod GivenLemmas
-pub mod HuntLemmas
 pub mod InputSoFar
 pub mod LeafLemmas
 pub mod LineLemmas

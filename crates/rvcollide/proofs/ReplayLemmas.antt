@@ -24,7 +24,7 @@ use Rattle.rvcollide.specs.Fault.{IsToldFault, fault_of_replay}
 use Rattle.rvcollide.specs.Images.{image_of, told_load}
 use Rattle.rvcollide.specs.Replay.{IfKnown, IsReplayRefusal, IsShown, run_of, told_schedule}
 use Rattle.rvcollide.specs.declared.fault.Fault.{Fault}
-use Rattle.rvcollide.specs.declared.fault.Fault.TheVariants.{Line, Step, Load, Schedule as ScheduleOf, Entry, TooLong, Read, Write, NoMemory}
+use Rattle.rvcollide.specs.declared.fault.Fault.TheVariants.{Entry, TooLong, Read, Write, NoMemory}
 
 -- ---- a refusal, where more steps would follow
 
@@ -33,15 +33,10 @@ err_then (Ok a) next fault h = cc
 err_then (Err e) next fault h = cc
 
 told_then : {A B : Type 0} (r : Result A Fault) (next : A → Result B Fault) (fault : Fault) → IsToldFault r fault → IsToldFault (r >>= next) fault
-told_then r next (Line number) told = err_then r next _ told
-told_then r next (Step number fault) told = err_then r next _ told
-told_then r next (Load fault) told = err_then r next _ told
-told_then r next (ScheduleOf fault) told = err_then r next _ told
-told_then r next (Entry place why) told = err_then r next _ told
-told_then r next TooLong told = err_then r next _ told
 told_then r next Read told = tt
 told_then r next Write told = tt
 told_then r next NoMemory told = tt
+told_then r next fault told = err_then r next fault told
 
 -- ---- no file is refused by an entry that its call does not add
 

@@ -2,7 +2,6 @@ pub mod Command
 pub mod Failure
 pub mod FaultText
 pub mod HartsLine
-pub mod Hunt
 pub mod Images
 pub mod Notice
 pub mod Prefix

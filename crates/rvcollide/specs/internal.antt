@@ -1,3 +1,2 @@
 -- What only the contracts of private functions cite: no reader has to believe it.
-pub mod Hunt
 pub mod Reading

@@ -11,11 +11,3 @@ pub struct ImagePath<'a>(pub &'a str);
 /// The path of a schedule.
 #[derive(Clone, Copy, Debug, PartialEq, Eq)]
 pub struct SchedulePath<'a>(pub &'a str);
-
-/// The address of an instruction.
-#[derive(Clone, Copy, Debug, PartialEq, Eq)]
-pub struct Address(pub u32);
-
-/// The steps that a pause lasts, 1 to 65,535.
-#[derive(Clone, Copy, Debug, PartialEq, Eq)]
-pub struct PauseLength(pub u32);

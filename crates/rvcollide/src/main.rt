@@ -12,7 +12,6 @@ pub mod devices;
 pub mod failure;
 pub mod fault;
 pub mod files;
-pub mod hunt;
 pub mod image;
 pub mod list;
 pub mod new_file;

@@ -5,4 +5,4 @@ pub mod guest;
 pub mod input;
 pub mod laws;
 #[cfg(test)]
-pub mod tests;
+mod tests;

@@ -66,7 +66,6 @@ fn refuses_other_lines(rt: HostRuntime) {
         ["", "list", "a", "-é"].as_slice(),
         ["", "replay", "a.elf"].as_slice(),
         ["", "replay", "a.elf", "a.txt", "-"].as_slice(),
-        ["", "hunt", "00010004", "1"].as_slice(),
         ["", "--help"].as_slice(),
         ["", "help"].as_slice(),
         ["", "--version"].as_slice(),

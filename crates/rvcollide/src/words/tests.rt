@@ -132,7 +132,7 @@ fn tells_what_is_refused(rt: HostRuntime) {
 const ROW: &[u8] = b"harts 1\nsteps 0\n00500093\n";
 
 /// An input whose text is longer than what a writer gathers: each of 16 harts sets its registers x12 to x31.
-pub fn long_input(alloc: Global) -> Result<String, AllocError> {
+fn long_input(alloc: Global) -> Result<String, AllocError> {
     let mut input = String::from_str(alloc, "harts 16\nsteps")?;
     for _ in 0..20 {
         for h in 0..16 {
