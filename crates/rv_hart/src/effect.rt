@@ -258,6 +258,7 @@ pub fn advance(hart: &mut Hart, loaded: u32, action: Action)
 }
 
 /// What is left of a hart's reservation after another hart's write.
+#[inline(always)]
 fn kept(write: &Write, reservation: Option<u32>) -> Option<u32>
     ensures { result ≡ spec.kept (Some write.now) reservation }
 {
@@ -273,6 +274,7 @@ fn kept(write: &Write, reservation: Option<u32>) -> Option<u32>
 }
 
 /// Ends each reservation that a write meets.
+#[inline(always)]
 #[tactic(auto, using(std::proofs::lemmas::List::Edits::map_over_more))]
 pub fn see_write(harts: &mut [Hart], write: &Write)
     ensures { harts.new ≡ map (spec.seen_by (Some write.now)) harts.old }
@@ -282,10 +284,13 @@ pub fn see_write(harts: &mut [Hart], write: &Write)
     }
 }
 
+#[inline(always)]
 fn see(hart: &mut Hart, write: &Write)
     ensures { hart.new ≡ spec.seen_by (Some write.now) hart.old }
 {
-    hart.reservation = kept(write, hart.reservation);
+    if hart.reservation.is_some() {
+        hart.reservation = kept(write, hart.reservation);
+    }
 }
 
 /// Makes the bytes of a write ready; where that is refused nothing has changed.
@@ -312,6 +317,7 @@ pub fn put<S: ByteStore>(store: &mut S, write: Option<Write>)
 }
 
 /// The harts after one of them took its action: each has seen the write, and that one has moved on.
+#[inline(always)]
 pub fn see_and_advance(harts: &mut [Hart], h: u8, loaded: u32, action: Action, write: Option<Write>)
     requires hart { h < length harts.old }
     requires fits { Fits loaded action }
@@ -322,6 +328,7 @@ pub fn see_and_advance(harts: &mut [Hart], h: u8, loaded: u32, action: Action, w
     move_on(&mut harts[h as usize], own, loaded, action);
 }
 
+#[inline(always)]
 #[tactic(auto, using(crate::proofs::HartsLemmas::none_seen))]
 fn see_all(harts: &mut [Hart], write: Option<Write>)
     ensures { harts.new ≡ map (spec.seen_by write) harts.old }
@@ -332,6 +339,7 @@ fn see_all(harts: &mut [Hart], write: Option<Write>)
 }
 
 /// Advances a hart whose own write has ended no reservation of its own.
+#[inline(always)]
 fn move_on(hart: &mut Hart, own: Option<u32>, loaded: u32, action: Action)
     requires { Fits loaded action }
     ensures { hart.new ≡ spec.hart_after loaded (record hart.old { reservation = own }) action }

@@ -214,7 +214,11 @@ impl<S: ByteStore> Machine<S> {
             write: false,
         };
         match self.step_quick(h, &mut access) {
-            Attempt::Nothing => self.step_any(h),
+            Attempt::Nothing => {
+                // It has a place of its own, so that the event of the other arms stays in registers.
+                let general = self.step_any(h);
+                general
+            }
             Attempt::Set => Ok(Event::Moved(None)),
             Attempt::Accessed => Ok(Event::Moved(Some(access))),
         }

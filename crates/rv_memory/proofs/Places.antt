@@ -2,13 +2,14 @@
 -- memory reads and writes.
 use Rattle.std.proofs.Common.{◌≡◌, ℕ, ◌+◌, ◌-◌, ◌*◌, ◌/◌, ◌%◌, ◌≤◌, ◌<◌, zero, suc, Bool, true, false, ◌||◌, List, [], ◌∷◌, length, set, get_or, refl, ap, sym, ◌∙◌, arith, leb, HoldsAt, IsTrue}
 use Rattle.std.specs.List.{list_any}
-use Rattle.std.specs.Prelude.{slice_get, unwrap_or}
+use Rattle.std.specs.Prelude.{slice_get, unwrap_or, Some}
+use Rattle.rv_memory.specs.declared.store.Need.{Need}
 use Rattle.std.proofs.lemmas.Option.{unwrap_or-slice_get}
 use Rattle.std.proofs.lemmas.List.{set-get_or, set-set, get_or-set_same, length-set}
 use Rattle.std.proofs.lemmas.Bool.{and_parts, leb-true}
 use Rattle.std.proofs.lemmas.Bool.Decides.{nat_tests}
 use Rattle.rv_memory.specs.Extent.{Extent, end_of}
-use Rattle.rv_memory.specs.Memory.{Memory, byte, covers, meets, overlaps, holds, load, set_byte, store}
+use Rattle.rv_memory.specs.Memory.{Memory, byte, covers, meets, overlaps, holds, load, set_byte, store, permits, load_permitted}
 use Rattle.rv_memory.specs.Sound.{IsSound}
 use Rattle.rv_memory.specs.internal.Flat.{number_at, put_at}
 use Rattle.rv_memory.proofs.Spans.{with_bytes, spans-with_bytes, same_overlaps, no_overlap}
@@ -90,6 +91,9 @@ lie_at m place d address size sound below h =
 pub load_found : (m : Memory) (place : ℕ) (e : Extent) (address size : ℕ) → IsSound m → place < length m → HoldsAt (λ x. IsTrue (holds x address size)) m place → e ≡ get_or m place e → load m address size ≡ number_at e.bytes (address - e.start) size
 load_found m place e address size sound below h is =
     load_at m place e address size (lie_at m place e address size sound below (h e)) ∙ ap (λ x. number_at x.bytes (address - x.start) size) (sym is)
+
+pub permitted_found : (m : Memory) (place : ℕ) (e : Extent) (address size loaded : ℕ) (need : Need) → IsSound m → place < length m → HoldsAt (λ x. IsTrue (holds x address size)) m place → e ≡ get_or m place e → IsTrue (permits m address size need) → loaded ≡ number_at e.bytes (address - e.start) size → load_permitted m address size need ≡ Some loaded
+permitted_found m place e address size loaded need sound below h is permitted read = rw (permitted, load_found m place e address size sound below h is, read) refl
 
 pub store_found : (m : Memory) (place : ℕ) (e : Extent) (address size value : ℕ) → IsSound m → place < length m → HoldsAt (λ x. IsTrue (holds x address size)) m place → e ≡ get_or m place e → set m place (record e { bytes = put_at e.bytes (address - e.start) size value }) ≡ store m address size value
 store_found m place e address size value sound below h is =

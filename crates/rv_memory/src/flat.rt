@@ -67,7 +67,7 @@ impl ByteStore for Flat {
         number_at(&region.bytes, (address - region.start) as usize, size)
     }
 
-    #[inline]
+    #[inline(always)]
     #[tactic(auto, using(crate::proofs::Places::load_found, crate::proofs::LookFrom::skips))]
     fn load_permitted(&self, address: u32, size: u8, need: Need) -> Option<u32> {
         if need == Need::Execute && permits_at(&self.regions, self.code, address, size, need) {
@@ -77,6 +77,16 @@ impl ByteStore for Flat {
         let first = first_of(&self.firsts, address);
         let region = &self.regions[find_permitted(&self.regions, first, address, size, need)?];
         Some(number_at(&region.bytes, (address - region.start) as usize, size))
+    }
+
+    #[inline(always)]
+    #[tactic(auto, using(crate::proofs::Places::permitted_found))]
+    fn fetch_at_once(&self, address: u32) -> Option<u32> {
+        if permits_at(&self.regions, self.code, address, 4, Need::Execute) {
+            let region = &self.regions[self.code];
+            return Some(number_at(&region.bytes, (address - region.start) as usize, 4));
+        }
+        None
     }
 
     #[inline]
@@ -92,7 +102,7 @@ impl ByteStore for Flat {
         put(&mut self.regions[region], address, size, value);
     }
 
-    #[inline]
+    #[inline(always)]
     #[tactic(auto, using(crate::proofs::Places::store_found, crate::proofs::LookFrom::skips))]
     fn store_permitted(&mut self, address: u32, size: u8, value: u32, need: Need) -> bool {
         let first = first_of(&self.firsts, address);
@@ -111,7 +121,7 @@ impl Steady for Flat {
 }
 
 /// Whether the bytes lie wholly within the region.
-#[inline]
+#[inline(always)]
 fn holds(region: &Region, address: u32, size: u8) -> bool
     ensures { result ≡ spec.holds region.now address size }
 {
@@ -119,7 +129,7 @@ fn holds(region: &Region, address: u32, size: u8) -> bool
         && u64::from(address - region.start) + u64::from(size) <= u64::from(region.len)
 }
 
-#[inline]
+#[inline(always)]
 fn allows(region: &Region, need: Need) -> bool
     ensures { result ≡ spec.allows region.now need }
 {
@@ -133,7 +143,7 @@ fn allows(region: &Region, need: Need) -> bool
 }
 
 /// Whether the region of the place, where there is one, has the bytes and the permissions.
-#[inline]
+#[inline(always)]
 #[tactic(auto, using(crate::proofs::Permitted::permitted_at))]
 fn permits_at(regions: &[Region], place: usize, address: u32, size: u8, need: Need) -> bool
     ensures permitted { IsTrue result → IsTrue (spec.permits regions.now address size need) }
@@ -164,7 +174,7 @@ fn find(regions: &[Region], first: usize, address: u32, size: u8) -> usize
 }
 
 /// The place of a region that the bytes lie in and that has the permissions, where none before `first` does.
-#[inline]
+#[inline(always)]
 fn find_permitted(
     regions: &[Region],
     first: usize,
@@ -187,7 +197,7 @@ fn find_permitted(
 }
 
 /// The `size` bytes at `offset` as a little-endian number.
-#[inline]
+#[inline(always)]
 fn number_at(bytes: &[u8], offset: usize, size: u8) -> u32
     requires size { spec.IsSize size }
     requires within { offset + size ≤ length bytes.now }
@@ -205,7 +215,7 @@ fn number_at(bytes: &[u8], offset: usize, size: u8) -> u32
 }
 
 /// Puts the low `size` bytes of the number at `offset`, the least significant first.
-#[inline]
+#[inline(always)]
 fn put_at(bytes: &mut [u8], offset: usize, size: u8, value: u32)
     requires size { spec.IsSize size }
     requires within { offset + size ≤ length bytes.old }
@@ -227,7 +237,7 @@ fn put_at(bytes: &mut [u8], offset: usize, size: u8, value: u32)
 }
 
 /// Puts the low `size` bytes of the number from the address on.
-#[inline]
+#[inline(always)]
 fn put(region: &mut Region, address: u32, size: u8, value: u32)
     requires size { spec.IsSize size }
     requires start { region.old.start ≤ address }

@@ -43,7 +43,7 @@ fn mark(firsts: &mut [u16], region: &Region, place: u16)
 }
 
 /// The place to look from for an address.
-#[inline]
+#[inline(always)]
 pub(crate) fn first_of(firsts: &[u16], address: u32) -> usize
     requires { length firsts.now ≡ PAGES }
     ensures { result ≡ slice_index firsts.now (address / PAGE) }

@@ -118,6 +118,14 @@ pub trait ByteStore: Drop {
         }
     }
 
+    /// The word at an address, as `load_permitted` gives it for Execute, where the store finds it at once; None
+    /// says nothing. A store that has no place to try first looks the word up.
+    fn fetch_at_once(&self, address: u32) -> Option<u32>
+        ensures { IfSome result (λ word. spec.load_permitted (memory self.now) address 4 Need.Execute ≡ Some word) }
+    {
+        self.load_permitted(address, 4, Need::Execute)
+    }
+
     /// Makes the bytes ready to be stored to. The contents stay either way.
     fn ready(&mut self, address: u32, size: u8) -> Result<(), NoMemory>
         ensures same { memory self.new ≡ memory self.old }

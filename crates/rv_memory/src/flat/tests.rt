@@ -253,3 +253,20 @@ fn stores_where_permitted(rt: HostRuntime) -> Result<(), Fail> {
     assert_eq!(rt; load(&flat, 0x1008, 4), Some(0xABCD_EEEE));
     Ok(())
 }
+
+/// A word is found at once in the first executable region alone.
+#[test]
+fn fetches_at_once(rt: HostRuntime) -> Result<(), Fail> {
+    let alloc = rt.alloc();
+    let mut data = region(alloc, 0x1000, &[0xEE; 8], 8)?;
+    data.x = false;
+    let code = region(alloc, 0x2000, &[0x13, 0x05, 0xA0, 0x02], 8)?;
+    let regions = [data, code, region(alloc, 0x3000, &[1], 4)?];
+    let flat = Flat::make(alloc, &regions)?;
+    assert_eq!(rt; flat.fetch_at_once(0x2000), Some(0x02A0_0513));
+    assert_eq!(rt; flat.fetch_at_once(0x2004), Some(0));
+    assert_eq!(rt; flat.fetch_at_once(0x2005), None);
+    assert_eq!(rt; flat.fetch_at_once(0x1000), None);
+    assert_eq!(rt; flat.fetch_at_once(0x3000), None);
+    Ok(())
+}
