@@ -91,29 +91,25 @@ fn show(claims: &mut [Option<Claim>], seen: Seen)
     ensures { claims.new ≡ spec.slots_after seen claims.old }
 {
     for held in claims.iter_mut() {
-        *held = held_after(*held, seen);
+        show_one(held, seen);
     }
 }
 
-fn held_after(held: Option<Claim>, seen: Seen) -> Option<Claim>
-    ensures { result ≡ option_map (spec.claim_after seen) held }
+fn show_one(held: &mut Option<Claim>, seen: Seen)
+    ensures { held.new ≡ option_map (spec.claim_after seen) held.old }
 {
-    match held {
-        None => None,
-        Some(claim) => Some(claim_after(claim, seen)),
+    if let Some(claim) = held {
+        show_claim(claim, seen);
     }
 }
 
-fn claim_after(claim: Claim, seen: Seen) -> Claim
-    ensures { result ≡ spec.claim_after seen claim }
+/// A claim takes the first access that it is for. It is changed in place, since each access of a step is
+/// shown to each claim.
+fn show_claim(claim: &mut Claim, seen: Seen)
+    ensures { claim.new ≡ spec.claim_after seen claim.old }
 {
     if claim.seen.is_none() && claim.hart != seen.hart && claim.access.conflicts(&seen.access) {
-        Claim {
-            seen: Some(seen),
-            ..claim
-        }
-    } else {
-        claim
+        claim.seen = Some(seen);
     }
 }
 

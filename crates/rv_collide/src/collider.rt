@@ -1,6 +1,7 @@
 //! The core: one machine, its breakpoints, and the stored schedule of the calls that it accepted.
 ghost use Rattle.std.specs.Prelude.{◌≡◌, ◌⊎◌, ℕ, ◌<◌, ◌≤◌, ◌+◌, ◌*◌, ◌++◌, ◌∷◌, [], ◌==◌, not, Bool, nat_lt, Ok, Err, Some, None, IfOk, IfErr, OnOk, OnErr, IfSome, IfNone, IsSome, unwrap_or, if◌then◌else◌, count_by, ◌%◌, false, true, IsTrue, length, slice_get, option_and_then, option_map, is_some, is_none, find, filter, filter_map, map, vec_len, vec_capacity, MatchResult};
 ghost use Rattle.std.specs.FinSet as set;
+ghost use Rattle.std.specs.List.{list_any};
 ghost use Rattle.rv_collide.specs.Armed.{armed, arms};
 ghost use Rattle.rv_collide.specs.Entries.{steps};
 ghost use Rattle.rv_collide.specs.Forced.{forced, Turn, Resume, Arm, Disarm, turn_entry, least_free};
@@ -131,7 +132,7 @@ impl<S: ByteStore> Collider<S> {
         if !self.runs(h) {
             return Err(Refused::NotRunning);
         }
-        if self.opening(h).is_some() {
+        if self.is_paused(h) {
             return Err(Refused::Paused);
         }
         if !self.has_steps_left() {
@@ -277,6 +278,13 @@ impl<S: ByteStore> Collider<S> {
         ensures { result ≡ runs_at (setting_of self.now).start self.now.entries (length self.now.entries) h }
     {
         is_running(self.machine.status(h))
+    }
+
+    /// Whether a hart is paused.
+    fn is_paused(&self, h: u8) -> bool
+        ensures { result ≡ is_some (opening_of self.now.entries h) }
+    {
+        is_one_of(&self.openings, h)
     }
 
     /// The open pause of a hart.
@@ -453,6 +461,13 @@ fn is_running(status: Status) -> bool
         Status::Running => true,
         Status::Exited(_) | Status::Stopped(_) => false,
     }
+}
+
+/// Whether one of the open pauses is the hart's.
+fn is_one_of(openings: &[OpenPause], h: u8) -> bool
+    ensures { result ≡ list_any (λ p. p.hart == h) openings.now }
+{
+    openings.iter().any(|p| p.hart == h)
 }
 
 /// The open pause of a hart among the open ones.

@@ -6,4 +6,4 @@ use Rattle.rv_break.proofs.slots.show.Goals as goal
 
 pub loop-held-preserved : goal.loop-held-preserved
 loop-held-preserved c =
-    mapped_step (option_map (claim_after c.args.seen)) c.args.claims.now c.loop-held.claims c.loop-held.held-index None c.held_after.result c.loop-held.invariant c.held_after.ensures c.loop-held-test.true
+    mapped_step (option_map (claim_after c.args.seen)) c.args.claims.now c.loop-held.claims c.loop-held.held-index None c.show_one.new.held c.loop-held.invariant c.show_one.ensures c.loop-held-test.true
