@@ -1,3 +1,4 @@
 pub mod Class
+pub mod ClassLaws
 pub mod Code
 pub mod Ranges

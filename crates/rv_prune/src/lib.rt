@@ -7,6 +7,7 @@
 
 pub mod class;
 mod code;
+pub mod laws;
 pub mod names;
 pub mod pruning;
 mod rules;
