@@ -1,0 +1,4 @@
+pub mod Reports
+pub mod Tables
+pub mod Rows
+pub mod Written

@@ -1,0 +1,3 @@
+pub mod Races
+pub mod TableText
+pub mod internal
