@@ -14,6 +14,7 @@ mod effect;
 pub mod hart;
 pub mod laws;
 pub mod machine;
+mod operations;
 mod quick;
 mod start;
 #[cfg(test)]

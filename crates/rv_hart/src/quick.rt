@@ -10,6 +10,7 @@ use crate::act::{act, combined};
 use crate::action::Action;
 use crate::effect::{advance, is_aligned, see_and_advance};
 use crate::hart::{Hart, is_running};
+use crate::operations::{self, Operation};
 use crate::write::Write;
 use rv_isa::codec::decode_as;
 use rv_isa::op::Op;
@@ -46,8 +47,8 @@ pub fn quick<S: ByteStore>(store: &mut S, harts: &mut [Hart], h: u8, access: &mu
 /// Takes the step of a word, by one jump over the opcode's five upper bits and funct3. No more is asked of
 /// the arms than that they try a likely operation, since each tests the word by that operation's row. Each
 /// names its operation as a constant, so that it is compiled to the operands and the action of that operation
-/// alone. What accesses memory is a function of its own, since the others need no more registers than a call
-/// may use.
+/// alone. What accesses memory is a function of its own for each operation, since the others need no more registers
+/// than a call may use.
 #[inline(always)]
 fn dispatched<S: ByteStore>(
     store: &mut S,
@@ -62,11 +63,11 @@ fn dispatched<S: ByteStore>(
 {
     let is_plain = (word >> 25) % 128 == 0;
     match (word >> 2) % 32 * 8 + (word >> 12) % 8 {
-        0x00 => load_byte(store, harts, h, word, access),
-        0x01 => load_half(store, harts, h, word, access),
-        0x02 => load_word(store, harts, h, word, access),
-        0x04 => load_byte_unsigned(store, harts, h, word, access),
-        0x05 => load_half_unsigned(store, harts, h, word, access),
+        0x00 => load_apart::<operations::Lb, S>(store, harts, h, word, access),
+        0x01 => load_apart::<operations::Lh, S>(store, harts, h, word, access),
+        0x02 => load_apart::<operations::Lw, S>(store, harts, h, word, access),
+        0x04 => load_apart::<operations::Lbu, S>(store, harts, h, word, access),
+        0x05 => load_apart::<operations::Lhu, S>(store, harts, h, word, access),
         0x18..=0x1f => set_by(store, harts, h, Op::Fence, word, access),
         0x20 => set_by(store, harts, h, Op::Addi, word, access),
         0x21 => set_by(store, harts, h, Op::Slli, word, access),
@@ -81,9 +82,9 @@ fn dispatched<S: ByteStore>(
         0x26 => set_by(store, harts, h, Op::Ori, word, access),
         0x27 => set_by(store, harts, h, Op::Andi, word, access),
         0x28..=0x2f => set_by(store, harts, h, Op::Auipc, word, access),
-        0x40 => store_byte(store, harts, h, word, access),
-        0x41 => store_half(store, harts, h, word, access),
-        0x42 => store_word(store, harts, h, word, access),
+        0x40 => store_apart::<operations::Sb, S>(store, harts, h, word, access),
+        0x41 => store_apart::<operations::Sh, S>(store, harts, h, word, access),
+        0x42 => store_apart::<operations::Sw, S>(store, harts, h, word, access),
         0x5a => exchanged(store, harts, h, word, access),
         0x60 => if is_plain {
             set_by(store, harts, h, Op::Add, word, access)
@@ -128,15 +129,15 @@ fn exchanged<S: ByteStore>(
     ensures { Tried harts.old harts.new (S.memory store.old) (S.memory store.new) h (event_of_attempt result access.new) }
 {
     match (word >> 27) % 32 {
-        0x00 => amo_add(store, harts, h, word, access),
-        0x01 => amo_swap(store, harts, h, word, access),
-        0x04 => amo_xor(store, harts, h, word, access),
-        0x08 => amo_or(store, harts, h, word, access),
-        0x0c => amo_and(store, harts, h, word, access),
-        0x10 => amo_min(store, harts, h, word, access),
-        0x14 => amo_max(store, harts, h, word, access),
-        0x18 => amo_min_unsigned(store, harts, h, word, access),
-        0x1c => amo_max_unsigned(store, harts, h, word, access),
+        0x00 => exchange_apart::<operations::AmoaddW, S>(store, harts, h, word, access),
+        0x01 => exchange_apart::<operations::AmoswapW, S>(store, harts, h, word, access),
+        0x04 => exchange_apart::<operations::AmoxorW, S>(store, harts, h, word, access),
+        0x08 => exchange_apart::<operations::AmoorW, S>(store, harts, h, word, access),
+        0x0c => exchange_apart::<operations::AmoandW, S>(store, harts, h, word, access),
+        0x10 => exchange_apart::<operations::AmominW, S>(store, harts, h, word, access),
+        0x14 => exchange_apart::<operations::AmomaxW, S>(store, harts, h, word, access),
+        0x18 => exchange_apart::<operations::AmominuW, S>(store, harts, h, word, access),
+        0x1c => exchange_apart::<operations::AmomaxuW, S>(store, harts, h, word, access),
         _ => Attempt::Nothing,
     }
 }
@@ -175,13 +176,12 @@ fn set_by<S: ByteStore>(
     }
 }
 
-/// Takes the step of a word of this operation, a plain load.
-#[inline(always)]
-fn load_by<S: ByteStore>(
+/// Takes the step of a word of this operation, a plain load, apart from the jump.
+#[inline(never)]
+fn load_apart<O: Operation, S: ByteStore>(
     store: &mut S,
     harts: &mut [Hart],
     h: u8,
-    op: Op,
     word: u32,
     access: &mut Access,
 ) -> Attempt
@@ -189,19 +189,18 @@ fn load_by<S: ByteStore>(
     requires fetches { HartIs harts.old h (Fetches (S.memory store.old) word) }
     ensures { Tried harts.old harts.new (S.memory store.old) (S.memory store.new) h (event_of_attempt result access.new) }
 {
-    match begun(store, harts, h, op, word) {
+    match begun(store, harts, h, O::op(), word) {
         Some(action) => loaded(store, harts, h, action, access),
         None => Attempt::Nothing,
     }
 }
 
-/// Takes the step of a word of this operation, a plain store.
-#[inline(always)]
-fn store_by<S: ByteStore>(
+/// Takes the step of a word of this operation, a plain store, apart from the jump.
+#[inline(never)]
+fn store_apart<O: Operation, S: ByteStore>(
     store: &mut S,
     harts: &mut [Hart],
     h: u8,
-    op: Op,
     word: u32,
     access: &mut Access,
 ) -> Attempt
@@ -209,19 +208,18 @@ fn store_by<S: ByteStore>(
     requires fetches { HartIs harts.old h (Fetches (S.memory store.old) word) }
     ensures { Tried harts.old harts.new (S.memory store.old) (S.memory store.new) h (event_of_attempt result access.new) }
 {
-    match begun(store, harts, h, op, word) {
+    match begun(store, harts, h, O::op(), word) {
         Some(action) => stored(store, harts, h, action, access),
         None => Attempt::Nothing,
     }
 }
 
-/// Takes the step of a word of this operation, an AMO.
-#[inline(always)]
-fn replace_by<S: ByteStore>(
+/// Takes the step of a word of this operation, an AMO, apart from the jump.
+#[inline(never)]
+fn exchange_apart<O: Operation, S: ByteStore>(
     store: &mut S,
     harts: &mut [Hart],
     h: u8,
-    op: Op,
     word: u32,
     access: &mut Access,
 ) -> Attempt
@@ -229,7 +227,7 @@ fn replace_by<S: ByteStore>(
     requires fetches { HartIs harts.old h (Fetches (S.memory store.old) word) }
     ensures { Tried harts.old harts.new (S.memory store.old) (S.memory store.new) h (event_of_attempt result access.new) }
 {
-    match begun(store, harts, h, op, word) {
+    match begun(store, harts, h, O::op(), word) {
         Some(action) => replaced(store, harts, h, action, access),
         None => Attempt::Nothing,
     }
@@ -319,134 +317,6 @@ fn stored<S: ByteStore>(
     Attempt::Accessed
 }
 
-/// Takes the step of a word of LB.
-#[inline(never)]
-fn load_byte<S: ByteStore>(
-    store: &mut S,
-    harts: &mut [Hart],
-    h: u8,
-    word: u32,
-    access: &mut Access,
-) -> Attempt
-    requires hart { h < length harts.old }
-    requires fetches { HartIs harts.old h (Fetches (S.memory store.old) word) }
-    ensures { Tried harts.old harts.new (S.memory store.old) (S.memory store.new) h (event_of_attempt result access.new) }
-{
-    load_by(store, harts, h, Op::Lb, word, access)
-}
-
-/// Takes the step of a word of LH.
-#[inline(never)]
-fn load_half<S: ByteStore>(
-    store: &mut S,
-    harts: &mut [Hart],
-    h: u8,
-    word: u32,
-    access: &mut Access,
-) -> Attempt
-    requires hart { h < length harts.old }
-    requires fetches { HartIs harts.old h (Fetches (S.memory store.old) word) }
-    ensures { Tried harts.old harts.new (S.memory store.old) (S.memory store.new) h (event_of_attempt result access.new) }
-{
-    load_by(store, harts, h, Op::Lh, word, access)
-}
-
-/// Takes the step of a word of LW.
-#[inline(never)]
-fn load_word<S: ByteStore>(
-    store: &mut S,
-    harts: &mut [Hart],
-    h: u8,
-    word: u32,
-    access: &mut Access,
-) -> Attempt
-    requires hart { h < length harts.old }
-    requires fetches { HartIs harts.old h (Fetches (S.memory store.old) word) }
-    ensures { Tried harts.old harts.new (S.memory store.old) (S.memory store.new) h (event_of_attempt result access.new) }
-{
-    load_by(store, harts, h, Op::Lw, word, access)
-}
-
-/// Takes the step of a word of LBU.
-#[inline(never)]
-fn load_byte_unsigned<S: ByteStore>(
-    store: &mut S,
-    harts: &mut [Hart],
-    h: u8,
-    word: u32,
-    access: &mut Access,
-) -> Attempt
-    requires hart { h < length harts.old }
-    requires fetches { HartIs harts.old h (Fetches (S.memory store.old) word) }
-    ensures { Tried harts.old harts.new (S.memory store.old) (S.memory store.new) h (event_of_attempt result access.new) }
-{
-    load_by(store, harts, h, Op::Lbu, word, access)
-}
-
-/// Takes the step of a word of LHU.
-#[inline(never)]
-fn load_half_unsigned<S: ByteStore>(
-    store: &mut S,
-    harts: &mut [Hart],
-    h: u8,
-    word: u32,
-    access: &mut Access,
-) -> Attempt
-    requires hart { h < length harts.old }
-    requires fetches { HartIs harts.old h (Fetches (S.memory store.old) word) }
-    ensures { Tried harts.old harts.new (S.memory store.old) (S.memory store.new) h (event_of_attempt result access.new) }
-{
-    load_by(store, harts, h, Op::Lhu, word, access)
-}
-
-/// Takes the step of a word of SB.
-#[inline(never)]
-fn store_byte<S: ByteStore>(
-    store: &mut S,
-    harts: &mut [Hart],
-    h: u8,
-    word: u32,
-    access: &mut Access,
-) -> Attempt
-    requires hart { h < length harts.old }
-    requires fetches { HartIs harts.old h (Fetches (S.memory store.old) word) }
-    ensures { Tried harts.old harts.new (S.memory store.old) (S.memory store.new) h (event_of_attempt result access.new) }
-{
-    store_by(store, harts, h, Op::Sb, word, access)
-}
-
-/// Takes the step of a word of SH.
-#[inline(never)]
-fn store_half<S: ByteStore>(
-    store: &mut S,
-    harts: &mut [Hart],
-    h: u8,
-    word: u32,
-    access: &mut Access,
-) -> Attempt
-    requires hart { h < length harts.old }
-    requires fetches { HartIs harts.old h (Fetches (S.memory store.old) word) }
-    ensures { Tried harts.old harts.new (S.memory store.old) (S.memory store.new) h (event_of_attempt result access.new) }
-{
-    store_by(store, harts, h, Op::Sh, word, access)
-}
-
-/// Takes the step of a word of SW.
-#[inline(never)]
-fn store_word<S: ByteStore>(
-    store: &mut S,
-    harts: &mut [Hart],
-    h: u8,
-    word: u32,
-    access: &mut Access,
-) -> Attempt
-    requires hart { h < length harts.old }
-    requires fetches { HartIs harts.old h (Fetches (S.memory store.old) word) }
-    ensures { Tried harts.old harts.new (S.memory store.old) (S.memory store.new) h (event_of_attempt result access.new) }
-{
-    store_by(store, harts, h, Op::Sw, word, access)
-}
-
 /// Takes an AMO that is permitted.
 #[inline(always)]
 fn replaced<S: ByteStore>(
@@ -488,150 +358,6 @@ fn replaced<S: ByteStore>(
     };
     see_and_advance(harts, h, loaded, action, Some(write));
     Attempt::Accessed
-}
-
-/// Takes the step of a word of AMOSWAP.W.
-#[inline(never)]
-fn amo_swap<S: ByteStore>(
-    store: &mut S,
-    harts: &mut [Hart],
-    h: u8,
-    word: u32,
-    access: &mut Access,
-) -> Attempt
-    requires hart { h < length harts.old }
-    requires fetches { HartIs harts.old h (Fetches (S.memory store.old) word) }
-    ensures { Tried harts.old harts.new (S.memory store.old) (S.memory store.new) h (event_of_attempt result access.new) }
-{
-    replace_by(store, harts, h, Op::AmoswapW, word, access)
-}
-
-/// Takes the step of a word of AMOADD.W.
-#[inline(never)]
-fn amo_add<S: ByteStore>(
-    store: &mut S,
-    harts: &mut [Hart],
-    h: u8,
-    word: u32,
-    access: &mut Access,
-) -> Attempt
-    requires hart { h < length harts.old }
-    requires fetches { HartIs harts.old h (Fetches (S.memory store.old) word) }
-    ensures { Tried harts.old harts.new (S.memory store.old) (S.memory store.new) h (event_of_attempt result access.new) }
-{
-    replace_by(store, harts, h, Op::AmoaddW, word, access)
-}
-
-/// Takes the step of a word of AMOXOR.W.
-#[inline(never)]
-fn amo_xor<S: ByteStore>(
-    store: &mut S,
-    harts: &mut [Hart],
-    h: u8,
-    word: u32,
-    access: &mut Access,
-) -> Attempt
-    requires hart { h < length harts.old }
-    requires fetches { HartIs harts.old h (Fetches (S.memory store.old) word) }
-    ensures { Tried harts.old harts.new (S.memory store.old) (S.memory store.new) h (event_of_attempt result access.new) }
-{
-    replace_by(store, harts, h, Op::AmoxorW, word, access)
-}
-
-/// Takes the step of a word of AMOAND.W.
-#[inline(never)]
-fn amo_and<S: ByteStore>(
-    store: &mut S,
-    harts: &mut [Hart],
-    h: u8,
-    word: u32,
-    access: &mut Access,
-) -> Attempt
-    requires hart { h < length harts.old }
-    requires fetches { HartIs harts.old h (Fetches (S.memory store.old) word) }
-    ensures { Tried harts.old harts.new (S.memory store.old) (S.memory store.new) h (event_of_attempt result access.new) }
-{
-    replace_by(store, harts, h, Op::AmoandW, word, access)
-}
-
-/// Takes the step of a word of AMOOR.W.
-#[inline(never)]
-fn amo_or<S: ByteStore>(
-    store: &mut S,
-    harts: &mut [Hart],
-    h: u8,
-    word: u32,
-    access: &mut Access,
-) -> Attempt
-    requires hart { h < length harts.old }
-    requires fetches { HartIs harts.old h (Fetches (S.memory store.old) word) }
-    ensures { Tried harts.old harts.new (S.memory store.old) (S.memory store.new) h (event_of_attempt result access.new) }
-{
-    replace_by(store, harts, h, Op::AmoorW, word, access)
-}
-
-/// Takes the step of a word of AMOMIN.W.
-#[inline(never)]
-fn amo_min<S: ByteStore>(
-    store: &mut S,
-    harts: &mut [Hart],
-    h: u8,
-    word: u32,
-    access: &mut Access,
-) -> Attempt
-    requires hart { h < length harts.old }
-    requires fetches { HartIs harts.old h (Fetches (S.memory store.old) word) }
-    ensures { Tried harts.old harts.new (S.memory store.old) (S.memory store.new) h (event_of_attempt result access.new) }
-{
-    replace_by(store, harts, h, Op::AmominW, word, access)
-}
-
-/// Takes the step of a word of AMOMAX.W.
-#[inline(never)]
-fn amo_max<S: ByteStore>(
-    store: &mut S,
-    harts: &mut [Hart],
-    h: u8,
-    word: u32,
-    access: &mut Access,
-) -> Attempt
-    requires hart { h < length harts.old }
-    requires fetches { HartIs harts.old h (Fetches (S.memory store.old) word) }
-    ensures { Tried harts.old harts.new (S.memory store.old) (S.memory store.new) h (event_of_attempt result access.new) }
-{
-    replace_by(store, harts, h, Op::AmomaxW, word, access)
-}
-
-/// Takes the step of a word of AMOMINU.W.
-#[inline(never)]
-fn amo_min_unsigned<S: ByteStore>(
-    store: &mut S,
-    harts: &mut [Hart],
-    h: u8,
-    word: u32,
-    access: &mut Access,
-) -> Attempt
-    requires hart { h < length harts.old }
-    requires fetches { HartIs harts.old h (Fetches (S.memory store.old) word) }
-    ensures { Tried harts.old harts.new (S.memory store.old) (S.memory store.new) h (event_of_attempt result access.new) }
-{
-    replace_by(store, harts, h, Op::AmominuW, word, access)
-}
-
-/// Takes the step of a word of AMOMAXU.W.
-#[inline(never)]
-fn amo_max_unsigned<S: ByteStore>(
-    store: &mut S,
-    harts: &mut [Hart],
-    h: u8,
-    word: u32,
-    access: &mut Access,
-) -> Attempt
-    requires hart { h < length harts.old }
-    requires fetches { HartIs harts.old h (Fetches (S.memory store.old) word) }
-    ensures { Tried harts.old harts.new (S.memory store.old) (S.memory store.new) h (event_of_attempt result access.new) }
-{
-    replace_by(store, harts, h, Op::AmomaxuW, word, access)
 }
 
 /// Notes an access that the hart makes.
