@@ -44,6 +44,7 @@ impl Armed {
     }
 
     /// Whether the address is in the set.
+    #[inline(always)]
     pub fn contains(&self, address: u32) -> bool
         ensures { result ≡ set.contains self.now address }
     {

@@ -50,6 +50,7 @@ impl Breakpoints {
     }
 
     /// Whether the address is armed.
+    #[inline(always)]
     pub fn is_armed(&self, pc: u32) -> bool
         ensures { result ≡ set.contains self.now.armed pc }
     {

@@ -1,10 +1,10 @@
 -- The access that a hart would make at an armed address.
-use Rattle.std.proofs.Common.{◌≡◌, ℕ, Bool, true, false, cond, List, length, Option, Some, None, refl, sym, ap, subst, ◌∙◌}
+use Rattle.std.proofs.Common.{◌≡◌, ℕ, Bool, true, false, cond, List, length, Option, Some, None, refl, sym, ap, ◌∙◌}
 use Rattle.std.specs.Prelude.{slice_get, option_and_then, IsSomeAnd, IfSome, IfNone}
 use Rattle.std.specs.FinSet.{contains}
 use Rattle.rv_collide.specs.Answers.{IsArmedAccess}
 use Rattle.rv_collide.specs.Armed.{armed}
-use Rattle.rv_collide.specs.Forced.{Setting, turn_entry, least_free}
+use Rattle.rv_collide.specs.Forced.{turn_entry, least_free}
 use Rattle.rv_collide.specs.Next.{next, plain}
 use Rattle.rv_collide.specs.StateAt.{state_at}
 use Rattle.rv_collide.specs.Stored.{Stored, setting_of}

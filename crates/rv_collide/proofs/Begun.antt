@@ -1,6 +1,6 @@
 -- What the core keeps before its first entry.
-use Rattle.std.proofs.Common.{◌≡◌, ℕ, ◌≤◌, List, [], length, Some, None, refl, sym, ap, subst, ◌∙◌, arith, zero-le}
-use Rattle.std.specs.FinSet.{len, len-empty}
+use Rattle.std.proofs.Common.{◌≡◌, [], length, Some, refl, sym, ap, ◌∙◌, arith, zero-le}
+use Rattle.std.specs.FinSet.{len-empty}
 use Rattle.std.specs.Ordering.{nat_cmp}
 use Rattle.rv_break.specs.Breakpoints.{Breaks, no_breaks}
 use Rattle.rv_collide.specs.Armed.{armed, last_armed, mentions}

@@ -1,5 +1,5 @@
 -- The bytes of an access, one by one.
-use Rattle.std.proofs.Common.{◌≡◌, ℕ, ◌+◌, ◌*◌, ◌⊎◌, inl, inr, sym, ap, ◌∙◌, refl, arith, add-zero, add_assoc}
+use Rattle.std.proofs.Common.{◌≡◌, ℕ, ◌+◌, ◌*◌, inl, inr, sym, ap, ◌∙◌, arith, add-zero, add_assoc}
 use Rattle.std.specs.Prelude.{unwrap_or}
 use Rattle.rv_memory.specs.Memory.{Memory, byte, load, IsSize}
 

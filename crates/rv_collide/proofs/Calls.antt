@@ -1,5 +1,5 @@
 -- What a call is forced to do, test by test.
-use Rattle.std.proofs.Common.{◌≡◌, ◌≢◌, ℕ, ◌%◌, ◌<◌, ◌≤◌, Bool, true, false, List, length, Option, Some, None, Ok, Err, refl, sym, ap, ◌∙◌, arith}
+use Rattle.std.proofs.Common.{◌≡◌, ℕ, ◌%◌, ◌<◌, ◌≤◌, Bool, true, false, List, length, Ok, Err, refl, sym, arith}
 use Rattle.std.specs.Prelude.{◌==◌, ◌&&◌, not, nat_lt, is_some, count_by}
 use Rattle.std.specs.FinSet.{contains, len}
 use Rattle.std.proofs.lemmas.Bool.Decides.{nat_tests}
@@ -10,7 +10,7 @@ use Rattle.rv_collide.specs.Forced.{Setting, Turn, Resume, Arm, Disarm, forced, 
 use Rattle.rv_collide.specs.Next.{plain, runs_at}
 use Rattle.rv_collide.specs.Pause.{opening_of}
 use Rattle.rv_collide.specs.declared.entry.Entry.{Entry}
-use Rattle.rv_collide.specs.declared.entry.Entry.TheVariants.{Stepped, Resumed, Armed, Disarmed}
+use Rattle.rv_collide.specs.declared.entry.Entry.TheVariants.{Resumed, Armed, Disarmed}
 use Rattle.rv_collide.specs.declared.refused.Refused.TheVariants.{NoHart, NotRunning, Paused, StepsSpent, NotPaused, ArmsSpent, Misaligned, AlreadyArmed, ArmedFull, NotArmed}
 
 module _ (setting : Setting) (xs : List Entry) (a : ℕ) where

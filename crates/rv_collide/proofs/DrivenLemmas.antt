@@ -1,9 +1,9 @@
 -- Seeded runs: each entry's source, and what follows of it.
 use Rattle.std.proofs.Common.{◌≡◌, ℕ, zero, suc, ◌+◌, ◌-◌, ◌%◌, ◌≤◌, ◌<◌, ◌⊎◌, inl, inr, Bool, true, false, cond, List, [], ◌∷◌, ◌++◌, length, take, Option, Some, None, Ok, Err, Result, refl, sym, ap, subst, ◌∙◌, arith, length-append}
-use Rattle.std.specs.Prelude.{◌==◌, ◌&&◌, ◌||◌, not, nat_le, nat_lt, is_some, find, slice_get, option_and_then, option_map, count_by, IsTrue}
+use Rattle.std.specs.Prelude.{◌==◌, ◌&&◌, ◌||◌, not, nat_le, nat_lt, is_some, find, slice_get, option_and_then, option_map, count_by}
 use Rattle.std.specs.Result.{result_ok}
 use Rattle.std.specs.FinSet.{contains, len}
-use Rattle.std.specs.List.{list_any, range_with_len}
+use Rattle.std.specs.List.{list_any}
 use Rattle.std.specs.Option.{option_or, option_map_or, option_to_list}
 use Rattle.std.proofs.lemmas.Bool.{cases_lt}
 use Rattle.std.proofs.lemmas.Bool.Decides.{nat_tests}
@@ -16,10 +16,10 @@ use Rattle.rv_collide.specs.Drawn.{IsDrawn, driven, picked_hart, turn_drawn, tur
 use Rattle.rv_collide.specs.Draws.{Sampling, IsOwed, arms_or_disarms, draw, draw_after, draws, first_draws, is_resumed, next_index, owed}
 use Rattle.rv_collide.specs.DriverLaws.{OneRunAtMost, DrawnIsLegal, DrawnIsLong, DrawnIsArmedByDraws, DrawnHasEnded}
 use Rattle.rv_collide.specs.Entries.{steps}
-use Rattle.rv_collide.specs.Forced.{Setting, Turn, Resume, Arm, forced, turn_entry, least_free}
+use Rattle.rv_collide.specs.Forced.{Setting, Turn, Arm, forced, turn_entry, least_free}
 use Rattle.rv_collide.specs.Legal.{IsLegal, call_of}
 use Rattle.rv_collide.specs.Next.{plain, runs_at}
-use Rattle.rv_collide.specs.Pause.{Opening, opened, opening_of, openings, openings_from, resumes}
+use Rattle.rv_collide.specs.Pause.{Opening, opening_of, openings, openings_from, resumes}
 use Rattle.rv_collide.specs.declared.entry.Entry.{Entry}
 use Rattle.rv_collide.specs.declared.entry.Entry.TheVariants.{Stepped, Paused, Resumed, Armed, Disarmed}
 use Rattle.rv_collide.specs.declared.refused.Refused.{Refused}

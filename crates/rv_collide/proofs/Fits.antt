@@ -1,5 +1,5 @@
 -- The segments of an image and the stacks of a plan's harts make a machine.
-use Rattle.std.proofs.Common.{◌≡◌, ℕ, zero, suc, ◌+◌, ◌*◌, ◌^◌, ◌≤◌, ◌<◌, Bool, true, false, cond, List, [], ◌∷◌, ◌++◌, All, map, Option, Some, None, refl, sym, ap, subst, ◌∙◌, arith}
+use Rattle.std.proofs.Common.{◌≡◌, ℕ, zero, suc, ◌+◌, ◌*◌, ◌^◌, ◌≤◌, ◌<◌, Bool, true, false, cond, List, [], ◌∷◌, ◌++◌, All, map, Some, None, refl, ap, ◌∙◌, arith}
 use Rattle.std.specs.Prelude.{◌&&◌, ◌||◌, nat_lt}
 use Rattle.std.specs.List.{list_any, range_with_len, sum_by}
 use Rattle.std.proofs.lemmas.Bool.Decides.{nat_tests}
@@ -10,8 +10,7 @@ use Rattle.rv_elf.specs.Contents as image
 use Rattle.rv_hart.specs.State.{stack, stack_start, stacks, with_stacks}
 use Rattle.rv_memory.specs.Extent.{Extent, end_of}
 use Rattle.rv_memory.specs.Memory.{fault_of, meets, overlaps}
-use Rattle.rv_memory.specs.declared.store.MemFault.{MemFault}
-use Rattle.rv_memory.specs.declared.store.MemFault.TheVariants.{NoMemory, Overlap, PastEnd, TooLarge}
+use Rattle.rv_memory.specs.declared.store.MemFault.TheVariants.{Overlap, PastEnd, TooLarge}
 use Rattle.rv_memory.specs.declared.store.TheConstants.{LIMIT}
 
 or_parts : (b c : Bool) → (b || c) ≡ false → (b ≡ false) × (c ≡ false)

@@ -1,10 +1,9 @@
 -- What the core keeps after one more entry, kind by kind.
-use Rattle.std.proofs.Common.{◌≡◌, ◌≢◌, ℕ, zero, suc, ◌+◌, ◌-◌, ◌*◌, ◌≤◌, ◌<◌, Bool, true, false, cond, List, [], ◌∷◌, ◌++◌, length, take, Option, Some, None, Result, Ok, Err, map, set, refl, sym, ap, subst, ◌∙◌, arith, length-append, add-zero, zero-add, inl, inr, IsTrue}
-use Rattle.std.specs.Prelude.{IfSome, ◌==◌, ◌%◌, ◌||◌, not, nat_lt, find, filter, slice_get, is_some, option_and_then, option_map, count_by, sum_by}
+use Rattle.std.proofs.Common.{◌≡◌, ℕ, zero, suc, ◌+◌, ◌-◌, ◌≤◌, ◌<◌, Bool, true, false, cond, List, [], ◌∷◌, ◌++◌, length, take, Option, Some, None, Result, Ok, map, set, refl, sym, ap, subst, ◌∙◌, arith, length-append, add-zero, inl, inr}
+use Rattle.std.specs.Prelude.{IfSome, ◌==◌, ◌%◌, not, nat_lt, find, filter, slice_get, is_some, option_map, count_by, sum_by}
 use Rattle.std.specs.Cmp.{nat_cmp_total}
-use Rattle.std.specs.FinSet.{FinSet, contains, insert, remove, len, len-insert, len-remove, contains-empty, empty, empty_of_len}
-use Rattle.std.specs.List.{list_any, range_with_len}
-use Rattle.std.specs.Option.{option_map_or}
+use Rattle.std.specs.FinSet.{FinSet, contains, insert, remove, len, len-insert, len-remove, contains-empty, empty_of_len}
+use Rattle.std.specs.List.{list_any}
 use Rattle.std.specs.Ordering.{nat_cmp}
 use Rattle.std.proofs.lemmas.Bool.{cases_lt, cases_eq}
 use Rattle.std.proofs.lemmas.Bool.Decides.{nat_tests}
@@ -14,25 +13,25 @@ use Rattle.std.proofs.lemmas.Option.{slice_get_within}
 use Rattle.std.proofs.Math.Seq.{take-append_seam}
 use Rattle.std.proofs.lemmas.List.{take-append-le}
 use Rattle.rv_break.specs.Breakpoints.{Breaks}
-use Rattle.rv_break.specs.Slots.{Slots, slots_after}
+use Rattle.rv_break.specs.Slots.{Slots}
 use Rattle.rv_break.specs.declared.claim.Seen.{Seen}
-use Rattle.rv_break.specs.declared.claim.TheConstants.{ARMED_LIMIT, SLOTS}
+use Rattle.rv_break.specs.declared.claim.TheConstants.{SLOTS}
 use Rattle.rv_collide.specs.Armed.{armed, arms}
-use Rattle.rv_collide.specs.Entries.{steps, stepped_hart, stepped_at}
+use Rattle.rv_collide.specs.Entries.{steps, stepped_at}
 use Rattle.rv_collide.specs.First.{seen_at}
-use Rattle.rv_collide.specs.Forced.{Setting, Call, Turn, Resume, Arm, Disarm, forced, turn_entry, is_taken, least_free}
+use Rattle.rv_collide.specs.Forced.{Setting, Turn, Resume, Arm, Disarm, forced, turn_entry, is_taken, least_free}
 use Rattle.rv_collide.specs.Legal.{IsLegal, call_of}
 use Rattle.rv_collide.specs.Made.{made}
 use Rattle.rv_collide.specs.Next.{next, runs_at, plain}
-use Rattle.rv_collide.specs.Pause.{Opening, ended, opening_of, openings, openings_from, resumed_hart, resumes, opened as pauses}
+use Rattle.rv_collide.specs.Pause.{Opening, ended, opening_of, openings, openings_from, resumes, opened as pauses}
 use Rattle.rv_collide.specs.StateAt.{state_at}
 use Rattle.rv_collide.specs.Verdict.{bytes_at, ending, endings}
 use Rattle.rv_collide.specs.declared.ending.Ending.{Ending}
 use Rattle.rv_collide.specs.declared.entry.Entry.{Entry}
 use Rattle.rv_collide.specs.declared.entry.Entry.TheVariants.{Stepped, Paused, Resumed, Armed, Disarmed}
 use Rattle.rv_collide.specs.declared.open_pause.OpenPause.{OpenPause}
-use Rattle.rv_collide.specs.internal.Core.{slots_freed, slots_seen, opening, IsKept, AreKept, is_at, is_in, AreApart, slots_of, HasRoom, IsCore}
-use Rattle.rv_hart.specs.Next.{accessed, next_access}
+use Rattle.rv_collide.specs.internal.Core.{slots_freed, slots_seen, opening, IsKept, AreKept, is_at, is_in, AreApart, slots_of, IsCore}
+use Rattle.rv_hart.specs.Next.{accessed}
 use Rattle.rv_hart.specs.ReservationLaws.{NextIsMade}
 use Rattle.rv_hart.specs.State.{State, Guest}
 use Rattle.rv_hart.specs.Step.{step_of}

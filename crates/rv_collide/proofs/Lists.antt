@@ -1,11 +1,9 @@
 -- Lists of numbers in a row, and what is mapped over them.
-use Rattle.std.proofs.Common.{◌≡◌, ◌≢◌, ℕ, zero, suc, ◌+◌, ◌-◌, ◌≤◌, ◌<◌, Bool, true, false, cond, List, [], ◌∷◌, ◌++◌, length, Option, Some, None, map, set, refl, sym, ap, subst, ◌∙◌, arith, add-one, add-zero, zero-add}
-use Rattle.std.specs.Prelude.{◌||◌, find, filter_map, position, is_none, not, option_map, option_and_then, is_some}
+use Rattle.std.proofs.Common.{◌≡◌, ◌≢◌, ℕ, zero, suc, ◌+◌, ◌≤◌, ◌<◌, Bool, true, false, cond, List, [], ◌∷◌, ◌++◌, Option, Some, None, map, set, refl, sym, ap, subst, ◌∙◌, arith, add-one, add-zero}
+use Rattle.std.specs.Prelude.{◌||◌, find, filter_map, position, is_some}
 use Rattle.std.specs.List.{list_any, range_with_len, position_from, cons_option}
 use Rattle.std.proofs.lemmas.Iterator.Adapters.{position_from-zero}
 use Rattle.std.specs.Option.{option_or}
-use Rattle.std.proofs.lemmas.List.Folds.{find-append}
-use Rattle.std.proofs.lemmas.Bool.{cases_eq}
 
 shift : (a n : ℕ) → a + 1 + n ≡ a + suc n
 shift a n = omega arith

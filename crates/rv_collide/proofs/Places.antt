@@ -1,31 +1,24 @@
 -- First conflicts, verdicts and endings when an entry is added.
-use Rattle.std.proofs.Common.{◌≡◌, ℕ, zero, suc, ◌+◌, ◌-◌, ◌≤◌, ◌<◌, Bool, true, false, cond, List, [], ◌∷◌, ◌++◌, length, take, Option, Some, None, map, refl, sym, ap, subst, ◌∙◌, arith, length-append}
-use Rattle.std.specs.Prelude.{◌==◌, find, filter_map, slice_get, is_none, is_some, option_and_then, option_map}
+use Rattle.std.proofs.Common.{◌≡◌, ℕ, ◌+◌, ◌-◌, ◌≤◌, ◌<◌, true, false, cond, List, [], ◌∷◌, ◌++◌, length, Option, Some, None, refl, sym, ap, ◌∙◌, arith, length-append}
+use Rattle.std.specs.Prelude.{find, is_none, is_some, option_and_then, option_map}
 use Rattle.std.specs.List.{range_with_len}
 use Rattle.std.specs.Option.{option_map_or, option_or}
-use Rattle.std.proofs.lemmas.List.{take-append-le, append-nil}
-use Rattle.std.proofs.lemmas.List.Elements.{filter_map-append}
 use Rattle.std.proofs.lemmas.List.Folds.{find-append}
-use Rattle.std.proofs.Math.Seq.{take-append_seam}
-use Rattle.rv_break.specs.Slots.{claim_after, is_for}
+use Rattle.rv_break.specs.Slots.{claim_after}
 use Rattle.rv_break.specs.declared.claim.Claim.{Claim}
 use Rattle.rv_break.specs.declared.claim.Seen.{Seen}
-use Rattle.rv_collide.specs.Entries.{between, stepped_at, places}
+use Rattle.rv_collide.specs.Entries.{between}
 use Rattle.rv_collide.specs.First.{first, paused_access, seen_at, conflicts_at, is_against}
 use Rattle.rv_collide.specs.Next.{next}
-use Rattle.rv_collide.specs.Pause.{Pause, Opening, ended, within, openings, openings_from, opened, opening_of, pause_ended, resumed_hart}
-use Rattle.rv_collide.specs.StateAt.{state_at}
-use Rattle.rv_collide.specs.Verdict.{bytes_at, ending, ending_at, endings, verdict, verdict_of, watched}
-use Rattle.rv_collide.specs.declared.ending.Ending.{Ending}
+use Rattle.rv_collide.specs.Pause.{Pause, Opening, ended, within}
+use Rattle.rv_collide.specs.Verdict.{bytes_at, ending, verdict, watched}
 use Rattle.rv_collide.specs.declared.entry.Entry.{Entry}
-use Rattle.rv_collide.specs.declared.entry.Entry.TheVariants.{Stepped, Paused, Resumed, Armed, Disarmed}
 use Rattle.rv_collide.specs.internal.Core.{claim_of}
 use Rattle.rv_hart.specs.State.{State}
 use Rattle.rv_hart.specs.declared.access.Access.{Access}
-use Rattle.rv_collide.proofs.ArmedLemmas.{places_push}
-use Rattle.rv_collide.proofs.LawLemmas.{find_within, some_same}
-use Rattle.rv_collide.proofs.Lists.{find_range, range_more, or_none, filter_map_by_map}
-use Rattle.rv_collide.proofs.Prefix.{get_front, get_last, next_front, seen_front, state_front}
+use Rattle.rv_collide.proofs.LawLemmas.{find_within}
+use Rattle.rv_collide.proofs.Lists.{find_range, range_more}
+use Rattle.rv_collide.proofs.Prefix.{next_front, seen_front, state_front}
 
 -- ---- the places between two
 

@@ -1,16 +1,15 @@
 -- One more entry of a list that is told again.
-use Rattle.std.proofs.Common.{◌≡◌, ℕ, ◌+◌, ◌≤◌, ◌<◌, List, [], ◌∷◌, ◌++◌, length, take, Some, None, Ok, Err, Result, inl, inr, refl, sym, ap, subst, ◌∙◌, arith}
+use Rattle.std.proofs.Common.{◌≡◌, ℕ, ◌+◌, ◌<◌, List, [], ◌∷◌, ◌++◌, length, take, Some, Ok, inl, inr, sym, ap, subst, ◌∙◌, arith}
 use Rattle.std.specs.Prelude.{slice_get, ◌≢◌, ◌⊎◌}
 use Rattle.std.proofs.lemmas.Option.{slice_get_within}
-use Rattle.std.proofs.lemmas.List.{take_all, length-take}
+use Rattle.std.proofs.lemmas.List.{length-take}
 use Rattle.rv_collide.specs.Answers.{Adds}
-use Rattle.rv_collide.specs.Forced.{Setting, forced}
+use Rattle.rv_collide.specs.Forced.{forced}
 use Rattle.rv_collide.specs.Legal.{IsLegal, call_of}
 use Rattle.rv_collide.specs.Plan.{Numbers}
 use Rattle.rv_collide.specs.Replays.{IsFirstFault, IsReplayFault, IsWhy}
 use Rattle.rv_collide.specs.Stored.{Stored, added, setting_of, stored}
 use Rattle.rv_collide.specs.declared.entry.Entry.{Entry}
-use Rattle.rv_collide.specs.declared.refused.Refused.{Refused}
 use Rattle.rv_collide.specs.declared.refused.Refused.TheVariants as refused
 use Rattle.rv_collide.specs.declared.replay.ReplayFault.{ReplayFault}
 use Rattle.rv_collide.specs.declared.replay.ReplayFault.TheVariants as fault

@@ -1,13 +1,13 @@
 -- No conflicting access within a watched pause is lost.
-use Rattle.std.proofs.Common.{◌≡◌, ◌≢◌, ℕ, zero, suc, ◌+◌, ◌-◌, ◌≤◌, ◌<◌, Bool, true, false, cond, List, Option, Some, None, refl, sym, ap, subst, ◌∙◌, arith, add-one}
-use Rattle.std.specs.Prelude.{◌==◌, ◌&&◌, ◌||◌, not, nat_lt, min, max, is_some, find, option_map, option_and_then}
+use Rattle.std.proofs.Common.{◌≡◌, ◌≢◌, ℕ, zero, suc, ◌+◌, ◌-◌, ◌≤◌, ◌<◌, Bool, true, false, cond, List, Option, Some, None, refl, sym, ap, subst, ◌∙◌, arith}
+use Rattle.std.specs.Prelude.{◌==◌, ◌&&◌, ◌||◌, not, nat_lt, min, max, is_some, find, option_and_then}
 use Rattle.std.specs.List.{range_with_len}
 use Rattle.std.specs.Option.{option_map_or}
 use Rattle.std.proofs.lemmas.Bool.Decides.{nat_tests}
 use Rattle.rv_break.specs.declared.claim.Seen.{Seen}
 use Rattle.rv_collide.specs.Entries.{between}
 use Rattle.rv_collide.specs.First.{first, paused_access, seen_at, conflicts_at, is_against}
-use Rattle.rv_collide.specs.Laws.{ConflictsAreReported, Reported, Tells}
+use Rattle.rv_collide.specs.Laws.{ConflictsAreReported, Reported}
 use Rattle.rv_collide.specs.Pause.{Pause, within}
 use Rattle.rv_collide.specs.Verdict.{verdict, verdict_of, watched}
 use Rattle.rv_collide.specs.declared.ending.Verdict.TheVariants.{Hit}

@@ -1,15 +1,14 @@
 -- The slots and open pauses after a resumption.
-use Rattle.std.proofs.Common.{◌≡◌, ◌≢◌, ℕ, ◌+◌, ◌≤◌, ◌<◌, Bool, true, false, cond, List, [], ◌∷◌, ◌++◌, length, Option, Some, None, map, set, get_or, refl, sym, ap, subst, ◌∙◌, arith, zero-add}
-use Rattle.std.specs.Prelude.{◌==◌, ◌||◌, not, find, filter, slice_get, is_some, option_and_then, option_map}
-use Rattle.std.specs.List.{list_any, range_with_len}
+use Rattle.std.proofs.Common.{◌≡◌, ◌≢◌, ℕ, Bool, true, false, cond, List, [], ◌∷◌, ◌++◌, Option, Some, None, set, refl, sym, ap, subst, ◌∙◌, arith, zero-add}
+use Rattle.std.specs.Prelude.{◌==◌, ◌||◌, not, find, filter, option_and_then, option_map}
+use Rattle.std.specs.List.{list_any}
 use Rattle.std.specs.Option.{option_map_or}
 use Rattle.std.proofs.lemmas.Bool.Decides.{nat_tests}
 use Rattle.std.proofs.lemmas.List.Folds.{list_any-append}
-use Rattle.rv_break.specs.declared.claim.Claim.{Claim}
 use Rattle.rv_break.specs.declared.claim.TheConstants.{SLOTS}
 use Rattle.rv_collide.specs.Pause.{Opening, opening_of, openings}
 use Rattle.rv_collide.specs.declared.entry.Entry.{Entry}
-use Rattle.rv_collide.specs.declared.entry.Entry.TheVariants.{Resumed, Paused}
+use Rattle.rv_collide.specs.declared.entry.Entry.TheVariants.{Resumed}
 use Rattle.rv_collide.specs.internal.Core.{AreApart, claim_of, is_at, is_in, slot_at, slots_of}
 use Rattle.rv_hart.specs.State.{State}
 use Rattle.rv_collide.proofs.LawLemmas.{some_same}

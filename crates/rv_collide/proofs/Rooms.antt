@@ -2,7 +2,7 @@
 use lib.ListN.{length-map}
 use Rattle.std.proofs.Common.{sym, ap, ◌∙◌, map, ◌≡◌, ℕ, ◌+◌, ◌*◌, ◌≤◌, ◌<◌, true, List, length, Some, arith}
 use Rattle.std.specs.Prelude.{count_by}
-use Rattle.std.specs.FinSet.{contains, len}
+use Rattle.std.specs.FinSet.{contains}
 use Rattle.rv_collide.specs.Armed.{armed, arms}
 use Rattle.rv_collide.specs.Entries.{steps}
 use Rattle.rv_collide.specs.Forced.{Setting}

@@ -1,28 +1,27 @@
 -- The slots after one more entry.
-use Rattle.std.proofs.Common.{◌≡◌, ◌≢◌, ℕ, zero, suc, ◌+◌, ◌-◌, ◌≤◌, ◌<◌, Bool, true, false, cond, List, [], ◌∷◌, ◌++◌, length, Option, Some, None, map, set, refl, sym, ap, subst, ◌∙◌, arith, length-append, zero-add}
-use Rattle.std.specs.Prelude.{◌==◌, ◌||◌, not, find, filter, is_none, is_some, option_and_then, option_map, position}
+use Rattle.std.proofs.Common.{◌≡◌, ◌≢◌, ℕ, ◌+◌, ◌≤◌, ◌<◌, Bool, true, false, cond, List, [], ◌∷◌, ◌++◌, length, Option, Some, None, map, set, refl, sym, ap, subst, ◌∙◌, arith, length-append, zero-add}
+use Rattle.std.specs.Prelude.{◌==◌, ◌||◌, not, find, option_and_then, option_map}
 use Rattle.std.specs.List.{list_any, range_with_len}
 use Rattle.std.specs.Option.{option_map_or, option_or}
 use Rattle.std.proofs.lemmas.Bool.Decides.{nat_tests}
 use Rattle.std.proofs.lemmas.List.Folds.{find-append}
-use Rattle.rv_break.specs.Slots.{Slots, claim_after, slots_after, free_slot}
+use Rattle.rv_break.specs.Slots.{slots_after}
 use Rattle.rv_break.specs.declared.claim.Claim.{Claim}
 use Rattle.rv_break.specs.declared.claim.Seen.{Seen}
 use Rattle.rv_break.specs.declared.claim.TheConstants.{SLOTS}
 use Rattle.rv_collide.specs.Entries.{stepped_hart, stepped_at}
 use Rattle.rv_collide.specs.First.{first, seen_at}
-use Rattle.rv_collide.specs.Forced.{is_taken, least_free}
-use Rattle.rv_collide.specs.Made.{made}
+use Rattle.rv_collide.specs.Forced.{is_taken}
 use Rattle.rv_collide.specs.Next.{next}
-use Rattle.rv_collide.specs.Pause.{Opening, ended, within, openings, openings_from, opened, resumes}
+use Rattle.rv_collide.specs.Pause.{Opening, within, openings, openings_from, opened, resumes}
 use Rattle.rv_collide.specs.declared.entry.Entry.{Entry}
 use Rattle.rv_collide.specs.declared.entry.Entry.TheVariants.{Stepped, Paused, Resumed, Armed, Disarmed}
-use Rattle.rv_collide.specs.internal.Core.{AreApart, claim_of, is_at, is_in, slot_at, slots_of}
+use Rattle.rv_collide.specs.internal.Core.{claim_of, is_at, slot_at, slots_of}
 use Rattle.rv_hart.specs.State.{State}
 use Rattle.rv_hart.specs.declared.access.Access.{Access}
 use Rattle.rv_collide.proofs.LawLemmas.{some_same}
-use Rattle.rv_collide.proofs.Lists.{set_range, map_range_all, map_twice, map_same, first_free, any_is_some}
-use Rattle.rv_collide.proofs.Openings.{openings_push, openings_resume, without_hart}
+use Rattle.rv_collide.proofs.Lists.{set_range, map_range_all, map_twice, map_same}
+use Rattle.rv_collide.proofs.Openings.{openings_push}
 use Rattle.rv_collide.proofs.Places.{shown, claim_push, between_none}
 use Rattle.rv_collide.proofs.Prefix.{get_last, next_front}
 

@@ -1,10 +1,10 @@
 -- A step that a turn is forced to make is refused for want of memory alone.
-use Rattle.std.proofs.Common.{◌≡◌, ℕ, ◌≤◌, ◌<◌, Bool, true, false, List, length, Option, Some, None, Result, Ok, Err, sym, ap, ◌∙◌, arith}
+use Rattle.std.proofs.Common.{◌≡◌, ℕ, ◌≤◌, ◌<◌, Bool, true, false, List, length, Result, Err, ap, arith}
 use Rattle.std.specs.Prelude.{not, nat_le, slice_get, ◌↔◌}
 use Rattle.std.proofs.lemmas.Bool.Decides.{nat_tests}
 use Rattle.std.proofs.lemmas.Option.{slice_get_past}
 use Rattle.rv_hart.specs.Next.{HasNoRoom, IsIdle, is_running_hart}
-use Rattle.rv_hart.specs.State.{Guest, State}
+use Rattle.rv_hart.specs.State.{Guest}
 use Rattle.rv_hart.specs.declared.access.Event.{Event}
 use Rattle.rv_hart.specs.declared.hart.Hart.{Hart}
 use Rattle.rv_hart.specs.declared.machine.StepFault.{StepFault}

@@ -1,5 +1,5 @@
 -- Which harts may be given a turn, which pauses are due to end, and when a run is over.
-use Rattle.std.specs.Prelude.{◌≡◌, ℕ, ◌==◌, ◌&&◌, ◌||◌, Bool, false, true, not, nat_le, nat_lt, is_some, IsTrue, Option, Some, List, [], length, slice_get, take, drop, filter, find, count_by}
+use Rattle.std.specs.Prelude.{◌≡◌, ℕ, ◌==◌, ◌&&◌, ◌||◌, Bool, false, not, nat_le, nat_lt, is_some, IsTrue, Option, Some, List, [], length, slice_get, take, drop, filter, find, count_by}
 use Rattle.std.specs.List.{list_any, range_with_len}
 use Rattle.std.specs.Option.{option_map_or}
 use Rattle.rv_collide.specs.Entries.{steps}

@@ -1,11 +1,10 @@
 -- What the calls of a core answer.
-use Rattle.std.specs.Prelude.{◌≡◌, ◌↔◌, ℕ, ◌≤◌, true, ◌⊎◌, Bool, IsTrue, IsSome, is_ok, Option, Some, None, IsSomeAnd, List, length, slice_get, Ok, Err}
-use Rattle.rv_collide.specs.Entries.{steps}
+use Rattle.std.specs.Prelude.{◌≡◌, ◌↔◌, ℕ, ◌≤◌, true, ◌⊎◌, Bool, IsTrue, IsSome, Some, IsSomeAnd, List, length, Ok, Err}
 use Rattle.rv_collide.specs.Forced.{Call, Turn, Resume, forced}
 use Rattle.rv_collide.specs.Held.{Held}
 use Rattle.rv_collide.specs.Laws.{Reported}
 use Rattle.rv_collide.specs.Legal.{IsLegal}
-use Rattle.rv_collide.specs.Pause.{Pause, ended, opening_of}
+use Rattle.rv_collide.specs.Pause.{Pause}
 use Rattle.rv_collide.specs.Plan.{most_entries}
 use Rattle.rv_collide.specs.StateAt.{state_at}
 use Rattle.rv_collide.specs.Stored.{Stored, added, setting_of}

@@ -1,5 +1,5 @@
 -- A run that a seed drives: every entry follows from the ones before it.
-use Rattle.std.specs.Prelude.{◌≡◌, ℕ, ◌%◌, Bool, true, false, Option, Some, option_map, option_and_then, List, length, slice_get, take}
+use Rattle.std.specs.Prelude.{◌≡◌, ℕ, ◌%◌, Bool, true, false, Option, option_map, option_and_then, List, length, slice_get, take}
 use Rattle.std.specs.Result.{result_ok}
 use Rattle.std.specs.Option.{option_or}
 use Rattle.rv_collide.specs.Able.{able, due}

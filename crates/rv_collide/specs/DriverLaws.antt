@@ -1,11 +1,10 @@
 -- What follows of a seeded run, in a user's words.
-use Rattle.std.specs.Prelude.{◌≡◌, ℕ, ◌≤◌, List, length}
+use Rattle.std.specs.Prelude.{◌≡◌, List}
 use Rattle.rv_collide.specs.Able.{IsLong, HasEnded}
 use Rattle.rv_collide.specs.Drawn.{IsDrawn, turns_and_resumptions}
 use Rattle.rv_collide.specs.Draws.{Sampling, IsArmedByDraws}
 use Rattle.rv_collide.specs.Forced.{Setting}
 use Rattle.rv_collide.specs.Legal.{IsLegal}
-use Rattle.rv_collide.specs.Plan.{most_entries}
 use Rattle.rv_collide.specs.declared.entry.Entry.{Entry}
 
 -- An image, a plan, words and sites make one run at most.

@@ -1,5 +1,5 @@
 -- What is told of a list of entries that no calls make.
-use Rattle.std.specs.Prelude.{◌≡◌, ◌≢◌, ℕ, ◌<◌, ⊤, ◌⊎◌, Some, Result, Ok, Err, IsOkAnd, List, length, slice_get, take}
+use Rattle.std.specs.Prelude.{◌≡◌, ◌≢◌, ℕ, ◌<◌, ⊤, Some, Result, Err, IsOkAnd, List, length, slice_get, take}
 use Rattle.rv_collide.specs.Forced.{Setting, forced}
 use Rattle.rv_collide.specs.Legal.{IsLegal, call_of}
 use Rattle.rv_collide.specs.declared.collider.Turned.{Turned}

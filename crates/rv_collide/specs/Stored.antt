@@ -1,5 +1,5 @@
 -- What a core is: an image, a plan, and the stored schedule. All else follows from them.
-use Rattle.std.specs.Prelude.{◌≡◌, ℕ, ◌<◌, ◌↔◌, IsSome, List, [], ◌∷◌, ◌++◌, length}
+use Rattle.std.specs.Prelude.{List, [], ◌∷◌, ◌++◌}
 use Rattle.rv_collide.specs.Forced.{Setting}
 use Rattle.rv_collide.specs.Plan.{Numbers}
 use Rattle.rv_collide.specs.declared.entry.Entry.{Entry}

@@ -121,6 +121,7 @@ impl<S: ByteStore> Collider<S> {
 
     /// One turn of a hart: a pause where it stands at an armed address and would make a plain load or
     /// store, else one step.
+    #[inline(always)]
     pub fn turn(&mut self, h: u8) -> Result<Turned, Refused>
         ensures ok { IfOk result (λ turned. answer.Turns self.old self.new h turned) }
         ensures err { IfErr result (λ fault. answer.IsRefusedTurn self.old h fault S.can_refuse) }
@@ -322,6 +323,8 @@ impl<S: ByteStore> Collider<S> {
     }
 
     /// Pauses a hart that would make the access.
+    #[cold]
+    #[inline(never)]
     fn pause(&mut self, h: u8, access: Access) -> Option<u8>
         requires armed { answer.IsArmedAccess self.old h access }
         requires forced { forced (setting_of self.old) self.old.entries (Turn h) ≡ Ok (Entry.Paused h (least_free self.old.entries)) }
@@ -344,6 +347,7 @@ impl<S: ByteStore> Collider<S> {
     }
 
     /// Lets a hart make a step.
+    #[inline(always)]
     fn step(&mut self, h: u8) -> Result<Event, Refused>
         requires { forced (setting_of self.old) self.old.entries (Turn h) ≡ Ok (Entry.Stepped h) }
         ensures ok { IfOk result (λ event. answer.IsEvent self.old h event) }

@@ -1,5 +1,5 @@
 -- What the core keeps beside its stored schedule, and how that follows from it.
-use Rattle.std.specs.Prelude.{◌≡◌, ℕ, ◌+◌, ◌*◌, ◌<◌, ◌≤◌, ◌==◌, Bool, false, not, Option, Some, None, option_map, option_and_then, IfSome, ⊤, List, [], ◌∷◌, map, length, count_by, find, slice_set, Vec, vec_capacity}
+use Rattle.std.specs.Prelude.{◌≡◌, ℕ, ◌+◌, ◌*◌, ◌<◌, ◌≤◌, ◌==◌, Bool, false, Option, Some, None, option_map, option_and_then, IfSome, ⊤, List, [], ◌∷◌, map, length, count_by, find, slice_set, Vec, vec_capacity}
 use Rattle.std.specs.FinSet.{len}
 use Rattle.std.specs.List.{list_any, range_with_len}
 use Rattle.std.specs.Option.{option_map_or}
@@ -22,7 +22,6 @@ use Rattle.rv_collide.specs.declared.ending.Ending.{Ending}
 use Rattle.rv_collide.specs.declared.entry.Entry.{Entry}
 use Rattle.rv_collide.specs.declared.open_pause.OpenPause.{OpenPause}
 use Rattle.rv_hart.specs.State.{State, Guest}
-use Rattle.rv_hart.specs.declared.access.Access.{Access}
 
 -- ---- open pauses
 

@@ -1,4 +1,4 @@
-use Rattle.std.proofs.Common.{◌≡◌, List, Option, ap, ◌∙◌}
+use Rattle.std.proofs.Common.{List, Option, ap, ◌∙◌}
 use Rattle.std.specs.Prelude.{unwrap_or}
 use Rattle.rv_hart.specs.State.{with_stacks}
 use Rattle.rv_memory.specs.Extent.{Extent}

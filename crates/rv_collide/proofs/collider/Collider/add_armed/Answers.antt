@@ -1,4 +1,4 @@
-use Rattle.std.proofs.Common.{◌≡◌, ◌+◌, ◌*◌, ◌≤◌, ◌%◌, ℕ, Bool, true, false, cond, List, length, sym, ap, subst, ◌∙◌}
+use Rattle.std.proofs.Common.{◌≡◌, ◌+◌, ◌*◌, ◌≤◌, ◌%◌, ℕ, true, false, cond, List, sym, ap, subst, ◌∙◌}
 use Rattle.std.specs.Prelude.{count_by, nat_lt}
 use Rattle.std.specs.FinSet.{FinSet, contains, insert, len}
 use Rattle.std.specs.Ordering.{nat_cmp}

@@ -1,4 +1,4 @@
-use Rattle.std.proofs.Common.{◌≡◌, ◌+◌, ◌*◌, ◌≤◌, ◌<◌, ℕ, Bool, true, List, length, sym, ap, subst, ◌∙◌, arith}
+use Rattle.std.proofs.Common.{◌≡◌, ◌+◌, ◌*◌, ◌≤◌, ℕ, true, List, length, sym, ap, subst, arith}
 use Rattle.std.specs.FinSet.{contains}
 use Rattle.std.specs.Vec.{vec_capacity}
 use Rattle.rv_break.specs.Breakpoints.{Breaks}

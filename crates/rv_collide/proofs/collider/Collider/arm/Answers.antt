@@ -1,5 +1,5 @@
 use Rattle.std.proofs.Common.{sym, ◌∙◌, ◌%◌, ap, cond}
-use Rattle.rv_collide.specs.Stored.{Stored, added, setting_of}
+use Rattle.rv_collide.specs.Stored.{added, setting_of}
 use Rattle.rv_collide.specs.declared.entry.Entry.TheVariants.{Armed}
 use Rattle.rv_collide.proofs.Calls.{arm_spent, arm_misaligned, arm_again, arm_full, arm_ok, not_equal, equal}
 use Rattle.rv_collide.proofs.collider.Collider.arm.Goals as goal

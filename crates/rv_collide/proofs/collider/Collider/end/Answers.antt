@@ -1,5 +1,5 @@
-use Rattle.std.proofs.Common.{◌≡◌, ◌+◌, ◌*◌, ◌≤◌, ◌<◌, ℕ, Bool, true, List, ◌++◌, [], ◌∷◌, length, Option, Some, None, Ok, refl, sym, ap, subst, ◌∙◌, arith}
-use Rattle.std.specs.Prelude.{◌==◌, not, filter, option_and_then, option_map, IfSome}
+use Rattle.std.proofs.Common.{◌≡◌, ◌+◌, ◌*◌, ◌≤◌, ℕ, List, ◌++◌, [], ◌∷◌, length, Some, Ok, refl, sym, ap, subst, ◌∙◌, arith}
+use Rattle.std.specs.Prelude.{◌==◌, option_and_then, option_map, IfSome}
 use Rattle.std.specs.Vec.{vec_capacity}
 use Rattle.rv_break.specs.Breakpoints.{Breaks}
 use Rattle.rv_break.specs.Slots.{Slots, IsClaimed, seen_at}

@@ -1,7 +1,7 @@
 use Rattle.std.proofs.Common.{length, subst}
 use Rattle.rv_collide.specs.Answers.{AreFacts}
 use Rattle.rv_collide.specs.Numbers.{numbers}
-use Rattle.rv_collide.specs.Stored.{Stored, stored}
+use Rattle.rv_collide.specs.Stored.{stored}
 use Rattle.rv_collide.proofs.Facts.{facts_of}
 use Rattle.rv_collide.proofs.collider.Collider.facts.Goals as goal
 

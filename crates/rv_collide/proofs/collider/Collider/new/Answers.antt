@@ -1,8 +1,7 @@
-use Rattle.std.proofs.Common.{◌≡◌, ◌+◌, ◌*◌, ◌≤◌, ◌<◌, ℕ, List, [], length, sym, ap, subst, ◌∙◌, arith, refl}
+use Rattle.std.proofs.Common.{List, [], sym, ap, subst, ◌∙◌, arith, refl}
 use Rattle.std.proofs.lemmas.List.FromFn.{length-map-range_with_len}
-use Rattle.std.specs.Vec.{vec_capacity}
 use Rattle.rv_collide.specs.Numbers.{numbers}
-use Rattle.rv_collide.specs.Stored.{Stored, setting_of, stored}
+use Rattle.rv_collide.specs.Stored.{setting_of, stored}
 use Rattle.rv_collide.specs.declared.ending.Ending.{Ending}
 use Rattle.rv_collide.specs.declared.entry.Entry.{Entry}
 use Rattle.rv_collide.specs.declared.open_pause.OpenPause.{OpenPause}

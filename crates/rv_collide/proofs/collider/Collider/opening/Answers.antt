@@ -1,4 +1,4 @@
-use Rattle.std.proofs.Common.{◌≡◌, sym, ◌∙◌, ap, Option, Some, None, refl, List}
+use Rattle.std.proofs.Common.{◌≡◌, sym, ◌∙◌, ap, Option, Some, None, refl}
 use Rattle.std.specs.Prelude.{◌==◌, find, is_some, option_map}
 use Rattle.rv_collide.specs.Pause.{Opening, opening_of}
 use Rattle.rv_collide.specs.Stored.{Stored}

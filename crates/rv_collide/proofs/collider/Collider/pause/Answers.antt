@@ -1,10 +1,8 @@
-use Rattle.std.proofs.Common.{refl, ◌≡◌, ◌+◌, ◌*◌, ◌≤◌, ◌<◌, ℕ, Bool, true, List, ◌++◌, [], ◌∷◌, length, Option, Some, None, Ok, sym, ap, subst, ◌∙◌, arith}
-use Rattle.std.specs.FinSet.{FinSet, contains, remove}
+use Rattle.std.proofs.Common.{refl, ◌≡◌, ◌+◌, ◌*◌, ◌≤◌, ℕ, List, ◌++◌, [], ◌∷◌, length, Ok, sym, ap, subst, ◌∙◌, arith}
 use Rattle.std.specs.Vec.{vec_capacity}
 use Rattle.rv_break.specs.Breakpoints.{Breaks}
-use Rattle.rv_break.specs.Slots.{Slots, free_slot}
+use Rattle.rv_break.specs.Slots.{free_slot}
 use Rattle.rv_collide.specs.Answers.{IsArmedAccess}
-use Rattle.rv_collide.specs.Armed.{armed}
 use Rattle.rv_collide.specs.Forced.{Turn, forced, least_free}
 use Rattle.rv_collide.specs.Numbers.{numbers}
 use Rattle.rv_collide.specs.Stored.{Stored, setting_of, stored}

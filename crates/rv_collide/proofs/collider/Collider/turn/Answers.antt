@@ -1,9 +1,9 @@
-use Rattle.std.proofs.Common.{Ok, Some, ◌≡◌, inl, inr, sym, ap, ◌∙◌}
+use Rattle.std.proofs.Common.{Ok, inl, inr, sym, ap, ◌∙◌}
 use Rattle.std.proofs.lemmas.Result.{err_from_is_err_and}
 use Rattle.rv_collide.specs.Plan.{Numbers}
 use Rattle.rv_collide.specs.Stored.{setting_of}
 use Rattle.rv_collide.proofs.Calls.{turn_no_hart, turn_not_running, turn_paused, turn_spent, turn_ok, not_below, is_below}
-use Rattle.rv_collide.specs.declared.entry.Entry.TheVariants.{Paused, Stepped}
+use Rattle.rv_collide.specs.declared.entry.Entry.TheVariants.{Paused}
 use Rattle.rv_collide.proofs.ArmedAccesses.{armed_turn}
 use Rattle.rv_collide.proofs.collider.Collider.turn.Goals as goal
 
