@@ -16,6 +16,7 @@ pub mod Facts
 pub mod Fits
 pub mod FrontLemmas
 pub mod Fronts
+pub mod GoingOn
 pub mod GrammarLemmas
 pub mod GrammarProof
 pub mod Growth

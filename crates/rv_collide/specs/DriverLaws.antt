@@ -1,11 +1,15 @@
 -- What follows of a seeded run, in a user's words.
-use Rattle.std.specs.Prelude.{◌≡◌, List}
-use Rattle.rv_collide.specs.Able.{IsLong, HasEnded}
+use Rattle.std.specs.Prelude.{◌≡◌, ℕ, ◌+◌, ◌==◌, ◌⊎◌, Bool, false, not, Option, Some, if◌then◌else◌, List, [], ◌∷◌, ◌++◌}
+use Rattle.std.specs.Option.{option_map_or}
+use Rattle.rv_collide.specs.Able.{IsLong, HasEnded, others_steps}
 use Rattle.rv_collide.specs.Drawn.{IsDrawn, turns_and_resumptions}
 use Rattle.rv_collide.specs.Draws.{Sampling, IsArmedByDraws}
+use Rattle.rv_collide.specs.Entries.{stepped_hart}
 use Rattle.rv_collide.specs.Forced.{Setting}
 use Rattle.rv_collide.specs.Legal.{IsLegal}
+use Rattle.rv_collide.specs.Pause.{Opening, opening_of}
 use Rattle.rv_collide.specs.declared.entry.Entry.{Entry}
+use Rattle.rv_collide.specs.declared.entry.Entry.TheVariants.{Paused}
 
 -- An image, a plan, words and sites make one run at most.
 abbrev pub OneRunAtMost : Type 0
@@ -28,3 +32,23 @@ DrawnIsArmedByDraws =
 -- It goes on until nothing is open and no hart is able.
 abbrev pub DrawnHasEnded : Type 0
 DrawnHasEnded = (setting : Setting) (sampling : Sampling) (entries : List Entry) → IsDrawn setting sampling entries → HasEnded setting entries
+
+-- the entry is a step of a hart other than this one
+abbrev pub is_others_step : ℕ → Entry → Bool
+is_others_step hart entry = option_map_or (λ other. not (other == hart)) (stepped_hart entry) false
+
+-- The pause was open before the entry, which counts where it is another hart's step.
+pub record GoesOn (entries : List Entry) (entry : Entry) (hart : ℕ) (opening : Opening) : Type 0 where
+  pub was_open : opening_of entries hart ≡ Some opening
+  pub steps : others_steps (entries ++ entry ∷ []) opening ≡ others_steps entries opening + (if is_others_step hart entry then 1 else 0)
+
+-- The entry has begun the pause.
+pub record Begins (entries : List Entry) (entry : Entry) (hart : ℕ) (opening : Opening) : Type 0 where
+  pub slot : Option ℕ
+  pub pauses : entry ≡ Paused hart slot
+  pub steps : others_steps (entries ++ entry ∷ []) opening ≡ 0
+
+-- After an entry each open pause is one that was open before, or the one that the entry has begun.
+abbrev pub PausesGoOn : Type 0
+PausesGoOn =
+    (entries : List Entry) (entry : Entry) (hart : ℕ) (opening : Opening) → opening_of (entries ++ entry ∷ []) hart ≡ Some opening → GoesOn entries entry hart opening ⊎ Begins entries entry hart opening

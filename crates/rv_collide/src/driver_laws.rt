@@ -11,3 +11,9 @@ pub fn seeded_runs()
     ensures arms { law.DrawnIsArmedByDraws }
     ensures ended { law.DrawnHasEnded }
 {}
+
+/// What an entry does to the open pauses: each goes on, and counts the steps of other harts, but the one that
+/// it ends; or it begins one.
+pub fn open_pauses()
+    ensures { law.PausesGoOn }
+{}
