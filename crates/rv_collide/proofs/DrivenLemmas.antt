@@ -1,6 +1,6 @@
 -- Seeded runs: each entry's source, and what follows of it.
 use Rattle.std.proofs.Common.{◌≡◌, ℕ, zero, suc, ◌+◌, ◌-◌, ◌%◌, ◌≤◌, ◌<◌, ◌⊎◌, inl, inr, Bool, true, false, cond, List, [], ◌∷◌, ◌++◌, length, take, Option, Some, None, Ok, Err, Result, refl, sym, ap, subst, ◌∙◌, arith, length-append}
-use Rattle.std.specs.Prelude.{◌==◌, ◌&&◌, ◌||◌, not, nat_le, nat_lt, is_some, find, slice_get, option_and_then, option_map, count_by}
+use Rattle.std.specs.Prelude.{◌==◌, ◌&&◌, ◌||◌, not, nat_le, nat_lt, is_ok, is_some, find, slice_get, option_and_then, option_map, count_by}
 use Rattle.std.specs.Result.{result_ok}
 use Rattle.std.specs.FinSet.{contains, len}
 use Rattle.std.specs.List.{list_any}
@@ -14,9 +14,9 @@ use Rattle.rv_collide.specs.Able.{able, another_is_able, due, is_able, is_due, o
 use Rattle.rv_collide.specs.Armed.{armed, arms}
 use Rattle.rv_collide.specs.Drawn.{IsDrawn, driven, picked_hart, turn_drawn, turns_and_resumptions}
 use Rattle.rv_collide.specs.Draws.{Sampling, IsOwed, arms_or_disarms, draw, draw_after, draws, first_draws, is_resumed, next_index, owed}
-use Rattle.rv_collide.specs.DriverLaws.{OneRunAtMost, DrawnIsLegal, DrawnIsLong, DrawnIsArmedByDraws, DrawnHasEnded}
+use Rattle.rv_collide.specs.DriverLaws.{OneRunAtMost, DrawnIsLegal, DrawnIsLong, DrawnIsArmedByDraws, DrawnHasEnded, AddsItsKind, DueIsResumed, AbleTakesTurn}
 use Rattle.rv_collide.specs.Entries.{steps}
-use Rattle.rv_collide.specs.Forced.{Setting, Turn, Arm, forced, turn_entry, least_free}
+use Rattle.rv_collide.specs.Forced.{Setting, Call, Turn, Resume, Arm, Disarm, forced, turn_entry, least_free}
 use Rattle.rv_collide.specs.Legal.{IsLegal, call_of}
 use Rattle.rv_collide.specs.Next.{plain, runs_at}
 use Rattle.rv_collide.specs.Pause.{Opening, opening_of, openings, openings_from, resumes}
@@ -391,3 +391,28 @@ ended setting sampling entries drawn =
     let n = length entries in
     none_left setting sampling entries (legal setting sampling entries drawn)
     (ap (driven setting sampling) (sym (take_all n entries (omega arith))) ∙ sym (drawn n) ∙ slice_get_past entries n (omega arith))
+
+-- ---- what a driver may do
+
+lt_is : (a b : ℕ) → a < b → nat_lt a b ≡ true
+lt_is a b h = grind (arith, nat_tests)
+
+pub adds_its_kind : AddsItsKind
+unfolding forced
+adds_its_kind setting xs (Turn hart) e h = (turn_forced setting xs hart e h).call
+adds_its_kind setting xs (Arm address) e h = ap call_of (arm_forced setting xs address e h)
+adds_its_kind setting xs (Resume hart) e h =
+    let one = wanted (nat_lt hart setting.plan.harts) _ _ e h in
+    let two = wanted (is_some (opening_of xs hart)) _ _ e one.1 in
+    ap call_of (sym (same_ok (Resumed hart) e (Ok (Resumed hart)) refl two.1))
+adds_its_kind setting xs (Disarm address) e h =
+    let one = wanted (contains (armed setting.start xs) address) _ _ e h in
+    ap call_of (sym (same_ok (Disarmed address) e (Ok (Disarmed address)) refl one.1))
+
+pub due_is_resumed : DueIsResumed
+due_is_resumed setting xs hart h =
+    let d = due_of setting xs hart h in
+    resume_ok setting xs hart d.1 (open_when_due setting xs hart d.0)
+
+pub able_takes_turn : AbleTakesTurn
+able_takes_turn setting xs hart h below = ap is_ok (able_turn setting xs hart h (lt_is hart setting.plan.harts below))

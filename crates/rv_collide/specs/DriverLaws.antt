@@ -1,15 +1,15 @@
 -- What follows of a seeded run, in a user's words.
-use Rattle.std.specs.Prelude.{◌≡◌, ℕ, ◌+◌, ◌==◌, ◌⊎◌, Bool, false, not, Option, Some, if◌then◌else◌, List, [], ◌∷◌, ◌++◌}
+use Rattle.std.specs.Prelude.{◌≡◌, ℕ, ◌+◌, ◌<◌, ◌==◌, true, is_ok, Ok, ◌⊎◌, Bool, false, not, Option, Some, if◌then◌else◌, List, [], ◌∷◌, ◌++◌}
 use Rattle.std.specs.Option.{option_map_or}
-use Rattle.rv_collide.specs.Able.{IsLong, HasEnded, others_steps}
+use Rattle.rv_collide.specs.Able.{IsLong, HasEnded, due, is_able, others_steps}
 use Rattle.rv_collide.specs.Drawn.{IsDrawn, turns_and_resumptions}
 use Rattle.rv_collide.specs.Draws.{Sampling, IsArmedByDraws}
 use Rattle.rv_collide.specs.Entries.{stepped_hart}
-use Rattle.rv_collide.specs.Forced.{Setting}
-use Rattle.rv_collide.specs.Legal.{IsLegal}
+use Rattle.rv_collide.specs.Forced.{Setting, Call, Resume, Turn, forced}
+use Rattle.rv_collide.specs.Legal.{IsLegal, call_of}
 use Rattle.rv_collide.specs.Pause.{Opening, opening_of}
 use Rattle.rv_collide.specs.declared.entry.Entry.{Entry}
-use Rattle.rv_collide.specs.declared.entry.Entry.TheVariants.{Paused}
+use Rattle.rv_collide.specs.declared.entry.Entry.TheVariants.{Paused, Resumed}
 
 -- An image, a plan, words and sites make one run at most.
 abbrev pub OneRunAtMost : Type 0
@@ -52,3 +52,15 @@ pub record Begins (entries : List Entry) (entry : Entry) (hart : ℕ) (opening :
 abbrev pub PausesGoOn : Type 0
 PausesGoOn =
     (entries : List Entry) (entry : Entry) (hart : ℕ) (opening : Opening) → opening_of (entries ++ entry ∷ []) hart ≡ Some opening → GoesOn entries entry hart opening ⊎ Begins entries entry hart opening
+
+-- What a call adds is an entry of its own kind.
+abbrev pub AddsItsKind : Type 0
+AddsItsKind = (setting : Setting) (entries : List Entry) (call : Call) (entry : Entry) → forced setting entries call ≡ Ok entry → call_of entry ≡ call
+
+-- A pause that is due may be ended.
+abbrev pub DueIsResumed : Type 0
+DueIsResumed = (setting : Setting) (entries : List Entry) (hart : ℕ) → due setting entries ≡ Some hart → forced setting entries (Resume hart) ≡ Ok (Resumed hart)
+
+-- An able hart may take a turn.
+abbrev pub AbleTakesTurn : Type 0
+AbleTakesTurn = (setting : Setting) (entries : List Entry) (hart : ℕ) → is_able setting entries hart ≡ true → hart < setting.plan.harts → is_ok (forced setting entries (Turn hart)) ≡ true

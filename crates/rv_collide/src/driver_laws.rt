@@ -17,3 +17,11 @@ pub fn seeded_runs()
 pub fn open_pauses()
     ensures { law.PausesGoOn }
 {}
+
+/// What a driver may do: what a call adds is of the call's kind, a pause that is due may be ended, and an able
+/// hart may take a turn.
+pub fn accepted_calls()
+    ensures kind { law.AddsItsKind }
+    ensures due { law.DueIsResumed }
+    ensures able { law.AbleTakesTurn }
+{}
