@@ -1,0 +1,293 @@
+-- How a seeded run goes on, entry by entry.
+use Rattle.std.proofs.Common.{◌≡◌, ℕ, zero, suc, ◌+◌, ◌-◌, ◌≤◌, ◌<◌, inl, inr, true, false, cond, List, [], ◌∷◌, ◌++◌, length, take, Option, Some, None, Ok, Err, Result, refl, sym, ap, subst, ◌∙◌, arith, length-append, add-one, ◌%◌}
+use Rattle.std.specs.Prelude.{slice_get, option_and_then, option_map, count_by}
+use Rattle.std.specs.Result.{result_ok}
+use Rattle.std.specs.Option.{option_or, option_to_list}
+use Rattle.std.proofs.lemmas.Bool.{cases_lt}
+use Rattle.std.proofs.lemmas.List.{append-nil, take-append-le, take_all, length-take-le}
+use Rattle.std.proofs.lemmas.List.Sums.{sum_by-append}
+use Rattle.std.proofs.lemmas.Option.{slice_get_past, slice_get_within}
+use Rattle.rv_campaign.specs.internal.Driving.{IsDriving}
+use Rattle.rv_collide.specs.Able.{able, due}
+use Rattle.rv_collide.specs.Drawn.{IsDrawn, driven, picked_hart, turn_drawn, turns_and_resumptions}
+use Rattle.rv_collide.specs.DriverLaws.{AddsItsKind}
+use Rattle.rv_collide.specs.Draws.{Sampling, draw, draw_after, draws, first_draws, is_resumed, next_index, owed}
+use Rattle.rv_collide.specs.Forced.{Setting, Turn, Arm, forced}
+use Rattle.rv_collide.specs.Legal.{call_of}
+use Rattle.rv_collide.specs.declared.entry.Entry.{Entry}
+use Rattle.rv_collide.specs.declared.entry.Entry.TheVariants.{Stepped, Paused, Resumed, Armed, Disarmed}
+
+-- ---- one more entry
+
+front : {X : Type 0} → (xs ys : List X) (i : ℕ) → i < length xs → slice_get (xs ++ ys) i ≡ slice_get xs i
+front [] ys i below = absurd (omega arith)
+front (x ∷ xs) ys zero below = refl
+front (x ∷ xs) ys (suc i) below = front xs ys i (omega arith)
+
+last : {X : Type 0} → (xs : List X) (x : X) → slice_get (xs ++ x ∷ []) (length xs) ≡ Some x
+last [] x = refl
+last (y ∷ xs) x = last xs x
+
+one_longer : (xs : List Entry) (e : Entry) → length (xs ++ e ∷ []) ≡ length xs + 1
+one_longer xs e = length-append xs (e ∷ [])
+
+whole_front : (xs : List Entry) (e : Entry) → take (length xs) (xs ++ e ∷ []) ≡ xs
+whole_front xs e = take-append-le (length xs) xs (e ∷ []) (omega arith) ∙ take_all (length xs) xs (omega arith)
+
+less_one : (xs : List Entry) (e : Entry) → length (xs ++ e ∷ []) - 1 ≡ length xs
+less_one xs e = let more = one_longer xs e in omega arith
+
+-- the list so far goes on by what is driven
+so_far_more : (setting : Setting) (sampling : Sampling) (xs : List Entry) (e : Entry) → ((place : ℕ) → place < length xs → slice_get xs place ≡ driven setting sampling (take place xs)) → driven setting sampling xs ≡ Some e → (place : ℕ) → place < length (xs ++ e ∷ []) → slice_get (xs ++ e ∷ []) place ≡ driven setting sampling (take place (xs ++ e ∷ []))
+so_far_more setting sampling xs e before gives place below =
+    elim (cases_lt place (length xs)) [
+      | inl lt ↦ front xs (e ∷ []) place lt ∙ before place lt ∙ ap (driven setting sampling) (sym (take-append-le place xs (e ∷ []) (omega arith)))
+      | inr ge ↦ (let more = one_longer xs e in let here : place ≡ length xs = omega arith in
+          ap (slice_get (xs ++ e ∷ [])) here ∙ last xs e ∙ sym gives
+          ∙ ap (driven setting sampling) (sym (whole_front xs e)) ∙ ap (λ (n : ℕ). driven setting sampling (take n (xs ++ e ∷ []))) (sym here))
+    ]
+
+-- ---- what is owed after an entry
+
+is_there : (xs : List Entry) (n : ℕ) → n < length xs → slice_get xs n ≡ None → ⊥
+is_there [] n below none = absurd (omega arith)
+is_there (x ∷ xs) zero below none = cc
+is_there (x ∷ xs) (suc n) below none = is_there xs n (omega arith) none
+
+past_draws : (all : List Entry) (n : ℕ) → slice_get all n ≡ None → slice_get all (n + 1) ≡ None
+past_draws all n none =
+    elim (cases_lt n (length all)) [
+      | inl lt ↦ absurd (is_there all n lt none)
+      | inr ge ↦ slice_get_past all (n + 1) (omega arith)
+    ]
+
+first_none : {X : Type 0} → (a b : Option X) → option_or a b ≡ None → a ≡ None
+first_none None b h = refl
+first_none (Some x) b h = cc
+
+owed_past : (setting : Setting) (sampling : Sampling) (xs : List Entry) (e : Entry) → slice_get (draws setting sampling first_draws) (length xs) ≡ None → owed setting sampling turns_and_resumptions (xs ++ e ∷ []) ≡ cond (is_resumed e) (draw setting sampling (xs ++ e ∷ []) (next_index turns_and_resumptions xs)) None
+unfolding owed draw_after
+owed_past setting sampling xs e before =
+    let all = draws setting sampling first_draws in
+    let past : slice_get all (length (xs ++ e ∷ [])) ≡ None = ap (slice_get all) (one_longer xs e) ∙ past_draws all (length xs) before in
+    ap (λ o. option_or o (option_and_then (λ last. cond (is_resumed last) (draw setting sampling (xs ++ e ∷ []) (next_index turns_and_resumptions (take (length (xs ++ e ∷ []) - 1) (xs ++ e ∷ [])))) None) (slice_get (xs ++ e ∷ []) (length (xs ++ e ∷ []) - 1)))) past
+    ∙ ap (λ (n : ℕ). option_and_then (λ last. cond (is_resumed last) (draw setting sampling (xs ++ e ∷ []) (next_index turns_and_resumptions (take n (xs ++ e ∷ [])))) None) (slice_get (xs ++ e ∷ []) n)) (less_one xs e)
+    ∙ ap (option_and_then (λ last. cond (is_resumed last) (draw setting sampling (xs ++ e ∷ []) (next_index turns_and_resumptions (take (length xs) (xs ++ e ∷ [])))) None)) (last xs e)
+    ∙ ap (λ ys. cond (is_resumed e) (draw setting sampling (xs ++ e ∷ []) (next_index turns_and_resumptions ys)) None) (whole_front xs e)
+
+past_first : (setting : Setting) (sampling : Sampling) (xs : List Entry) → owed setting sampling turns_and_resumptions xs ≡ None → slice_get (draws setting sampling first_draws) (length xs) ≡ None
+unfolding owed
+past_first setting sampling xs paid = first_none (slice_get (draws setting sampling first_draws) (length xs)) (draw_after setting sampling turns_and_resumptions xs) paid
+
+owed_more : (setting : Setting) (sampling : Sampling) (xs : List Entry) (e : Entry) → owed setting sampling turns_and_resumptions xs ≡ None → owed setting sampling turns_and_resumptions (xs ++ e ∷ []) ≡ cond (is_resumed e) (draw setting sampling (xs ++ e ∷ []) (next_index turns_and_resumptions xs)) None
+owed_more setting sampling xs e paid = owed_past setting sampling xs e (past_first setting sampling xs paid)
+
+index_more : (xs : List Entry) (e : Entry) → next_index turns_and_resumptions (xs ++ e ∷ []) ≡ next_index turns_and_resumptions xs + cond (turns_and_resumptions e) 1 0
+index_more xs e =
+    let more = sum_by-append (λ x. cond (turns_and_resumptions x) 1 0) xs (e ∷ []) in
+    omega (arith, more)
+
+-- ---- a turn
+
+record IsTurn (e : Entry) : Type 0 where
+  takes : turns_and_resumptions e ≡ true
+  stays : is_resumed e ≡ false
+
+is_turn : (e : Entry) (hart : ℕ) → call_of e ≡ Turn hart → IsTurn e
+is_turn (Stepped h) hart is = record { takes = refl; stays = refl }
+is_turn (Paused h slot) hart is = record { takes = refl; stays = refl }
+is_turn (Resumed h) hart is = cc
+is_turn (Armed a) hart is = cc
+is_turn (Disarmed a) hart is = cc
+
+or_second : {X : Type 0} → (a b : Option X) → a ≡ None → option_or a b ≡ b
+or_second None b h = refl
+or_second (Some x) b h = cc
+
+turn_driven : (setting : Setting) (sampling : Sampling) (xs : List Entry) (hart : ℕ) (e : Entry) → owed setting sampling turns_and_resumptions xs ≡ None → due setting xs ≡ None → picked_hart setting xs (sampling.word_at (next_index turns_and_resumptions xs)) ≡ Some hart → forced setting xs (Turn hart) ≡ Ok e → driven setting sampling xs ≡ Some e
+unfolding driven turn_drawn
+turn_driven setting sampling xs hart e paid undue picked ok =
+    or_second (owed setting sampling turns_and_resumptions xs) _ paid
+    ∙ ap (λ o. option_or (option_map Resumed o) (option_and_then (λ h. result_ok (forced setting xs (Turn h))) (picked_hart setting xs (sampling.word_at (next_index turns_and_resumptions xs))))) undue
+    ∙ ap (option_and_then (λ h. result_ok (forced setting xs (Turn h)))) picked
+    ∙ ap result_ok ok
+
+pub after_turn : AddsItsKind → (setting : Setting) (sampling : Sampling) (xs : List Entry) (taken hart : ℕ) (e : Entry) → IsDriving setting sampling xs taken → due setting xs ≡ None → picked_hart setting xs (sampling.word_at taken) ≡ Some hart → forced setting xs (Turn hart) ≡ Ok e → IsDriving setting sampling (xs ++ e ∷ []) (taken + 1)
+after_turn kind setting sampling xs taken hart e d undue picked ok =
+    let t = is_turn e hart (kind setting xs (Turn hart) e ok) in
+    let at = subst (λ (n : ℕ). picked_hart setting xs (sampling.word_at n) ≡ Some hart) d.taken_are picked in
+    let one : next_index turns_and_resumptions (xs ++ e ∷ []) ≡ next_index turns_and_resumptions xs + 1 = index_more xs e ∙ ap (λ b. next_index turns_and_resumptions xs + cond b 1 0) t.takes in
+    record {
+      so_far = so_far_more setting sampling xs e d.so_far (turn_driven setting sampling xs hart e d.paid undue at ok);
+      paid = owed_more setting sampling xs e d.paid ∙ ap (λ b. cond b (draw setting sampling (xs ++ e ∷ []) (next_index turns_and_resumptions xs)) None) t.stays;
+      taken_are = ap (λ n. n + 1) d.taken_are ∙ sym one;
+    }
+
+-- ---- a resumption with its draw
+
+due_driven : (setting : Setting) (sampling : Sampling) (xs : List Entry) (hart : ℕ) → owed setting sampling turns_and_resumptions xs ≡ None → due setting xs ≡ Some hart → driven setting sampling xs ≡ Some (Resumed hart)
+unfolding driven
+due_driven setting sampling xs hart paid is =
+    or_second (owed setting sampling turns_and_resumptions xs) _ paid
+    ∙ ap (λ o. option_or (option_map Resumed o) (turn_drawn setting sampling xs)) is
+
+then_some : {X Y : Type 0} → (f : X → Option Y) (o : Option X) (y : Y) → option_and_then f o ≡ Some y → (x : X) × (o ≡ Some x) × (f x ≡ Some y)
+then_some f None y h = cc
+then_some f (Some x) y h = (x, refl, h)
+
+ok_of : {E : Type 0} → (r : Result Entry E) (e : Entry) → result_ok r ≡ Some e → r ≡ Ok e
+ok_of (Ok x) e h = cc
+ok_of (Err x) e h = cc
+
+is_armed : (e : Entry) (a : ℕ) → call_of e ≡ Arm a → (turns_and_resumptions e ≡ false) × (is_resumed e ≡ false)
+is_armed (Stepped h) a is = cc
+is_armed (Paused h slot) a is = cc
+is_armed (Resumed h) a is = cc
+is_armed (Armed b) a is = (refl, refl)
+is_armed (Disarmed b) a is = cc
+
+drawn_is_armed : AddsItsKind → (setting : Setting) (sampling : Sampling) (xs : List Entry) (index : ℕ) (e : Entry) → draw setting sampling xs index ≡ Some e → (turns_and_resumptions e ≡ false) × (is_resumed e ≡ false)
+unfolding draw
+drawn_is_armed kind setting sampling xs index e h =
+    let site = then_some (λ a. result_ok (forced setting xs (Arm a))) (sampling.site_of (sampling.word_at index)) e h in
+    is_armed e site.0 (kind setting xs (Arm site.0) e (ok_of (forced setting xs (Arm site.0)) e site.2))
+
+drawn_first : (setting : Setting) (sampling : Sampling) (xs : List Entry) (e : Entry) → owed setting sampling turns_and_resumptions xs ≡ Some e → driven setting sampling xs ≡ Some e
+unfolding driven
+drawn_first setting sampling xs e owes = ap (λ o. option_or o (option_or (option_map Resumed (due setting xs)) (turn_drawn setting sampling xs))) owes
+
+plus_none : (n : ℕ) → n + 0 ≡ n
+plus_none n = omega arith
+
+after_draw : AddsItsKind → (setting : Setting) (sampling : Sampling) (xs : List Entry) (taken : ℕ) (d : Option Entry) → ((place : ℕ) → place < length xs → slice_get xs place ≡ driven setting sampling (take place xs)) → owed setting sampling turns_and_resumptions xs ≡ d → (index : ℕ) → draw setting sampling xs index ≡ d → taken ≡ next_index turns_and_resumptions xs → slice_get (draws setting sampling first_draws) (length xs) ≡ None → IsDriving setting sampling (xs ++ option_to_list d) taken
+after_draw kind setting sampling xs taken None so_far owes index adds are past =
+    subst (λ (ys : List Entry). IsDriving setting sampling ys taken) (sym (append-nil xs)) (record { so_far = so_far; paid = owes; taken_are = are })
+after_draw kind setting sampling xs taken (Some e) so_far owes index adds are past =
+    let armed = drawn_is_armed kind setting sampling xs index e adds in
+    record {
+      so_far = so_far_more setting sampling xs e so_far (drawn_first setting sampling xs e owes);
+      paid = owed_past setting sampling xs e past ∙ ap (λ b. cond b (draw setting sampling (xs ++ e ∷ []) (next_index turns_and_resumptions xs)) None) armed.1;
+      taken_are = are ∙ sym (index_more xs e ∙ ap (λ b. next_index turns_and_resumptions xs + cond b 1 0) armed.0 ∙ plus_none (next_index turns_and_resumptions xs));
+    }
+
+pub after_resumption : AddsItsKind → (setting : Setting) (sampling : Sampling) (xs : List Entry) (taken hart : ℕ) → IsDriving setting sampling xs taken → due setting xs ≡ Some hart → IsDriving setting sampling ((xs ++ Resumed hart ∷ []) ++ option_to_list (draw setting sampling (xs ++ Resumed hart ∷ []) taken)) (taken + 1)
+after_resumption kind setting sampling xs taken hart d is =
+    let ys = xs ++ Resumed hart ∷ [] in
+    let all = draws setting sampling first_draws in
+    let past = past_first setting sampling xs d.paid in
+    after_draw kind setting sampling (xs ++ Resumed hart ∷ []) (taken + 1) (draw setting sampling (xs ++ Resumed hart ∷ []) taken)
+    (so_far_more setting sampling xs (Resumed hart) d.so_far (due_driven setting sampling xs hart d.paid is))
+    (owed_more setting sampling xs (Resumed hart) d.paid ∙ ap (draw setting sampling (xs ++ Resumed hart ∷ [])) (sym d.taken_are))
+    taken refl
+    (ap (λ n. n + 1) d.taken_are ∙ sym (index_more xs (Resumed hart)))
+    (ap (slice_get all) (one_longer xs (Resumed hart)) ∙ past_draws all (length xs) past)
+
+-- ---- the end
+
+pub whole_run : (setting : Setting) (sampling : Sampling) (xs : List Entry) (taken : ℕ) → IsDriving setting sampling xs taken → driven setting sampling xs ≡ None → IsDrawn setting sampling xs
+whole_run setting sampling xs taken d over place =
+    elim (cases_lt place (length xs)) [
+      | inl lt ↦ d.so_far place lt
+      | inr ge ↦ slice_get_past xs place ge ∙ sym (ap (driven setting sampling) (take_all place xs ge) ∙ over)
+    ]
+
+pub run_over : (setting : Setting) (sampling : Sampling) (xs : List Entry) (taken : ℕ) → IsDriving setting sampling xs taken → due setting xs ≡ None → length (able setting xs) ≡ 0 → driven setting sampling xs ≡ None
+unfolding driven turn_drawn picked_hart
+run_over setting sampling xs taken d undue none =
+    or_second (owed setting sampling turns_and_resumptions xs) _ d.paid
+    ∙ ap (λ o. option_or (option_map Resumed o) (turn_drawn setting sampling xs)) undue
+    ∙ ap (option_and_then (λ hart. result_ok (forced setting xs (Turn hart)))) (slice_get_past (able setting xs) (sampling.word_at (next_index turns_and_resumptions xs) % length (able setting xs)) (omega (arith, none)))
+
+-- ---- the first draws
+
+no_entry : (e : Entry) → None ≡ Some e → ⊥
+no_entry e h = cc
+
+same_entry : (x e : Entry) → Some x ≡ Some e → x ≡ e
+same_entry x e h = cc
+
+in_last : AddsItsKind → (setting : Setting) (sampling : Sampling) (n i : ℕ) (e : Entry) (d : Option Entry) → draw setting sampling (draws setting sampling n) n ≡ d → length (draws setting sampling n) ≤ i → slice_get (draws setting sampling n ++ option_to_list d) i ≡ Some e → is_resumed e ≡ false
+in_last kind setting sampling n i e None gives past there =
+    absurd (no_entry e (sym (slice_get_past (draws setting sampling n) i past) ∙ ap (λ xs. slice_get xs i) (sym (append-nil (draws setting sampling n))) ∙ there))
+in_last kind setting sampling n i e (Some x) gives past there =
+    let all = draws setting sampling n in
+    let within = slice_get_within (all ++ x ∷ []) i e there in
+    let more = one_longer all x in
+    let here : i ≡ length all = omega arith in
+    let same : x ≡ e = same_entry x e (sym (last all x) ∙ ap (slice_get (all ++ x ∷ [])) (sym here) ∙ there) in
+    ap is_resumed (sym same) ∙ (drawn_is_armed kind setting sampling all n x gives).1
+
+nothing_at : (i : ℕ) (e : Entry) → slice_get [] i ≡ Some e → ⊥
+nothing_at i e h = cc
+
+none_resumed : AddsItsKind → (setting : Setting) (sampling : Sampling) (n i : ℕ) (e : Entry) → slice_get (draws setting sampling n) i ≡ Some e → is_resumed e ≡ false
+unfolding draws
+none_resumed kind setting sampling zero i e there = absurd (nothing_at i e there)
+none_resumed kind setting sampling (suc n) i e there =
+    let d = draw setting sampling (draws setting sampling n) n in
+    elim (cases_lt i (length (draws setting sampling n))) [
+      | inl lt ↦ none_resumed kind setting sampling n i e (sym (front (draws setting sampling n) (option_to_list d) i lt) ∙ there)
+      | inr past ↦ in_last kind setting sampling n i e d refl past there
+    ]
+
+takes_none : AddsItsKind → (setting : Setting) (sampling : Sampling) (n : ℕ) (d : Option Entry) → draw setting sampling (draws setting sampling n) n ≡ d → count_by turns_and_resumptions (option_to_list d) ≡ 0
+takes_none kind setting sampling n None gives = refl
+takes_none kind setting sampling n (Some e) gives = ap (λ b. 0 + cond b 1 0) (drawn_is_armed kind setting sampling (draws setting sampling n) n e gives).0
+
+none_taken : AddsItsKind → (setting : Setting) (sampling : Sampling) (n : ℕ) → count_by turns_and_resumptions (draws setting sampling n) ≡ 0
+unfolding draws
+none_taken kind setting sampling zero = refl
+none_taken kind setting sampling (suc n) =
+    let d = draw setting sampling (draws setting sampling n) n in
+    let both = sum_by-append (λ x. cond (turns_and_resumptions x) 1 0) (draws setting sampling n) (option_to_list d) in
+    let before = none_taken kind setting sampling n in
+    let added = takes_none kind setting sampling n d refl in
+    omega (arith, both, before, added)
+
+last_stays : (setting : Setting) (sampling : Sampling) (xs : List Entry) (o : Option Entry) → slice_get xs (length xs - 1) ≡ o → ((e : Entry) → o ≡ Some e → is_resumed e ≡ false) → draw_after setting sampling turns_and_resumptions xs ≡ None
+unfolding draw_after
+last_stays setting sampling xs None at stays = ap (option_and_then (λ last. cond (is_resumed last) (draw setting sampling xs (next_index turns_and_resumptions (take (length xs - 1) xs))) None)) at
+last_stays setting sampling xs (Some e) at stays =
+    ap (option_and_then (λ last. cond (is_resumed last) (draw setting sampling xs (next_index turns_and_resumptions (take (length xs - 1) xs))) None)) at
+    ∙ ap (λ b. cond b (draw setting sampling xs (next_index turns_and_resumptions (take (length xs - 1) xs))) None) (stays e refl)
+
+some_at : (xs : List Entry) (n : ℕ) → n < length xs → (x : Entry) × (slice_get xs n ≡ Some x)
+some_at [] n below = absurd (omega arith)
+some_at (x ∷ xs) zero below = (x, refl)
+some_at (x ∷ xs) (suc n) below = some_at xs n (omega arith)
+
+first_or : (a b c : Option Entry) (x : Entry) → a ≡ Some x → option_or (option_or a b) c ≡ a
+first_or None b c x h = cc
+first_or (Some y) b c x h = refl
+
+draws_driven : (setting : Setting) (sampling : Sampling) (place : ℕ) → place < length (draws setting sampling first_draws) → slice_get (draws setting sampling first_draws) place ≡ driven setting sampling (take place (draws setting sampling first_draws))
+unfolding driven owed
+draws_driven setting sampling place below =
+    let all = draws setting sampling first_draws in
+    let there = some_at all place below in
+    let long : length (take place all) ≡ place = length-take-le place all (omega arith) in
+    sym (first_or (slice_get all (length (take place all))) (draw_after setting sampling turns_and_resumptions (take place all)) (option_or (option_map Resumed (due setting (take place all))) (turn_drawn setting sampling (take place all))) there.0 (ap (slice_get all) long ∙ there.1) ∙ ap (slice_get all) long)
+
+all_paid : AddsItsKind → (setting : Setting) (sampling : Sampling) → owed setting sampling turns_and_resumptions (draws setting sampling first_draws) ≡ None
+unfolding owed
+all_paid kind setting sampling =
+    let all = draws setting sampling first_draws in
+    ap (λ o. option_or o (draw_after setting sampling turns_and_resumptions all)) (slice_get_past all (length all) (omega arith))
+    ∙ last_stays setting sampling all (slice_get all (length all - 1)) refl (λ e at. none_resumed kind setting sampling first_draws (length all - 1) e at)
+
+pub after_draws : AddsItsKind → (setting : Setting) (sampling : Sampling) (xs : List Entry) (taken : ℕ) → xs ≡ draws setting sampling first_draws → taken ≡ first_draws → IsDriving setting sampling xs taken
+after_draws kind setting sampling xs taken are count =
+    let none = none_taken kind setting sampling first_draws in
+    subst (λ (ys : List Entry). IsDriving setting sampling ys taken) (sym are) (record {
+      so_far = draws_driven setting sampling;
+      paid = all_paid kind setting sampling;
+      taken_are = omega (arith, none, count);
+    })
+
+pub one_draw_more : (setting : Setting) (sampling : Sampling) (n : ℕ) → draws setting sampling (n + 1) ≡ draws setting sampling n ++ option_to_list (draw setting sampling (draws setting sampling n) n)
+unfolding draws
+one_draw_more setting sampling n = ap (draws setting sampling) (add-one n)
+
+pub no_draws : (setting : Setting) (sampling : Sampling) → draws setting sampling 0 ≡ []
+unfolding draws
+no_draws setting sampling = refl

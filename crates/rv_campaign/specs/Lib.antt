@@ -1,0 +1,3 @@
+pub mod Campaign
+pub mod Run
+pub mod internal

@@ -1,0 +1,14 @@
+//! Whole runs from a seed.
+//!
+//! To the layer above, a run's schedule is the one list that its seed, its number, the plan and the image's
+//! sites drive (`specs/Run.antt`), and a campaign is the list of its runs, in order.
+#![tactic(auto)]
+
+mod driver;
+mod run;
+mod runs;
+#[cfg(test)]
+mod tests;
+
+pub use run::run_one;
+pub use runs::{CampaignFault, campaign};

@@ -1,0 +1,114 @@
+ghost use Rattle.std.specs.Prelude.{◌≡◌, ◌<◌, ◌≤◌, [], true, false, None, length, IfOk};
+ghost use Rattle.rv_campaign.specs.Run.{IsRun, IsRunOver, sampling_of};
+ghost use Rattle.rv_campaign.specs.internal.Driving.{IsDriving, SameRun};
+ghost use Rattle.rv_campaign.specs.internal.Kept.{IsKept};
+ghost use Rattle.rv_collide.specs.Drawn.{driven};
+ghost use Rattle.rv_collide.specs.Plan.{most_entries};
+ghost use Rattle.rv_collide.specs.Stored.{setting_of};
+ghost use Rattle.rv_collide.specs.Numbers.{numbers};
+
+use crate::driver::Driver;
+use rv_collide::collider::{Collider, Finished};
+use rv_collide::driver_laws::accepted_calls;
+use rv_collide::plan::Plan;
+use rv_elf::Image;
+use rv_memory::store::NoMemory;
+use rv_sample::{Sampler, Words};
+use std::alloc::Global;
+
+/// How many addresses are drawn before the first turn.
+const FIRST_DRAWS: u32 = 16;
+
+/// The one run of an image and a plan by the words of a seed and a run's number, at the image's sites without
+/// the excluded addresses. It answers want of memory alone.
+pub fn run_one(
+    alloc: Global,
+    image: &Image,
+    plan: Plan,
+    seed: u64,
+    run: u32,
+    excluded: &[u32],
+) -> Result<Finished, NoMemory>
+    ensures { IfOk result (λ told. IsRun (record {
+      image = image.now;
+      plan = numbers plan;
+      seed = seed;
+      excluded = excluded.now;
+    }) run told) }
+{
+    let sampler = Sampler::sites(alloc, image, excluded)?;
+    run_sampled(alloc, image, plan, seed, run, &sampler)
+}
+
+/// A run over the sites of a sampler.
+pub(crate) fn run_sampled(
+    alloc: Global,
+    image: &Image,
+    plan: Plan,
+    seed: u64,
+    run: u32,
+    sampler: &Sampler,
+) -> Result<Finished, NoMemory>
+    ensures { IfOk result (λ told. IsRunOver image.now (numbers plan) sampler.now seed run told) }
+{
+    let mut words = Words::new(seed, u64::from(run));
+    let mut driver = Driver::new(Collider::new(alloc, image, plan)?);
+    first_draws(&mut driver, &mut words, sampler);
+    while go_on(&mut driver, &mut words, sampler) {}
+    Ok(driver.collider.finish())
+}
+
+/// The draws before the first turn.
+fn first_draws(driver: &mut Driver, words: &mut Words, sampler: &Sampler)
+    requires kept { IsKept driver.old.collider.entries driver.old.made driver.old.made_at }
+    requires none { driver.old.collider.entries ≡ [] }
+    requires taken { words.old.taken ≡ 0 }
+    ensures kept { IsKept driver.new.collider.entries driver.new.made driver.new.made_at }
+    ensures driving { IsDriving (setting_of driver.new.collider)
+        (sampling_of sampler.now words.new.seed words.new.stream) driver.new.collider.entries words.new.taken }
+    ensures same { SameRun driver.old.collider driver.new.collider words.old words.new }
+{
+    accepted_calls();
+    for _ in 0..FIRST_DRAWS {
+        driver.draw(sampler, words);
+    }
+}
+
+/// What the run adds next: the lowest pause that is due ends, and a draw follows; else an able hart takes a
+/// turn. It answers whether there was something to add.
+fn go_on(driver: &mut Driver, words: &mut Words, sampler: &Sampler) -> bool
+    requires kept { IsKept driver.old.collider.entries driver.old.made driver.old.made_at }
+    requires driving { IsDriving (setting_of driver.old.collider)
+        (sampling_of sampler.now words.old.seed words.old.stream) driver.old.collider.entries words.old.taken }
+    ensures kept { IsKept driver.new.collider.entries driver.new.made driver.new.made_at }
+    ensures driving { IsDriving (setting_of driver.new.collider)
+        (sampling_of sampler.now words.new.seed words.new.stream) driver.new.collider.entries words.new.taken }
+    ensures same { SameRun driver.old.collider driver.new.collider words.old words.new }
+    ensures longer { result ≡ true → length driver.old.collider.entries < length driver.new.collider.entries }
+    ensures few { length driver.new.collider.entries ≤ most_entries driver.new.collider.plan }
+    ensures over { result ≡ false → driven (setting_of driver.new.collider)
+        (sampling_of sampler.now words.new.seed words.new.stream) driver.new.collider.entries ≡ None }
+{
+    accepted_calls();
+    driver.collider.facts();
+    let _plan = driver.collider.plan();
+    if let Some(h) = driver.due() {
+        driver.resume(h);
+        driver.draw(sampler, words);
+        driver.collider.facts();
+        return true;
+    }
+    let count = driver.count();
+    if count == 0 {
+        return false;
+    }
+    let word = words.next();
+    match driver.nth(word % count) {
+        None => unreachable!(),
+        Some(h) => {
+            driver.turn(h);
+            driver.collider.facts();
+            true
+        }
+    }
+}
