@@ -1,0 +1,5 @@
+pub mod DigitLemmas
+pub mod FindLemmas
+pub mod SeriesLemmas
+pub mod ToldLemmas
+pub mod ViewLemmas

@@ -1,0 +1,14 @@
+//! The debugger: a stored schedule that can be visited at any place, forwards and backwards.
+//!
+//! To the layer above, a `Session` at a place shows the state that the entries before that place lead to
+//! (`specs/Placed.antt`), whatever commands brought it there; a fault leaves the place.
+#![tactic(auto)]
+
+mod finding;
+pub mod hart_view;
+mod listing;
+pub mod session;
+mod shown;
+#[cfg(test)]
+mod tests;
+mod told;

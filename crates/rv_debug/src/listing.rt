@@ -1,0 +1,99 @@
+//! The lines of words in memory.
+ghost use Rattle.std.specs.Prelude.{◌≡◌, IfOk, MatchOption, Some, None, map};
+ghost use Rattle.std.specs.String.{string_bytes};
+ghost use Rattle.rv_asm.specs.Listing as spec;
+ghost use Rattle.rv_debug.specs.Answers as answer;
+ghost use Rattle.rv_text.specs.Hexadecimal as hexadecimal;
+
+use crate::shown::byte_at;
+use rv_asm::line_of;
+use rv_hart::machine::Machine;
+use rv_memory::flat::Flat;
+use rv_memory::store::NoMemory;
+use rv_text::hexadecimal::word_digits;
+use std::alloc::Global;
+
+/// The lines of words from an address on, or None where it is no multiple of 4 or memory lacks a byte of
+/// them.
+pub(crate) fn lines_of(
+    alloc: Global,
+    machine: &Machine<Flat>,
+    address: u32,
+    count: u32,
+) -> Result<Option<Vec<String>>, NoMemory>
+    ensures { IfOk result (λ answered. MatchOption answered
+        (answer.lines_from machine.now.state.memory address count ≡ None)
+        (λ lines. answer.lines_from machine.now.state.memory address count ≡ Some (map (λ line. string_bytes line) lines.items))) }
+{
+    if address % 4 != 0 {
+        return Ok(None);
+    }
+    words_of(alloc, machine, address, count)
+}
+
+/// The lines of words from an address on, or None where memory lacks a byte of them.
+fn words_of(
+    alloc: Global,
+    machine: &Machine<Flat>,
+    address: u32,
+    count: u32,
+) -> Result<Option<Vec<String>>, NoMemory>
+    ensures { IfOk result (λ answered. MatchOption answered
+        (answer.series (answer.line_at machine.now.state.memory) 4 address count ≡ None)
+        (λ lines. answer.series (answer.line_at machine.now.state.memory) 4 address count ≡ Some (map (λ line. string_bytes line) lines.items))) }
+{
+    let mut lines = Vec::new(alloc);
+    for i in 0..count {
+        match line_at(alloc, machine, u64::from(address) + 4 * u64::from(i))? {
+            None => return Ok(None),
+            Some(line) => lines.push(line)?,
+        }
+    }
+    Ok(Some(lines))
+}
+
+/// The line of the word at an address, or None where memory lacks a byte of it.
+fn line_at(alloc: Global, machine: &Machine<Flat>, address: u64) -> Result<Option<String>, NoMemory>
+    ensures { IfOk result (λ answered. MatchOption answered
+        (answer.line_at machine.now.state.memory address ≡ None)
+        (λ line. answer.line_at machine.now.state.memory address ≡ Some (string_bytes line))) }
+{
+    machine.no_byte_past_the_last();
+    let Ok(address) = u32::try_from(address) else {
+        return Ok(None);
+    };
+    match word_at(machine, address) {
+        None => Ok(None),
+        Some(word) => Ok(Some(listed(alloc, address, word)?)),
+    }
+}
+
+fn word_at(machine: &Machine<Flat>, address: u32) -> Option<u32>
+    ensures { result ≡ answer.word_at machine.now.state.memory address }
+{
+    let a = byte_at(machine, u64::from(address))?;
+    let b = byte_at(machine, u64::from(address) + 1)?;
+    let c = byte_at(machine, u64::from(address) + 2)?;
+    let d = byte_at(machine, u64::from(address) + 3)?;
+    Some(u32::from_le_bytes([a, b, c, d]))
+}
+
+fn listed(alloc: Global, address: u32, word: u32) -> Result<String, NoMemory>
+    ensures { IfOk result (λ text. string_bytes text ≡ spec.listed address word) }
+{
+    let line = line_of(alloc, word, address)?;
+    let (place, digits) = (digits_of(alloc, address)?, digits_of(alloc, word)?);
+    Ok(format!(in alloc; "{place}: {digits} {line}")?)
+}
+
+/// The word's eight digits.
+fn digits_of(alloc: Global, word: u32) -> Result<String, NoMemory>
+    ensures { IfOk result (λ text. string_bytes text ≡ hexadecimal.word_digits word) }
+{
+    let digits = word_digits(word);
+    let mut text = String::new(alloc);
+    for digit in &digits {
+        text.push(char::from(*digit))?;
+    }
+    Ok(text)
+}

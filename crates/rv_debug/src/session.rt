@@ -1,0 +1,239 @@
+//! A session: a stored schedule at one of its places.
+ghost use Rattle.std.specs.Prelude.{◌≡◌, ◌⊎◌, ◌↔◌, ℕ, ◌+◌, ◌-◌, ◌<◌, ◌≤◌, [], ◌∷◌, Err, Some, None, IfOk, IfErr, OnOk, OnErr, length, map};
+ghost use Rattle.std.specs.String.{string_bytes};
+ghost use Rattle.rv_collide.specs.Legal.{IsLegal};
+ghost use Rattle.rv_collide.specs.Numbers.{numbers};
+ghost use Rattle.rv_collide.specs.Replays.{IsReplayFault};
+ghost use Rattle.rv_collide.specs.StateAt.{state_at};
+ghost use Rattle.rv_collide.specs.Stored.{setting_of, stored};
+ghost use Rattle.rv_hart.specs.State.{State};
+ghost use Rattle.rv_debug.specs.Answers as answer;
+ghost use Rattle.rv_debug.specs.Placed.{moved, placed, state, SomeState};
+ghost use Rattle.rv_debug.specs.declared.session.SessionFault.TheVariants as fault_is;
+
+use crate::finding::next_touch;
+use crate::hart_view::HartView;
+use crate::listing::lines_of;
+use crate::shown::{bytes_of, view_of};
+use crate::told::{advance, collider_at};
+use rv_collide::collider::Collider;
+use rv_collide::entry::Entry;
+use rv_collide::plan::Plan;
+use rv_collide::replay::{ReplayFault, replay};
+use rv_elf::Image;
+use rv_hart::machine::Machine;
+use rv_memory::flat::Flat;
+use rv_memory::store::NoMemory;
+use std::alloc::Global;
+use std::marker::Model;
+
+/// Why a command is not answered. Each leaves the session at its place.
+#[derive(Clone, Copy, Debug, PartialEq, Eq, Hash)]
+pub enum SessionFault {
+    /// There is no such place in the schedule.
+    NoPlace = 1,
+    /// There is no hart of the number.
+    NoHart = 2,
+    /// One of the bytes lies in no region or past the last address; or a listing is asked for from an
+    /// address that is no multiple of 4.
+    NoBytes = 3,
+    /// No entry from the place on touches the byte.
+    NotFound = 4,
+    /// A growth was refused.
+    NoMemory = 5,
+}
+
+impl From<NoMemory> for SessionFault {
+    ghost from_gives = { λ _ fault. fault ≡ fault_is.NoMemory };
+
+    fn from(_: NoMemory) -> SessionFault {
+        SessionFault::NoMemory
+    }
+}
+
+/// A legal schedule of an image and a plan, at one of its places: place n is the moment after the first n
+/// entries, from 0 to their number. To contracts it is those four; what it shows is the state there.
+#[derive(Drop)]
+pub struct Session {
+    image: Image,
+    plan: Plan,
+    entries: Vec<Entry>,
+    count: u32,
+    place: u32,
+    collider: Collider<Flat>,
+}
+
+impl Model for Session {
+    ghost use Rattle.rv_collide.specs.Numbers.{numbers};
+    ghost use Rattle.rv_debug.specs.Placed.{Placed, placed};
+    ghost use Rattle.rv_debug.specs.internal.Session.{IsSession};
+
+    ghost Value = { Placed };
+
+    ghost view = { λ s. placed s.image (numbers s.plan) s.entries.items s.place };
+
+    ghost invariant = { λ s. IsSession (placed s.image (numbers s.plan) s.entries.items s.place) s.count s.collider };
+}
+
+impl Session {
+    /// A session of the schedule at place 0; or the first entry that is not what its call would add there.
+    pub fn new(
+        alloc: Global,
+        image: &Image,
+        plan: Plan,
+        entries: Vec<Entry>,
+    ) -> Result<Session, ReplayFault>
+        ensures ok { IfOk result (λ s. s ≡ placed image.now (numbers plan) entries.items 0) }
+        ensures legal { OnOk result (IsLegal (setting_of (stored image.now (numbers plan) [])) entries.items) }
+        ensures err { IfErr result (λ fault.
+            IsReplayFault (setting_of (stored image.now (numbers plan) [])) entries.items fault) }
+    {
+        let whole: Collider<Flat> = replay(alloc, image, plan, &entries)?;
+        let count = whole.entries();
+        let Ok(collider) = Collider::new(alloc, image, plan) else {
+            return Err(ReplayFault::NoMemory);
+        };
+        let Ok(image) = image.copy(alloc) else {
+            return Err(ReplayFault::NoMemory);
+        };
+        Ok(Session {
+            image,
+            plan,
+            entries,
+            count,
+            place: 0,
+            collider,
+        })
+    }
+
+    /// The place.
+    pub fn place(&self) -> u32
+        ensures value { result ≡ self.now.place }
+        ensures within { result ≤ length self.now.entries }
+    {
+        let _count = self.count;
+        self.place
+    }
+
+    /// Goes to a place.
+    pub fn go(&mut self, alloc: Global, n: u32) -> Result<(), SessionFault>
+        ensures ok { OnOk result (self.new ≡ moved self.old n) }
+        ensures no_place { (result ≡ Err SessionFault.NoPlace) ↔ (length self.old.entries < n) }
+        ensures err { IfErr result (λ fault. (fault ≡ SessionFault.NoPlace) ⊎ (fault ≡ SessionFault.NoMemory)) }
+        ensures refused { OnErr result (self.new ≡ self.old) }
+    {
+        if n > self.count {
+            return Err(SessionFault::NoPlace);
+        }
+        self.put(alloc, n)
+    }
+
+    /// Goes one place forwards.
+    pub fn forward(&mut self) -> Result<(), SessionFault>
+        ensures ok { OnOk result (self.new ≡ moved self.old (self.old.place + 1)) }
+        ensures no_place { (result ≡ Err SessionFault.NoPlace) ↔ (length self.old.entries ≡ self.old.place) }
+        ensures err { IfErr result (λ fault. (fault ≡ SessionFault.NoPlace) ⊎ (fault ≡ SessionFault.NoMemory)) }
+        ensures refused { OnErr result (self.new ≡ self.old) }
+    {
+        if self.place == self.count {
+            return Err(SessionFault::NoPlace);
+        }
+        let entry = self.entries[self.place as usize];
+        let _access = advance(&mut self.collider, entry);
+        self.place += 1;
+        Ok(())
+    }
+
+    /// Goes one place backwards.
+    pub fn back(&mut self, alloc: Global) -> Result<(), SessionFault>
+        ensures ok { OnOk result (self.new ≡ moved self.old (self.old.place - 1)) }
+        ensures no_place { (result ≡ Err SessionFault.NoPlace) ↔ (self.old.place ≡ 0) }
+        ensures err { IfErr result (λ fault. (fault ≡ SessionFault.NoPlace) ⊎ (fault ≡ SessionFault.NoMemory)) }
+        ensures refused { OnErr result (self.new ≡ self.old) }
+    {
+        if self.place == 0 {
+            return Err(SessionFault::NoPlace);
+        }
+        let before = self.place - 1;
+        self.put(alloc, before)
+    }
+
+    /// Goes to one of the schedule's places, by its entries from the first one on.
+    fn put(&mut self, alloc: Global, n: u32) -> Result<(), SessionFault>
+        requires { n ≤ length self.old.entries }
+        ensures ok { OnOk result (self.new ≡ moved self.old n) }
+        ensures err { IfErr result (λ fault. fault ≡ SessionFault.NoMemory) }
+        ensures refused { OnErr result (self.new ≡ self.old) }
+    {
+        self.collider = collider_at(alloc, &self.image, self.plan, &self.entries, n)?;
+        self.place = n;
+        Ok(())
+    }
+
+    /// A hart at the place.
+    pub fn registers(&self, h: u32) -> Result<HartView, SessionFault>
+        ensures ok { IfOk result (λ view. answer.ShowsHart self.now h view) }
+        ensures err { IfErr result (λ fault. (fault ≡ SessionFault.NoHart) × answer.HasNoHart self.now h) }
+    {
+        let machine = self.machine();
+        if h >= u32::from(machine.harts()) {
+            return Err(SessionFault::NoHart);
+        }
+        Ok(view_of(machine, h as u8))
+    }
+
+    /// The bytes from an address on, at the place: 1 to 256 of them.
+    pub fn bytes(&self, alloc: Global, address: u32, len: u32) -> Result<Vec<u8>, SessionFault>
+        requires some { 1 ≤ len }
+        requires few { len ≤ 256 }
+        ensures ok { IfOk result (λ bytes. SomeState (λ (s : State). answer.bytes_from s.memory address len ≡ Some bytes.items) self.now) }
+        ensures err { IfErr result (λ fault. (fault ≡ SessionFault.NoMemory)
+            ⊎ ((fault ≡ SessionFault.NoBytes) × SomeState (λ (s : State). answer.bytes_from s.memory address len ≡ None) self.now)) }
+    {
+        match bytes_of(alloc, self.machine(), address, len)? {
+            Some(bytes) => Ok(bytes),
+            None => Err(SessionFault::NoBytes),
+        }
+    }
+
+    /// The lines of the words from an address on, at the place: 1 to 64 of them, each without its line feed.
+    pub fn list(&self, alloc: Global, address: u32, count: u32) -> Result<Vec<String>, SessionFault>
+        requires some { 1 ≤ count }
+        requires few { count ≤ 64 }
+        ensures ok { IfOk result (λ lines. SomeState (λ (s : State). answer.lines_from s.memory address count ≡ Some (map (λ line. string_bytes line) lines.items)) self.now) }
+        ensures err { IfErr result (λ fault. (fault ≡ SessionFault.NoMemory)
+            ⊎ ((fault ≡ SessionFault.NoBytes) × SomeState (λ (s : State). answer.lines_from s.memory address count ≡ None) self.now)) }
+    {
+        match lines_of(alloc, self.machine(), address, count)? {
+            Some(lines) => Ok(lines),
+            None => Err(SessionFault::NoBytes),
+        }
+    }
+
+    /// The least place, from the present one on, whose entry's access touches the byte. The session goes to
+    /// the place after it.
+    pub fn find(&mut self, alloc: Global, address: u32) -> Result<u32, SessionFault>
+        ensures ok { IfOk result (λ found. answer.IsFirstTouch self.old address found) }
+        ensures after { IfOk result (λ found. self.new ≡ moved self.old (found + 1)) }
+        ensures err { IfErr result (λ fault. (fault ≡ SessionFault.NoMemory)
+            ⊎ ((fault ≡ SessionFault.NotFound) × answer.HasNoTouch self.old address)) }
+        ensures refused { OnErr result (self.new ≡ self.old) }
+    {
+        let mut other = collider_at(alloc, &self.image, self.plan, &self.entries, self.place)?;
+        match next_touch(&mut other, &self.entries, self.count, self.place, address) {
+            None => Err(SessionFault::NotFound),
+            Some(found) => {
+                self.collider = other;
+                self.place = found + 1;
+                Ok(found)
+            }
+        }
+    }
+
+    /// The machine at the place.
+    pub fn machine(&self) -> &Machine<Flat>
+        ensures { state self.now ≡ Some result.now.state }
+    {
+        self.collider.machine()
+    }
+}
