@@ -44,7 +44,7 @@ pub enum Job<'a> {
 /// Why a command line gives no job.
 #[derive(Clone, Copy, Debug, PartialEq, Eq)]
 pub enum LineFault {
-    /// The words are no command with its arguments, or one of them is malformed where it stands.
+    /// The words are no command with its arguments.
     Line,
     /// There is no memory.
     NoMemory,
