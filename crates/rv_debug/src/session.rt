@@ -132,7 +132,7 @@ impl Session {
     pub fn forward(&mut self) -> Result<(), SessionFault>
         ensures ok { OnOk result (self.new ≡ moved self.old (self.old.place + 1)) }
         ensures no_place { (result ≡ Err SessionFault.NoPlace) ↔ (length self.old.entries ≡ self.old.place) }
-        ensures err { IfErr result (λ fault. (fault ≡ SessionFault.NoPlace) ⊎ (fault ≡ SessionFault.NoMemory)) }
+        ensures err { IfErr result (λ fault. fault ≡ SessionFault.NoPlace) }
         ensures refused { OnErr result (self.new ≡ self.old) }
     {
         if self.place == self.count {
