@@ -123,10 +123,10 @@ opening_kept xs opened h are = ap (find (λ (o : Opening). o.hart == h)) (sym ar
 
 -- ---- numbers
 
-count_push : (xs : List Entry) (e : Entry) (n : ℕ) → sum_by (λ x. cond (arms x) 1 0) (e ∷ []) ≡ n → count_by arms (xs ++ e ∷ []) ≡ count_by arms xs + n
+pub count_push : (xs : List Entry) (e : Entry) (n : ℕ) → sum_by (λ x. cond (arms x) 1 0) (e ∷ []) ≡ n → count_by arms (xs ++ e ∷ []) ≡ count_by arms xs + n
 count_push xs e n is = sum_by-append (λ x. cond (arms x) 1 0) xs (e ∷ []) ∙ ap (λ k. count_by arms xs + k) is
 
-size_push : (xs : List Entry) (e : Entry) → length (xs ++ e ∷ []) ≡ length xs + 1
+pub size_push : (xs : List Entry) (e : Entry) → length (xs ++ e ∷ []) ≡ length xs + 1
 size_push xs e = length-append xs (e ∷ [])
 
 not_both : (b : Bool) → b ≡ true → b ≡ false → ⊥
@@ -147,10 +147,10 @@ some_len s a there =
 back : (n : ℕ) → 1 ≤ n → (n - 1) + 1 ≡ n
 back n h = omega arith
 
-len_without : (s : FinSet nat_cmp) (a : ℕ) → contains s a ≡ true → len (remove s a) + 1 ≡ len s
+pub len_without : (s : FinSet nat_cmp) (a : ℕ) → contains s a ≡ true → len (remove s a) + 1 ≡ len s
 len_without s a there = ap (λ k. k + 1) (len-remove nat_cmp_total s a ∙ ap (λ b. cond b (len s - 1) (len s)) there) ∙ back (len s) (some_len s a there)
 
-len_with : (s : FinSet nat_cmp) (a : ℕ) → contains s a ≡ false → len (insert s a) ≡ len s + 1
+pub len_with : (s : FinSet nat_cmp) (a : ℕ) → contains s a ≡ false → len (insert s a) ≡ len s + 1
 len_with s a absent = len-insert nat_cmp_total s a ∙ ap (λ b. cond b (len s) (len s + 1)) absent
 
 below_of : (a b : ℕ) → nat_lt a b ≡ true → a < b
@@ -203,7 +203,7 @@ resume_part setting xs h e ok =
 
 -- ---- the core after an entry
 
-quiet_openings : (xs : List Entry) (e : Entry) → ((h : ℕ) → resumes h e ≡ false) → ((place : ℕ) → pauses place e [] ≡ []) → openings (xs ++ e ∷ []) ≡ openings xs
+pub quiet_openings : (xs : List Entry) (e : Entry) → ((h : ℕ) → resumes h e ≡ false) → ((place : ℕ) → pauses place e [] ≡ []) → openings (xs ++ e ∷ []) ≡ openings xs
 unfolding openings
 quiet_openings xs e none nothing = openings_push 0 xs e none ∙ ap (λ os. openings_from 0 xs ++ os) (nothing (0 + length xs)) ∙ append-nil (openings_from 0 xs)
 
@@ -330,7 +330,7 @@ slots_pause_any : (start : State) (xs : List Entry) (h : ℕ) (slot : Option ℕ
 slots_pause_any start xs h None access would free = slots_pause_none start xs h
 slots_pause_any start xs h (Some slot) access would free = slots_pause start xs h slot access would (free_is xs slot free)
 
-free_within : (xs : List Entry) (slot : Option ℕ) → least_free xs ≡ slot → IfSome slot (λ s. s < SLOTS)
+pub free_within : (xs : List Entry) (slot : Option ℕ) → least_free xs ≡ slot → IfSome slot (λ s. s < SLOTS)
 unfolding least_free
 free_within xs None free = tt
 free_within xs (Some slot) free = let w = find_within (λ s. not (is_taken xs s)) 0 SLOTS slot free in let below = w.below in omega arith
@@ -396,7 +396,7 @@ no_more : (h : ℕ) (os : List Opening) → length (without_hart h os) ≤ lengt
 no_more h [] = omega arith
 no_more h (x ∷ os) = let le = no_more h os in elim (x.hart == h) as (λ b. length (cond (not b) (x ∷ without_hart h os) (without_hart h os)) ≤ length (x ∷ os)) [ true ↦ omega arith | false ↦ omega arith ]
 
-openings_after : (xs : List Entry) (h : ℕ) → openings (xs ++ Resumed h ∷ []) ≡ without_hart h (openings xs)
+pub openings_after : (xs : List Entry) (h : ℕ) → openings (xs ++ Resumed h ∷ []) ≡ without_hart h (openings xs)
 unfolding openings
 openings_after xs h = openings_resume 0 h xs
 

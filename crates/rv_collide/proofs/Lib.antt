@@ -38,3 +38,4 @@ pub mod ScheduleLemmas
 pub mod Slots
 pub mod SpellLemmas
 pub mod StepFaults
+pub mod Writable

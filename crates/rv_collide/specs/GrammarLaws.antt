@@ -1,7 +1,10 @@
 -- What holds of the schedule's text.
 use Rattle.std.specs.Prelude.{◌≡◌, ℕ, ◌↔◌, Ok, All, List}
+use Rattle.rv_collide.specs.Forced.{Setting}
 use Rattle.rv_collide.specs.Grammar.{Grammar, HasAddress, IsWritable, schedule_text}
+use Rattle.rv_collide.specs.Legal.{IsLegal}
 use Rattle.rv_collide.specs.Numbers.{numbers}
+use Rattle.rv_collide.specs.Plan.{IsPlan}
 use Rattle.rv_collide.specs.Reading.{schedule_of}
 use Rattle.rv_collide.specs.declared.entry.Entry.{Entry}
 use Rattle.rv_collide.specs.declared.plan.Plan.{Plan}
@@ -23,3 +26,7 @@ ScheduleHasOneText = (text other : List ℕ) (plan : Plan) (entries : List Entry
 -- what a caller may write has a text
 abbrev pub ScheduleHasText : Type 0
 ScheduleHasText = (plan : Plan) (entries : List Entry) → IsWritable (numbers plan) entries → All HasAddress entries → Grammar (schedule_text (numbers plan) entries) plan entries
+
+-- a legal schedule of a plan may be written
+abbrev pub LegalIsWritable : Type 0
+LegalIsWritable = (setting : Setting) (entries : List Entry) → IsPlan setting.plan → IsLegal setting entries → IsWritable setting.plan entries

@@ -1,6 +1,6 @@
 //! What holds of the schedule's text. Each law is the contract of a function that does nothing else.
 
-ghost use Rattle.rv_collide.specs.GrammarLaws.{ReadsTheGrammar, TextHasOneSchedule, ScheduleHasOneText, ScheduleHasText};
+ghost use Rattle.rv_collide.specs.GrammarLaws.{ReadsTheGrammar, TextHasOneSchedule, ScheduleHasOneText, ScheduleHasText, LegalIsWritable};
 
 use rv_text::laws::{decimal_has_one_spelling, decimal_is_read_back, word_is_read_back};
 
@@ -22,3 +22,9 @@ pub fn one_spelling()
 {
     reads_the_grammar();
 }
+
+/// A legal schedule of a plan may be written: its harts and slots are ones that the text has, and its entries
+/// are as many as the plan allows.
+pub fn legal_is_writable()
+    ensures { LegalIsWritable }
+{}
