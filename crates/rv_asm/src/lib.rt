@@ -16,7 +16,7 @@ mod statement;
 pub use assembly::assemble;
 pub use fault::AsmFault;
 pub use listing::line::line_of;
-pub use listing::list::{ListFault, list};
+pub use listing::list::{ListFault, list, listed};
 pub use reading::alone::word_at;
 pub use reading::expressions::Expressions;
 pub use reading::instruction::{aimed, load_pair, word_of};

@@ -1,4 +1,3 @@
-pub mod DigitLemmas
 pub mod FindLemmas
 pub mod SeriesLemmas
 pub mod ToldLemmas

@@ -1,16 +1,13 @@
 //! The lines of words in memory.
 ghost use Rattle.std.specs.Prelude.{◌≡◌, IfOk, MatchOption, Some, None, map};
 ghost use Rattle.std.specs.String.{string_bytes};
-ghost use Rattle.rv_asm.specs.Listing as spec;
 ghost use Rattle.rv_debug.specs.Answers as answer;
-ghost use Rattle.rv_text.specs.Hexadecimal as hexadecimal;
 
 use crate::shown::byte_at;
-use rv_asm::line_of;
+use rv_asm::listed;
 use rv_hart::machine::Machine;
 use rv_memory::flat::Flat;
 use rv_memory::store::NoMemory;
-use rv_text::hexadecimal::word_digits;
 use std::alloc::Global;
 
 /// The lines of words from an address on, or None where it is no multiple of 4 or memory lacks a byte of
@@ -76,24 +73,4 @@ fn word_at(machine: &Machine<Flat>, address: u32) -> Option<u32>
     let c = byte_at(machine, u64::from(address) + 2)?;
     let d = byte_at(machine, u64::from(address) + 3)?;
     Some(u32::from_le_bytes([a, b, c, d]))
-}
-
-fn listed(alloc: Global, address: u32, word: u32) -> Result<String, NoMemory>
-    ensures { IfOk result (λ text. string_bytes text ≡ spec.listed address word) }
-{
-    let line = line_of(alloc, word, address)?;
-    let (place, digits) = (digits_of(alloc, address)?, digits_of(alloc, word)?);
-    Ok(format!(in alloc; "{place}: {digits} {line}")?)
-}
-
-/// The word's eight digits.
-fn digits_of(alloc: Global, word: u32) -> Result<String, NoMemory>
-    ensures { IfOk result (λ text. string_bytes text ≡ hexadecimal.word_digits word) }
-{
-    let digits = word_digits(word);
-    let mut text = String::new(alloc);
-    for digit in &digits {
-        text.push(char::from(*digit))?;
-    }
-    Ok(text)
 }

@@ -1,18 +1,19 @@
 //! The listing of an image.
-ghost use Rattle.std.specs.Prelude.{◌≡◌, ◌≤◌, ◌<◌, ◌^◌, ◌+◌, ◌||◌, ◌∷◌, [], ◌++◌, is_err, length, OnOk, MatchOption};
+ghost use Rattle.std.specs.Prelude.{◌≡◌, ◌≤◌, ◌<◌, ◌^◌, ◌+◌, ◌||◌, ◌∷◌, [], ◌++◌, is_err, length, IfOk, OnOk, MatchOption};
 ghost use Rattle.std.specs.Io.KnownBytes.{Appends};
+ghost use Rattle.std.specs.String.{string_bytes};
 ghost use Rattle.rv_elf.specs.Contents.{IsSegment};
 ghost use Rattle.rv_text.specs.Lines.{text_of_lines};
 ghost use Rattle.rv_asm.specs.Listing as spec;
 ghost use Rattle.rv_asm.specs.declared.listing.list.ListFault.TheVariants as faults;
 
 use crate::listing::line::line_of;
+use crate::listing::whole::digits_of;
 use rv_elf::Image;
 use rv_memory::flagged::WriteFault;
 use rv_memory::output::{Output, put_pieces};
 use rv_memory::region::Region;
 use rv_memory::store::NoMemory;
-use rv_text::hexadecimal::word_digits;
 use std::alloc::Global;
 
 /// Why a listing is not whole. What was written before is not said.
@@ -40,6 +41,15 @@ impl From<NoMemory> for ListFault {
     }
 }
 
+/// The line of a word with its address and its digits before it, as `00010000: 00020337 lui x6, 0x20`.
+pub fn listed(alloc: Global, address: u32, word: u32) -> Result<String, NoMemory>
+    ensures { IfOk result (λ text. string_bytes text ≡ spec.listed address word) }
+{
+    let line = line_of(alloc, word, address)?;
+    let (place, digits) = (digits_of(alloc, address)?, digits_of(alloc, word)?);
+    Ok(format!(in alloc; "{place}: {digits} {line}")?)
+}
+
 /// Writes the line of a word at an address.
 fn list_word<O: Output>(
     alloc: Global,
@@ -51,12 +61,8 @@ fn list_word<O: Output>(
         (spec.listed address word ++ 10 ∷ [])) }
     ensures failed { O.has_failed writer.new ≡ (O.has_failed writer.old || spec.is_write_fault result) }
 {
-    let line = line_of(alloc, word, address)?;
-    let (place, digits) = (word_digits(address), word_digits(word));
-    put_pieces(
-        writer,
-        &[&place, b": ", &digits, b" ", line.as_bytes(), b"\n"],
-    )?;
+    let line = listed(alloc, address, word)?;
+    put_pieces(writer, &[line.as_bytes(), b"\n"])?;
     Ok(())
 }
 
