@@ -6,6 +6,7 @@ ghost use Rattle.rv_asm.specs.Layout as layout;
 ghost use Rattle.rv_asm.specs.internal.Sound.{IsSound};
 
 use crate::passes::labels::Labels;
+use crate::passes::layout::{DATA_START, TEXT_START};
 use crate::passes::place::Spot;
 use crate::passes::sections::Sections;
 use crate::passes::symbols::symbols_of;
@@ -14,10 +15,6 @@ use rv_elf::{Image, Symbol};
 use rv_memory::region::Region;
 use rv_memory::store::NoMemory;
 use std::alloc::Global;
-
-const TEXT_START: u32 = 0x1_0000;
-
-const DATA_START: u32 = 0x2_0000;
 
 fn text_segment(bytes: Vec<u8>) -> Region
     requires { length bytes.items < 2 ^ 32 }

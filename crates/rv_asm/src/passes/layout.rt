@@ -9,9 +9,11 @@ use crate::passes::size::{section_after, size_within};
 use crate::reading::line::read_line;
 use crate::statement::{Line, Name, Section, Statement};
 
-const TEXT_START: u32 = 0x1_0000;
+/// The address of the first byte of `.text`.
+pub const TEXT_START: u32 = 0x1_0000;
 
-const DATA_START: u32 = 0x2_0000;
+/// The address of the first byte of `.data`.
+pub const DATA_START: u32 = 0x2_0000;
 
 const TEXT_LIMIT: u32 = 65_536;
 
