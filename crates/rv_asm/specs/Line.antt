@@ -23,15 +23,22 @@ whole n = codes "0x" ++ word_digits n
 abbrev pub target_of : ℕ → ℤ → ℕ
 target_of address distance = (address + cast_unsigned w32 distance) % 2 ^ 32
 
+-- `x1, x2, -5`
+abbrev pub immediate_text : Instr → List ℕ
+immediate_text i = number_name i.rd ++ (comma ++ (number_name i.rs1 ++ (comma ++ signed_decimal i.imm)))
+
+-- `x5, -4(x6)`
+abbrev pub indexed_text : ℕ → ℤ → ℕ → List ℕ
+indexed_text register offset base =
+    number_name register ++ (comma ++ (signed_decimal offset ++ (codes "(" ++ (number_name base ++ codes ")"))))
+
 -- The operands of an instruction at an address, by its format. (The order is that of the RISC-V assembly
 -- language: destination first, then sources; for a store the value and then its place.)
 abbrev pub operands_text : Form → Instr → ℕ → List ℕ
 operands_text form.R i address = number_name i.rd ++ (comma ++ (number_name i.rs1 ++ (comma ++ number_name i.rs2)))
-operands_text form.Shift i address = number_name i.rd ++ (comma ++ (number_name i.rs1 ++ (comma ++ signed_decimal i.imm)))
-operands_text form.I i address =
-    if is_indexed i.op then number_name i.rd ++ (comma ++ (signed_decimal i.imm ++ (codes "(" ++ (number_name i.rs1 ++ codes ")"))))
-    else number_name i.rd ++ (comma ++ (number_name i.rs1 ++ (comma ++ signed_decimal i.imm)))
-operands_text form.S i address = number_name i.rs2 ++ (comma ++ (signed_decimal i.imm ++ (codes "(" ++ (number_name i.rs1 ++ codes ")"))))
+operands_text form.Shift i address = immediate_text i
+operands_text form.I i address = if is_indexed i.op then indexed_text i.rd i.imm i.rs1 else immediate_text i
+operands_text form.S i address = indexed_text i.rs2 i.imm i.rs1
 operands_text form.B i address = number_name i.rs1 ++ (comma ++ (number_name i.rs2 ++ (comma ++ whole (target_of address i.imm))))
 operands_text form.J i address = number_name i.rd ++ (comma ++ whole (target_of address i.imm))
 operands_text form.U i address = number_name i.rd ++ (codes ", 0x" ++ radix_digits 16 false (unsigned_abs i.imm))

@@ -1,7 +1,8 @@
 //! The operands of an instruction as a listing has them.
-ghost use Rattle.std.specs.Prelude.{◌≡◌, IfOk};
+ghost use Rattle.std.specs.Prelude.{◌≡◌, ◌<◌, IfOk};
 ghost use Rattle.std.specs.String.{string_bytes};
 ghost use Rattle.rv_isa.specs.Table.{form_of};
+ghost use Rattle.rv_isa.specs.declared.form.Form.TheVariants as form;
 ghost use Rattle.rv_asm.specs.Line as spec;
 
 use crate::listing::whole::digits_of;
@@ -19,6 +20,42 @@ fn target_of(address: u32, distance: i32) -> u32
     address.wrapping_add(distance.cast_unsigned())
 }
 
+/// `x1, x2, -5`.
+fn immediate_text(alloc: Global, instr: &Instr) -> Result<String, NoMemory>
+    ensures { IfOk result (λ text. string_bytes text ≡ spec.immediate_text instr.now) }
+{
+    let (rd, rs1, imm) = (number_name(instr.rd), number_name(instr.rs1), instr.imm);
+    Ok(format!(in alloc; "{rd}, {rs1}, {imm}")?)
+}
+
+/// `x5, -4(x6)`.
+fn indexed_text(alloc: Global, register: u8, offset: i32, base: u8) -> Result<String, NoMemory>
+    requires register { register < 32 }
+    requires base { base < 32 }
+    ensures { IfOk result (λ text. string_bytes text ≡ spec.indexed_text register offset base) }
+{
+    let (register, base) = (number_name(register), number_name(base));
+    Ok(format!(in alloc; "{register}, {offset}({base})")?)
+}
+
+/// `x1, x2, 0x00010008`.
+fn branch_text(alloc: Global, instr: &Instr, address: u32) -> Result<String, NoMemory>
+    ensures { IfOk result (λ text. string_bytes text ≡ spec.operands_text form.B instr.now address) }
+{
+    let (rs1, rs2) = (number_name(instr.rs1), number_name(instr.rs2));
+    let target = digits_of(alloc, target_of(address, instr.imm))?;
+    Ok(format!(in alloc; "{rs1}, {rs2}, 0x{target}")?)
+}
+
+/// `x1, 0x00010010`.
+fn jump_text(alloc: Global, instr: &Instr, address: u32) -> Result<String, NoMemory>
+    ensures { IfOk result (λ text. string_bytes text ≡ spec.operands_text form.J instr.now address) }
+{
+    let rd = number_name(instr.rd);
+    let target = digits_of(alloc, target_of(address, instr.imm))?;
+    Ok(format!(in alloc; "{rd}, 0x{target}")?)
+}
+
 /// The operands of an instruction at an address.
 pub(crate) fn operands_text(alloc: Global, instr: &Instr, address: u32) -> Result<String, NoMemory>
     ensures { IfOk result (λ text. string_bytes text ≡ spec.operands_text (form_of instr.now.op) instr.now address) }
@@ -29,23 +66,17 @@ pub(crate) fn operands_text(alloc: Global, instr: &Instr, address: u32) -> Resul
     let imm = instr.imm;
     match instr.op.form() {
         Form::R => Ok(format!(in alloc; "{rd}, {rs1}, {rs2}")?),
-        Form::Shift => Ok(format!(in alloc; "{rd}, {rs1}, {imm}")?),
+        Form::Shift => immediate_text(alloc, instr),
         Form::I => {
             if is_indexed(instr.op) {
-                Ok(format!(in alloc; "{rd}, {imm}({rs1})")?)
+                indexed_text(alloc, instr.rd, imm, instr.rs1)
             } else {
-                Ok(format!(in alloc; "{rd}, {rs1}, {imm}")?)
+                immediate_text(alloc, instr)
             }
         }
-        Form::S => Ok(format!(in alloc; "{rs2}, {imm}({rs1})")?),
-        Form::B => {
-            let target = digits_of(alloc, target_of(address, imm))?;
-            Ok(format!(in alloc; "{rs1}, {rs2}, 0x{target}")?)
-        }
-        Form::J => {
-            let target = digits_of(alloc, target_of(address, imm))?;
-            Ok(format!(in alloc; "{rd}, 0x{target}")?)
-        }
+        Form::S => indexed_text(alloc, instr.rs2, imm, instr.rs1),
+        Form::B => branch_text(alloc, instr, address),
+        Form::J => jump_text(alloc, instr, address),
         Form::U => Ok(format!(in alloc; "{rd}, 0x{:x}", imm.unsigned_abs())?),
         Form::Fence => {
             let order = imm.unsigned_abs();

@@ -1,16 +1,17 @@
 //! Instructions by the format of their operands.
 ghost use Rattle.std.specs.Prelude.{◌≡◌, pos, ◌≤ℤ◌, ◌+ℤ◌, ◌*ℤ◌};
 ghost use Rattle.rv_isa.specs.Table.{form_of};
+ghost use Rattle.rv_asm.specs.Faults.{both};
 ghost use Rattle.rv_asm.specs.Instruction as instructions;
 ghost use Rattle.rv_asm.specs.Reading as spec;
 
 use crate::reading::instruction::{fields, instruction, with_number};
 use crate::reading::mnemonic::{Mnemonic, is_indexed};
-use crate::reading::operand::Operands;
+use crate::reading::operand::{Operand, Operands};
 use crate::reading::shapes::{
     address_in, base_in, both, expression_at, number_in, order_in, register_in, within,
 };
-use crate::statement::{AsmKind, Statement};
+use crate::statement::{AsmKind, Expression, Statement};
 use rv_isa::form::Form;
 use rv_isa::op::Op;
 use rv_isa::operands::Operands as Fields;
@@ -81,6 +82,20 @@ fn store_instr<'s>(op: Op, operands: Operands<'s>) -> Result<Statement<'s>, AsmK
     numbered(op, 0, base, rs2, offset)
 }
 
+/// The operands of a branch: two registers, and where it goes.
+fn compared_and_target<'s>(
+    rs1: Option<Operand<'s>>,
+    rs2: Option<Operand<'s>>,
+    target: Option<Operand<'s>>,
+) -> Result<(u8, (u8, Expression<'s>)), AsmKind>
+    ensures { result ≡ both (spec.register_in rs1.entry) (both (spec.register_in rs2.entry) (spec.expression_at target.entry)) }
+{
+    both(
+        register_in(rs1),
+        both(register_in(rs2), expression_at(target)),
+    )
+}
+
 /// `beq x1, x2, target`.
 fn branch_instr<'s>(op: Op, operands: Operands<'s>) -> Result<Statement<'s>, AsmKind>
     ensures { result ≡ spec.branch_instr op operands.entry }
@@ -88,20 +103,14 @@ fn branch_instr<'s>(op: Op, operands: Operands<'s>) -> Result<Statement<'s>, Asm
     let Operands::Three(rs1, rs2, target) = operands else {
         return Err(AsmKind::Word);
     };
-    let read = both(
-        register_in(rs1),
-        both(register_in(rs2), expression_at(target)),
-    );
-    match read {
-        Ok((rs1, (rs2, target))) => Ok(Statement::Jump {
-            op,
-            rd: 0,
-            rs1,
-            rs2,
-            target,
-        }),
-        Err(fault) => Err(fault),
-    }
+    let (rs1, (rs2, target)) = compared_and_target(rs1, rs2, target)?;
+    Ok(Statement::Jump {
+        op,
+        rd: 0,
+        rs1,
+        rs2,
+        target,
+    })
 }
 
 /// `jal x1, target`.
