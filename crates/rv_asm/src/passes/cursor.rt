@@ -9,7 +9,7 @@ use crate::passes::source::first_line;
 use std::marker::Model;
 
 /// The lines that are still to be taken.
-#[derive(Debug, Drop)]
+#[derive(Drop)]
 pub struct PlacedLines<'s> {
     rest: &'s [u8],
     place: Place,

@@ -4,7 +4,7 @@ use crate::statement::{Line, Name, Section};
 
 /// Where a line stands: how many lines stand before it, its section, how many bytes each section has
 /// before it, and how many bytes are left for labels.
-#[derive(Clone, Copy, Debug)]
+#[derive(Clone, Copy)]
 pub struct Place {
     pub lines_before: u64,
     pub section: Section,
@@ -14,14 +14,14 @@ pub struct Place {
 }
 
 /// A line at its place.
-#[derive(Debug, Drop)]
+#[derive(Drop)]
 pub struct PlacedLine<'s> {
     pub place: Place,
     pub line: Line<'s>,
 }
 
 /// Where a label stands: how many lines stand before its own, its section, and its address there.
-#[derive(Clone, Copy, Debug)]
+#[derive(Clone, Copy)]
 pub struct Spot {
     pub lines_before: u64,
     pub section: Section,
@@ -29,7 +29,7 @@ pub struct Spot {
 }
 
 /// A label: its name, and where it stands.
-#[derive(Debug, Drop)]
+#[derive(Drop)]
 pub struct Label<'s> {
     pub name: Name<'s>,
     pub spot: Spot,

@@ -13,7 +13,7 @@ use rv_memory::store::NoMemory;
 use std::alloc::Global;
 
 /// The bytes of both sections.
-#[derive(Debug, Drop)]
+#[derive(Drop)]
 pub struct Sections {
     pub text: Vec<u8>,
     pub writable: Vec<u8>,

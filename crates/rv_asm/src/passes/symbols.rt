@@ -14,14 +14,14 @@ use rv_memory::store::NoMemory;
 use std::alloc::Global;
 
 /// A section's labels from the last one on: the least address so far, and the least above it.
-#[derive(Clone, Copy, Debug)]
+#[derive(Clone, Copy)]
 pub struct Walk {
     pub next: u32,
     pub after: u32,
 }
 
 /// Both sections' labels from the last one on.
-#[derive(Clone, Copy, Debug)]
+#[derive(Clone, Copy)]
 pub struct Walks {
     pub text: Walk,
     pub writable: Walk,

@@ -7,7 +7,7 @@ use crate::reading::text::is_name;
 use crate::statement::AsmKind;
 
 /// The statements that stand for instructions of other names.
-#[derive(Clone, Copy, Debug, PartialEq, Eq)]
+#[derive(Clone, Copy)]
 pub enum Pseudo {
     Nop,
     Mv,
@@ -17,7 +17,7 @@ pub enum Pseudo {
     La,
 }
 
-#[derive(Clone, Copy, Debug, PartialEq, Eq)]
+#[derive(Clone, Copy)]
 pub enum Directive {
     Text,
     Data,
@@ -29,7 +29,7 @@ pub enum Directive {
 }
 
 /// What the first word of a statement names.
-#[derive(Clone, Copy, Debug, PartialEq, Eq)]
+#[derive(Clone, Copy)]
 pub enum Keyword {
     Instr(Mnemonic),
     Pseudo(Pseudo),

@@ -7,7 +7,7 @@ ghost use Rattle.rv_asm.specs.Mnemonics as spec;
 use rv_isa::op::Op;
 
 /// An operation as its mnemonic names it, with the ordering bits, which the atomics alone may have.
-#[derive(Clone, Copy, Debug, PartialEq, Eq)]
+#[derive(Clone, Copy)]
 pub struct Mnemonic {
     pub op: Op,
     pub aq: bool,

@@ -9,7 +9,7 @@ use rv_text::pieces::Pieces;
 
 /// An operand's shape: `name`, `number`, `number(name)` or `(name)`. A number is None where it is below
 /// -2^31 or above 2^32 - 1.
-#[derive(Debug, Drop)]
+#[derive(Drop)]
 pub enum Operand<'s> {
     Name(Name<'s>),
     Number(Option<i64>),
@@ -18,7 +18,7 @@ pub enum Operand<'s> {
 }
 
 /// The operands of a statement. One of no shape is None.
-#[derive(Debug, Drop)]
+#[derive(Drop)]
 pub enum Operands<'s> {
     Empty,
     One(Option<Operand<'s>>),

@@ -7,7 +7,7 @@ ghost use Rattle.rv_asm.specs.Text as spec;
 const MOST_NAME: usize = 255;
 
 /// Where a part of a line ends.
-#[derive(Clone, Copy, Debug, PartialEq, Eq)]
+#[derive(Clone, Copy)]
 pub enum Stop {
     /// At `#`.
     Comment,

@@ -12,7 +12,7 @@ use rv_text::pieces::Pieces;
 
 /// Whose values they are: those of `.word` are labels or numbers, and those of `.byte` are numbers from -128
 /// to 255.
-#[derive(Clone, Copy, Debug, PartialEq, Eq)]
+#[derive(Clone, Copy)]
 pub enum Values {
     Words,
     Bytes,
