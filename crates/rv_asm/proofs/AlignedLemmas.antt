@@ -1,12 +1,11 @@
 -- A statement that may stand in `.text` takes whole words.
-use Rattle.std.proofs.Common.{◌≡◌, ℕ, ℤ, pos, ◌*◌, ◌%◌, Bool, true, false, List, [], ◌∷◌, length, Option, Some, None, Result, Ok, Err, refl, ap, sym, ◌∙◌, arith}
+use Rattle.std.proofs.Common.{◌≡◌, ℕ, ℤ, pos, ◌*◌, ◌%◌, Bool, true, false, List, [], ◌∷◌, length, Option, Some, None, Result, Ok, Err, refl, arith}
 use Rattle.std.specs.List.{list_all}
 use Rattle.std.specs.Char.{is_ascii}
 use Rattle.std.specs.Prelude.{if◌then◌else◌, ◌+ℤ◌, ◌*ℤ◌}
 use Rattle.rv_isa.specs.Table.{form_of}
 use Rattle.rv_isa.specs.declared.form.Form.{Form}
 use Rattle.rv_isa.specs.declared.form.Form.TheVariants as form
-use Rattle.rv_isa.specs.declared.instr.Instr.{Instr}
 use Rattle.rv_isa.specs.declared.op.Op.{Op}
 use Rattle.rv_isa.specs.declared.operands.Operands.{Operands as Fields}
 use Rattle.rv_asm.specs.Faults.{both}
@@ -31,7 +30,7 @@ use Rattle.rv_asm.specs.declared.reading.keyword.Pseudo.{Pseudo}
 use Rattle.rv_asm.specs.declared.reading.keyword.Pseudo.TheVariants as pseudo
 use Rattle.rv_asm.specs.declared.reading.mnemonic.Mnemonic.{Mnemonic}
 use Rattle.rv_asm.specs.declared.reading.operand.Operands.{Operands}
-use Rattle.rv_asm.specs.declared.reading.operand.Operands.TheVariants.{Empty, One, Two, Three, More}
+use Rattle.rv_asm.specs.declared.reading.operand.Operands.TheVariants.{Empty, One, Two, Three}
 use Rattle.rv_asm.specs.declared.reading.values.Values.TheVariants as values
 use Rattle.rv_asm.specs.declared.statement.AsmKind.{AsmKind}
 use Rattle.rv_asm.specs.declared.statement.Section.{Section}

@@ -1,14 +1,12 @@
 -- The parts of a sound image meet what an image asks.
-use Rattle.std.proofs.Common.{◌≡◌, ℕ, ◌+◌, ◌%◌, ◌^◌, ◌<◌, ◌≤◌, ◌==◌, Bool, true, false, List, [], ◌∷◌, All, length, refl, ap, sym, ◌∙◌, arith}
+use Rattle.std.proofs.Common.{◌≡◌, ℕ, ◌+◌, ◌%◌, ◌≤◌, ◌==◌, Bool, true, false, List, [], ◌∷◌, All, length, refl, ap, ◌∙◌, arith}
 use Rattle.std.specs.Prelude.{nat_lt, nat_le, if◌then◌else◌}
 use Rattle.std.specs.List.{sum_by}
 use Rattle.std.proofs.lemmas.Bool.Decides.{nat_tests}
 use Rattle.std.proofs.lemmas.List.Elements.{All-nil, All-cons}
 use Rattle.std.proofs.lemmas.List.Sums.{sum_by-cons}
 use Rattle.rv_memory.specs.Extent.{Extent}
-use Rattle.rv_memory.specs.Memory.{overlaps, permits}
-use Rattle.rv_memory.specs.declared.store.Need.TheVariants.{Execute}
-use Rattle.rv_elf.specs.Contents.{IsImage, IsSegment, AreSegments, AreSymbols, IsSymbol, Named, contents, stacks, need_of}
+use Rattle.rv_elf.specs.Contents.{IsImage, IsSegment, AreSegments, IsSymbol, Named, contents, need_of}
 use Rattle.rv_asm.specs.Assembled.{Ends, image_of, entry_of, ends_of, text_segment, data_segment, data_segments, symbols_of, symbol_of}
 use Rattle.rv_asm.specs.internal.Sound.{IsSound, labels_size}
 use Rattle.rv_asm.specs.declared.passes.place.Label.{Label}

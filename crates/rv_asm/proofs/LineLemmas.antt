@@ -1,5 +1,5 @@
 -- The bytes of a line, step by step.
-use Rattle.std.proofs.Common.{◌≡◌, ℕ, Bool, true, false, List, Option, Result, Ok, Err, refl, ap, ◌∙◌}
+use Rattle.std.proofs.Common.{◌≡◌, ℕ, true, false, List, Option, Result, Ok, Err, ap, ◌∙◌}
 use Rattle.std.specs.Prelude.{not}
 use Rattle.rv_memory.specs.Chain.{◌>>=◌, want}
 use Rattle.rv_asm.specs.Layout.{address_of}

@@ -1,5 +1,5 @@
 -- Lines without a fault give the parts of an image.
-use Rattle.std.proofs.Common.{◌≡◌, ℕ, ◌+◌, ◌-◌, ◌%◌, ◌<◌, ◌≤◌, ◌==◌, Bool, true, false, List, [], ◌∷◌, ◌++◌, length, Option, Some, None, Result, Ok, Err, refl, ap, sym, ◌∙◌, arith, length-append}
+use Rattle.std.proofs.Common.{◌≡◌, ℕ, ◌+◌, ◌%◌, ◌<◌, ◌≤◌, Bool, true, false, List, [], ◌∷◌, ◌++◌, length, Option, Some, None, Ok, refl, ap, sym, ◌∙◌, arith, length-append}
 use Rattle.std.specs.Prelude.{min, nat_lt, if◌then◌else◌, codes}
 use Rattle.std.specs.List.{find, cons_option}
 use Rattle.std.specs.Option.{option_map}
@@ -10,10 +10,9 @@ use Rattle.rv_asm.specs.Size.{size_of}
 use Rattle.rv_asm.specs.Assembled.{Ends, end_in, ends_of, entry_of, entry_at, entry_in, is_same, first_fault, section_bytes, line_bytes, if_in}
 use Rattle.rv_asm.specs.internal.Walks.{least_address, IsAscending}
 use Rattle.rv_asm.specs.internal.Sound.{IsSound, labels_size}
-use Rattle.rv_asm.proofs.LabelLemmas.{labels_of-cons, labels_of-nil}
 use Rattle.rv_asm.proofs.SectionLemmas.{fault-cons, bytes-cons}
 use Rattle.rv_asm.proofs.PlacedLemmas.{line_at-aligned}
-use Rattle.rv_asm.proofs.StepLemmas.{IsFine, IsNext, fine, next_of, none_parts}
+use Rattle.rv_asm.proofs.StepLemmas.{IsNext, fine, next_of, none_parts}
 use Rattle.rv_asm.specs.declared.passes.place.Label.{Label}
 use Rattle.rv_asm.specs.declared.passes.place.Place.{Place}
 use Rattle.rv_asm.specs.declared.passes.place.PlacedLine.{PlacedLine}

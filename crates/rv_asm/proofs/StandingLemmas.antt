@@ -1,9 +1,9 @@
 -- Each line's bytes stand in its section where its place says.
-use Rattle.std.proofs.Common.{◌≡◌, ℕ, ◌+◌, List, [], ◌∷◌, ◌++◌, length, take, drop, None, Result, Ok, refl, ap, sym, ◌∙◌, arith, append_assoc, length-append}
+use Rattle.std.proofs.Common.{◌≡◌, ℕ, ◌+◌, List, [], ◌∷◌, ◌++◌, length, take, drop, None, Ok, refl, ap, sym, ◌∙◌, append_assoc, length-append}
 use Rattle.std.specs.List.{AllByRecursion}
 use Rattle.std.proofs.Math.Seq.{drop-append_seam, take-append_seam}
 use Rattle.rv_asm.specs.Assembled.{first_fault, if_in, line_bytes, section_bytes}
-use Rattle.rv_asm.specs.Laws.{EachLineStands, Stands}
+use Rattle.rv_asm.specs.Laws.{EachLineStands}
 use Rattle.rv_asm.specs.Layout.{bytes_before, first_place, line_at, lines_placed, labels_of, next_place, placed, source_lines}
 use Rattle.rv_asm.proofs.PlacedLemmas.{line_at-aligned}
 use Rattle.rv_asm.proofs.SectionLemmas.{bytes-cons}
@@ -11,7 +11,6 @@ use Rattle.rv_asm.proofs.StepLemmas.{fine, next_of, none_parts}
 use Rattle.rv_asm.specs.declared.passes.place.Label.{Label}
 use Rattle.rv_asm.specs.declared.passes.place.Place.{Place}
 use Rattle.rv_asm.specs.declared.passes.place.PlacedLine.{PlacedLine}
-use Rattle.rv_asm.specs.declared.statement.AsmKind.{AsmKind}
 use Rattle.rv_asm.specs.declared.statement.Section.{Section}
 use Rattle.rv_asm.specs.declared.statement.Section.TheVariants.{Text, Data}
 

@@ -1,13 +1,13 @@
 -- One line without a fault, and the place of the next.
-use Rattle.std.proofs.Common.{◌≡◌, ℕ, ◌+◌, ◌-◌, ◌%◌, ◌≤◌, Bool, true, false, List, [], ◌∷◌, ◌++◌, length, Option, Some, None, Result, Ok, Err, refl, ap, sym, ◌∙◌, arith}
-use Rattle.std.specs.Prelude.{not, nat_le, ◌&&◌, if◌then◌else◌}
-use Rattle.std.specs.Option.{option_map_or, option_or}
+use Rattle.std.proofs.Common.{◌≡◌, ℕ, ◌+◌, ◌-◌, ◌%◌, ◌≤◌, Bool, true, false, List, [], length, Option, Some, None, Result, Ok, Err, refl, ap, ◌∙◌, arith}
+use Rattle.std.specs.Prelude.{not, nat_le, if◌then◌else◌}
+use Rattle.std.specs.Option.{option_or}
 use Rattle.std.proofs.lemmas.Bool.{and_parts}
 use Rattle.std.proofs.lemmas.Bool.Decides.{nat_tests}
 use Rattle.rv_memory.specs.Chain.{◌>>=◌, want}
-use Rattle.rv_asm.specs.Layout.{next_place, after_statement, standing, if_room, has_room, grown, bytes_before, limit_of, address_of, label_size}
+use Rattle.rv_asm.specs.Layout.{next_place, after_statement, standing, has_room, grown, bytes_before, limit_of, address_of, label_size}
 use Rattle.rv_asm.specs.Size.{size_of, section_after}
-use Rattle.rv_asm.specs.Bytes.{bytes_of, statement_bytes}
+use Rattle.rv_asm.specs.Bytes.{bytes_of}
 use Rattle.rv_asm.specs.Assembled.{line_bytes, is_taken, is_within, if_in, fault_at}
 use Rattle.rv_asm.proofs.LengthLemmas.{statement_length}
 use Rattle.rv_asm.specs.declared.fault.AsmFault.{AsmFault}

@@ -1,9 +1,9 @@
 -- A symbol ends at the least label above it in its section, among all labels.
-use Rattle.std.proofs.Common.{◌≡◌, ℕ, ◌<◌, ◌≤◌, Bool, true, false, List, [], ◌∷◌, refl, ap, ap₂, sym, ◌∙◌, arith, map}
-use Rattle.std.specs.Prelude.{nat_lt, min, ◌-◌, if◌then◌else◌}
+use Rattle.std.proofs.Common.{◌≡◌, ℕ, ◌≤◌, Bool, true, false, List, [], ◌∷◌, refl, ap, ap₂, sym, ◌∙◌, arith, map}
+use Rattle.std.specs.Prelude.{nat_lt, min, ◌-◌}
 use Rattle.std.proofs.lemmas.Bool.Decides.{nat_tests}
 use Rattle.rv_elf.specs.Contents.{Named}
-use Rattle.rv_asm.specs.Assembled.{Ends, end_in, ends_of, first_fault, is_same, kind_in, next_address, section_bytes, symbol_of, symbols_of}
+use Rattle.rv_asm.specs.Assembled.{Ends, end_in, ends_of, is_same, kind_in, next_address, section_bytes, symbol_of, symbols_of}
 use Rattle.rv_asm.specs.Laws.{EachSymbolEnds}
 use Rattle.rv_asm.specs.Layout.{labels_of, lines_placed}
 use Rattle.rv_asm.specs.internal.Walks.{IsAscending, least_address}

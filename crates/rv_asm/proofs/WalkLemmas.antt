@@ -1,5 +1,5 @@
 -- The walk over labels from the last one on finds the next address of each.
-use Rattle.std.proofs.Common.{◌≡◌, ℕ, ◌+◌, ◌-◌, ◌<◌, ◌≤◌, Bool, true, false, List, [], ◌∷◌, ◌++◌, length, drop, refl, ap, sym, ◌∙◌, arith, zero, suc, lit≤}
+use Rattle.std.proofs.Common.{◌≡◌, ℕ, ◌-◌, ◌<◌, ◌≤◌, Bool, true, false, List, [], ◌∷◌, ◌++◌, length, drop, refl, ap, sym, ◌∙◌, arith, zero, suc, lit≤}
 use Rattle.std.proofs.Common.{get_or, reverse}
 use Rattle.std.proofs.Math.Seq.{drop-cons}
 use Rattle.std.proofs.lemmas.List.{reverse-append}
@@ -9,7 +9,6 @@ use Rattle.std.proofs.lemmas.Bool.Decides.{nat_tests}
 use Rattle.rv_asm.specs.Assembled.{Ends, end_in, is_same, next_address, kind_in, symbol_of, symbols_of}
 use Rattle.rv_asm.specs.internal.Walks.{least_address, IsAscending, at_label, walk_in, walked, walked_in, IsWalk, AreWalks}
 use Rattle.rv_asm.specs.declared.passes.place.Label.{Label}
-use Rattle.rv_asm.specs.declared.passes.place.Spot.{Spot}
 use Rattle.rv_asm.specs.declared.passes.symbols.Walk.{Walk}
 use Rattle.rv_asm.specs.declared.passes.symbols.Walks.{Walks}
 use Rattle.rv_asm.specs.declared.statement.Section.{Section}

@@ -5,7 +5,7 @@ use Rattle.std.specs.Option.{option_or, option_map_or}
 use Rattle.rv_memory.specs.Extent.{Extent}
 use Rattle.rv_elf.specs.Contents.{Contents, Named, contents}
 use Rattle.rv_memory.specs.Chain.{◌>>=◌, want}
-use Rattle.rv_asm.specs.Layout.{start_of, address_of, has_room, label_size, lines_placed, labels_of, spot_of}
+use Rattle.rv_asm.specs.Layout.{address_of, has_room, label_size, lines_placed, labels_of, spot_of}
 use Rattle.rv_asm.specs.Bytes.{bytes_of}
 use Rattle.rv_asm.specs.declared.fault.AsmFault.{AsmFault}
 use Rattle.rv_asm.specs.declared.passes.place.Place.{Place}

@@ -1,5 +1,5 @@
 -- The bytes of a statement, with each label in the place of its address.
-use Rattle.std.specs.Prelude.{ℕ, ◌%◌, List, [], ◌∷◌, ◌++◌, replicate, Option, Some, None, option_map, Result, Ok, Err}
+use Rattle.std.specs.Prelude.{ℕ, ◌%◌, List, [], ◌∷◌, ◌++◌, replicate, Option, Some, None, option_map, Result, Ok}
 use Rattle.std.specs.Int.{to_le_bytes, w32}
 use Rattle.std.specs.Option.{ok_or}
 use Rattle.rv_isa.specs.declared.instr.Instr.{Instr}

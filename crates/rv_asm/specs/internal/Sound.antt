@@ -1,7 +1,6 @@
 -- What holds of the parts of an image that a source without a fault describes.
 use Rattle.std.specs.Prelude.{◌≡◌, ℕ, ◌+◌, ◌%◌, ◌≤◌, List, [], ◌∷◌, length}
 use Rattle.rv_asm.specs.Assembled.{ends_of, entry_of}
-use Rattle.rv_asm.specs.Layout.{start_of}
 use Rattle.rv_asm.specs.internal.Walks.{IsAscending}
 use Rattle.rv_asm.specs.declared.passes.place.Label.{Label}
 

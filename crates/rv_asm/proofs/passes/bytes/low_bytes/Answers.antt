@@ -1,4 +1,4 @@
-use Rattle.std.proofs.Common.{◌≡◌, None, ◌++◌, ap, sym, ◌∙◌}
+use Rattle.std.proofs.Common.{◌≡◌, None, sym}
 use Rattle.std.specs.Prelude.{slice_get}
 use Rattle.rv_asm.specs.Bytes.{low_byte}
 use Rattle.rv_asm.proofs.BytesLemmas.{values-more, values-fault, values-done}

@@ -1,8 +1,4 @@
-use Rattle.std.proofs.Common.{◌≡◌, ◌+◌, length, All, ap, sym, ◌∙◌, rules}
-use Rattle.std.specs.Prelude.{codes}
-use Rattle.rv_elf.specs.Contents.{IsImage, IsSymbol, contents}
-use Rattle.rv_asm.specs.Layout.{spot_of}
-use Rattle.rv_asm.specs.Assembled.{Ends, symbols_of, ends_of, entry_of, text_segment, data_segments}
+use Rattle.std.proofs.Common.{rules}
 use Rattle.rv_asm.proofs.ImageLemmas.{is_image_of}
 use Rattle.rv_asm.proofs.passes.image.image_of.Goals as goal
 

@@ -1,6 +1,5 @@
-use Rattle.std.proofs.Common.{◌≡◌, ◌+◌, ◌≤◌, None, length, drop, arith, true, refl, ap, sym, ◌∙◌}
-use Rattle.std.specs.Prelude.{slice_get, nat_le}
-use Rattle.std.proofs.lemmas.Bool.Decides.{nat_tests}
+use Rattle.std.proofs.Common.{◌≡◌, None, length, arith, ap}
+use Rattle.std.specs.Prelude.{slice_get}
 use Rattle.rv_asm.proofs.SizeLemmas.{one_fewer, no_more, counted}
 use Rattle.rv_asm.proofs.passes.size.count_within.Goals as goal
 

@@ -1,6 +1,3 @@
-use Rattle.std.proofs.Common.{refl}
-use Rattle.rv_asm.specs.Assembled.{Ends, next_address}
-use Rattle.rv_asm.specs.internal.Walks.{least_address, AreWalks, IsWalk}
 use Rattle.rv_asm.proofs.WalkLemmas.{walks-none}
 use Rattle.rv_asm.proofs.passes.symbols.first_walks.Goals as goal
 

@@ -1,10 +1,9 @@
-use Rattle.std.proofs.Common.{◌≡◌, ◌<◌, length, drop, reverse, [], refl, rules, arith, ap, ◌∙◌, sym}
+use Rattle.std.proofs.Common.{◌≡◌, length, drop, [], refl, arith, ap, ◌∙◌}
 use Rattle.std.proofs.lemmas.List.{drop_all}
 use Rattle.std.proofs.lemmas.List.Elements.{All-push, All-nil}
 use Rattle.rv_elf.specs.Contents.{IsSymbol}
-use Rattle.rv_asm.specs.Assembled.{Ends, symbols_of}
-use Rattle.rv_asm.specs.internal.Walks.{walk_in}
-use Rattle.rv_asm.proofs.WalkLemmas.{one_turn, one_symbol, Turn}
+use Rattle.rv_asm.specs.Assembled.{symbols_of}
+use Rattle.rv_asm.proofs.WalkLemmas.{one_turn, one_symbol}
 use Rattle.rv_asm.proofs.passes.symbols.symbols_of.Goals as goal
 
 pub loop-left-init : goal.loop-left-init

@@ -1,4 +1,4 @@
-use Rattle.std.proofs.Common.{◌≡◌, ap, sym, ◌∙◌, rules}
+use Rattle.std.proofs.Common.{◌≡◌, sym, ◌∙◌}
 use Rattle.rv_asm.proofs.PlacedLemmas.{placed-none, placed-some}
 use Rattle.rv_asm.proofs.passes.cursor.PlacedLines.next_line.Goals as goal
 

@@ -1,9 +1,8 @@
-use Rattle.std.proofs.Common.{◌≡◌, true, false, List, [], ◌∷◌, ◌++◌, Some, sym, ◌∙◌, ap}
+use Rattle.std.proofs.Common.{◌≡◌, true, false, [], ◌∷◌, ◌++◌, Some, sym, ◌∙◌, ap}
 use Rattle.std.specs.Prelude.{is_some}
 use Rattle.std.specs.Ordering.{nat_cmp}
 use Rattle.std.specs.Cmp.Lexicographic.{slice_cmp}
 use Rattle.std.specs.BTreeMap.{get_by, UpdatesBy}
-use Rattle.rv_asm.specs.declared.passes.place.Label.{Label}
 use Rattle.rv_asm.proofs.SpotLemmas.{finds-later, finds-first}
 use Rattle.rv_asm.proofs.passes.labels.Labels.add.Goals as goal
 use Rattle.rv_asm.proofs.passes.labels.Labels.add.Goals.{then-not-contains_key+in_ok-insert, else-not-contains_key}
