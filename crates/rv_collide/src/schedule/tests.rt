@@ -1,3 +1,6 @@
+ghost use Rattle.rv_collide.specs.Grammar as spec;
+ghost use Rattle.rv_collide.specs.Numbers.{numbers};
+
 use super::{ScheduleFault, ScheduleKind, read_schedule, write_schedule};
 use crate::entry::Entry;
 use crate::plan::Plan;
@@ -33,59 +36,61 @@ fn fault_of(alloc: Global, text: &[u8]) -> Option<(u32, ScheduleKind)> {
     Some((fault.line, fault.kind))
 }
 
-#[test]
-fn reads_a_schedule(rt: HostRuntime) -> Result<(), Fail> {
-    let mut reader = Flagged::new(TEXT);
-    let (plan, entries) = read_schedule(rt.alloc(), &mut reader)
-        .ok()
-        .ok_or("refused")?;
+/// Asserts that a text is read to these entries; the plan that it is read to.
+fn read_to(rt: &impl Abort, alloc: Global, text: &[u8], entries: &[Entry]) -> Result<Plan, Fail> {
+    let mut reader = Flagged::new(text);
+    let read = read_schedule(alloc, &mut reader);
     assert!(rt; !reader.failed());
+    let (plan, read) = read.ok().ok_or("refused")?;
+    assert_eq!(rt; read.as_slice(), entries);
+    Ok(plan)
+}
+
+/// Asserts that a schedule is written as this text.
+fn assert_written(rt: &impl Abort, alloc: Global, plan: &Plan, entries: &[Entry], text: &[u8])
+    requires { spec.IsWritable (numbers plan.now) entries.now }
+{
+    let mut writer = Flagged::new(Vec::new(alloc));
+    assert_eq!(rt; write_schedule(plan, entries, &mut writer), Ok(()));
+    assert!(rt; !writer.failed());
+    assert_eq!(rt; writer.into_inner().as_slice(), text);
+}
+
+/// The greatest numbers, a line of 64 bytes not being one of them.
+const LIMITS: &[u8] = b"rvcollide schedule 1\n\
+    harts 16 steps 1000000 arms 4096 pause 65535\n\
+    s 15\np 15 3\np 10 -\nr 15\na ffffffff\nd 00000000\nend\n";
+
+const GREATEST: [Entry; 6] = [
+    Entry::Stepped(15),
+    Entry::Paused(15, Some(3)),
+    Entry::Paused(10, None),
+    Entry::Resumed(15),
+    Entry::Armed(u32::MAX),
+    Entry::Disarmed(0),
+];
+
+/// No entries at all.
+const NONE: &[u8] = b"rvcollide schedule 1\nharts 1 steps 1 arms 0 pause 1\nend\n";
+
+#[test]
+fn reads_schedules(rt: HostRuntime) -> Result<(), Fail> {
+    let alloc = rt.alloc();
+    let plan = read_to(&rt, alloc, TEXT, &ENTRIES)?;
     assert_eq!(rt; (plan.harts, plan.steps), (2, 100));
     assert_eq!(rt; (plan.arms, plan.pause), (4, 10));
-    assert_eq!(rt; entries.as_slice(), ENTRIES.as_slice());
+    let most = read_to(&rt, alloc, LIMITS, &GREATEST)?;
+    assert_eq!(rt; most.most_entries(), 1_016_384);
     Ok(())
 }
 
 #[test]
-fn writes_a_schedule(rt: HostRuntime) -> Result<(), Fail> {
+fn writes_schedules(rt: HostRuntime) -> Result<(), Fail> {
+    let alloc = rt.alloc();
     let plan = Plan::new(2, 100, 4, 10).ok_or("no plan")?;
-    let mut writer = Flagged::new(Vec::new(rt.alloc()));
-    assert_eq!(rt; write_schedule(&plan, &ENTRIES, &mut writer), Ok(()));
-    assert!(rt; !writer.failed());
-    assert_eq!(rt; writer.into_inner().as_slice(), TEXT);
-    Ok(())
-}
-
-/// The greatest numbers, a line of 64 bytes not being one of them, and no entries at all.
-#[test]
-fn reads_and_writes_the_limits(rt: HostRuntime) -> Result<(), Fail> {
-    let text: &[u8] = b"rvcollide schedule 1\n\
-        harts 16 steps 1000000 arms 4096 pause 65535\n\
-        s 15\np 15 3\np 10 -\nr 15\na ffffffff\nd 00000000\nend\n";
-    let (plan, entries) = read_schedule(rt.alloc(), &mut Flagged::new(text))
-        .ok()
-        .ok_or("refused")?;
-    assert_eq!(rt;
-        entries.as_slice(),
-        [
-            Entry::Stepped(15),
-            Entry::Paused(15, Some(3)),
-            Entry::Paused(10, None),
-            Entry::Resumed(15),
-            Entry::Armed(u32::MAX),
-            Entry::Disarmed(0),
-        ]
-        .as_slice()
-    );
-    let mut writer = Flagged::new(Vec::new(rt.alloc()));
-    assert_eq!(rt; plan.most_entries(), 1_016_384);
-    let none: &[u8] = b"rvcollide schedule 1\nharts 1 steps 1 arms 0 pause 1\nend\n";
-    let (plan, entries) = read_schedule(rt.alloc(), &mut Flagged::new(none))
-        .ok()
-        .ok_or("refused")?;
-    assert_eq!(rt; entries.len(), 0);
-    assert_eq!(rt; write_schedule(&plan, &[], &mut writer), Ok(()));
-    assert_eq!(rt; writer.into_inner().as_slice(), none);
+    assert_written(&rt, alloc, &plan, &ENTRIES, TEXT);
+    let least = read_to(&rt, alloc, NONE, &[])?;
+    assert_written(&rt, alloc, &least, &[], NONE);
     Ok(())
 }
 
@@ -107,39 +112,40 @@ fn tells_a_text_that_is_cut(rt: HostRuntime) {
     }
 }
 
+/// Texts whose first line is refused, the longest lines of 64 and of 65 bytes.
+const FIRST_LINES: [(&[u8], ScheduleKind); 12] = [
+    (b"\n", ScheduleKind::Header),
+    (b"rvcollide schedule 2\nend\n", ScheduleKind::Header),
+    (b"rvcollide schedule 1 \nend\n", ScheduleKind::Header),
+    (b"rvcollide schedule 1\r\nend\n", ScheduleKind::Header),
+    (b" rvcollide schedule 1\nend\n", ScheduleKind::Header),
+    (b"Rvcollide schedule 1\nend\n", ScheduleKind::Header),
+    (b"rvcollide  schedule 1\n", ScheduleKind::Header),
+    (
+        b"aaaaaaaaaaaaaaaaaaaaaaaaaaaaaaaaaaaaaaaaaaaaaaaaaaaaaaaaaaaaaaaa\n",
+        ScheduleKind::Header,
+    ),
+    (
+        b"aaaaaaaaaaaaaaaaaaaaaaaaaaaaaaaaaaaaaaaaaaaaaaaaaaaaaaaaaaaaaaaaa",
+        ScheduleKind::TooLong,
+    ),
+    (
+        b"aaaaaaaaaaaaaaaaaaaaaaaaaaaaaaaaaaaaaaaaaaaaaaaaaaaaaaaaaaaaaaaaa\nx\n",
+        ScheduleKind::TooLong,
+    ),
+    (
+        b"aaaaaaaaaaaaaaaaaaaaaaaaaaaaaaaaaaaaaaaaaaaaaaaaaaaaaaaaaaaaaaaa",
+        ScheduleKind::NoEnd,
+    ),
+    (b"", ScheduleKind::NoEnd),
+];
+
 #[test]
 fn tells_the_fault_of_the_first_line(rt: HostRuntime) {
     let alloc = rt.alloc();
-    for text in [
-        b"\n".as_slice(),
-        b"rvcollide schedule 2\nend\n",
-        b"rvcollide schedule 1 \nend\n",
-        b"rvcollide schedule 1\r\nend\n",
-        b" rvcollide schedule 1\nend\n",
-        b"Rvcollide schedule 1\nend\n",
-        b"rvcollide  schedule 1\n",
-        b"aaaaaaaaaaaaaaaaaaaaaaaaaaaaaaaaaaaaaaaaaaaaaaaaaaaaaaaaaaaaaaaa\n",
-    ] {
-        assert_eq!(rt;
-            fault_of(alloc, text),
-            Some((1, ScheduleKind::Header)),
-            "at {text:?}"
-        );
+    for (text, kind) in FIRST_LINES {
+        assert_eq!(rt; fault_of(alloc, text), Some((1, kind)), "at {text:?}");
     }
-    let letters: &[u8] = b"aaaaaaaaaaaaaaaaaaaaaaaaaaaaaaaaaaaaaaaaaaaaaaaaaaaaaaaaaaaaaaaaa";
-    assert_eq!(rt; fault_of(alloc, letters), Some((1, ScheduleKind::TooLong)));
-    assert_eq!(rt;
-        fault_of(
-            alloc,
-            b"aaaaaaaaaaaaaaaaaaaaaaaaaaaaaaaaaaaaaaaaaaaaaaaaaaaaaaaaaaaaaaaaa\nx\n"
-        ),
-        Some((1, ScheduleKind::TooLong))
-    );
-    assert_eq!(rt;
-        fault_of(alloc, &letters[..64]),
-        Some((1, ScheduleKind::NoEnd))
-    );
-    assert_eq!(rt; fault_of(alloc, b""), Some((1, ScheduleKind::NoEnd)));
 }
 
 /// The text with this second line and one entry.
@@ -151,26 +157,29 @@ fn with_plan(alloc: Global, line: &[u8]) -> Option<(u32, ScheduleKind)> {
     fault_of(alloc, &text)
 }
 
+/// Second lines that are no plan.
+const SHAPES: [&[u8]; 15] = [
+    b"",
+    b"harts 02 steps 1 arms 0 pause 1",
+    b"harts 2 steps 1 arms 0 pause",
+    b"harts 2 steps 1 arms 0 pause ",
+    b"harts 2 steps 1 arms 0 pause 1 ",
+    b"harts 2 steps 1 arms 0 pause 1 slots 4",
+    b"harts 2  steps 1 arms 0 pause 1",
+    b" harts 2 steps 1 arms 0 pause 1",
+    b"harts 2 steps 1 arms 0 pause 1\r",
+    b"harts 2 steps 1 arms 00 pause 1",
+    b"harts 2 steps +1 arms 0 pause 1",
+    b"harts 2 steps 0x1 arms 0 pause 1",
+    b"steps 1 harts 2 arms 0 pause 1",
+    b"harts 99 steps 1 arms 0 pause x",
+    b"end",
+];
+
 #[test]
 fn tells_the_shape_of_the_plan(rt: HostRuntime) {
     let alloc = rt.alloc();
-    for line in [
-        b"".as_slice(),
-        b"harts 02 steps 1 arms 0 pause 1",
-        b"harts 2 steps 1 arms 0 pause",
-        b"harts 2 steps 1 arms 0 pause ",
-        b"harts 2 steps 1 arms 0 pause 1 ",
-        b"harts 2 steps 1 arms 0 pause 1 slots 4",
-        b"harts 2  steps 1 arms 0 pause 1",
-        b" harts 2 steps 1 arms 0 pause 1",
-        b"harts 2 steps 1 arms 0 pause 1\r",
-        b"harts 2 steps 1 arms 00 pause 1",
-        b"harts 2 steps +1 arms 0 pause 1",
-        b"harts 2 steps 0x1 arms 0 pause 1",
-        b"steps 1 harts 2 arms 0 pause 1",
-        b"harts 99 steps 1 arms 0 pause x",
-        b"end",
-    ] {
+    for line in SHAPES {
         assert_eq!(rt;
             with_plan(alloc, line),
             Some((2, ScheduleKind::PlanLine)),
@@ -186,22 +195,25 @@ fn tells_the_shape_of_the_plan(rt: HostRuntime) {
     );
 }
 
+/// Plans out of range.
+const RANGES: [&[u8]; 11] = [
+    b"harts 17 steps 1 arms 0 pause 1",
+    b"harts 0 steps 1 arms 0 pause 1",
+    b"harts 257 steps 1 arms 0 pause 1",
+    b"harts 4294967297 steps 1 arms 0 pause 1",
+    b"harts 2 steps 0 arms 0 pause 1",
+    b"harts 2 steps 1000001 arms 0 pause 1",
+    b"harts 2 steps 1 arms 4097 pause 1",
+    b"harts 2 steps 1 arms 0 pause 0",
+    b"harts 2 steps 1 arms 0 pause 65536",
+    b"harts 2 steps 1 arms 0 pause 18446744073709551617",
+    b"harts 9 steps 99999999999999999999999999999999 arms 0 pause 1",
+];
+
 #[test]
 fn tells_the_range_of_the_plan(rt: HostRuntime) {
     let alloc = rt.alloc();
-    for line in [
-        b"harts 17 steps 1 arms 0 pause 1".as_slice(),
-        b"harts 0 steps 1 arms 0 pause 1",
-        b"harts 257 steps 1 arms 0 pause 1",
-        b"harts 4294967297 steps 1 arms 0 pause 1",
-        b"harts 2 steps 0 arms 0 pause 1",
-        b"harts 2 steps 1000001 arms 0 pause 1",
-        b"harts 2 steps 1 arms 4097 pause 1",
-        b"harts 2 steps 1 arms 0 pause 0",
-        b"harts 2 steps 1 arms 0 pause 65536",
-        b"harts 2 steps 1 arms 0 pause 18446744073709551617",
-        b"harts 9 steps 99999999999999999999999999999999 arms 0 pause 1",
-    ] {
+    for line in RANGES {
         assert_eq!(rt;
             with_plan(alloc, line),
             Some((2, ScheduleKind::PlanRange)),
@@ -220,44 +232,47 @@ fn with_lines(alloc: Global, lines: &[u8]) -> Option<(u32, ScheduleKind)> {
     fault_of(alloc, &text)
 }
 
+/// Third lines that are no entry.
+const NO_ENTRIES: [&[u8]; 33] = [
+    b"\n",
+    b"s\nend\n",
+    b"s \nend\n",
+    b"s 16\nend\n",
+    b"s 00\nend\n",
+    b"s 01\nend\n",
+    b"s  1\nend\n",
+    b"s 1 \nend\n",
+    b" s 1\nend\n",
+    b"s 1\r\nend\n",
+    b"S 1\nend\n",
+    b"x 1\nend\n",
+    b"r -\nend\n",
+    b"r 16\nend\n",
+    b"p 0\nend\n",
+    b"p 0 4\nend\n",
+    b"p 0 00\nend\n",
+    b"p 0 - \nend\n",
+    b"p 0 --\nend\n",
+    b"p 0 -1\nend\n",
+    b"p 16 0\nend\n",
+    b"p - 0\nend\n",
+    b"p 0 0 0\nend\n",
+    b"s 0 0\nend\n",
+    b"a 0001000\nend\n",
+    b"a 000100040\nend\n",
+    b"a 0001000A\nend\n",
+    b"a 0x010004\nend\n",
+    b"a 00010004 0\nend\n",
+    b"d 0001000G\nend\n",
+    b"D 00010004\nend\n",
+    b"end \nend\n",
+    b"End\nend\n",
+];
+
 #[test]
 fn tells_a_line_that_is_no_entry(rt: HostRuntime) {
     let alloc = rt.alloc();
-    for lines in [
-        b"\n".as_slice(),
-        b"s\nend\n",
-        b"s \nend\n",
-        b"s 16\nend\n",
-        b"s 00\nend\n",
-        b"s 01\nend\n",
-        b"s  1\nend\n",
-        b"s 1 \nend\n",
-        b" s 1\nend\n",
-        b"s 1\r\nend\n",
-        b"S 1\nend\n",
-        b"x 1\nend\n",
-        b"r -\nend\n",
-        b"r 16\nend\n",
-        b"p 0\nend\n",
-        b"p 0 4\nend\n",
-        b"p 0 00\nend\n",
-        b"p 0 - \nend\n",
-        b"p 0 --\nend\n",
-        b"p 0 -1\nend\n",
-        b"p 16 0\nend\n",
-        b"p - 0\nend\n",
-        b"p 0 0 0\nend\n",
-        b"s 0 0\nend\n",
-        b"a 0001000\nend\n",
-        b"a 000100040\nend\n",
-        b"a 0001000A\nend\n",
-        b"a 0x010004\nend\n",
-        b"a 00010004 0\nend\n",
-        b"d 0001000G\nend\n",
-        b"D 00010004\nend\n",
-        b"end \nend\n",
-        b"End\nend\n",
-    ] {
+    for lines in NO_ENTRIES {
         assert_eq!(rt;
             with_lines(alloc, lines),
             Some((3, ScheduleKind::Entry)),
@@ -285,19 +300,22 @@ fn tells_entries_past_the_last(rt: HostRuntime) {
     );
 }
 
+/// What stands after the line `end`, and its line.
+const AFTER_END: [(&[u8], u32); 5] = [
+    (b"end\n\n", 4),
+    (b"end\ns 0\n", 4),
+    (b"end\n ", 4),
+    (b"s 0\nend\nend\n", 5),
+    (
+        b"end\naaaaaaaaaaaaaaaaaaaaaaaaaaaaaaaaaaaaaaaaaaaaaaaaaaaaaaaaaaaaaaaaaaaaaa\n",
+        4,
+    ),
+];
+
 #[test]
 fn tells_what_stands_after_the_end(rt: HostRuntime) {
     let alloc = rt.alloc();
-    for (lines, line) in [
-        (b"end\n\n".as_slice(), 4),
-        (b"end\ns 0\n", 4),
-        (b"end\n ", 4),
-        (b"s 0\nend\nend\n", 5),
-        (
-            b"end\naaaaaaaaaaaaaaaaaaaaaaaaaaaaaaaaaaaaaaaaaaaaaaaaaaaaaaaaaaaaaaaaaaaaaa\n",
-            4,
-        ),
-    ] {
+    for (lines, line) in AFTER_END {
         assert_eq!(rt;
             with_lines(alloc, lines),
             Some((line, ScheduleKind::AfterEnd)),
@@ -319,20 +337,22 @@ fn tells_what_stands_after_the_end(rt: HostRuntime) {
 }
 
 /// Names as the program prints them.
+const NAMES: [(ScheduleKind, &str); 10] = [
+    (ScheduleKind::Read, "Read"),
+    (ScheduleKind::Header, "Header"),
+    (ScheduleKind::PlanLine, "PlanLine"),
+    (ScheduleKind::PlanRange, "PlanRange"),
+    (ScheduleKind::Entry, "Entry"),
+    (ScheduleKind::TooMany, "TooMany"),
+    (ScheduleKind::NoEnd, "NoEnd"),
+    (ScheduleKind::AfterEnd, "AfterEnd"),
+    (ScheduleKind::TooLong, "TooLong"),
+    (ScheduleKind::NoMemory, "NoMemory"),
+];
+
 #[test]
 fn names_kinds(rt: HostRuntime) -> Result<(), Fail> {
-    for (kind, name) in [
-        (ScheduleKind::Read, "Read"),
-        (ScheduleKind::Header, "Header"),
-        (ScheduleKind::PlanLine, "PlanLine"),
-        (ScheduleKind::PlanRange, "PlanRange"),
-        (ScheduleKind::Entry, "Entry"),
-        (ScheduleKind::TooMany, "TooMany"),
-        (ScheduleKind::NoEnd, "NoEnd"),
-        (ScheduleKind::AfterEnd, "AfterEnd"),
-        (ScheduleKind::TooLong, "TooLong"),
-        (ScheduleKind::NoMemory, "NoMemory"),
-    ] {
+    for (kind, name) in NAMES {
         let text = format!(in rt.alloc(); "{kind}")?;
         assert_eq!(rt; text.as_str(), name);
     }

@@ -1,0 +1,135 @@
+//! Calls and their refusals.
+use super::*;
+
+fn begun(rt: &impl Abort, alloc: Global, arms: u32) -> Result<Collider<Flat>, Fail> {
+    let image = image(rt, alloc, P)?;
+    Ok(Collider::new(alloc, &image, plan(2, 100, arms)?)?)
+}
+
+/// Three arms are all that the plan allows, and 00010004 stays armed.
+fn arm_and_disarm(rt: &impl Abort, c: &mut Collider<Flat>) {
+    assert_eq!(rt; c.arm(0x10002), Err(Refused::Misaligned));
+    assert_eq!(rt; c.arm(0x10004), Ok(()));
+    assert_eq!(rt; c.arm(0x10004), Err(Refused::AlreadyArmed));
+    assert_eq!(rt; c.disarm(0x10008), Err(Refused::NotArmed));
+    assert_eq!(rt; c.disarm(0x10004), Ok(()));
+    assert_eq!(rt; c.arm(0x10004), Ok(()));
+    assert_eq!(rt; c.disarm(0x10004), Ok(()));
+    assert_eq!(rt; c.arm(0x10004), Ok(()));
+    assert_eq!(rt; c.arm(0x10002), Err(Refused::ArmsSpent));
+}
+
+fn pause_and_resume(rt: &impl Abort, c: &mut Collider<Flat>) {
+    assert_eq!(rt; c.resume(0).err(), Some(Refused::NotPaused));
+    assert_eq!(rt; c.turn(2).err(), Some(Refused::NoHart));
+    assert!(rt; matches!(&c.turn(0), Ok(Turned::Stepped(_))));
+    assert_eq!(rt; c.turn(0), Ok(Turned::Paused(Some(0))));
+    assert_eq!(rt; c.paused(0), Some(6));
+    assert!(rt; !c.is_armed(0x10004));
+    assert_eq!(rt; c.turn(0), Err(Refused::Paused));
+    assert!(rt; c.resume(0).is_ok());
+    assert_eq!(rt; c.paused(0), None);
+}
+
+const CALLED: [Entry; 8] = [
+    Armed(0x10004),
+    Disarmed(0x10004),
+    Armed(0x10004),
+    Disarmed(0x10004),
+    Armed(0x10004),
+    Stepped(0),
+    Paused(0, Some(0)),
+    Resumed(0),
+];
+
+#[test]
+fn calls_are_refused_in_order(rt: HostRuntime) -> Result<(), Fail> {
+    let mut c = begun(&rt, rt.alloc(), 3)?;
+    arm_and_disarm(&rt, &mut c);
+    pause_and_resume(&rt, &mut c);
+    assert_eq!(rt; c.finish().entries.as_slice(), CALLED.as_slice());
+    Ok(())
+}
+
+fn arm_sixty_four(rt: &impl Abort, c: &mut Collider<Flat>) {
+    for i in 0..64 {
+        assert_eq!(rt; c.arm(4 * i), Ok(()));
+    }
+    assert_eq!(rt; c.arm(0x400), Err(Refused::ArmedFull));
+    assert_eq!(rt; c.entries(), 64);
+}
+
+#[test]
+fn as_many_are_armed_as_may_be(rt: HostRuntime) -> Result<(), Fail> {
+    let mut none = begun(&rt, rt.alloc(), 0)?;
+    assert_eq!(rt; none.arm(0x10004), Err(Refused::ArmsSpent));
+    let mut many = begun(&rt, rt.alloc(), 100)?;
+    arm_sixty_four(&rt, &mut many);
+    Ok(())
+}
+
+/// The only pause, of hart 0 from place 3 to place 5.
+fn see_places(rt: &impl Abort, c: &Collider<Flat>) {
+    assert_eq!(rt; c.endings(), 1);
+    let ending = c.ending(0);
+    assert_eq!(rt; (ending.paused_at, ending.resumed_at), (3, 5));
+}
+
+/// An access that traps leaves its address armed.
+#[test]
+fn tells_places_and_what_is_armed(rt: HostRuntime) -> Result<(), Fail> {
+    let alloc = rt.alloc();
+    let hit = [
+        Armed(0x10004),
+        Stepped(0),
+        Stepped(1),
+        Paused(0, Some(0)),
+        Stepped(1),
+        Resumed(0),
+    ];
+    see_places(&rt, &told(&rt, alloc, P, plan(2, 100, 8)?, &hit)?);
+    let traps = [Armed(0x10004), Stepped(0), Stepped(0)];
+    let c = told(&rt, alloc, TRAPS, plan(1, 100, 8)?, &traps)?;
+    assert!(rt; c.is_armed(0x10004));
+    Ok(())
+}
+
+fn spend_steps(rt: &impl Abort, c: &mut Collider<Flat>) {
+    assert_eq!(rt; c.turn(1), Err(Refused::StepsSpent));
+    assert_eq!(rt; c.entries(), 5);
+    let ending = c.resume(0).ok();
+    assert!(rt; matches!(ending, Some(ending) if ending.verdict == Verdict::Quiet));
+    assert_eq!(rt; c.entries(), 6);
+    assert_eq!(rt; c.entry(5), Resumed(0));
+}
+
+#[test]
+fn steps_are_spent_before_any_pause(rt: HostRuntime) -> Result<(), Fail> {
+    let list = [
+        Armed(0x10004),
+        Stepped(0),
+        Paused(0, Some(0)),
+        Stepped(1),
+        Armed(0x10004),
+    ];
+    let mut collider = told(&rt, rt.alloc(), P, plan(2, 2, 2)?, &list)?;
+    spend_steps(&rt, &mut collider);
+    Ok(())
+}
+
+fn at(place: u32, why: Why) -> Option<ReplayFault> {
+    Some(ReplayFault::Entry { place, why })
+}
+
+#[test]
+fn tells_the_first_entry_that_no_call_adds(rt: HostRuntime) -> Result<(), Fail> {
+    let alloc = rt.alloc();
+    let traps = [Armed(0x10004), Stepped(0), Paused(0, Some(0))];
+    let fault = fault_of(&rt, alloc, TRAPS, plan(1, 1000, 200)?, &traps)?;
+    assert_eq!(rt; fault, at(2, Why::Differs));
+    let fault = fault_of(&rt, alloc, P, plan(2, 2, 2)?, &[Stepped(3)])?;
+    assert_eq!(rt; fault, at(0, Why::Refused(Refused::NoHart)));
+    let fault = fault_of(&rt, alloc, P, plan(2, 100, 0)?, &[Paused(0, None)])?;
+    assert_eq!(rt; fault, at(0, Why::Differs));
+    Ok(())
+}
