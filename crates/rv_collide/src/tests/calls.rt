@@ -59,12 +59,18 @@ fn arm_sixty_four(rt: &impl Abort, c: &mut Collider<Flat>) {
     assert_eq!(rt; c.entries(), 64);
 }
 
+/// What the first arming of a plan answers.
+fn first_arming(rt: &impl Abort, alloc: Global, arms: u32) -> Result<Result<(), Refused>, Fail> {
+    let mut c = begun(rt, alloc, arms)?;
+    Ok(c.arm(0x10004))
+}
+
 #[test]
 fn as_many_are_armed_as_may_be(rt: HostRuntime) -> Result<(), Fail> {
-    let mut none = begun(&rt, rt.alloc(), 0)?;
-    assert_eq!(rt; none.arm(0x10004), Err(Refused::ArmsSpent));
-    let mut many = begun(&rt, rt.alloc(), 100)?;
-    arm_sixty_four(&rt, &mut many);
+    let none = first_arming(&rt, rt.alloc(), 0)?;
+    assert_eq!(rt; none, Err(Refused::ArmsSpent));
+    let mut c = begun(&rt, rt.alloc(), 100)?;
+    arm_sixty_four(&rt, &mut c);
     Ok(())
 }
 
