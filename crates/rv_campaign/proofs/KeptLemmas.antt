@@ -20,7 +20,7 @@ use Rattle.rv_collide.specs.declared.entry.Entry.TheVariants.{Stepped, Paused, R
 use Rattle.rv_collide.specs.declared.ending.Ending.{Ending}
 use Rattle.rv_collide.specs.declared.refused.Refused.{Refused}
 
-steps_more : (entries : List Entry) (e : Entry) → steps (entries ++ e ∷ []) ≡ steps entries ++ filter_map stepped_hart (e ∷ [])
+pub steps_more : (entries : List Entry) (e : Entry) → steps (entries ++ e ∷ []) ≡ steps entries ++ filter_map stepped_hart (e ∷ [])
 unfolding steps
 steps_more entries e = filter_map-append stepped_hart entries (e ∷ [])
 

@@ -1,3 +1,4 @@
+pub mod AheadLemmas
 pub mod DrivingLemmas
 pub mod DueLemmas
 pub mod GoingLemmas

@@ -1,8 +1,11 @@
 //! What a driver does next: which harts are able, which pause is due, and a draw.
-ghost use Rattle.std.specs.Prelude.{◌≡◌, ◌≢◌, ◌+◌, ◌<◌, ◌≤◌, ◌^◌, ◌++◌, ◌∷◌, [], ℕ, length, slice_get, nat_lt, true, is_some, Ok, Some};
+//!
+//! Speed: a turn asks neither of all harts. Both are looked up anew where a pause begins or ends, a hart ends, or
+//! the steps are spent; no other turn changes them.
+ghost use Rattle.std.specs.Prelude.{◌≡◌, ◌≢◌, ◌+◌, ◌<◌, ◌≤◌, ◌^◌, ◌++◌, ◌∷◌, [], ℕ, length, slice_get, nat_lt, true, is_some, Ok, Some, IfOk, vec_capacity};
 ghost use Rattle.std.specs.Option.{option_to_list};
 ghost use Rattle.rv_campaign.specs.Run.{sampling_of};
-ghost use Rattle.rv_campaign.specs.internal.Kept.{Accepts, IsKept};
+ghost use Rattle.rv_campaign.specs.internal.Kept.{Accepts, IsDriver, IsKept, NoneLasts};
 ghost use Rattle.rv_collide.specs.Able.{able, another_is_able, due, is_able, is_due};
 ghost use Rattle.rv_collide.specs.Draws.{draw};
 ghost use Rattle.rv_collide.specs.Forced.{Turn};
@@ -15,29 +18,86 @@ ghost use Rattle.rv_collide.specs.Stored.{added, setting_of};
 use rv_collide::collider::{Collider, Turned};
 use rv_collide::driver_laws::{accepted_calls, open_pauses};
 use rv_hart::hart::Status;
+use rv_hart::laws::what_no_step_does;
 use rv_memory::flat::Flat;
+use rv_memory::store::NoMemory;
 use rv_sample::{Sampler, Words};
+use std::alloc::Global;
 
-/// A core, how many steps its harts have made, and for each hart how many had been made when it was last
-/// paused.
+/// The most harts of a machine.
+const MOST_HARTS: usize = 16;
+
+/// A core, how many steps its harts have made, for each hart how many had been made when it was last paused,
+/// the able harts in ascending order, and before how many steps no pause has lasted as long as the plan wants.
 #[derive(Drop)]
 pub(crate) struct Driver {
     pub collider: Collider<Flat>,
     pub made: u32,
     pub made_at: [u32; 16],
+    able: Vec<u8>,
+    earliest: u32,
 }
 
 impl Driver {
-    pub fn new(collider: Collider<Flat>) -> Driver
+    pub fn new(alloc: Global, collider: Collider<Flat>) -> Result<Driver, NoMemory>
         requires { collider.entries ≡ [] }
-        ensures collider { result.collider ≡ collider }
-        ensures kept { IsKept result.collider.entries result.made result.made_at }
+        ensures collider { IfOk result (λ driver. driver.collider ≡ collider) }
+        ensures driver { IfOk result IsDriver }
     {
-        Driver {
+        let able = Vec::with_capacity(alloc, MOST_HARTS)?;
+        let mut driver = Driver {
             collider,
             made: 0,
             made_at: [0; 16],
+            able,
+            earliest: 0,
+        };
+        driver.look();
+        Ok(driver)
+    }
+
+    /// Looks anew which harts are able, and when a pause may be due.
+    #[cold]
+    #[inline(never)]
+    fn look(&mut self)
+        requires kept { IsKept self.old.collider.entries self.old.made self.old.made_at }
+        requires room { MOST_HARTS ≤ vec_capacity self.old.able }
+        ensures driver { IsDriver self.new }
+        ensures collider { self.new.collider ≡ self.old.collider }
+    {
+        self.earliest = self.first_end();
+        self.find_able();
+    }
+
+    /// The able harts, in ascending order.
+    fn find_able(&mut self)
+        requires kept { IsKept self.old.collider.entries self.old.made self.old.made_at }
+        requires room { MOST_HARTS ≤ vec_capacity self.old.able }
+        ensures able { self.new.able.items ≡ able (setting_of self.old.collider) self.old.collider.entries }
+        ensures room { MOST_HARTS ≤ vec_capacity self.new.able }
+        ensures others { self.new ≡ record self.old { able = self.new.able } }
+    {
+        self.able.clear();
+        for h in 0..self.collider.plan().harts {
+            if self.is_able(h) {
+                self.able.push_reserved(h);
+            }
         }
+    }
+
+    /// Before how many steps no open pause has lasted as long as the plan wants.
+    fn first_end(&self) -> u32
+        requires { IsKept self.now.collider.entries self.now.made self.now.made_at }
+        ensures { NoneLasts (setting_of self.now.collider) self.now.collider.entries self.now.made_at result }
+    {
+        let pause = self.collider.plan().pause;
+        let mut earliest = u32::MAX;
+        for h in 0..self.collider.plan().harts {
+            if self.is_open(h) {
+                earliest = earliest.min(self.made_at[usize::from(h)].saturating_add(pause));
+            }
+        }
+        earliest
     }
 
     /// Whether a hart runs.
@@ -73,33 +133,19 @@ impl Driver {
 
     /// How many harts are able.
     pub fn count(&self) -> u32
-        requires { IsKept self.now.collider.entries self.now.made self.now.made_at }
+        requires { IsDriver self.now }
         ensures { result ≡ length (able (setting_of self.now.collider) self.now.collider.entries) }
     {
-        let mut count = 0;
-        for h in 0..self.collider.plan().harts {
-            if self.is_able(h) {
-                count += 1;
-            }
-        }
-        count
+        let _plan = self.collider.plan();
+        self.able.len() as u32
     }
 
     /// The able hart at an index, in ascending order.
     pub fn nth(&self, index: u32) -> Option<u8>
-        requires { IsKept self.now.collider.entries self.now.made self.now.made_at }
+        requires { IsDriver self.now }
         ensures { result ≡ slice_get (able (setting_of self.now.collider) self.now.collider.entries) index }
     {
-        let mut left = index;
-        for h in 0..self.collider.plan().harts {
-            if self.is_able(h) {
-                if left == 0 {
-                    return Some(h);
-                }
-                left -= 1;
-            }
-        }
-        None
+        self.able.get(index as usize).copied()
     }
 
     /// Whether a hart other than this one is able.
@@ -130,6 +176,19 @@ impl Driver {
 
     /// The lowest hart whose pause is due.
     pub fn due(&self) -> Option<u8>
+        requires { IsDriver self.now }
+        ensures { result ≡ due (setting_of self.now.collider) self.now.collider.entries }
+    {
+        if !self.able.is_empty() && self.made < self.earliest {
+            return None;
+        }
+        self.first_due()
+    }
+
+    /// The same, where every hart is asked.
+    #[cold]
+    #[inline(never)]
+    fn first_due(&self) -> Option<u8>
         requires { IsKept self.now.collider.entries self.now.made self.now.made_at }
         ensures { result ≡ due (setting_of self.now.collider) self.now.collider.entries }
     {
@@ -143,9 +202,9 @@ impl Driver {
 
     /// A draw: the next word picks a site, which is armed where that is allowed.
     pub fn draw(&mut self, sampler: &Sampler, words: &mut Words)
-        requires kept { IsKept self.old.collider.entries self.old.made self.old.made_at }
+        requires driver { IsDriver self.old }
         requires more { words.old.taken + 1 < 2 ^ 64 }
-        ensures kept { IsKept self.new.collider.entries self.new.made self.new.made_at }
+        ensures driver { IsDriver self.new }
         ensures words { words.new ≡ record words.old { taken = words.old.taken + 1 } }
         ensures entries { self.new.collider ≡ record self.old.collider {
           entries = self.old.collider.entries ++ option_to_list (draw (setting_of self.old.collider)
@@ -156,37 +215,48 @@ impl Driver {
         let word = words.next();
         if let Some(site) = sampler.pick(word) {
             let _armed = self.collider.arm(site);
+            self.look();
         }
     }
 
     /// A turn of an able hart.
     pub fn turn(&mut self, h: u8)
-        requires kept { IsKept self.old.collider.entries self.old.made self.old.made_at }
+        requires driver { IsDriver self.old }
         requires hart { h < self.old.collider.plan.harts }
         requires able { is_able (setting_of self.old.collider) self.old.collider.entries h ≡ true }
-        ensures kept { IsKept self.new.collider.entries self.new.made self.new.made_at }
+        ensures driver { IsDriver self.new }
         ensures accepted { Accepts self.old.collider self.new.collider (Turn h) }
     {
         open_pauses();
         accepted_calls();
-        let _plan = self.collider.plan();
+        what_no_step_does();
+        let plan = self.collider.plan();
         match self.collider.turn(h) {
-            Ok(Turned::Stepped(_)) => self.made += 1,
-            Ok(Turned::Paused(_)) => self.made_at[usize::from(h)] = self.made,
+            Ok(Turned::Stepped(_)) => {
+                self.made += 1;
+                if self.made >= plan.steps || !self.runs(h) {
+                    self.look();
+                }
+            }
+            Ok(Turned::Paused(_)) => {
+                self.made_at[usize::from(h)] = self.made;
+                self.look();
+            }
             Err(_) => unreachable!(),
         }
     }
 
     /// Ends the pause of a hart.
     pub fn resume(&mut self, h: u8)
-        requires kept { IsKept self.old.collider.entries self.old.made self.old.made_at }
+        requires driver { IsDriver self.old }
         requires due { due (setting_of self.old.collider) self.old.collider.entries ≡ Some h }
-        ensures kept { IsKept self.new.collider.entries self.new.made self.new.made_at }
+        ensures driver { IsDriver self.new }
         ensures entries { self.new.collider ≡ added self.old.collider (Entry.Resumed h) }
     {
         open_pauses();
         accepted_calls();
         let _ended = self.collider.resume(h);
+        self.look();
     }
 }
 

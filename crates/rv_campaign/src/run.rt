@@ -1,7 +1,7 @@
 ghost use Rattle.std.specs.Prelude.{◌≡◌, ◌<◌, ◌≤◌, [], true, false, None, length, IfOk};
 ghost use Rattle.rv_campaign.specs.Run.{IsRun, IsRunOver, sampling_of};
 ghost use Rattle.rv_campaign.specs.internal.Driving.{IsDriving, SameRun};
-ghost use Rattle.rv_campaign.specs.internal.Kept.{IsKept};
+ghost use Rattle.rv_campaign.specs.internal.Kept.{IsDriver};
 ghost use Rattle.rv_collide.specs.Drawn.{driven};
 ghost use Rattle.rv_collide.specs.Plan.{most_entries};
 ghost use Rattle.rv_collide.specs.Stored.{setting_of};
@@ -52,7 +52,7 @@ pub(crate) fn run_sampled(
     ensures { IfOk result (λ told. IsRunOver image.now (numbers plan) sampler.now seed run told) }
 {
     let mut words = Words::new(seed, u64::from(run));
-    let mut driver = Driver::new(Collider::new(alloc, image, plan)?);
+    let mut driver = Driver::new(alloc, Collider::new(alloc, image, plan)?)?;
     first_draws(&mut driver, &mut words, sampler);
     while go_on(&mut driver, &mut words, sampler) {}
     Ok(driver.collider.finish())
@@ -60,10 +60,10 @@ pub(crate) fn run_sampled(
 
 /// The draws before the first turn.
 fn first_draws(driver: &mut Driver, words: &mut Words, sampler: &Sampler)
-    requires kept { IsKept driver.old.collider.entries driver.old.made driver.old.made_at }
+    requires driver { IsDriver driver.old }
     requires none { driver.old.collider.entries ≡ [] }
     requires taken { words.old.taken ≡ 0 }
-    ensures kept { IsKept driver.new.collider.entries driver.new.made driver.new.made_at }
+    ensures driver { IsDriver driver.new }
     ensures driving { IsDriving (setting_of driver.new.collider)
         (sampling_of sampler.now words.new.seed words.new.stream) driver.new.collider.entries words.new.taken }
     ensures same { SameRun driver.old.collider driver.new.collider words.old words.new }
@@ -77,10 +77,10 @@ fn first_draws(driver: &mut Driver, words: &mut Words, sampler: &Sampler)
 /// What the run adds next: the lowest pause that is due ends, and a draw follows; else an able hart takes a
 /// turn. It answers whether there was something to add.
 fn go_on(driver: &mut Driver, words: &mut Words, sampler: &Sampler) -> bool
-    requires kept { IsKept driver.old.collider.entries driver.old.made driver.old.made_at }
+    requires driver { IsDriver driver.old }
     requires driving { IsDriving (setting_of driver.old.collider)
         (sampling_of sampler.now words.old.seed words.old.stream) driver.old.collider.entries words.old.taken }
-    ensures kept { IsKept driver.new.collider.entries driver.new.made driver.new.made_at }
+    ensures driver { IsDriver driver.new }
     ensures driving { IsDriving (setting_of driver.new.collider)
         (sampling_of sampler.now words.new.seed words.new.stream) driver.new.collider.entries words.new.taken }
     ensures same { SameRun driver.old.collider driver.new.collider words.old words.new }

@@ -1,17 +1,31 @@
--- What a driver keeps beside its core: the steps made, and for each hart how many were made when it was paused.
-use Rattle.std.specs.Prelude.{◌≡◌, ℕ, ◌+◌, Some, List, length, slice_index}
-use Rattle.rv_collide.specs.Able.{others_steps}
+-- What a driver keeps beside its core: the steps made, for each hart how many were made when it was paused, the able
+-- harts, and before how many steps no pause has lasted.
+use Rattle.std.specs.Prelude.{◌≡◌, ℕ, ◌+◌, ◌<◌, ◌≤◌, Some, List, length, slice_index, vec_capacity}
+use Rattle.rv_campaign.specs.declared.driver.Driver.{Driver}
+use Rattle.rv_campaign.specs.declared.driver.TheConstants.{MOST_HARTS}
+use Rattle.rv_collide.specs.Able.{able, others_steps}
 use Rattle.rv_collide.specs.Answers.{Adds}
 use Rattle.rv_collide.specs.Entries.{steps}
-use Rattle.rv_collide.specs.Forced.{Call}
+use Rattle.rv_collide.specs.Forced.{Call, Setting}
 use Rattle.rv_collide.specs.Pause.{Opening, opening_of}
-use Rattle.rv_collide.specs.Stored.{Stored}
+use Rattle.rv_collide.specs.Stored.{Stored, setting_of}
 use Rattle.rv_collide.specs.declared.entry.Entry.{Entry}
 
 pub record IsKept (entries : List Entry) (made : ℕ) (made_at : List ℕ) : Type 0 where
   pub made_is : made ≡ length (steps entries)
   pub harts : length made_at ≡ 16
   pub since : (hart : ℕ) (o : Opening) → opening_of entries hart ≡ Some o → others_steps entries o + slice_index made_at hart ≡ made
+
+-- no open pause has lasted as long as the plan wants before so many steps are made
+abbrev pub NoneLasts : Setting → List Entry → List ℕ → ℕ → Type 0
+NoneLasts setting entries made_at earliest =
+    (hart : ℕ) (o : Opening) → hart < setting.plan.harts → opening_of entries hart ≡ Some o → earliest ≤ slice_index made_at hart + setting.plan.pause
+
+pub record IsDriver (d : Driver) : Type 0 where
+  pub kept : IsKept d.collider.entries d.made d.made_at
+  pub able_are : d.able.items ≡ able (setting_of d.collider) d.collider.entries
+  pub lasts : NoneLasts (setting_of d.collider) d.collider.entries d.made_at d.earliest
+  pub room : MOST_HARTS ≤ vec_capacity d.able
 
 -- the call is accepted
 pub record Accepts (old new : Stored) (call : Call) : Type 0 where

@@ -9,7 +9,7 @@ use Rattle.rv_campaign.proofs.run.first_draws.Goals as goal
 
 pub loop-init : goal.loop-init
 loop-init c = record {
-  kept = c.requires.kept;
+  driver = c.requires.driver;
   same = record { image = refl; plan = refl; seed = refl; stream = refl };
   taken = c.requires.taken;
   entries = c.requires.none ∙ sym (no_draws (setting_of c.args.driver.now.collider) (sampling_of c.args.sampler.now c.args.words.now.seed c.args.words.now.stream));
@@ -17,7 +17,7 @@ loop-init c = record {
 
 pub loop-preserved : goal.loop-preserved
 loop-preserved c = record {
-  kept = c.draw.ensures.kept;
+  driver = c.draw.ensures.driver;
   same = record {
     image = ap (λ (s : Stored). s.image) c.draw.ensures.entries ∙ c.loop.invariant.same.image;
     plan = ap (λ (s : Stored). s.plan) c.draw.ensures.entries ∙ c.loop.invariant.same.plan;

@@ -1,7 +1,7 @@
 use Rattle.std.proofs.Common.{◌≡◌, ◌+◌, ◌-◌, length}
 use Rattle.rv_campaign.specs.Run.{sampling_of}
 use Rattle.rv_campaign.specs.internal.Driving.{IsDriving}
-use Rattle.rv_campaign.specs.internal.Kept.{IsKept}
+use Rattle.rv_campaign.specs.internal.Kept.{IsDriver}
 use Rattle.rv_collide.specs.Numbers.{numbers}
 use Rattle.rv_collide.specs.Plan.{most_entries}
 use Rattle.rv_collide.specs.Stored.{setting_of}
@@ -9,7 +9,7 @@ use Rattle.rv_campaign.proofs.run.run_sampled.Given as goal
 
 abbrev pub invariant-loop-words : goal.invariant-loop-words
 invariant-loop-words l = record {
-  kept : IsKept l.driver.collider.entries l.driver.made l.driver.made_at;
+  driver : IsDriver l.driver;
   driving : IsDriving (setting_of l.driver.collider) (sampling_of l.sampler l.words.seed l.words.stream) l.driver.collider.entries l.words.taken;
   image : l.driver.collider.image ≡ l.image;
   plan : l.driver.collider.plan ≡ numbers l.fn.plan;

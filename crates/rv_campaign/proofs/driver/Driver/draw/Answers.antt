@@ -11,15 +11,16 @@ use Rattle.rv_sample.specs.Sites.{picked}
 use Rattle.rv_campaign.proofs.KeptLemmas.{armed_or_not, kept_armed_or_not}
 use Rattle.rv_campaign.proofs.driver.Driver.draw.Goals as goal
 
-pub returns-in-Some-clause-kept : goal.returns-in-Some-clause-kept
-returns-in-Some-clause-kept c =
-    kept_armed_or_not c.open_pauses.ensures c.args.self.now.collider c.arm-armed.new.self c.in-Some.site c.args.self.now.made c.args.self.now.made_at c.arm-armed.result c.arm-armed.ensures.ok c.arm-armed.ensures.refused c.requires.kept
+pub look-requires-clause-kept : goal.look-requires-clause-kept
+look-requires-clause-kept c =
+    kept_armed_or_not c.open_pauses.ensures c.args.self.now.collider c.arm-armed.new.self c.in-Some.site c.args.self.now.made c.args.self.now.made_at c.arm-armed.result c.arm-armed.ensures.ok c.arm-armed.ensures.refused c.requires.driver.kept
 
 pub returns-in-Some-clause-entries : goal.returns-in-Some-clause-entries
 unfolding draw
 returns-in-Some-clause-entries c =
     let picks = sym (ap (picked c.args.sampler.now) c.next-word.ensures.word) ∙ sym c.pick.ensures ∙ c.in-Some.is in
-    armed_or_not c.args.self.now.collider c.arm-armed.new.self c.in-Some.site c.arm-armed.result c.arm-armed.ensures.ok c.arm-armed.ensures.err c.arm-armed.ensures.refused
+    c.look.ensures.collider
+    ∙ armed_or_not c.args.self.now.collider c.arm-armed.new.self c.in-Some.site c.arm-armed.result c.arm-armed.ensures.ok c.arm-armed.ensures.err c.arm-armed.ensures.refused
     ∙ ap (λ o. record c.args.self.now.collider { entries = c.args.self.now.collider.entries ++ option_to_list (option_and_then (λ site. result_ok (forced (setting_of c.args.self.now.collider) c.args.self.now.collider.entries (Arm site))) o) }) (sym picks)
 
 pub returns-in_default-clause-entries : goal.returns-in_default-clause-entries

@@ -1,20 +1,9 @@
-use Rattle.std.proofs.Common.{ap, sym, ◌∙◌, arith}
-use Rattle.rv_collide.specs.Able.{due, is_due}
-use Rattle.rv_collide.specs.Plan.{Numbers}
+use Rattle.std.proofs.Common.{length, sym, ◌∙◌}
 use Rattle.rv_collide.specs.Stored.{setting_of}
-use Rattle.rv_campaign.proofs.RowLemmas.{find_here, find_none}
+use Rattle.rv_campaign.proofs.AheadLemmas.{none_due, some_len}
 use Rattle.rv_campaign.proofs.driver.Driver.due.Goals as goal
 
-pub returns-then-is_due : goal.returns-then-is_due
-unfolding due
-returns-then-is_due c =
-    let harts = ap (λ (n : Numbers). n.harts) c.plan-h-end.ensures in
-    let below = c.loop-h-test.true in
-    sym (find_here (is_due (setting_of c.args.self.now.collider) c.args.self.now.collider.entries) 0 c.args.self.now.collider.plan.harts c.loop-h.h (omega arith) (omega arith) (sym c.is_due.ensures ∙ c.if-is_due.true) (λ k lo lt. c.loop-h.invariant k lt))
-
-pub returns : goal.returns
-unfolding due
-returns c =
-    let harts = ap (λ (n : Numbers). n.harts) c.plan-h-end.ensures in
-    let done = c.loop-h-test.false in
-    sym (find_none (is_due (setting_of c.args.self.now.collider) c.args.self.now.collider.entries) 0 c.args.self.now.collider.plan.harts (λ k lo hi. c.loop-h.invariant k (omega arith)))
+pub returns-then-self : goal.returns-then-self
+returns-then-self c =
+    none_due (setting_of c.args.self.now.collider) c.args.self.now.collider.entries c.args.self.now.made c.args.self.now.made_at c.args.self.now.able.items c.args.self.now.earliest c.requires.kept c.requires.able_are c.requires.lasts c.if-self.true
+    (some_len _ (length c.args.self.now.able.items) (sym c.is_empty.ensures ∙ c.if-not-is_empty.true) c.args.self.now.able.ok.0)
