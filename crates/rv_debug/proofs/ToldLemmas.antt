@@ -1,9 +1,9 @@
 -- The core after the entries before a place.
-use Rattle.std.proofs.Common.{◌≡◌, ℕ, zero, suc, ◌+◌, ◌≤◌, ◌<◌, List, [], ◌∷◌, ◌++◌, length, take, Option, Some, None, Ok, refl, sym, ap, subst, ◌∙◌, arith, add-one}
-use Rattle.std.specs.Prelude.{slice_get, option_and_then, option_map, IsSomeAnd}
+use Rattle.std.proofs.Common.{◌≡◌, ℕ, zero, suc, ◌+◌, List, [], ◌∷◌, ◌++◌, length, take, Option, Some, None, Ok, refl, sym, ap, subst, ◌∙◌, add-one}
+use Rattle.std.specs.Prelude.{slice_get, option_and_then}
 use Rattle.std.proofs.Math.Seq.{take-length}
 use Rattle.rv_collide.specs.Entries.{stepped_at, stepped_hart}
-use Rattle.rv_collide.specs.Forced.{Setting, forced}
+use Rattle.rv_collide.specs.Forced.{forced}
 use Rattle.rv_collide.specs.Legal.{IsLegal, call_of}
 use Rattle.rv_collide.specs.Made.{made}
 use Rattle.rv_collide.specs.Next.{next}

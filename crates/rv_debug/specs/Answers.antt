@@ -1,5 +1,5 @@
 -- What the commands of a session answer.
-use Rattle.std.specs.Prelude.{◌≡◌, ◌≢◌, ℕ, ◌+◌, ◌%◌, ◌==◌, ◌<◌, ◌≤◌, ◌⊎◌, zero, suc, Option, Some, None, option_and_then, option_map, IsSomeAnd, if◌then◌else◌, List, [], ◌∷◌, length, slice_get}
+use Rattle.std.specs.Prelude.{◌≡◌, ℕ, ◌+◌, ◌%◌, ◌==◌, ◌<◌, ◌≤◌, zero, suc, Option, Some, None, option_and_then, option_map, IsSomeAnd, if◌then◌else◌, List, [], ◌∷◌, length, slice_get}
 use Rattle.rv_asm.specs.Listing.{listed, word_from}
 use Rattle.rv_collide.specs.Made.{made}
 use Rattle.rv_debug.specs.Placed.{Placed, SomeState, setting}

@@ -1,5 +1,5 @@
 -- What a session is: an image, a plan, a stored schedule, and a place of it. What it shows follows from them.
-use Rattle.std.specs.Prelude.{◌≡◌, ℕ, ◌≤◌, Option, IsSomeAnd, List, [], length, take}
+use Rattle.std.specs.Prelude.{ℕ, Option, IsSomeAnd, List, []}
 use Rattle.rv_collide.specs.Forced.{Setting}
 use Rattle.rv_collide.specs.Plan.{Numbers}
 use Rattle.rv_collide.specs.StateAt.{state_at}
