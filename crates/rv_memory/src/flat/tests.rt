@@ -1,9 +1,12 @@
-ghost use Rattle.std.specs.Prelude.{◌≡◌, ◌≤◌, ◌<◌, ◌^◌, length, IfOk};
+ghost use Rattle.std.specs.Prelude.{◌≡◌, ◌≤◌, ◌<◌, ◌^◌, All, length, IfOk};
 ghost use Rattle.rv_memory.specs.Extent.{IsExtent};
-ghost use Rattle.rv_memory.specs.Memory.{IsSize};
 
 use super::*;
+use std::process::Abort;
 use std::test::Fail;
+
+/// Where a region begins, its bytes, and its length.
+type Row = (u32, &'static [u8], u32);
 
 /// A region that may be read, written and executed.
 fn region(alloc: Global, start: u32, bytes: &[u8], len: u32) -> Result<Region, NoMemory>
@@ -22,11 +25,26 @@ fn region(alloc: Global, start: u32, bytes: &[u8], len: u32) -> Result<Region, N
     })
 }
 
-/// The bytes as a number, or none where they do not lie in one region.
-fn load<S: ByteStore>(store: &S, address: u32, size: u8) -> Option<u32>
-    requires { IsSize size }
+fn regions(rt: &impl Abort, alloc: Global, rows: &[Row]) -> Result<Vec<Region>, Fail>
+    ensures { IfOk result (λ regions. All IsExtent regions.items) }
 {
-    if store.permits(address, size, Need::Nothing) {
+    let mut regions = Vec::new(alloc);
+    for (start, bytes, len) in rows {
+        assert!(rt; 1 <= *len && bytes.len() <= *len as usize);
+        regions.push(region(alloc, *start, bytes, *len)?)?;
+    }
+    Ok(regions)
+}
+
+/// A store of regions that may be read, written and executed.
+fn flat(rt: &impl Abort, alloc: Global, rows: &[Row]) -> Result<Flat, Fail> {
+    let regions = regions(rt, alloc, rows)?;
+    Ok(Flat::make(alloc, &regions)?)
+}
+
+/// The bytes as a number, or none where they do not lie in one region.
+fn load<S: ByteStore>(store: &S, address: u32, size: u8) -> Option<u32> {
+    if matches!(size, 1 | 2 | 4) && store.permits(address, size, Need::Nothing) {
         Some(store.load(address, size))
     } else {
         None
@@ -34,10 +52,11 @@ fn load<S: ByteStore>(store: &S, address: u32, size: u8) -> Option<u32>
 }
 
 /// Stores the number where the bytes lie in one region, and says whether they do.
-fn store<S: Steady>(store: &mut S, address: u32, size: u8, value: u32) -> bool
-    requires { IsSize size }
-{
-    if store.permits(address, size, Need::Nothing) && store.ready(address, size).is_ok() {
+fn store<S: Steady>(store: &mut S, address: u32, size: u8, value: u32) -> bool {
+    if matches!(size, 1 | 2 | 4)
+        && store.permits(address, size, Need::Nothing)
+        && store.ready(address, size).is_ok()
+    {
         store.store(address, size, value);
         true
     } else {
@@ -45,145 +64,154 @@ fn store<S: Steady>(store: &mut S, address: u32, size: u8, value: u32) -> bool
     }
 }
 
+/// Asserts what is loaded at addresses in so many bytes.
+fn assert_loads(rt: &impl Abort, flat: &Flat, rows: &[(u32, u8, Option<u32>)]) {
+    for (address, size, wanted) in rows {
+        assert_eq!(rt;
+            load(flat, *address, *size),
+            *wanted,
+            "{size} bytes at {address}"
+        );
+    }
+}
+
+const LITTLE_ENDIAN: [(u32, u8, Option<u32>); 7] = [
+    (0x1000, 4, Some(0x1234_5678)),
+    (0x1001, 2, Some(0x3456)),
+    (0x1003, 1, Some(0x12)),
+    (0x1002, 4, Some(0x1234)),
+    (0x1004, 4, Some(0)),
+    (0x1005, 4, None),
+    (0x0FFF, 1, None),
+];
+
 #[test]
 fn reads_little_endian_and_zeros(rt: HostRuntime) -> Result<(), Fail> {
-    let alloc = rt.alloc();
-    let regions = [region(alloc, 0x1000, &[0x78, 0x56, 0x34, 0x12], 8)?];
-    let flat = Flat::make(alloc, &regions)?;
-    assert_eq!(rt; load(&flat, 0x1000, 4), Some(0x1234_5678));
-    assert_eq!(rt; load(&flat, 0x1001, 2), Some(0x3456));
-    assert_eq!(rt; load(&flat, 0x1003, 1), Some(0x12));
-    assert_eq!(rt; load(&flat, 0x1002, 4), Some(0x1234));
-    assert_eq!(rt; load(&flat, 0x1004, 4), Some(0));
-    assert_eq!(rt; load(&flat, 0x1005, 4), None);
-    assert_eq!(rt; load(&flat, 0x0FFF, 1), None);
+    let flat = flat(&rt, rt.alloc(), &[(0x1000, &[0x78, 0x56, 0x34, 0x12], 8)])?;
+    assert_loads(&rt, &flat, &LITTLE_ENDIAN);
     Ok(())
 }
+
+/// A store's address, size and value, whether it is made, and the two words from 1000 on after it.
+type Stored = (u32, u8, u32, bool, [u32; 2]);
+
+const STORES: [Stored; 4] = [
+    (0x1001, 1, 0x0000_01FF, true, [0xEEEE_FFEE, 0xEEEE_EEEE]),
+    (0x1002, 2, 0x7777_ABCD, true, [0xABCD_FFEE, 0xEEEE_EEEE]),
+    (0x1003, 4, 0x0403_0201, true, [0x01CD_FFEE, 0xEE04_0302]),
+    (0x1005, 4, 0, false, [0x01CD_FFEE, 0xEE04_0302]),
+];
 
 #[test]
 fn stores_the_low_bytes_alone(rt: HostRuntime) -> Result<(), Fail> {
-    let alloc = rt.alloc();
-    let regions = [region(alloc, 0x1000, &[0xEE; 8], 8)?];
-    let mut flat = Flat::make(alloc, &regions)?;
-    assert!(rt; store(&mut flat, 0x1001, 1, 0x0000_01FF));
-    assert_eq!(rt; load(&flat, 0x1000, 4), Some(0xEEEE_FFEE));
-    assert!(rt; store(&mut flat, 0x1002, 2, 0x7777_ABCD));
-    assert_eq!(rt; load(&flat, 0x1000, 4), Some(0xABCD_FFEE));
-    assert_eq!(rt; load(&flat, 0x1004, 4), Some(0xEEEE_EEEE));
-    assert!(rt; store(&mut flat, 0x1003, 4, 0x0403_0201));
-    assert_eq!(rt; load(&flat, 0x1000, 4), Some(0x01CD_FFEE));
-    assert_eq!(rt; load(&flat, 0x1004, 4), Some(0xEE04_0302));
-    assert!(rt; !store(&mut flat, 0x1005, 4, 0));
-    assert_eq!(rt; load(&flat, 0x1004, 4), Some(0xEE04_0302));
+    let mut flat = flat(&rt, rt.alloc(), &[(0x1000, &[0xEE; 8], 8)])?;
+    for (address, size, value, made, [low, high]) in STORES {
+        assert!(rt; store(&mut flat, address, size, value) == made);
+        assert_eq!(rt; load(&flat, 0x1000, 4), Some(low), "after {address}");
+        assert_eq!(rt; load(&flat, 0x1004, 4), Some(high), "after {address}");
+    }
     Ok(())
 }
 
-#[test]
-fn permits_within_one_region(rt: HostRuntime) -> Result<(), Fail> {
-    let alloc = rt.alloc();
+/// Regions of four bytes at 1000, without W and X, at 1004, without R, and at the last word.
+fn guarded(rt: &impl Abort, alloc: Global) -> Result<Flat, Fail> {
     let mut low = region(alloc, 0x1000, &[], 4)?;
     low.w = false;
     low.x = false;
     let mut high = region(alloc, 0x1004, &[], 4)?;
     high.r = false;
     let regions = [low, high, region(alloc, 0xFFFF_FFFC, &[9], 4)?];
-    let flat = Flat::make(alloc, &regions)?;
-    assert!(rt; flat.permits(0x1000, 4, Need::Read));
-    assert!(rt; flat.permits(0x1004, 4, Need::Write));
-    assert!(rt;
-        !flat.permits(0x1002, 4, Need::Nothing),
-        "across two regions"
+    Ok(Flat::make(alloc, &regions)?)
+}
+
+const PERMITTED: [(u32, u8, Need, bool); 14] = [
+    (0x1000, 4, Need::Read, true),
+    (0x1004, 4, Need::Write, true),
+    // across two regions
+    (0x1002, 4, Need::Nothing, false),
+    (0x1003, 2, Need::Nothing, false),
+    (0x1003, 1, Need::Nothing, true),
+    (0x1000, 1, Need::Write, false),
+    (0x1000, 1, Need::ReadWrite, false),
+    (0x1000, 1, Need::Execute, false),
+    (0x1004, 1, Need::Read, false),
+    (0x1004, 1, Need::ReadWrite, false),
+    (0x1004, 1, Need::Execute, true),
+    (0xFFFF_FFFC, 4, Need::ReadWrite, true),
+    (0xFFFF_FFFF, 1, Need::ReadWrite, true),
+    // past the last address
+    (0xFFFF_FFFD, 4, Need::Nothing, false),
+];
+
+#[test]
+fn permits_within_one_region(rt: HostRuntime) -> Result<(), Fail> {
+    let flat = guarded(&rt, rt.alloc())?;
+    for (address, size, need, wanted) in PERMITTED {
+        assert!(rt;
+            flat.permits(address, size, need) == wanted,
+            "{size} bytes at {address}"
+        );
+    }
+    assert_loads(
+        &rt,
+        &flat,
+        &[(0xFFFF_FFFC, 4, Some(9)), (0xFFFF_FFFF, 2, None)],
     );
-    assert!(rt;
-        !flat.permits(0x1003, 2, Need::Nothing),
-        "across two regions"
-    );
-    assert!(rt; flat.permits(0x1003, 1, Need::Nothing));
-    assert!(rt; !flat.permits(0x1000, 1, Need::Write));
-    assert!(rt; !flat.permits(0x1000, 1, Need::ReadWrite));
-    assert!(rt; !flat.permits(0x1000, 1, Need::Execute));
-    assert!(rt; !flat.permits(0x1004, 1, Need::Read));
-    assert!(rt; !flat.permits(0x1004, 1, Need::ReadWrite));
-    assert!(rt; flat.permits(0x1004, 1, Need::Execute));
-    assert!(rt; flat.permits(0xFFFF_FFFC, 4, Need::ReadWrite));
-    assert!(rt; flat.permits(0xFFFF_FFFF, 1, Need::ReadWrite));
-    assert!(rt;
-        !flat.permits(0xFFFF_FFFD, 4, Need::Nothing),
-        "past the last address"
-    );
-    assert_eq!(rt; load(&flat, 0xFFFF_FFFC, 4), Some(9));
-    assert_eq!(rt; load(&flat, 0xFFFF_FFFF, 2), None);
     Ok(())
 }
 
-/// The fault that two regions without given bytes make, of whatever places and lengths.
-fn fault(alloc: Global, a: (u32, u32), b: (u32, u32)) -> Result<Option<MemFault>, NoMemory>
-    requires a { 1 ≤ a.1 }
-    requires b { 1 ≤ b.1 }
-    requires a_range { a.1 < 2 ^ 32 }
-    requires b_range { b.1 < 2 ^ 32 }
-{
-    let regions = [region(alloc, a.0, &[], a.1)?, region(alloc, b.0, &[], b.1)?];
-    Ok(Flat::make(alloc, &regions).err())
-}
+/// The places and lengths of two regions without given bytes, and the fault that they make.
+const FAULTS: [((u32, u32), (u32, u32), Option<MemFault>); 9] = [
+    // past the end, and shared
+    ((0xFFFF_FFFF, 2), (0xFFFF_FFFF, 2), Some(MemFault::PastEnd)),
+    // past the end, and too large
+    (
+        (0, 0x0100_0000),
+        (0xFF00_0000, 0x0100_0001),
+        Some(MemFault::PastEnd),
+    ),
+    // shared, and too large
+    (
+        (0x1000, 0x0100_0000),
+        (0x1000, 0x0100_0000),
+        Some(MemFault::Overlap),
+    ),
+    // the last address, in either order
+    ((0x1000, 4), (0x1003, 1), Some(MemFault::Overlap)),
+    ((0x1003, 1), (0x1000, 4), Some(MemFault::Overlap)),
+    // adjacent
+    ((0x1000, 4), (0x1004, 1), None),
+    // up to 2^32
+    ((0xFFFF_FFFE, 2), (0, 1), None),
+    ((0, 17_825_792), (0x2000_0000, 1), Some(MemFault::TooLarge)),
+    // just the limit
+    ((0, 17_825_791), (0x2000_0000, 1), None),
+];
 
 #[test]
 fn tells_the_first_fault(rt: HostRuntime) -> Result<(), Fail> {
     let alloc = rt.alloc();
-    let past = (0xFFFF_FFFF, 2);
-    assert_eq!(rt;
-        fault(alloc, past, past)?,
-        Some(MemFault::PastEnd),
-        "past the end, and shared"
-    );
-    let long = (0xFF00_0000, 0x0100_0001);
-    assert_eq!(rt;
-        fault(alloc, (0, 0x0100_0000), long)?,
-        Some(MemFault::PastEnd),
-        "past the end, and too large"
-    );
-    let large = (0x1000, 0x0100_0000);
-    assert_eq!(rt;
-        fault(alloc, large, large)?,
-        Some(MemFault::Overlap),
-        "shared, and too large"
-    );
-    assert_eq!(rt;
-        fault(alloc, (0x1000, 4), (0x1003, 1))?,
-        Some(MemFault::Overlap),
-        "the last address"
-    );
-    assert_eq!(rt;
-        fault(alloc, (0x1003, 1), (0x1000, 4))?,
-        Some(MemFault::Overlap),
-        "in either order"
-    );
-    assert_eq!(rt; fault(alloc, (0x1000, 4), (0x1004, 1))?, None, "adjacent");
-    assert_eq!(rt; fault(alloc, (0xFFFF_FFFE, 2), (0, 1))?, None, "up to 2^32");
-    assert_eq!(rt;
-        fault(alloc, (0, 17_825_792), (0x2000_0000, 1))?,
-        Some(MemFault::TooLarge)
-    );
-    assert_eq!(rt;
-        fault(alloc, (0, 17_825_791), (0x2000_0000, 1))?,
-        None,
-        "just the limit"
-    );
+    for (a, b, wanted) in FAULTS {
+        let regions = regions(&rt, alloc, &[(a.0, &[], a.1), (b.0, &[], b.1)])?;
+        assert_eq!(rt;
+            Flat::make(alloc, &regions).err(),
+            wanted,
+            "{a:?} and {b:?}"
+        );
+    }
     Ok(())
+}
+
+/// Four given bytes and two zeros, without W.
+fn code(alloc: Global) -> Result<Flat, Fail> {
+    let mut code = region(alloc, 0x1000, &[0x78, 0x56, 0x34, 0x92], 6)?;
+    code.w = false;
+    Ok(Flat::make(alloc, &[code])?)
 }
 
 #[test]
 fn loads_where_permitted(rt: HostRuntime) -> Result<(), Fail> {
-    let alloc = rt.alloc();
-    let regions = [Region {
-        start: 0x1000,
-        bytes: Vec::from_slice(alloc, &[0x78, 0x56, 0x34, 0x92])?,
-        len: 6,
-        r: true,
-        w: false,
-        x: true,
-    }];
-    let flat = Flat::make(alloc, &regions)?;
+    let flat = code(rt.alloc())?;
     for need in [Need::Nothing, Need::Read, Need::Execute] {
         assert_eq!(rt; flat.load_permitted(0x1000, 4, need), Some(0x9234_5678));
         assert_eq!(rt; flat.load_permitted(0x1002, 2, need), Some(0x9234));
@@ -196,77 +224,107 @@ fn loads_where_permitted(rt: HostRuntime) -> Result<(), Fail> {
     Ok(())
 }
 
+const MANY: [Row; 8] = [
+    (0xFFFF_FFFC, &[1, 2, 3, 4], 4),
+    (0, &[0xA0], 0x4000),
+    (0x8000, &[0xA1], 0x4000),
+    (0x1_8000, &[0xA2], 0x4000),
+    (0x1_0000, &[0xA3], 0x4000),
+    (0x1FF_FFFE, &[5, 6, 7, 8], 4),
+    (0x300_0000, &[9], 0x2_0001),
+    (0x302_0001, &[10], 1),
+];
+
+const AMONG_MANY: [(u32, u8, Option<u32>); 23] = [
+    (0, 4, Some(0xA0)),
+    (0x3FFE, 2, Some(0)),
+    (0x3FFE, 4, None),
+    (0x4000, 1, None),
+    (0x8000, 4, Some(0xA1)),
+    (0xBFFE, 2, Some(0)),
+    (0xBFFE, 4, None),
+    (0xC000, 1, None),
+    (0x1_8000, 4, Some(0xA2)),
+    (0x1_BFFE, 2, Some(0)),
+    (0x1_BFFE, 4, None),
+    (0x1_C000, 1, None),
+    (0x1_0000, 4, Some(0xA3)),
+    (0x1_3FFE, 2, Some(0)),
+    (0x1_3FFE, 4, None),
+    (0x1_4000, 1, None),
+    (0xFFFF_FFFC, 4, Some(0x0403_0201)),
+    (0xFFFF_FFFD, 4, None),
+    (0x1FF_FFFE, 4, Some(0x0807_0605)),
+    (0x1FF_FFFF, 2, Some(0x0706)),
+    (0x302_0000, 1, Some(0)),
+    (0x302_0001, 1, Some(10)),
+    (0x302_0000, 2, None),
+];
+
 #[test]
 fn finds_the_region_among_many(rt: HostRuntime) -> Result<(), Fail> {
-    let alloc = rt.alloc();
-    let regions = [
-        region(alloc, 0xFFFF_FFFC, &[1, 2, 3, 4], 4)?,
-        region(alloc, 0, &[0xA0], 0x4000)?,
-        region(alloc, 0x8000, &[0xA1], 0x4000)?,
-        region(alloc, 0x1_8000, &[0xA2], 0x4000)?,
-        region(alloc, 0x1_0000, &[0xA3], 0x4000)?,
-        region(alloc, 0x1FF_FFFE, &[5, 6, 7, 8], 4)?,
-        region(alloc, 0x300_0000, &[9], 0x2_0001)?,
-        region(alloc, 0x302_0001, &[10], 1)?,
-    ];
-    let mut flat = Flat::make(alloc, &regions)?;
-    for (start, first) in [
-        (0, 0xA0),
-        (0x8000, 0xA1),
-        (0x1_8000, 0xA2),
-        (0x1_0000, 0xA3),
-    ] {
-        assert_eq!(rt; load(&flat, start, 4), Some(first));
-        assert_eq!(rt; load(&flat, start + 0x3FFE, 2), Some(0));
-        assert_eq!(rt; load(&flat, start + 0x3FFE, 4), None);
-        assert_eq!(rt; load(&flat, start + 0x4000, 1), None);
-    }
-    assert_eq!(rt; load(&flat, 0xFFFF_FFFC, 4), Some(0x0403_0201));
-    assert_eq!(rt; load(&flat, 0xFFFF_FFFD, 4), None);
-    assert_eq!(rt; load(&flat, 0x1FF_FFFE, 4), Some(0x0807_0605));
-    assert_eq!(rt; load(&flat, 0x1FF_FFFF, 2), Some(0x0706));
-    assert_eq!(rt; load(&flat, 0x302_0000, 1), Some(0));
-    assert_eq!(rt; load(&flat, 0x302_0001, 1), Some(10));
-    assert_eq!(rt; load(&flat, 0x302_0000, 2), None);
+    let mut flat = flat(&rt, rt.alloc(), &MANY)?;
+    assert_loads(&rt, &flat, &AMONG_MANY);
     assert!(rt; store(&mut flat, 0x301_0000, 4, 0x1234_5678));
     assert_eq!(rt; load(&flat, 0x301_0000, 4), Some(0x1234_5678));
     Ok(())
 }
 
-#[test]
-fn stores_where_permitted(rt: HostRuntime) -> Result<(), Fail> {
-    let alloc = rt.alloc();
+/// Four bytes EE at 1000, without W, and eight at 1004, without R.
+fn fixed_and_hidden(alloc: Global) -> Result<Flat, Fail> {
     let mut fixed = region(alloc, 0x1000, &[0xEE; 4], 4)?;
     fixed.w = false;
     let mut hidden = region(alloc, 0x1004, &[0xEE; 8], 8)?;
     hidden.r = false;
-    let regions = [fixed, hidden];
-    let mut flat = Flat::make(alloc, &regions)?;
+    Ok(Flat::make(alloc, &[fixed, hidden])?)
+}
+
+fn store_six(rt: &impl Abort, flat: &mut Flat) {
     assert!(rt; flat.store_permitted(0x1004, 4, 0x0403_0201, Need::Write));
     assert!(rt; flat.store_permitted(0x100A, 2, 0x7777_ABCD, Need::Write));
     assert!(rt; flat.store_permitted(0x1000, 1, 0x11, Need::Read));
     assert!(rt; !flat.store_permitted(0x1001, 1, 0, Need::Write));
     assert!(rt; !flat.store_permitted(0x1004, 4, 0, Need::ReadWrite));
     assert!(rt; !flat.store_permitted(0x100B, 2, 0, Need::Write));
-    assert_eq!(rt; load(&flat, 0x1000, 4), Some(0xEEEE_EE11));
-    assert_eq!(rt; load(&flat, 0x1004, 4), Some(0x0403_0201));
-    assert_eq!(rt; load(&flat, 0x1008, 4), Some(0xABCD_EEEE));
+}
+
+#[test]
+fn stores_where_permitted(rt: HostRuntime) -> Result<(), Fail> {
+    let mut flat = fixed_and_hidden(rt.alloc())?;
+    store_six(&rt, &mut flat);
+    assert_loads(
+        &rt,
+        &flat,
+        &[
+            (0x1000, 4, Some(0xEEEE_EE11)),
+            (0x1004, 4, Some(0x0403_0201)),
+            (0x1008, 4, Some(0xABCD_EEEE)),
+        ],
+    );
     Ok(())
+}
+
+/// Data at 1000, code at 2000 and more code at 3000.
+fn data_and_code(alloc: Global) -> Result<Flat, Fail> {
+    let mut data = region(alloc, 0x1000, &[0xEE; 8], 8)?;
+    data.x = false;
+    let code = region(alloc, 0x2000, &[0x13, 0x05, 0xA0, 0x02], 8)?;
+    let regions = [data, code, region(alloc, 0x3000, &[1], 4)?];
+    Ok(Flat::make(alloc, &regions)?)
 }
 
 /// A word is found at once in the first executable region alone.
 #[test]
 fn fetches_at_once(rt: HostRuntime) -> Result<(), Fail> {
-    let alloc = rt.alloc();
-    let mut data = region(alloc, 0x1000, &[0xEE; 8], 8)?;
-    data.x = false;
-    let code = region(alloc, 0x2000, &[0x13, 0x05, 0xA0, 0x02], 8)?;
-    let regions = [data, code, region(alloc, 0x3000, &[1], 4)?];
-    let flat = Flat::make(alloc, &regions)?;
-    assert_eq!(rt; flat.fetch_at_once(0x2000), Some(0x02A0_0513));
-    assert_eq!(rt; flat.fetch_at_once(0x2004), Some(0));
-    assert_eq!(rt; flat.fetch_at_once(0x2005), None);
-    assert_eq!(rt; flat.fetch_at_once(0x1000), None);
-    assert_eq!(rt; flat.fetch_at_once(0x3000), None);
+    let flat = data_and_code(rt.alloc())?;
+    for (address, word) in [
+        (0x2000, Some(0x02A0_0513)),
+        (0x2004, Some(0)),
+        (0x2005, None),
+        (0x1000, None),
+        (0x3000, None),
+    ] {
+        assert_eq!(rt; flat.fetch_at_once(address), word, "at {address}");
+    }
     Ok(())
 }
