@@ -39,3 +39,4 @@ pub mod Slots
 pub mod SpellLemmas
 pub mod StepFaults
 pub mod Writable
+pub mod Unwatched

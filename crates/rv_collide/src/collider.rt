@@ -358,11 +358,13 @@ impl<S: ByteStore> Collider<S> {
     {
         reservations_and_accesses();
         what_no_step_does();
+        let is_watched = !self.openings.is_empty();
         let event = match self.machine.step(h) {
             Ok(event) => event,
             Err(_) => return Err(Refused::NoMemory),
         };
-        show(&mut self.breaks, self.entries.len() as u32, h, event);
+        let place = self.entries.len() as u32;
+        show(&mut self.breaks, is_watched, place, h, event);
         self.steps += 1;
         self.entries.push_reserved(Entry::Stepped(h));
         Ok(event)
@@ -446,13 +448,19 @@ fn regions_of(alloc: Global, segments: &[Region]) -> Result<Vec<Region>, NoMemor
     Ok(copies)
 }
 
-/// Shows the claims what a step accessed.
-fn show(breaks: &mut Breakpoints, place: u32, h: u8, event: Event)
+/// Shows the claims what a step accessed, where there may be claims.
+#[inline(always)]
+fn show(breaks: &mut Breakpoints, is_watched: bool, place: u32, h: u8, event: Event)
+    requires { is_watched ≡ false
+        → (seen : Seen) → break_slots.slots_after seen breaks.old.slots ≡ breaks.old.slots }
     ensures { breaks.new ≡ record breaks.old {
       slots = slots_seen (option_map (λ access. record { place = place; hart = h; access = access })
           (accessed event)) breaks.old.slots;
     } }
 {
+    if !is_watched {
+        return;
+    }
     if let Event::Moved(Some(access)) = event {
         breaks.see(place, h, access);
     }

@@ -13,6 +13,7 @@ use Rattle.rv_collide.proofs.Growth.{core_step, turn_parts}
 use Rattle.rv_collide.proofs.LawLemmas.{runs_in}
 use Rattle.rv_collide.proofs.StepFaults.{only_memory}
 use Rattle.rv_collide.proofs.Rooms.{room_to_step}
+use Rattle.rv_collide.proofs.Unwatched.{unwatched}
 use Rattle.rv_collide.proofs.collider.Collider.step.Goals as goal
 
 pub returns-in-Err-clause-memory : goal.returns-in-Err-clause-memory
@@ -27,6 +28,11 @@ returns-in-Err-clause-memory g c =
     let room : length c.self.inside.machine.state.output < c.self.inside.machine.limit = omega arith in
     only_memory c.self.inside.machine c.args.h c.in-Err.field-0 c.step.result c.in-Err.is runs room c.step.ensures.no_hart c.step.ensures.not_running c.step.ensures.output_full c.step.ensures.no_memory
 
+pub show-requires : goal.show-requires
+show-requires g c =
+    let s = setting_of (stored c.self.inside.image.value (numbers c.self.inside.plan) c.self.inside.entries.items) in
+    λ none. unwatched s.start c.self.inside.entries.items c.self.inside.openings.items c.self.inside.breaks.slots _ _ c.self.invariant.0.openings_are c.self.invariant.0.slots_are c.self.inside.openings.ok.0 c.is_empty-is_watched.ensures none
+
 pub push_reserved-requires : goal.push_reserved-requires
 push_reserved-requires g c =
     let s = setting_of (stored c.self.inside.image.value (numbers c.self.inside.plan) c.self.inside.entries.items) in
@@ -39,7 +45,7 @@ pub invariant_of-self-2 : goal.invariant_of-self-2
 invariant_of-self-2 g c =
     let s = setting_of (stored c.self.inside.image.value (numbers c.self.inside.plan) c.self.inside.entries.items) in
     let ok = subst (λ (v : Stored). forced (setting_of v) v.entries (Turn c.args.h) ≡ Ok (Stepped c.args.h)) (sym c.self.view_is) c.requires in
-    let size = c.len.ensures ∙ c.self.inside.entries.ok.0 in (
+    let size = c.len-place.ensures ∙ c.self.inside.entries.ok.0 in (
       subst (λ (ys : List Entry). IsCore s ys c.step.new.self c.show.new.breaks c.self.inside.openings.items c.self.inside.endings.items (c.self.inside.steps + 1) c.self.inside.arms) (sym c.push_reserved.ensures.items)
           (core_step c.reservations_and_accesses.ensures.next c.what_no_step_does.ensures.output s c.self.inside.entries.items c.self.inside.machine c.step.new.self c.self.inside.breaks c.show.new.breaks c.self.inside.openings.items c.self.inside.endings.items c.self.inside.steps c.self.inside.arms c.args.h c.in-Ok.event c.self.invariant.0 ok c.in-Ok.ensures.step c.step.ensures.harts c.step.ensures.limit
           (ap (λ (b : Breaks). b.armed) c.show.ensures)
