@@ -1,10 +1,11 @@
 -- What a job says of the words that spell it.
-use Rattle.std.proofs.Common.{◌≡◌, ℕ, zero, suc, refl, subst, sym, true, false, List, Option, Some, None, [], ◌∷◌, arith, codes, length}
+use Rattle.std.proofs.Common.{◌≡◌, ℕ, zero, suc, refl, subst, sym, true, false, List, Option, Some, None, [], ◌∷◌, arith, codes, length, cond}
 use Rattle.std.specs.Prelude.{Bool, Contains, IfSome, option_and_then, option_map}
 use Rattle.std.specs.Str.{bytes_eq}
 use Rattle.std.proofs.lemmas.Slice.Eq.{bytes_eq-Decides}
 use Rattle.clap.specs.Walk.{Text}
-use Rattle.rvcollide.specs.Command.{Asked, IsGiven, arguments, asm_of, command_job, is_option, job_of, list_of, replay_of, words_of}
+use Rattle.rvcollide.specs.Command.{Asked, IsGiven, arguments, asm_of, command_job, debug_of, is_option, job_of, list_of, replay_of, run_job, words_of}
+use Rattle.rvcollide.proofs.RunGiven.{run_given}
 
 later : (x word : Text) (words : List Text) → Contains words x → Contains (word ∷ words) x
 later x word words (k, below, is) = (suc k, omega arith, is)
@@ -58,11 +59,17 @@ replay_given n rest (image ∷ []) stand = tt
 replay_given n rest (image ∷ schedule ∷ []) stand = (refl, stand.each image (first image (schedule ∷ [])), stand.each schedule (later schedule image (schedule ∷ []) (first schedule [])))
 replay_given n rest (image ∷ schedule ∷ more ∷ others) stand = tt
 
+debug_given : (n : Text) (rest given : List Text) → Stand rest given → IfSome (debug_of given) (IsGiven (n ∷ codes "debug" ∷ rest))
+debug_given n rest [] stand = tt
+debug_given n rest (image ∷ []) stand = tt
+debug_given n rest (image ∷ schedule ∷ []) stand = (refl, stand.each image (first image (schedule ∷ [])), stand.each schedule (later schedule image (schedule ∷ []) (first schedule [])))
+debug_given n rest (image ∷ schedule ∷ more ∷ others) stand = tt
+
 pub job_given : (words : List Text) → IfSome (job_of words) (IsGiven words)
 unfolding job_of
 job_given [] = tt
 job_given (n ∷ []) = tt
-job_given (n ∷ name ∷ rest) = by_words (bytes_eq (codes "words") name) refl
+job_given (n ∷ name ∷ rest) = by_run (bytes_eq (codes "run") name) refl
   where
     Given : Text → Option Asked → Type 0
     Given w o = IfSome o (IsGiven (n ∷ w ∷ rest))
@@ -70,10 +77,15 @@ job_given (n ∷ name ∷ rest) = by_words (bytes_eq (codes "words") name) refl
     found : (w : Text) → bytes_eq w name ≡ true → Given w (command_job w rest) → Given name (command_job name rest)
     found w same given = subst (λ (v : Text). Given v (command_job v rest)) ((bytes_eq-Decides w name).0 same) given
 
+    by_debug : (b : Bool) → bytes_eq (codes "words") name ≡ false → bytes_eq (codes "asm") name ≡ false → bytes_eq (codes "list") name ≡ false
+        → bytes_eq (codes "replay") name ≡ false → bytes_eq (codes "debug") name ≡ b → Given name (command_job name rest)
+    by_debug true no_words no_asm no_list no_replay debug = found (codes "debug") debug (given_by rest debug_of _ (debug_given n rest) (arguments rest) (arguments_stand rest))
+    by_debug false no_words no_asm no_list no_replay no_debug = rw (no_words, no_asm, no_list, no_replay, no_debug) tt
+
     by_replay : (b : Bool) → bytes_eq (codes "words") name ≡ false → bytes_eq (codes "asm") name ≡ false → bytes_eq (codes "list") name ≡ false
         → bytes_eq (codes "replay") name ≡ b → Given name (command_job name rest)
     by_replay true no_words no_asm no_list replay = found (codes "replay") replay (given_by rest replay_of _ (replay_given n rest) (arguments rest) (arguments_stand rest))
-    by_replay false no_words no_asm no_list no_replay = rw (no_words, no_asm, no_list, no_replay) tt
+    by_replay false no_words no_asm no_list no_replay = by_debug (bytes_eq (codes "debug") name) no_words no_asm no_list no_replay refl
 
     by_list : (b : Bool) → bytes_eq (codes "words") name ≡ false → bytes_eq (codes "asm") name ≡ false → bytes_eq (codes "list") name ≡ b → Given name (command_job name rest)
     by_list true no_words no_asm list = found (codes "list") list (given_by rest list_of _ (list_given n rest) (arguments rest) (arguments_stand rest))
@@ -86,6 +98,13 @@ job_given (n ∷ name ∷ rest) = by_words (bytes_eq (codes "words") name) refl
     by_words : (b : Bool) → bytes_eq (codes "words") name ≡ b → Given name (command_job name rest)
     by_words true words = found (codes "words") words (given_by rest words_of _ (words_given n rest) (arguments rest) (arguments_stand rest))
     by_words false no_words = by_asm (bytes_eq (codes "asm") name) no_words refl
+
+    Means : Text → Type 0
+    Means w = IfSome (cond (bytes_eq (codes "run") w) (run_job (n ∷ w ∷ rest)) (command_job w rest)) (IsGiven (n ∷ w ∷ rest))
+
+    by_run : (b : Bool) → bytes_eq (codes "run") name ≡ b → Means name
+    by_run true run = subst Means ((bytes_eq-Decides (codes "run") name).0 run) (run_given n rest)
+    by_run false no_run = rw no_run (by_words (bytes_eq (codes "words") name) refl)
 
 pub given_at : (words : List Text) (asked : Asked) → job_of words ≡ Some asked → IsGiven words asked
 given_at words asked is = rw is at (job_given words)

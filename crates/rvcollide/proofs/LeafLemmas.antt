@@ -11,9 +11,9 @@ use Rattle.clap.specs.declared.parser.matches.ValueSource.TheVariants.{CommandLi
 use Rattle.clap.proofs.OnLiterals.{clap_on_literals}
 use Rattle.std.proofs.lemmas.Slice.Eq.{bytes_eq-Decides}
 use Rattle.rvcollide.proofs.WordLemmas.{IsRequestOr, Requests, first_stays, held, stand, turn_is}
-use Rattle.rvcollide.specs.Command.{Asked, Words, arguments, asm_of, is_option, list_of, replay_of, words_of}
+use Rattle.rvcollide.specs.Command.{Asked, Words, arguments, asm_of, is_option, debug_of, list_of, replay_of, words_of}
 use Rattle.rvcollide.specs.Reading.{program}
-use Rattle.rvcollide.specs.internal.Reading.{asm_in, list_in, replay_in}
+use Rattle.rvcollide.specs.internal.Reading.{asm_in, debug_in, list_in, replay_in}
 
 -- the commands as `clap` builds them
 abbrev pub leaf : ℕ → Shape
@@ -272,6 +272,38 @@ replay_reads = next_reads replay_leaf replay_in at_first replay_of (at_second (c
     (record { trailing_pass = λ word. refl; trailing_goes_on = λ word. refl; pass = λ word. refl; goes_on = λ word. refl })
     replay_second
 
+-- ---- `debug IMAGE SCHEDULE`
+
+abbrev pub debug_leaf : Shape
+debug_leaf = leaf 4
+
+debug_requests : Requests debug_leaf.rules
+debug_requests = record {
+  long = λ name. request_or (bytes_eq (codes "help") name || false) _ None (refl, λ again rows. refl) tt;
+  short = λ x. request_or (104 == x || false) _ None (refl, λ again rows. refl) tt;
+}
+
+debug_third : (image schedule : Text)
+    → Reads debug_leaf debug_in (at_third (codes "IMAGE") image (codes "SCHEDULE") schedule) (λ rest. debug_of (image ∷ schedule ∷ rest))
+unfolding clap_on_literals
+debug_third image schedule = full_reads debug_leaf debug_in (at_third (codes "IMAGE") image (codes "SCHEDULE") schedule) (λ rest. debug_of (image ∷ schedule ∷ rest))
+    (record { requests = debug_requests; trailing = refl; plain = refl; dashes_pass = refl; dashes_go_on = refl })
+    (record { trailing = λ word. refl; plain = refl; none = λ word rest. refl })
+
+debug_second : (image : Text) → Reads debug_leaf debug_in (at_second (codes "IMAGE") image) (λ rest. debug_of (image ∷ rest))
+unfolding clap_on_literals
+debug_second image = next_reads debug_leaf debug_in (at_second (codes "IMAGE") image) (λ rest. debug_of (image ∷ rest)) (at_third (codes "IMAGE") image (codes "SCHEDULE"))
+    (record { requests = debug_requests; trailing = refl; plain = refl; dashes_pass = refl; dashes_go_on = refl })
+    (record { trailing_pass = λ word. refl; trailing_goes_on = λ word. refl; pass = λ word. refl; goes_on = λ word. refl })
+    (debug_third image)
+
+debug_reads : Reads debug_leaf debug_in at_first debug_of
+unfolding clap_on_literals
+debug_reads = next_reads debug_leaf debug_in at_first debug_of (at_second (codes "IMAGE"))
+    (record { requests = debug_requests; trailing = refl; plain = refl; dashes_pass = refl; dashes_go_on = refl })
+    (record { trailing_pass = λ word. refl; trailing_goes_on = λ word. refl; pass = λ word. refl; goes_on = λ word. refl })
+    debug_second
+
 -- ---- what each command's words give
 
 abbrev pub words_at : Bool → Walk
@@ -288,3 +320,6 @@ list_outcome = list_reads.plain
 
 pub replay_outcome : (rest : List Text) → outcome replay_leaf replay_in (words_at false) rest ≡ option_and_then replay_of (arguments rest)
 replay_outcome = replay_reads.plain
+
+pub debug_outcome : (rest : List Text) → outcome debug_leaf debug_in (words_at false) rest ≡ option_and_then debug_of (arguments rest)
+debug_outcome = debug_reads.plain

@@ -3,9 +3,11 @@ pub mod GivenLemmas
 pub mod InputSoFar
 pub mod LeafLemmas
 pub mod LineLemmas
+pub mod OptionLemmas
 pub mod ReadBack
 pub mod ReadsLine
 pub mod ReplayLemmas
+pub mod RunGiven
 pub mod RunLemmas
 pub mod StepLemmas
 pub mod WordLemmas

@@ -1,19 +1,19 @@
-use Rattle.std.proofs.Common.{◌≡◌, ◌∙◌, refl, ap, subst, ap₂, sym, true, false, List, Some, None, [], ◌∷◌, inl, inr, fold, codes}
+use Rattle.std.proofs.Common.{◌≡◌, ◌∙◌, refl, ap, subst, ap₂, sym, true, false, List, Some, None, [], ◌∷◌, inl, inr, fold, codes, cond}
 use Rattle.std.proofs.lemmas.Slice.Eq.{bytes_eq-Decides}
 use Rattle.std.specs.Prelude.{Bool, ◌==◌, ◌||◌, if◌then◌else◌, option_and_then, is_some}
 use Rattle.std.specs.Str.{bytes_eq}
 use Rattle.clap.specs.Faults.{check_fault, defaults_fault, entered_fault, fault_of, level_fault, settle_fault, turn_fault}
 use Rattle.clap.specs.Kinds.{Kinds, or_else}
-use Rattle.clap.specs.Simple.{App, built, entered, names_of}
-use Rattle.clap.specs.Walk.{Text, Walk, finished, idle, is_empty, subcommand_met, nothing_held, settled, walk_from, walked}
+use Rattle.clap.specs.Simple.{App, built, entered, names_of, subcommand_of}
+use Rattle.clap.specs.Walk.{Text, Walk, finished, rows_after, idle, is_empty, subcommand_met, nothing_held, settled, walk_from, walked}
 use Rattle.clap.proofs.OnLiterals.{clap_on_literals}
 use Rattle.clap.proofs.FaultLemmas.{stopped_fault}
 use Rattle.clap.proofs.WalkLemmas.{walk_stopped}
 use Rattle.rvcollide.proofs.WordLemmas.{Requests, first_stays, turn_is}
-use Rattle.rvcollide.proofs.LeafLemmas.{asm_leaf, asm_outcome, if_false, is_dashes, leaf, list_leaf, list_outcome, outcome, replay_leaf, replay_outcome, request_or, words_at, words_job, words_leaf, words_outcome}
-use Rattle.rvcollide.specs.Command.{command_job, job_of}
+use Rattle.rvcollide.proofs.LeafLemmas.{asm_leaf, asm_outcome, debug_leaf, debug_outcome, if_false, is_dashes, leaf, list_leaf, list_outcome, outcome, replay_leaf, replay_outcome, request_or, words_at, words_job, words_leaf, words_outcome}
+use Rattle.rvcollide.specs.Command.{command_job, job_of, run_job}
 use Rattle.rvcollide.specs.Reading.{program}
-use Rattle.rvcollide.specs.internal.Reading.{asm_in, job_in, job_read, list_in, replay_in}
+use Rattle.rvcollide.specs.internal.Reading.{asm_in, debug_in, job_in, job_read, list_in, replay_in}
 
 abbrev Built : App
 Built = built program
@@ -79,6 +79,25 @@ unfolding clap_on_literals job_read
 replay_job_is n rest =
     ap₂ (λ (kinds : Kinds) (w : Walk). if is_empty kinds then option_and_then job_in (entered Built w.stopped) else None) (replay_fault n rest) (all_left (codes "replay") rest)
 
+debug_fault : (n : Text) (rest : List Text) → fault_of program (n ∷ codes "debug" ∷ rest) ≡ level_fault (leaf 4) [] nothing_held rest false []
+unfolding clap_on_literals
+debug_fault n rest =
+    ap₂ through (all_left (codes "debug") rest) (stopped_fault Built.top (names_of Built) (walk_from nothing_held) (codes "debug", []) rest)
+    ∙ nothing_next (level_fault (leaf 4) [] nothing_held rest false [])
+
+debug_job_is : (n : Text) (rest : List Text) → job_read (n ∷ codes "debug" ∷ rest) ≡ outcome debug_leaf debug_in (words_at false) rest
+unfolding clap_on_literals job_read
+debug_job_is n rest =
+    ap₂ (λ (kinds : Kinds) (w : Walk). if is_empty kinds then option_and_then job_in (entered Built w.stopped) else None) (debug_fault n rest) (all_left (codes "debug") rest)
+
+pub run_rows : (n : Text) (rest : List Text) → subcommand_of program (n ∷ codes "run" ∷ rest) ≡ Some (codes "run", rows_after (leaf 5).rules [] rest)
+unfolding clap_on_literals
+run_rows n rest = ap (λ (w : Walk). entered Built w.stopped) (all_left (codes "run") rest)
+
+run_job_is : (n : Text) (rest : List Text) → job_read (n ∷ codes "run" ∷ rest) ≡ run_job (n ∷ codes "run" ∷ rest)
+unfolding job_read
+run_job_is n rest = rw (run_rows n rest) refl
+
 -- ---- no other word is a command
 
 help_is_none : (n : Text) (rest : List Text) → job_read (n ∷ codes "help" ∷ rest) ≡ None
@@ -104,9 +123,11 @@ record Unmet (word : Text) : Type 0 where
   pub no_asm : bytes_eq (codes "asm") word ≡ false
   pub no_list : bytes_eq (codes "list") word ≡ false
   pub no_replay : bytes_eq (codes "replay") word ≡ false
+  pub no_debug : bytes_eq (codes "debug") word ≡ false
+  pub no_run : bytes_eq (codes "run") word ≡ false
 
 none_met : (word : Text) → Unmet word → bytes_eq (codes "help") word ≡ false → subcommand_met (names_of Built) idle word ≡ None
-none_met word unmet no_help = rw (unmet.no_words, unmet.no_asm, unmet.no_list, unmet.no_replay, no_help) refl
+none_met word unmet no_help = rw (unmet.no_words, unmet.no_asm, unmet.no_list, unmet.no_replay, unmet.no_debug, unmet.no_run, no_help) refl
 
 turn_refused : (n word : Text) (rest : List Text) → is_empty (turn_fault Built.top (names_of Built) (words_at false) word) ≡ false → job_read (n ∷ word ∷ rest) ≡ None
 unfolding clap_on_literals job_read
@@ -141,29 +162,42 @@ pub reads_line : (words : List Text) → job_read words ≡ job_of words
 unfolding clap_on_literals job_read job_of
 reads_line [] = refl
 reads_line (n ∷ []) = refl
-reads_line (n ∷ word ∷ rest) = by_words (bytes_eq (codes "words") word) refl
+reads_line (n ∷ word ∷ rest) = by_run (bytes_eq (codes "run") word) refl
   where
+    Means : Text → Type 0
+    Means w = job_read (n ∷ w ∷ rest) ≡ cond (bytes_eq (codes "run") w) (run_job (n ∷ w ∷ rest)) (command_job w rest)
+
     Same : Text → Type 0
     Same w = job_read (n ∷ w ∷ rest) ≡ command_job w rest
 
     nothing : Unmet word → None ≡ command_job word rest
-    nothing unmet = rw (unmet.no_words, unmet.no_asm, unmet.no_list, unmet.no_replay) refl
+    nothing unmet = rw (unmet.no_words, unmet.no_asm, unmet.no_list, unmet.no_replay, unmet.no_debug) refl
 
-    by_replay : (b : Bool) → bytes_eq (codes "words") word ≡ false → bytes_eq (codes "asm") word ≡ false → bytes_eq (codes "list") word ≡ false
-        → bytes_eq (codes "replay") word ≡ b → Same word
-    by_replay true no_words no_asm no_list replay = subst Same (is_word (codes "replay") word replay) (replay_job_is n rest ∙ replay_outcome rest)
-    by_replay false no_words no_asm no_list no_replay =
-        let unmet : Unmet word = record { no_words = no_words; no_asm = no_asm; no_list = no_list; no_replay = no_replay } in
+    by_debug : (b : Bool) → bytes_eq (codes "run") word ≡ false → bytes_eq (codes "words") word ≡ false → bytes_eq (codes "asm") word ≡ false → bytes_eq (codes "list") word ≡ false
+        → bytes_eq (codes "replay") word ≡ false → bytes_eq (codes "debug") word ≡ b → Same word
+    by_debug true no_run no_words no_asm no_list no_replay debug = subst Same (is_word (codes "debug") word debug) (debug_job_is n rest ∙ debug_outcome rest)
+    by_debug false no_run no_words no_asm no_list no_replay no_debug =
+        let unmet : Unmet word = record { no_words = no_words; no_asm = no_asm; no_list = no_list; no_replay = no_replay; no_debug = no_debug; no_run = no_run } in
         no_command n word rest unmet ∙ nothing unmet
 
-    by_list : (b : Bool) → bytes_eq (codes "words") word ≡ false → bytes_eq (codes "asm") word ≡ false → bytes_eq (codes "list") word ≡ b → Same word
-    by_list true no_words no_asm list = subst Same (is_word (codes "list") word list) (list_job_is n rest ∙ list_outcome rest)
-    by_list false no_words no_asm no_list = by_replay (bytes_eq (codes "replay") word) no_words no_asm no_list refl
+    by_replay : (b : Bool) → bytes_eq (codes "run") word ≡ false → bytes_eq (codes "words") word ≡ false → bytes_eq (codes "asm") word ≡ false → bytes_eq (codes "list") word ≡ false
+        → bytes_eq (codes "replay") word ≡ b → Same word
+    by_replay true no_run no_words no_asm no_list replay = subst Same (is_word (codes "replay") word replay) (replay_job_is n rest ∙ replay_outcome rest)
+    by_replay false no_run no_words no_asm no_list no_replay = by_debug (bytes_eq (codes "debug") word) no_run no_words no_asm no_list no_replay refl
 
-    by_asm : (b : Bool) → bytes_eq (codes "words") word ≡ false → bytes_eq (codes "asm") word ≡ b → Same word
-    by_asm true no_words asm = subst Same (is_word (codes "asm") word asm) (asm_job_is n rest ∙ asm_outcome rest)
-    by_asm false no_words no_asm = by_list (bytes_eq (codes "list") word) no_words no_asm refl
+    by_list : (b : Bool) → bytes_eq (codes "run") word ≡ false → bytes_eq (codes "words") word ≡ false → bytes_eq (codes "asm") word ≡ false → bytes_eq (codes "list") word ≡ b → Same word
+    by_list true no_run no_words no_asm list = subst Same (is_word (codes "list") word list) (list_job_is n rest ∙ list_outcome rest)
+    by_list false no_run no_words no_asm no_list = by_replay (bytes_eq (codes "replay") word) no_run no_words no_asm no_list refl
 
-    by_words : (b : Bool) → bytes_eq (codes "words") word ≡ b → Same word
-    by_words true words = subst Same (is_word (codes "words") word words) (words_job_is n rest ∙ words_outcome rest)
-    by_words false no_words = by_asm (bytes_eq (codes "asm") word) no_words refl
+    by_asm : (b : Bool) → bytes_eq (codes "run") word ≡ false → bytes_eq (codes "words") word ≡ false → bytes_eq (codes "asm") word ≡ b → Same word
+    by_asm true no_run no_words asm = subst Same (is_word (codes "asm") word asm) (asm_job_is n rest ∙ asm_outcome rest)
+    by_asm false no_run no_words no_asm = by_list (bytes_eq (codes "list") word) no_run no_words no_asm refl
+
+    by_words : (b : Bool) → bytes_eq (codes "run") word ≡ false → bytes_eq (codes "words") word ≡ b → Same word
+    by_words true no_run words = subst Same (is_word (codes "words") word words) (words_job_is n rest ∙ words_outcome rest)
+    by_words false no_run no_words = by_asm (bytes_eq (codes "asm") word) no_run no_words refl
+
+    by_run : (b : Bool) → bytes_eq (codes "run") word ≡ b → Means word
+    by_run true run = subst Means (is_word (codes "run") word run) (run_job_is n rest)
+    by_run false no_run = subst (λ (b : Bool). job_read (n ∷ word ∷ rest) ≡ cond b (run_job (n ∷ word ∷ rest)) (command_job word rest)) (sym no_run)
+        (by_words (bytes_eq (codes "words") word) no_run refl)

@@ -1,8 +1,13 @@
 use Rattle.std.specs.Prelude.{◌≡◌, ℕ, ◌==◌, ◌&&◌, Bool, false, is_some, drop, slice_get, List, [], ◌∷◌, map, Contains, Option, Some, None, option_map, option_and_then, codes, if◌then◌else◌}
 use Rattle.std.specs.Borrow.{Bor}
 use Rattle.std.specs.Str.{bytes_eq, chars}
+use Rattle.clap.specs.Words.{Row, first_of, subcommand_of}
+use Rattle.rv_collide.specs.Numbers.{numbers}
+use Rattle.rvcollide.specs.Reading.{is_accepted, program}
+use Rattle.rvcollide.specs.RunLine.{Asking, IsRunGiven, asking_at}
 use Rattle.rvcollide.specs.declared.command.Job.{Job}
 use Rattle.rvcollide.specs.declared.command.Job.TheVariants as job
+use Rattle.rvcollide.specs.declared.run.options.Options.{Options}
 
 -- Which job a command line asks for. A word is the list of its bytes.
 
@@ -16,6 +21,20 @@ pub data Asked : Type 0 where
   Asm : (source image : List ℕ) → Asked
   Listing : (image : List ℕ) → Asked
   Replay : (image schedule : List ℕ) → Asked
+  Debug : (image schedule : List ℕ) → Asked
+  Run : (image : List ℕ) → (asking : Asking) → (save : Option (List ℕ)) → Asked
+
+-- the options of `run`, with their texts
+abbrev pub asking_of : Options → Asking
+asking_of options = record {
+  plan = numbers options.plan;
+  seed = options.seed;
+  runs = options.runs;
+  workers = options.workers;
+  named = option_map (λ text. text.now) options.named;
+  skip = option_map (λ text. text.now) options.skip;
+  keep = options.keep;
+}
 
 -- what a job asks for: each of its paths in its own role
 abbrev pub asked : Job → Asked
@@ -23,8 +42,10 @@ asked job.Words = Words
 asked (job.Asm source image) = Asm source.0.now image.0.now
 asked (job.List image) = Listing image.0.now
 asked (job.Replay image schedule) = Replay image.0.now schedule.0.now
+asked (job.Debug image schedule) = Debug image.0.now schedule.0.now
+asked (job.Run image options save) = Run image.0.now (asking_of options) (option_map (λ path. path.0.now) save)
 
--- a hyphen and a character after it begin an option, and no command has options
+-- a hyphen and a character after it begin an option. No command but `run` has options.
 abbrev pub is_option : List ℕ → Bool
 is_option [] = false
 is_option (byte ∷ rest) = byte == 45 && is_some (slice_get (chars rest) 0)
@@ -57,6 +78,20 @@ abbrev pub replay_of : List (List ℕ) → Option Asked
 replay_of (image ∷ schedule ∷ []) = Some (Replay image schedule)
 replay_of _ = None
 
+-- `debug IMAGE SCHEDULE`
+abbrev pub debug_of : List (List ℕ) → Option Asked
+debug_of (image ∷ schedule ∷ []) = Some (Debug image schedule)
+debug_of _ = None
+
+-- `run IMAGE` with its options, in what `clap` finds for them
+abbrev pub run_of : List Row → Option Asked
+run_of rows = option_and_then (λ image. option_map (λ asking. Run image asking (first_of (codes "save") rows))
+    (asking_at rows)) (first_of (codes "IMAGE") rows)
+
+-- the job of a line whose command is `run`: `clap` finds no fault in it, and each number is in its range
+abbrev pub run_job : List (List ℕ) → Option Asked
+run_job words = if is_accepted words then option_and_then (λ found. run_of found.1) (subcommand_of program words) else None
+
 -- the job of the command of this name with these words after it
 abbrev pub command_job : List ℕ → List (List ℕ) → Option Asked
 command_job name rest =
@@ -64,11 +99,12 @@ command_job name rest =
     else (if bytes_eq (codes "asm") name then option_and_then asm_of (arguments rest)
     else (if bytes_eq (codes "list") name then option_and_then list_of (arguments rest)
     else (if bytes_eq (codes "replay") name then option_and_then replay_of (arguments rest)
-    else None)))
+    else (if bytes_eq (codes "debug") name then option_and_then debug_of (arguments rest)
+    else None))))
 
 -- the job that a line asks for: the program's name, the command's, and the command's words
 unfoldable pub job_of : List (List ℕ) → Option Asked
-job_of (name ∷ command ∷ rest) = command_job command rest
+job_of (name ∷ command ∷ rest) = if bytes_eq (codes "run") command then run_job (name ∷ command ∷ rest) else command_job command rest
 job_of _ = None
 
 -- the command's name and each path of the job stand in the line
@@ -77,3 +113,5 @@ IsGiven words Words = slice_get words 1 ≡ Some (codes "words")
 IsGiven words (Asm source image) = (slice_get words 1 ≡ Some (codes "asm")) × Contains (drop 2 words) source × Contains (drop 2 words) image
 IsGiven words (Listing image) = (slice_get words 1 ≡ Some (codes "list")) × Contains (drop 2 words) image
 IsGiven words (Replay image schedule) = (slice_get words 1 ≡ Some (codes "replay")) × Contains (drop 2 words) image × Contains (drop 2 words) schedule
+IsGiven words (Debug image schedule) = (slice_get words 1 ≡ Some (codes "debug")) × Contains (drop 2 words) image × Contains (drop 2 words) schedule
+IsGiven words (Run image asking save) = (slice_get words 1 ≡ Some (codes "run")) × IsRunGiven (drop 2 words) image asking save

@@ -7,6 +7,7 @@ pub mod Notice
 pub mod Prefix
 pub mod Reading
 pub mod Replay
+pub mod RunLine
 pub mod Sources
 pub mod StepsLaw
 pub mod StepsLine

@@ -1,4 +1,4 @@
-use Rattle.std.specs.Prelude.{Bool, true, false, not, ◌&&◌, List}
+use Rattle.std.specs.Prelude.{Bool, true, false, not, ◌&&◌, ◌++◌, List, Option, Some, codes}
 use Rattle.std.specs.List.{list_all, list_any}
 use Rattle.std.specs.String.{string_bytes}
 use Rattle.clap.specs.Words.{Text}
@@ -6,6 +6,9 @@ use Rattle.clap.specs.Faults.{fault_of}
 use Rattle.clap.specs.declared.error.kind.ErrorKind.{ErrorKind}
 use Rattle.clap.specs.declared.error.kind.ErrorKind.TheVariants as kind
 use Rattle.rvcollide.specs.Reading.{is_accepted, program}
+use Rattle.std.specs.Fmt.{decimal}
+use Rattle.rvcollide.specs.declared.command.complaint.Complaint.{Complaint}
+use Rattle.rvcollide.specs.declared.command.complaint.Complaint.TheVariants as complaint
 use Rattle.rvcollide.specs.declared.command.Notice.{Notice}
 use Rattle.rvcollide.specs.declared.command.Notice.TheVariants.{Answer, Refusal}
 
@@ -32,3 +35,13 @@ text_of (Refusal text) = string_bytes text
 abbrev pub is_answer : Notice → Bool
 is_answer (Answer text) = true
 is_answer (Refusal text) = false
+
+-- what is told of a line in which `clap` finds no fault
+abbrev pub complaint_output : Complaint → Option Text
+complaint_output (complaint.Number option value) =
+    Some (codes "error: invalid value '" ++ value.now ++ codes "' for '--" ++ option.name.now ++ codes "': it is a decimal number from "
+    ++ decimal option.least ++ codes " to " ++ decimal option.most ++ codes "\n")
+complaint_output (complaint.Keep value runs) =
+    Some (codes "error: invalid value '" ++ (value.now ++ (codes "' for '--keep': it is less than '--runs', which is "
+    ++ (decimal runs ++ codes "\n"))))
+complaint_output complaint.Words = Some (codes "error: the command line is refused\n")

@@ -11,3 +11,7 @@ pub struct ImagePath<'a>(pub &'a str);
 /// The path of a schedule.
 #[derive(Clone, Copy, Debug, PartialEq, Eq)]
 pub struct SchedulePath<'a>(pub &'a str);
+
+/// The path of a file for a schedule that is saved.
+#[derive(Clone, Copy, Debug, PartialEq, Eq)]
+pub struct SavePath<'a>(pub &'a str);

@@ -1,11 +1,12 @@
 //! The command line: which job its words ask for. `clap` reads the words, and this module says which
 //! commands there are.
-ghost use Rattle.std.specs.Prelude.{◌≡◌, ◌⊎◌, ◌≢◌, IfErr, IfOk, IfSome, MatchResult, Some, None, true, false, option_and_then, option_map};
+ghost use Rattle.std.specs.Prelude.{◌≡◌, ◌⊎◌, ◌≢◌, IfErr, IfOk, IfSome, MatchResult, Some, None, true, false, option_and_then, option_map, codes};
+ghost use Rattle.std.specs.Str.{bytes_eq};
 ghost use Rattle.std.specs.String.{string_bytes};
 ghost use Rattle.clap.specs.Faults.{fault_of};
 ghost use Rattle.clap.specs.Kinds.{FailsBy};
 ghost use Rattle.clap.specs.Matches.{found_of};
-ghost use Rattle.clap.specs.Simple.{app_of, shape_of, subcommand_of, subcommand_rows_of};
+ghost use Rattle.clap.specs.Simple.{app_of, new_app, new_shape, shape_of, subcommand_of, subcommand_rows_of};
 ghost use Rattle.clap.specs.Values.{kind_of};
 ghost use Rattle.clap.specs.Walk.{first_of, rows_of, rule_of};
 ghost use Rattle.clap.specs.declared.builder.command.Command.TheViews.{out-Command as fields_of};
@@ -14,7 +15,13 @@ ghost use Rattle.rvcollide.specs.Notice as notice;
 ghost use Rattle.rvcollide.specs.Reading as reading;
 ghost use Rattle.rvcollide.specs.internal.Reading as jobs;
 
-use crate::arguments::{ImagePath, SchedulePath, SourcePath};
+pub mod complaint;
+pub mod run;
+
+use crate::arguments::{ImagePath, SavePath, SchedulePath, SourcePath};
+use crate::command::complaint::Complaint;
+use crate::command::run::{run_command, run_of};
+use crate::run::options::Options;
 use clap::error::ErrorKind;
 use clap::{Arg, ArgMatches, Command, Error};
 use std::alloc::{AllocError, Global};
@@ -38,6 +45,17 @@ pub enum Job<'a> {
     Replay {
         image: ImagePath<'a>,
         schedule: SchedulePath<'a>,
+    },
+    /// `debug IMAGE SCHEDULE`: show the places of a schedule.
+    Debug {
+        image: ImagePath<'a>,
+        schedule: SchedulePath<'a>,
+    },
+    /// `run IMAGE` with its options: hunt races in many runs, and save a schedule where a file is given.
+    Run {
+        image: ImagePath<'a>,
+        options: Options<'a>,
+        save: Option<SavePath<'a>>,
     },
 }
 
@@ -67,7 +85,7 @@ pub fn command_of<'a>(alloc: Global, words: &'a [&'a str]) -> Result<Job<'a>, Li
     ensures line { IfErr result (λ e. e ≡ LineFault.Line → spec.job_of (spec.texts words.entry.now) ≡ None) }
 {
     match read_line(alloc, words) {
-        Ok(matches) => job_in(&matches).ok_or(LineFault::Line),
+        Ok(matches) => job_in(&matches).map_err(|_| LineFault::Line),
         Err(error) => Err(line_fault(&error)),
     }
 }
@@ -79,7 +97,7 @@ pub fn notice_of<'a>(alloc: Global, words: &'a [&'a str]) -> Result<Notice, Line
     ensures memory { IfErr result (λ e. e ≡ LineFault.NoMemory) }
 {
     match read_line(alloc, words) {
-        Ok(_) => refused(alloc),
+        Ok(matches) => refused(alloc, &matches),
         Err(error) => shown(alloc, &error),
     }
 }
@@ -99,15 +117,13 @@ fn shown(alloc: Global, error: &Error) -> Result<Notice, LineFault>
 }
 
 /// The refusal of a line in which `clap` finds no fault.
-fn refused(alloc: Global) -> Result<Notice, LineFault>
+fn refused<'a>(alloc: Global, matches: &ArgMatches<'a>) -> Result<Notice, LineFault>
     ensures notice { IfOk result (λ n. notice.is_answer n ≡ false) }
     ensures memory { IfErr result (λ e. e ≡ LineFault.NoMemory) }
 {
-    Ok(Notice::Refusal(text(alloc, &NO_FAULT)?))
+    let complaint = job_in(matches).err().unwrap_or(Complaint::Words);
+    Ok(Notice::Refusal(text(alloc, &complaint)?))
 }
-
-/// What is told of such a line.
-const NO_FAULT: &str = "error: the command line is refused\n";
 
 fn text<T: Display>(alloc: Global, shown: &T) -> Result<String, LineFault>
     ensures text { IfOk result (λ text. IfSome (T.output shown.now) (λ bytes. string_bytes text ≡ bytes)) }
@@ -141,9 +157,17 @@ fn read_line<'a>(alloc: Global, words: &'a [&'a str]) -> Result<ArgMatches<'a>, 
 fn program<'a>(alloc: Global) -> Result<Command<'a>, AllocError>
     ensures { IfOk result (λ c. app_of c ≡ reading.program) }
 {
+    with_schedules(alloc)?.subcommand(run_command(alloc)?)
+}
+
+/// The program with the commands that read texts or a schedule.
+fn with_schedules<'a>(alloc: Global) -> Result<Command<'a>, AllocError>
+    ensures { IfOk result (λ c. app_of c ≡ reading.with_schedules) }
+{
     with_texts(alloc)?
         .subcommand(list_command(alloc)?)?
-        .subcommand(replay_command(alloc)?)
+        .subcommand(replay_command(alloc)?)?
+        .subcommand(debug_command(alloc)?)
 }
 
 /// The program with the commands that read texts.
@@ -195,6 +219,57 @@ fn replay_command<'a>(alloc: Global) -> Result<Command<'a>, AllocError>
         .arg(required_word(alloc, "SCHEDULE").help("File with a schedule"))
 }
 
+fn debug_command<'a>(alloc: Global) -> Result<Command<'a>, AllocError>
+    ensures { IfOk result (λ c. (shape_of c ≡ reading.debug_shape) × ((fields_of c).has_globals ≡ false)) }
+{
+    let about = "Shows the places of a schedule, by commands on the standard input";
+    described_command(alloc, "debug", about, DEBUGGER)
+        .arg(described_word(alloc, "IMAGE", "ELF32 file"))?
+        .arg(described_word(alloc, "SCHEDULE", "File with a schedule"))
+}
+
+/// A command with a text before the list of its arguments and one after it.
+pub fn described_command<'a>(
+    alloc: Global,
+    name: &'a str,
+    about: &'a str,
+    after: &'a str,
+) -> Command<'a>
+    ensures app { app_of result ≡ new_app name.entry.now }
+    ensures shape { shape_of result ≡ new_shape name.entry.now }
+    ensures local { (fields_of result).has_globals ≡ false }
+{
+    Command::new(alloc, name).about(about).after_help(after)
+}
+
+/// What the help of `debug` says of the debugger's commands.
+const DEBUGGER: &str = "\
+Place N is the state after the first N entries of the schedule, and the session begins at place 0.
+Commands, one in each line:
+  g N           go to place N, as in g 4; the answer is the place: at 4
+  f             one place forwards: at 5
+  b             one place back: at 4
+  x H           the registers of hart H, as in x 0: hart 0 running pc 00010004 x2 c0010000
+  m ADDR LEN    LEN bytes of memory, 1 to 256, as in m 00020000 4: 00020000: 01 00 00 00
+  l ADDR COUNT  COUNT instructions, 1 to 64, as in l 00010000 1: 00010000: 00020337 lui x6, 0x20
+  w ADDR        find the next entry that touches the byte, as in w 00020000: found 4; the session then
+                stands behind that entry
+  q             end the session, as the end of the input does
+
+Numbers are decimal without leading zeros, addresses eight hexadecimal digits. What is refused leaves
+the place as it was and is answered by a line such as fault 1 NoPlace:
+  fault 0 Command  the line is no command       fault 3 NoBytes   no memory there, or misaligned
+  fault 1 NoPlace  the schedule is shorter      fault 4 NotFound  no such entry from here on
+  fault 2 NoHart   the machine has fewer harts  fault 5 NoMemory  want of memory";
+
+/// An argument that has to stand at its place, and what the help says of it.
+pub fn described_word<'a>(alloc: Global, name: &'a str, help: &'a str) -> Arg<'a>
+    ensures rule { rule_of result ≡ reading.required_word name.entry.now }
+    ensures local { result.global ≡ false }
+{
+    required_word(alloc, name).help(help)
+}
+
 /// An argument that has to stand at its place.
 fn required_word<'a>(alloc: Global, name: &'a str) -> Arg<'a>
     ensures rule { rule_of result ≡ reading.required_word name.entry.now }
@@ -204,15 +279,28 @@ fn required_word<'a>(alloc: Global, name: &'a str) -> Arg<'a>
 }
 
 /// The job that `clap` found.
-fn job_in<'a>(matches: &ArgMatches<'a>) -> Option<Job<'a>>
-    ensures { option_map spec.asked result ≡ option_and_then jobs.job_in (subcommand_rows_of matches.now) }
+fn job_in<'a>(matches: &ArgMatches<'a>) -> Result<Job<'a>, Complaint<'a>>
+    ensures { MatchResult result (λ job. option_and_then jobs.job_in (subcommand_rows_of matches.now) ≡ Some (spec.asked job))
+        (λ _. option_and_then jobs.job_in (subcommand_rows_of matches.now) ≡ None) }
 {
-    let (name, given) = matches.subcommand()?;
+    let (name, given) = matches.subcommand().ok_or(Complaint::Words)?;
     job_at(name, given)
 }
 
 /// The job of the command of this name.
-fn job_at<'a>(name: &str, given: &ArgMatches<'a>) -> Option<Job<'a>>
+fn job_at<'a>(name: &str, given: &ArgMatches<'a>) -> Result<Job<'a>, Complaint<'a>>
+    ensures { MatchResult result (λ job. jobs.job_in (name.now, rows_of (found_of given.now)) ≡ Some (spec.asked job))
+        (λ _. jobs.job_in (name.now, rows_of (found_of given.now)) ≡ None) }
+{
+    match name {
+        "run" => run_of(given),
+        _ => path_job_at(name, given).ok_or(Complaint::Words),
+    }
+}
+
+/// The job of a command that has paths alone.
+fn path_job_at<'a>(name: &str, given: &ArgMatches<'a>) -> Option<Job<'a>>
+    requires { bytes_eq name.now (codes "run") ≡ false }
     ensures { option_map spec.asked result ≡ jobs.job_in (name.now, rows_of (found_of given.now)) }
 {
     match name {
@@ -220,6 +308,7 @@ fn job_at<'a>(name: &str, given: &ArgMatches<'a>) -> Option<Job<'a>>
         "asm" => asm_of(given),
         "list" => list_of(given),
         "replay" => replay_of(given),
+        "debug" => debug_of(given),
         _ => None,
     }
 }
@@ -255,9 +344,20 @@ fn replay_of<'a>(given: &ArgMatches<'a>) -> Option<Job<'a>>
     })
 }
 
+fn debug_of<'a>(given: &ArgMatches<'a>) -> Option<Job<'a>>
+    ensures { option_map spec.asked result ≡ jobs.debug_in (rows_of (found_of given.now)) }
+{
+    let image = text_of(given, "IMAGE")?;
+    let schedule = text_of(given, "SCHEDULE")?;
+    Some(Job::Debug {
+        image: ImagePath(image),
+        schedule: SchedulePath(schedule),
+    })
+}
+
 /// The word that was given for an argument.
 #[tactic(auto, using(crate::proofs::LineLemmas::text_found))]
-fn text_of<'a>(given: &ArgMatches<'a>, name: &str) -> Option<&'a str>
+pub fn text_of<'a>(given: &ArgMatches<'a>, name: &str) -> Option<&'a str>
     ensures { option_map (λ s. s.now) result ≡ first_of name.now (rows_of (found_of given.now)) }
 {
     given.get_str(name)

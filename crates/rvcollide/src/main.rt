@@ -16,8 +16,10 @@ pub mod image;
 pub mod list;
 pub mod new_file;
 pub mod replay;
+pub mod run;
 pub mod words;
 
+use crate::arguments::{ImagePath, SavePath, SchedulePath};
 use crate::asm::run_asm;
 use crate::command::{Job, LineFault, Notice, command_of, notice_of};
 use crate::failure::Failure;
@@ -25,6 +27,7 @@ use crate::fault::Fault;
 use crate::files::{InputFile, OutputFile};
 use crate::list::run_list;
 use crate::replay::engine::run_replay;
+use crate::run::options::Options;
 use crate::words::engine::run_words;
 use rv_memory::buffered::Buffered;
 use rv_memory::flagged::Flagged;
@@ -32,7 +35,7 @@ use std::env;
 use std::process::ExitCode;
 
 fn main(rt: HostRuntime) -> ExitCode {
-    let Err(failure) = run(&rt) else {
+    let Err(failure) = run_program(&rt) else {
         return ExitCode::SUCCESS;
     };
     if !failure.is_told() {
@@ -43,7 +46,7 @@ fn main(rt: HostRuntime) -> ExitCode {
 }
 
 /// Runs the command of the program's arguments.
-fn run(rt: &HostRuntime) -> Result<(), Failure> {
+fn run_program(rt: &HostRuntime) -> Result<(), Failure> {
     let alloc = rt.alloc();
     let arguments: Vec<String> = env::args(rt)?.collect(alloc)?;
     let words: Vec<&str> = arguments.iter().map(|word| word.as_str()).collect(alloc)?;
@@ -73,7 +76,32 @@ fn run_job(rt: &HostRuntime, job: Job<'_>) -> Result<(), Fault> {
             let mut schedule = Flagged::new(InputFile::new(rt, schedule.0));
             run_replay(alloc, &mut image, &mut schedule, &mut writer)
         }
+        Job::Debug { image, schedule } => debug(rt, image, schedule),
+        Job::Run {
+            image,
+            options,
+            save,
+        } => hunt(rt, image, options, save),
     }
+}
+
+/// To be replaced by the engine of `debug`.
+fn debug<'a>(
+    _rt: &HostRuntime,
+    _image: ImagePath<'a>,
+    _schedule: SchedulePath<'a>,
+) -> Result<(), Fault> {
+    Err(Fault::Read)
+}
+
+/// To be replaced by the engine of `run`.
+fn hunt<'a>(
+    _rt: &HostRuntime,
+    _image: ImagePath<'a>,
+    _options: Options<'a>,
+    _save: Option<SavePath<'a>>,
+) -> Result<(), Fault> {
+    Err(Fault::Read)
 }
 
 /// Writes why the words give no job, or the help that they ask for.

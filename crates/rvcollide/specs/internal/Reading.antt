@@ -1,7 +1,7 @@
 use Rattle.std.specs.Prelude.{List, Option, Some, None, option_and_then, option_map, codes, if◌then◌else◌}
 use Rattle.std.specs.Str.{bytes_eq}
 use Rattle.clap.specs.Words.{Row, Text, first_of, subcommand_of}
-use Rattle.rvcollide.specs.Command.{Asked, Words, Asm, Listing, Replay}
+use Rattle.rvcollide.specs.Command.{Asked, Words, Asm, Listing, Replay, Debug, run_of}
 use Rattle.rvcollide.specs.Reading.{is_accepted, program}
 
 -- The job in what `clap` finds. It is proved to be the one that the words spell.
@@ -20,6 +20,11 @@ abbrev pub replay_in : List Row → Option Asked
 replay_in rows = option_and_then (λ image. option_map (λ schedule. Replay image schedule)
     (first_of (codes "SCHEDULE") rows)) (first_of (codes "IMAGE") rows)
 
+-- the same for `debug`
+abbrev pub debug_in : List Row → Option Asked
+debug_in rows = option_and_then (λ image. option_map (λ schedule. Debug image schedule)
+    (first_of (codes "SCHEDULE") rows)) (first_of (codes "IMAGE") rows)
+
 -- the job of the command that `clap` met
 abbrev pub job_in : Text × List Row → Option Asked
 job_in p =
@@ -27,7 +32,9 @@ job_in p =
     else (if bytes_eq p.0 (codes "asm") then asm_in p.1
     else (if bytes_eq p.0 (codes "list") then list_in p.1
     else (if bytes_eq p.0 (codes "replay") then replay_in p.1
-    else None)))
+    else (if bytes_eq p.0 (codes "debug") then debug_in p.1
+    else (if bytes_eq p.0 (codes "run") then run_of p.1
+    else None)))))
 
 -- the job that `clap` finds
 unfoldable pub job_read : List Text → Option Asked

@@ -17,6 +17,10 @@ fn reads_each_command(rt: HostRuntime) {
         image: ImagePath("a.elf"),
         schedule: SchedulePath("a.txt"),
     };
+    let debug = Job::Debug {
+        image: ImagePath("a.elf"),
+        schedule: SchedulePath("a.txt"),
+    };
     let odd = Job::Replay {
         image: ImagePath("-"),
         schedule: SchedulePath(""),
@@ -26,6 +30,10 @@ fn reads_each_command(rt: HostRuntime) {
         (["rvcollide", "asm", "a.s", "a.elf"].as_slice(), ASM),
         (["rvcollide", "list", "a.elf"].as_slice(), list),
         (["rvcollide", "replay", "a.elf", "a.txt"].as_slice(), replay),
+        (
+            ["rvcollide", "debug", "a.elf", "--", "a.txt"].as_slice(),
+            debug,
+        ),
         (["", "words", "--"].as_slice(), Job::Words),
         (["", "asm", "--", "a.s", "a.elf"].as_slice(), ASM),
         (["", "asm", "a.s", "--", "a.elf"].as_slice(), ASM),
@@ -66,6 +74,9 @@ fn refuses_other_lines(rt: HostRuntime) {
         ["", "list", "a", "-é"].as_slice(),
         ["", "replay", "a.elf"].as_slice(),
         ["", "replay", "a.elf", "a.txt", "-"].as_slice(),
+        ["", "debug", "a.elf"].as_slice(),
+        ["", "debug", "a.elf", "a.txt", "1"].as_slice(),
+        ["", "run", "--help"].as_slice(),
         ["", "--help"].as_slice(),
         ["", "help"].as_slice(),
         ["", "--version"].as_slice(),
@@ -112,6 +123,16 @@ fn says_what_a_line_lacks(rt: HostRuntime) -> Result<(), Fail> {
             ["rvcollide", "replay", "-h"].as_slice(),
             true,
             "Usage: rvcollide replay <IMAGE> <SCHEDULE>",
+        ),
+        (
+            ["rvcollide", "debug", "--help"].as_slice(),
+            true,
+            "fault 1 NoPlace",
+        ),
+        (
+            ["rvcollide", "run", "-h"].as_slice(),
+            true,
+            "rvcollide run [OPTIONS]",
         ),
         (["rvcollide"].as_slice(), false, "error: "),
         (["rvcollide", "asm", "a.s"].as_slice(), false, "<IMAGE>"),

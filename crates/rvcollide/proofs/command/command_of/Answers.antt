@@ -9,4 +9,4 @@ returns-in-Ok-clause-job c = search rules
 
 pub returns-in-Ok-clause-given : goal.returns-in-Ok-clause-given
 returns-in-Ok-clause-given c =
-    IfOk-weaker c.ok_or.result _ _ (λ job is. given_at (texts c.args.words.now) (asked job) is) (returns-in-Ok-clause-job c)
+    IfOk-weaker c.map_err.result _ _ (λ job is. given_at (texts c.args.words.now) (asked job) is) (returns-in-Ok-clause-job c)

@@ -3,10 +3,10 @@ use Rattle.rvcollide.specs.Notice.{is_answer}
 use Rattle.rvcollide.proofs.LineLemmas.{answer_asked, refusal_told}
 use Rattle.rvcollide.proofs.command.notice_of.Goals as goal
 
-pub returns-clause-answer : goal.returns-clause-answer
-returns-clause-answer c =
+pub returns-in-Err-clause-answer : goal.returns-in-Err-clause-answer
+returns-in-Err-clause-answer c =
     IfOk-weaker c.shown.result _ _ (λ n told. answer_asked _ c.in-Err.error (is_answer n) c.in-Err.ensures.kinds told.1 told.0) c.shown.ensures.notice
 
-pub returns-clause-refusal : goal.returns-clause-refusal
-returns-clause-refusal c =
+pub returns-in-Err-clause-refusal : goal.returns-in-Err-clause-refusal
+returns-in-Err-clause-refusal c =
     IfOk-weaker c.shown.result _ _ (λ n told. refusal_told _ c.in-Err.error (is_answer n) c.in-Err.ensures.kinds told.1 told.0) c.shown.ensures.notice

@@ -1,0 +1,170 @@
+-- Each option of a line of `run` that gives a job stands in its words.
+use Rattle.std.proofs.Common.{◌≡◌, ◌≤◌, ◌<◌, ◌+◌, ℕ, refl, sym, subst, cond, true, false, List, Option, Some, None, [], ◌∷◌, inl, inr, arith, codes, nat_le, nat_lt}
+use Rattle.std.proofs.lemmas.Bool.Decides.{nat_tests}
+use Rattle.std.specs.Prelude.{Bool, ◌⊎◌, Contains, IfSome, is_some, option_and_then, option_map}
+use Rattle.std.specs.Str.{bytes_eq}
+use Rattle.clap.specs.Simple.{subcommand_of}
+use Rattle.clap.specs.Walk.{Row, Rule, Text, first_of, rows_after}
+use Rattle.clap.proofs.OnLiterals.{clap_on_literals}
+use Rattle.rv_collide.specs.Plan.{Numbers}
+use Rattle.rv_text.specs.Numeral.{number_of, up_to}
+use Rattle.rvcollide.proofs.LeafLemmas.{leaf}
+use Rattle.rvcollide.proofs.OptionLemmas.{Each, RowsStand, Told, image_stands, rows_stand, value_stands}
+use Rattle.rvcollide.proofs.ReadsLine.{run_rows}
+use Rattle.rvcollide.specs.Command.{IsGiven, Run, run_job, run_of}
+use Rattle.rvcollide.specs.Reading.{is_accepted, program}
+use Rattle.rvcollide.specs.RunLine.{Asking, Gives, GivesNumber, IsRunGiven, asking_at, keep_at, number_at, number_in, number_or, plan_at}
+
+-- ---- the arguments of `run`
+
+run_told : Each Told (leaf 5).rules
+unfolding clap_on_literals
+run_told = (
+  record { missing = refl; defaults = refl; aliases = refl; short_aliases = refl; acts = inl refl; long = inl refl; short = inl refl; most = omega arith; place = inr (refl, refl) },
+  (
+    record { missing = refl; defaults = refl; aliases = refl; short_aliases = refl; acts = inl refl; long = inr (refl, refl); short = inl refl; most = omega arith; place = inl refl },
+    (
+      record { missing = refl; defaults = refl; aliases = refl; short_aliases = refl; acts = inl refl; long = inr (refl, refl); short = inl refl; most = omega arith; place = inl refl },
+      (
+        record { missing = refl; defaults = refl; aliases = refl; short_aliases = refl; acts = inl refl; long = inr (refl, refl); short = inl refl; most = omega arith; place = inl refl },
+        (
+          record { missing = refl; defaults = refl; aliases = refl; short_aliases = refl; acts = inl refl; long = inr (refl, refl); short = inl refl; most = omega arith; place = inl refl },
+          (
+            record { missing = refl; defaults = refl; aliases = refl; short_aliases = refl; acts = inl refl; long = inr (refl, refl); short = inl refl; most = omega arith; place = inl refl },
+            (
+              record { missing = refl; defaults = refl; aliases = refl; short_aliases = refl; acts = inl refl; long = inr (refl, refl); short = inl refl; most = omega arith; place = inl refl },
+              (
+                record { missing = refl; defaults = refl; aliases = refl; short_aliases = refl; acts = inl refl; long = inr (refl, refl); short = inl refl; most = omega arith; place = inl refl },
+                (
+                  record { missing = refl; defaults = refl; aliases = refl; short_aliases = refl; acts = inl refl; long = inr (refl, refl); short = inl refl; most = omega arith; place = inl refl },
+                  (
+                    record { missing = refl; defaults = refl; aliases = refl; short_aliases = refl; acts = inl refl; long = inr (refl, refl); short = inl refl; most = omega arith; place = inl refl },
+                    (
+                      record { missing = refl; defaults = refl; aliases = refl; short_aliases = refl; acts = inl refl; long = inr (refl, refl); short = inl refl; most = omega arith; place = inl refl },
+                      (
+                        record { missing = refl; defaults = refl; aliases = refl; short_aliases = refl; acts = inl refl; long = inr (refl, refl); short = inl refl; most = omega arith; place = inl refl },
+                        (
+                          record { missing = refl; defaults = refl; aliases = refl; short_aliases = refl; acts = inr refl; long = inr (refl, refl); short = inr refl; most = omega arith; place = inl refl },
+                          tt,
+                        ),
+                      ),
+                    ),
+                  ),
+                ),
+              ),
+            ),
+          ),
+        ),
+      ),
+    ),
+  ),
+)
+
+-- ---- numbers
+
+then_holds : {X Y : Type 0} (P : X → Type 0) (Q : Y → Type 0) (f : X → Option Y) (o : Option X) → IfSome o P → ((x : X) → P x → IfSome (f x) Q) → IfSome (option_and_then f o) Q
+then_holds P Q f None holds then = tt
+then_holds P Q f (Some x) holds then = then x holds
+
+map_holds : {X Y : Type 0} (P : X → Type 0) (Q : Y → Type 0) (f : X → Y) (o : Option X) → IfSome o P → ((x : X) → P x → Q (f x)) → IfSome (option_map f o) Q
+map_holds P Q f None holds then = tt
+map_holds P Q f (Some x) holds then = then x holds
+
+number_holds : (words : List Text) (name text : Text) (least most : ℕ) → Gives words name text → IfSome (number_in least most text) (GivesNumber words name least most)
+number_holds words name text least most stands = go (number_of 10 text) refl
+  where
+    Holds : ℕ → Type 0
+    Holds = GivesNumber words name least most
+
+    within : (n : ℕ) (low high : Bool) → number_of 10 text ≡ Some n → nat_le least n ≡ low → nat_le n most ≡ high
+        → IfSome (option_and_then (λ m. cond (nat_le least m) (Some m) None) (cond high (Some n) None)) Holds
+    within n low false reads less more = tt
+    within n false true reads less more = rw less tt
+    within n true true reads less more = rw less (record { text = text; stands = stands; reads = reads; no_less = grind (arith, nat_tests); no_more = grind (arith, nat_tests) })
+
+    go : (o : Option ℕ) → number_of 10 text ≡ o → IfSome (option_and_then (λ m. cond (nat_le least m) (Some m) None) (up_to most o)) Holds
+    go None reads = tt
+    go (Some n) reads = within n (nat_le least n) (nat_le n most) reads refl refl
+
+module _ (words : List Text) (rows : List Row) (stand : RowsStand words rows) where
+  value : (name : Text) → bytes_eq (codes "IMAGE") name ≡ false → IfSome (first_of name rows) (Gives words name)
+  value name other = value_stands words name rows other stand
+
+  number : (name : Text) (least most : ℕ) → bytes_eq (codes "IMAGE") name ≡ false → IfSome (number_at name least most rows) (GivesNumber words name least most)
+  number name least most other =
+      then_holds (Gives words name) (GivesNumber words name least most) (λ text. number_in least most text) (first_of name rows) (value name other)
+      (λ text stands. number_holds words name text least most stands)
+
+  record PlanGiven (plan : Numbers) : Type 0 where
+    pub harts : GivesNumber words (codes "harts") 1 16 plan.harts
+    pub steps : GivesNumber words (codes "steps") 1 1_000_000 plan.steps
+    pub arms : GivesNumber words (codes "arms") 0 4096 plan.arms
+    pub pause : GivesNumber words (codes "pause") 1 65_535 plan.pause
+
+  plan_given : IfSome (plan_at rows) PlanGiven
+  plan_given =
+      then_holds _ PlanGiven _ (number_at (codes "harts") 1 16 rows) (number (codes "harts") 1 16 refl) (λ harts h.
+      then_holds _ PlanGiven _ (number_at (codes "steps") 1 1_000_000 rows) (number (codes "steps") 1 1_000_000 refl) (λ steps s.
+      then_holds _ PlanGiven _ (number_at (codes "arms") 0 4096 rows) (number (codes "arms") 0 4096 refl) (λ arms a.
+      map_holds _ PlanGiven _ (number_at (codes "pause") 1 65_535 rows) (number (codes "pause") 1 65_535 refl) (λ pause p.
+      record { harts = h; steps = s; arms = a; pause = p }))))
+
+  abbrev KeepGiven : ℕ → Type 0
+  KeepGiven keep = (keep ≡ 0) ⊎ GivesNumber words (codes "keep") 0 999 keep
+
+  keep_given : (runs : ℕ) → IfSome (keep_at runs rows) (λ keep. KeepGiven keep × (keep < runs))
+  keep_given runs = then_holds KeepGiven (λ keep. KeepGiven keep × (keep < runs)) (λ keep. cond (nat_lt keep runs) (Some keep) None) (number_or 0 (codes "keep") 0 999 rows)
+      (which (is_some (first_of (codes "keep") rows))) (λ keep given. below keep given (nat_lt keep runs) refl)
+    where
+      which : (b : Bool) → IfSome (cond b (number_at (codes "keep") 0 999 rows) (Some 0)) KeepGiven
+      which true = or_zero (number_at (codes "keep") 0 999 rows) (number (codes "keep") 0 999 refl)
+        where
+          or_zero : (o : Option ℕ) → IfSome o (GivesNumber words (codes "keep") 0 999) → IfSome o KeepGiven
+          or_zero None is = tt
+          or_zero (Some n) is = inr is
+      which false = inl refl
+
+      below : (keep : ℕ) → KeepGiven keep → (b : Bool) → nat_lt keep runs ≡ b → IfSome (cond b (Some keep) None) (λ k. KeepGiven k × (k < runs))
+      below keep given true is = (given, grind (arith, nat_tests))
+      below keep given false is = tt
+
+  -- what stands in the words of the options that are asked for
+  abbrev AskingGiven : Text → Asking → Type 0
+  AskingGiven path asking = IsRunGiven words path asking (first_of (codes "save") rows)
+
+  asking_given : (path : Text) → Contains words path → IfSome (asking_at rows) (AskingGiven path)
+  asking_given path stands =
+      then_holds _ (AskingGiven path) _ (plan_at rows) plan_given (λ plan p.
+      then_holds _ (AskingGiven path) _ (number_at (codes "seed") 0 4_294_967_295 rows) (number (codes "seed") 0 4_294_967_295 refl) (λ seed s.
+      then_holds _ (AskingGiven path) _ (number_at (codes "runs") 1 1000 rows) (number (codes "runs") 1 1000 refl) (λ runs r.
+      then_holds _ (AskingGiven path) _ (number_at (codes "workers") 1 16 rows) (number (codes "workers") 1 16 refl) (λ workers w.
+      map_holds _ (AskingGiven path) _ (keep_at runs rows) (keep_given runs) (λ keep k.
+      record {
+        image = stands;
+        harts = p.harts;
+        steps = p.steps;
+        arms = p.arms;
+        pause = p.pause;
+        seed = s;
+        runs = r;
+        workers = w;
+        keep = k.0;
+        keep_is_run = k.1;
+        named = value (codes "named") refl;
+        skip = value (codes "skip") refl;
+        save = value (codes "save") refl;
+      })))))
+
+  rows_given : (n : Text) → IfSome (run_of rows) (IsGiven (n ∷ codes "run" ∷ words))
+  rows_given n = then_holds (Contains words) (IsGiven (n ∷ codes "run" ∷ words)) _ (first_of (codes "IMAGE") rows) (image_stands words rows stand) (λ path image.
+      map_holds (AskingGiven path) (IsGiven (n ∷ codes "run" ∷ words)) _ (asking_at rows) (asking_given path image) (λ asking given. (refl, given)))
+
+pub run_given : (n : Text) (rest : List Text) → IfSome (run_job (n ∷ codes "run" ∷ rest)) (IsGiven (n ∷ codes "run" ∷ rest))
+run_given n rest = go (is_accepted (n ∷ codes "run" ∷ rest))
+  where
+    found : IfSome (option_and_then (λ (p : Text × List Row). run_of p.1) (subcommand_of program (n ∷ codes "run" ∷ rest))) (IsGiven (n ∷ codes "run" ∷ rest))
+    found = rw (run_rows n rest) (rows_given rest (rows_after (leaf 5).rules [] rest) (rows_stand (leaf 5).rules run_told rest) n)
+
+    go : (b : Bool) → IfSome (cond b (option_and_then (λ (p : Text × List Row). run_of p.1) (subcommand_of program (n ∷ codes "run" ∷ rest))) None) (IsGiven (n ∷ codes "run" ∷ rest))
+    go true = found
+    go false = tt

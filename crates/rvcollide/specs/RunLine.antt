@@ -1,0 +1,82 @@
+use Rattle.std.specs.Prelude.{ℕ, ◌+◌, ◌≡◌, ◌≤◌, ◌<◌, IfSome, ◌⊎◌, Bool, is_some, nat_le, nat_lt, slice_get, List, ◌∷◌, ◌++◌, Contains, Option, Some, None, option_and_then, option_map, codes, if◌then◌else◌}
+use Rattle.clap.specs.Words.{Row, Text, first_of}
+use Rattle.rv_collide.specs.Plan.{Numbers}
+use Rattle.rv_text.specs.Numeral.{number_of, up_to}
+
+-- The options of `run`: what each value means, and that it stands in the line.
+
+-- what `run` is asked for, but for its files
+pub record Asking : Type 0 where
+  pub plan : Numbers
+  pub seed : ℕ
+  pub runs : ℕ
+  pub workers : ℕ
+  pub named : Option Text
+  pub skip : Option Text
+  pub keep : ℕ
+
+-- the number that a text writes in decimal digits, if it lies in the range
+abbrev pub number_in : ℕ → ℕ → Text → Option ℕ
+number_in least most text = option_and_then (λ n. if nat_le least n then Some n else None) (up_to most (number_of 10 text))
+
+-- the number of an option that has to be given
+abbrev pub number_at : Text → ℕ → ℕ → List Row → Option ℕ
+number_at name least most rows = option_and_then (λ text. number_in least most text) (first_of name rows)
+
+-- the number of an option that may be left out
+abbrev pub number_or : ℕ → Text → ℕ → ℕ → List Row → Option ℕ
+number_or default name least most rows = if is_some (first_of name rows) then number_at name least most rows else Some default
+
+abbrev pub plan_at : List Row → Option Numbers
+plan_at rows =
+    option_and_then (λ harts. option_and_then (λ steps. option_and_then (λ arms. option_map (λ pause.
+    record { harts = harts; steps = steps; arms = arms; pause = pause })
+    (number_at (codes "pause") 1 65_535 rows))
+    (number_at (codes "arms") 0 4096 rows))
+    (number_at (codes "steps") 1 1_000_000 rows))
+    (number_at (codes "harts") 1 16 rows)
+
+-- the run whose schedule is saved: one of those that there are
+abbrev pub keep_at : ℕ → List Row → Option ℕ
+keep_at runs rows = option_and_then (λ keep. if nat_lt keep runs then Some keep else None) (number_or 0 (codes "keep") 0 999 rows)
+
+abbrev pub asking_at : List Row → Option Asking
+asking_at rows =
+    option_and_then (λ plan. option_and_then (λ seed. option_and_then (λ runs. option_and_then (λ workers. option_map (λ keep.
+    record { plan = plan; seed = seed; runs = runs; workers = workers; named = first_of (codes "named") rows; skip = first_of (codes "skip") rows; keep = keep })
+    (keep_at runs rows))
+    (number_at (codes "workers") 1 16 rows))
+    (number_at (codes "runs") 1 1000 rows))
+    (number_at (codes "seed") 0 4_294_967_295 rows))
+    (plan_at rows)
+
+-- ---- what the words after the command's name hold
+
+-- the option stands in the words with this value: `--name value` or `--name=value`
+pub data Gives (words : List Text) (name value : Text) : Type 0 where
+  apart : (place : ℕ) → slice_get words place ≡ Some (codes "--" ++ name) → slice_get words (place + 1) ≡ Some value → Gives words name value
+  joined : Contains words (codes "--" ++ name ++ codes "=" ++ value) → Gives words name value
+
+-- it stands there with a text of this number, which lies in the range
+pub record GivesNumber (words : List Text) (name : Text) (least most n : ℕ) : Type 0 where
+  pub text : Text
+  pub stands : Gives words name text
+  pub reads : number_of 10 text ≡ Some n
+  pub no_less : least ≤ n
+  pub no_more : n ≤ most
+
+-- each option of the job stands in the words
+pub record IsRunGiven (words : List Text) (path : Text) (asking : Asking) (saved : Option Text) : Type 0 where
+  pub image : Contains words path
+  pub harts : GivesNumber words (codes "harts") 1 16 asking.plan.harts
+  pub steps : GivesNumber words (codes "steps") 1 1_000_000 asking.plan.steps
+  pub arms : GivesNumber words (codes "arms") 0 4096 asking.plan.arms
+  pub pause : GivesNumber words (codes "pause") 1 65_535 asking.plan.pause
+  pub seed : GivesNumber words (codes "seed") 0 4_294_967_295 asking.seed
+  pub runs : GivesNumber words (codes "runs") 1 1000 asking.runs
+  pub workers : GivesNumber words (codes "workers") 1 16 asking.workers
+  pub keep : (asking.keep ≡ 0) ⊎ GivesNumber words (codes "keep") 0 999 asking.keep
+  pub keep_is_run : asking.keep < asking.runs
+  pub named : IfSome asking.named (Gives words (codes "named"))
+  pub skip : IfSome asking.skip (Gives words (codes "skip"))
+  pub save : IfSome saved (Gives words (codes "save"))

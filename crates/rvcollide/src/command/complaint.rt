@@ -1,0 +1,47 @@
+ghost use Rattle.rvcollide.specs.Notice as notice;
+
+use std::fmt;
+
+/// An option whose value is a decimal number, and its range.
+#[derive(Clone, Copy, Debug, PartialEq, Eq)]
+pub struct NumberOption {
+    pub name: &'static str,
+    pub least: u32,
+    pub most: u32,
+}
+
+/// Why a line is refused in which `clap` finds no fault.
+#[derive(Clone, Copy, Debug, PartialEq, Eq)]
+pub enum Complaint<'a> {
+    /// The value of an option is no number in its range.
+    Number {
+        option: NumberOption,
+        value: &'a str,
+    },
+    /// The run whose schedule is saved is not among the runs.
+    Keep {
+        value: &'a str,
+        runs: u32,
+    },
+    /// The words are no command with its arguments.
+    Words,
+}
+
+impl<'a> fmt::Display for Complaint<'a> {
+    ghost output = { λ complaint. notice.complaint_output complaint };
+
+    fn fmt<W: fmt::Write>(&self, f: &mut fmt::Formatter<W>) -> fmt::Result {
+        match self {
+            Complaint::Number { option, value } => write!(
+                f,
+                "error: invalid value '{value}' for '--{}': it is a decimal number from {} to {}\n",
+                option.name, option.least, option.most
+            ),
+            Complaint::Keep { value, runs } => write!(
+                f,
+                "error: invalid value '{value}' for '--keep': it is less than '--runs', which is {runs}\n"
+            ),
+            Complaint::Words => f.write_str("error: the command line is refused\n"),
+        }
+    }
+}

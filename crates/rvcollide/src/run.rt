@@ -1,0 +1,3 @@
+//! The command `run`.
+
+pub mod options;
