@@ -1,6 +1,6 @@
 -- What a job says of the words that spell it.
-use Rattle.std.proofs.Common.{◌≡◌, ℕ, zero, suc, refl, subst, sym, true, false, List, Option, Some, None, [], ◌∷◌, arith, codes, length, cond}
-use Rattle.std.specs.Prelude.{Bool, Contains, IfSome, option_and_then, option_map}
+use Rattle.std.proofs.Common.{◌≡◌, zero, suc, refl, subst, true, false, List, Option, Some, None, [], ◌∷◌, arith, codes, cond}
+use Rattle.std.specs.Prelude.{Bool, Contains, IfSome, option_and_then}
 use Rattle.std.specs.Str.{bytes_eq}
 use Rattle.std.proofs.lemmas.Slice.Eq.{bytes_eq-Decides}
 use Rattle.clap.specs.Walk.{Text}

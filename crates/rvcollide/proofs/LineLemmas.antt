@@ -1,6 +1,6 @@
-use Rattle.std.proofs.Common.{subst, Option, Some, sym, ◌∙◌, ◌≡◌, refl, ap, arith, true, List, None, Result, Ok, Err, inl, inr, [], ◌∷◌, false}
+use Rattle.std.proofs.Common.{sym, ◌∙◌, ◌≡◌, refl, ap, arith, true, List, None, Result, Ok, Err, inl, inr, [], ◌∷◌, false}
 use Rattle.std.proofs.lemmas.Bool.Decides.{nat_tests}
-use Rattle.std.specs.Prelude.{IfOk, IfSome, option_and_then, if◌then◌else◌, ◌≢◌, not, ◌||◌, ◌&&◌, Bool, ◌⊎◌, MatchResult}
+use Rattle.std.specs.Prelude.{IfOk, option_and_then, if◌then◌else◌, ◌≢◌, not, ◌||◌, ◌&&◌, Bool, ◌⊎◌, MatchResult}
 use Rattle.clap.specs.Faults.{fault_of, is_simple_and_free}
 use Rattle.clap.specs.Kinds.{FailsBy, HasKind, IsAmong, Kinds}
 use Rattle.clap.specs.Matches.{first_value}

@@ -4,11 +4,11 @@ use Rattle.std.proofs.lemmas.Bool.Decides.{nat_tests}
 use Rattle.std.proofs.lemmas.List.{length-append}
 use Rattle.std.proofs.lemmas.Slice.Eq.{bytes_eq-Decides}
 use Rattle.std.specs.Prelude.{Bool, ⊤, ◌⊎◌, ◌==◌, ◌≤◌, Contains, IfSome, find, is_some, not, slice_get, option_and_then, drop, take}
-use Rattle.std.specs.List.{list_any, before_first, after_first, position_or_len}
+use Rattle.std.specs.List.{before_first, after_first, position_or_len}
 use Rattle.std.specs.Option.{option_map_or}
 use Rattle.std.specs.Str.{bytes_eq, chars}
 use Rattle.clap.specs.Lexer.{long_of, short_of, has_byte}
-use Rattle.clap.specs.Walk.{Held, Outcome, Row, Rule, Step, Text, Waiting, Walk, action_of, after_flag, after_step, arg_by_id, arg_by_index, arg_by_long, arg_by_short, at_row, bundle, bundle_met, bundle_step, default_rows, done, finished, first_of, flag_met, has_long, has_row, has_short, idle, is_multiple, is_pending, long_or_other, more_values, most_values, next, nothing_held, option, option_met, option_word, pending_count, plain, plain_word, positional, positional_held, pushed, reacted, refused, rows_after, settled, settled_rows, short_met, short_or_plain, started, subcommand, subcommand_met, subcommand_or_other, takes_several, takes_values, to_positional, trailing, used, used_as, used_by_id, value, values_or_missing, waits, walk_from, walked, walked_from, long_met, word_met, with_default, with_values, without, reading_by}
+use Rattle.clap.specs.Walk.{Held, Outcome, Row, Rule, Step, Text, Waiting, Walk, action_of, after_flag, after_step, arg_by_id, arg_by_index, arg_by_long, arg_by_short, at_row, bundle, bundle_met, bundle_step, default_rows, done, first_of, flag_met, has_long, has_row, has_short, idle, is_multiple, is_pending, long_or_other, more_values, most_values, next, nothing_held, option, option_met, option_word, pending_count, plain, plain_word, positional, positional_held, pushed, reacted, refused, rows_after, settled, settled_rows, short_met, short_or_plain, started, subcommand, subcommand_met, subcommand_or_other, takes_several, takes_values, to_positional, trailing, used, used_as, used_by_id, value, values_or_missing, waits, walk_from, walked, walked_from, long_met, word_met, with_default, with_values, without, reading_by}
 use Rattle.clap.specs.declared.builder.action.ArgAction.{ArgAction}
 use Rattle.clap.specs.declared.builder.action.ArgAction.TheVariants.{Set, Help}
 use Rattle.clap.specs.declared.builder.value_parser.Reading.{Reading}

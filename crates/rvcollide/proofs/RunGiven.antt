@@ -1,17 +1,17 @@
 -- Each option of a line of `run` that gives a job stands in its words.
-use Rattle.std.proofs.Common.{◌≡◌, ◌≤◌, ◌<◌, ◌+◌, ℕ, refl, sym, subst, cond, true, false, List, Option, Some, None, [], ◌∷◌, inl, inr, arith, codes, nat_le, nat_lt}
+use Rattle.std.proofs.Common.{◌≡◌, ◌<◌, ℕ, refl, cond, true, false, List, Option, Some, None, [], ◌∷◌, inl, inr, arith, codes, nat_le, nat_lt}
 use Rattle.std.proofs.lemmas.Bool.Decides.{nat_tests}
 use Rattle.std.specs.Prelude.{Bool, ◌⊎◌, Contains, IfSome, is_some, option_and_then, option_map}
 use Rattle.std.specs.Str.{bytes_eq}
 use Rattle.clap.specs.Simple.{subcommand_of}
-use Rattle.clap.specs.Walk.{Row, Rule, Text, first_of, rows_after}
+use Rattle.clap.specs.Walk.{Row, Text, first_of, rows_after}
 use Rattle.clap.proofs.OnLiterals.{clap_on_literals}
 use Rattle.rv_collide.specs.Plan.{Numbers}
 use Rattle.rv_text.specs.Numeral.{number_of, up_to}
 use Rattle.rvcollide.proofs.LeafLemmas.{leaf}
 use Rattle.rvcollide.proofs.OptionLemmas.{Each, RowsStand, Told, image_stands, rows_stand, value_stands}
 use Rattle.rvcollide.proofs.ReadsLine.{run_rows}
-use Rattle.rvcollide.specs.Command.{IsGiven, Run, run_job, run_of}
+use Rattle.rvcollide.specs.Command.{IsGiven, run_job, run_of}
 use Rattle.rvcollide.specs.Reading.{is_accepted, program}
 use Rattle.rvcollide.specs.RunLine.{Asking, Gives, GivesNumber, IsRunGiven, asking_at, keep_at, number_at, number_in, number_or, plan_at}
 

@@ -1,4 +1,4 @@
-use Rattle.std.specs.Prelude.{ℕ, ◌+◌, ◌≡◌, ◌≤◌, ◌<◌, IfSome, ◌⊎◌, Bool, is_some, nat_le, nat_lt, slice_get, List, ◌∷◌, ◌++◌, Contains, Option, Some, None, option_and_then, option_map, codes, if◌then◌else◌}
+use Rattle.std.specs.Prelude.{ℕ, ◌+◌, ◌≡◌, ◌≤◌, ◌<◌, IfSome, ◌⊎◌, is_some, nat_le, nat_lt, slice_get, List, ◌++◌, Contains, Option, Some, None, option_and_then, option_map, codes, if◌then◌else◌}
 use Rattle.clap.specs.Words.{Row, Text, first_of}
 use Rattle.rv_collide.specs.Plan.{Numbers}
 use Rattle.rv_text.specs.Numeral.{number_of, up_to}
