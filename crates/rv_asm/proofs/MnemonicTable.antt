@@ -1,6 +1,7 @@
 -- The mnemonics of a listing, read back: a line an operation.
-use Rattle.std.proofs.Common.{◌≡◌, ℕ, Bool, true, false, List, ◌++◌, Ok, refl}
-use Rattle.std.specs.List.{list_all}
+use Rattle.std.proofs.Common.{◌≡◌, ℕ, Bool, true, false, List, ◌++◌, Option, Some, Ok, refl}
+use Rattle.std.specs.List.{find, list_all}
+use Rattle.std.specs.Str.{bytes_eq}
 use Rattle.rv_isa.specs.Form.{has_ordering}
 use Rattle.rv_isa.specs.Operands.{is_ordering}
 use Rattle.rv_isa.specs.Table.{form_of}
@@ -10,64 +11,73 @@ use Rattle.rv_asm.specs.Keyword.{keyword_of}
 use Rattle.rv_asm.specs.Mnemonics.{mnemonic, mnemonic_of, ordering_suffix}
 use Rattle.rv_asm.specs.Text.{is_name_byte}
 use Rattle.rv_asm.specs.declared.reading.keyword.Keyword.TheVariants.{Instr}
+use Rattle.rv_asm.specs.declared.reading.mnemonic.TheConstants.{OPS}
 use Rattle.rv_asm.proofs.PlainLemmas.{all_append}
 
 abbrev pub spelled : Op → Bool → Bool → List ℕ
 spelled op aq rl = mnemonic_of op ++ ordering_suffix aq rl
 
+-- the operation that the text spells with these ordering bits
+abbrev op_in : List Op → Bool → Bool → List ℕ → Option Op
+op_in ops aq rl text = find (λ op. bytes_eq (spelled op aq rl) text) ops
+
+-- each is found by its own mnemonic, and by no earlier one's
+found : (op : Op) → op_in OPS false false (spelled op false false) ≡ Some op
+found Lui = refl
+found Auipc = refl
+found Jal = refl
+found Jalr = refl
+found Beq = refl
+found Bne = refl
+found Blt = refl
+found Bge = refl
+found Bltu = refl
+found Bgeu = refl
+found Lb = refl
+found Lh = refl
+found Lw = refl
+found Lbu = refl
+found Lhu = refl
+found Sb = refl
+found Sh = refl
+found Sw = refl
+found Addi = refl
+found Slti = refl
+found Sltiu = refl
+found Xori = refl
+found Ori = refl
+found Andi = refl
+found Slli = refl
+found Srli = refl
+found Srai = refl
+found Add = refl
+found Sub = refl
+found Sll = refl
+found Slt = refl
+found Sltu = refl
+found Xor = refl
+found Srl = refl
+found Sra = refl
+found Or = refl
+found And = refl
+found Fence = refl
+found Ecall = refl
+found Ebreak = refl
+found LrW = refl
+found ScW = refl
+found AmoswapW = refl
+found AmoaddW = refl
+found AmoxorW = refl
+found AmoandW = refl
+found AmoorW = refl
+found AmominW = refl
+found AmomaxW = refl
+found AmominuW = refl
+found AmomaxuW = refl
+
 plain_named : (op : Op) → keyword_of (spelled op false false) ≡ Ok (Instr (mnemonic op false false))
 unfolding keyword_of
-plain_named Lui = refl
-plain_named Auipc = refl
-plain_named Jal = refl
-plain_named Jalr = refl
-plain_named Beq = refl
-plain_named Bne = refl
-plain_named Blt = refl
-plain_named Bge = refl
-plain_named Bltu = refl
-plain_named Bgeu = refl
-plain_named Lb = refl
-plain_named Lh = refl
-plain_named Lw = refl
-plain_named Lbu = refl
-plain_named Lhu = refl
-plain_named Sb = refl
-plain_named Sh = refl
-plain_named Sw = refl
-plain_named Addi = refl
-plain_named Slti = refl
-plain_named Sltiu = refl
-plain_named Xori = refl
-plain_named Ori = refl
-plain_named Andi = refl
-plain_named Slli = refl
-plain_named Srli = refl
-plain_named Srai = refl
-plain_named Add = refl
-plain_named Sub = refl
-plain_named Sll = refl
-plain_named Slt = refl
-plain_named Sltu = refl
-plain_named Xor = refl
-plain_named Srl = refl
-plain_named Sra = refl
-plain_named Or = refl
-plain_named And = refl
-plain_named Fence = refl
-plain_named Ecall = refl
-plain_named Ebreak = refl
-plain_named LrW = refl
-plain_named ScW = refl
-plain_named AmoswapW = refl
-plain_named AmoaddW = refl
-plain_named AmoxorW = refl
-plain_named AmoandW = refl
-plain_named AmoorW = refl
-plain_named AmominW = refl
-plain_named AmomaxW = refl
-plain_named AmominuW = refl
-plain_named AmomaxuW = refl
+plain_named op = rw (found op) refl
 
 pub mnemonic_back : (op : Op) (aq rl : Bool) → is_ordering (has_ordering (form_of op)) aq ≡ true → is_ordering (has_ordering (form_of op)) rl ≡ true → keyword_of (spelled op aq rl) ≡ Ok (Instr (mnemonic op aq rl))
 unfolding keyword_of
