@@ -236,6 +236,11 @@ pub absent_at : (addresses counts : List ℕ) → IsFiltered addresses counts �
 absent_at addresses counts f a b n is read within none =
     sym (absent addresses counts f a n (read ∙ ap (λ k. get_or counts k n) is) (subst (λ k. k < BUCKETS) is within) none)
 
+-- where there is no address, none is armed
+pub none_armed : (addresses : List ℕ) (a n : ℕ) → n ≡ length addresses → (n == 0) ≡ true → false ≡ contains (from_list {R = nat_cmp} addresses) a
+none_armed [] a n is none = sym (contains-from_list_nat [] a)
+none_armed (x ∷ xs) a n is none = absurd (grind (arith, nat_tests))
+
 pub none_filtered_at : (addresses counts : List ℕ) → addresses ≡ [] → counts ≡ replicate BUCKETS 0 → IsFiltered addresses counts
 none_filtered_at addresses counts none zeros =
     subst (λ (xs : List ℕ). IsFiltered xs counts) (sym none) (subst (λ (ys : List ℕ). IsFiltered [] ys) (sym zeros) none_filtered)

@@ -48,6 +48,9 @@ impl Armed {
     pub fn contains(&self, address: u32) -> bool
         ensures { result ≡ set.contains self.now address }
     {
+        if self.addresses.is_empty() {
+            return false;
+        }
         self.counts[bucket_of(address)] != 0 && self.addresses.contains(&address)
     }
 
