@@ -12,3 +12,6 @@ pub mod RunLemmas
 pub mod StepLemmas
 pub mod WordLemmas
 pub mod SourceLemmas
+pub mod RunHunts
+pub mod RunLists
+pub mod RunTables

@@ -1,13 +1,15 @@
 use Rattle.std.specs.Prelude.{ℕ, Bool, true, false, Option, Some, List, [], codes}
 use Rattle.std.specs.declared.io.ErrorKind.{ErrorKind}
 use Rattle.std.specs.declared.io.ErrorKind.TheVariants as kind
-use Rattle.rvcollide.specs.FaultText.{fault_output, status}
+use Rattle.rvcollide.specs.RunFault.{refusal_output, status}
 use Rattle.rvcollide.specs.declared.command.LineFault.{LineFault}
 use Rattle.rvcollide.specs.declared.command.LineFault.TheVariants as fault
 use Rattle.rvcollide.specs.declared.failure.Failure.{Failure}
 use Rattle.rvcollide.specs.declared.failure.Failure.TheVariants.{Line, NotText, Told}
 use Rattle.rvcollide.specs.declared.fault.Fault.{Fault}
 use Rattle.rvcollide.specs.declared.fault.Fault.TheVariants.{NoMemory, Write}
+use Rattle.rvcollide.specs.declared.run.fault.RunFault.{RunFault}
+use Rattle.rvcollide.specs.declared.run.fault.RunFault.TheVariants.{Plain}
 
 -- the exit status: 2 for a refused command line, and else the fault's
 abbrev pub status_of : Failure → ℕ
@@ -25,21 +27,24 @@ is_told (Told fault) = false
 abbrev pub failure_output : Failure → Option (List ℕ)
 failure_output Line = Some []
 failure_output NotText = Some (codes "an argument is not UTF-8")
-failure_output (Told fault) = fault_output fault
+failure_output (Told fault) = refusal_output fault
 
-abbrev pub told : Fault → Failure
+abbrev pub told : RunFault → Failure
 told fault = Told fault
 
+abbrev pub plain : Fault → Failure
+plain fault = Told (Plain fault)
+
 abbrev pub memory : Failure
-memory = Told NoMemory
+memory = Told (Plain NoMemory)
 
 abbrev pub failure_of_line : LineFault → Failure
 failure_of_line fault.Line = Line
-failure_of_line fault.NoMemory = Told NoMemory
+failure_of_line fault.NoMemory = Told (Plain NoMemory)
 
 -- what the system answered to the program: that memory is out, that an argument is not UTF-8, or that
 -- the standard output failed
 abbrev pub failure_of_kind : ErrorKind → Failure
-failure_of_kind kind.OutOfMemory = Told NoMemory
+failure_of_kind kind.OutOfMemory = Told (Plain NoMemory)
 failure_of_kind kind.InvalidData = NotText
-failure_of_kind _ = Told Write
+failure_of_kind _ = Told (Plain Write)

@@ -1,5 +1,7 @@
+pub mod Campaigns
 pub mod Command
 pub mod Failure
+pub mod Fault
 pub mod FaultText
 pub mod HartsLine
 pub mod Images
@@ -7,12 +9,12 @@ pub mod Notice
 pub mod Prefix
 pub mod Reading
 pub mod Replay
+pub mod RunFault
 pub mod RunLine
 pub mod Sources
 pub mod StepsLaw
 pub mod StepsLine
 pub mod Words
-pub mod Fault
 pub mod WordsInput
 pub mod WordsText
 pub mod internal

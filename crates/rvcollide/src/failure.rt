@@ -4,24 +4,25 @@ ghost use Rattle.rvcollide.specs.Failure as spec;
 
 use crate::command::LineFault;
 use crate::fault::Fault;
+use crate::run::fault::RunFault;
 use std::alloc::AllocError;
 use std::{fmt, io};
 
 /// Why the program ends with another status than 0.
 #[derive(Clone, Copy, Debug, PartialEq, Eq)]
-pub enum Failure {
+pub enum Failure<'a> {
     /// The command line is refused. What is wrong with it was told.
     Line,
     /// An argument is not UTF-8, and so the command line is refused.
     NotText,
     /// A fault that is told in one line.
-    Told(Fault),
+    Told(RunFault<'a>),
 }
 
-impl Failure {
+impl Failure<'_> {
     /// Whether what is wrong was told already.
     pub fn is_told(self) -> bool
-        ensures { result ≡ spec.is_told self }
+        ensures { result ≡ spec.is_told self.entry }
     {
         match self {
             Failure::Line => true,
@@ -31,7 +32,7 @@ impl Failure {
 
     /// The exit status.
     pub fn status(self) -> u8
-        ensures { result ≡ spec.status_of self }
+        ensures { result ≡ spec.status_of self.entry }
     {
         match self {
             Failure::Line | Failure::NotText => 2,
@@ -41,7 +42,7 @@ impl Failure {
 }
 
 /// What is still to be told of the failure, after the program's name.
-impl fmt::Display for Failure {
+impl fmt::Display for Failure<'_> {
     ghost output = { λ failure. spec.failure_output failure };
 
     fn fmt<W: fmt::Write>(&self, f: &mut fmt::Formatter<W>) -> fmt::Result {
@@ -53,43 +54,51 @@ impl fmt::Display for Failure {
     }
 }
 
-impl From<Fault> for Failure {
+impl<'a> From<Fault> for Failure<'a> {
+    ghost from_gives = { λ fault made. made ≡ spec.plain fault };
+
+    fn from(fault: Fault) -> Failure<'a> {
+        Failure::Told(RunFault::Plain(fault))
+    }
+}
+
+impl<'a> From<RunFault<'a>> for Failure<'a> {
     ghost from_gives = { λ fault made. made ≡ spec.told fault };
 
-    fn from(fault: Fault) -> Failure {
+    fn from(fault: RunFault<'a>) -> Failure<'a> {
         Failure::Told(fault)
     }
 }
 
-impl From<AllocError> for Failure {
+impl<'a> From<AllocError> for Failure<'a> {
     ghost from_gives = { λ _ made. made ≡ spec.memory };
 
-    fn from(_: AllocError) -> Failure {
-        Failure::Told(Fault::NoMemory)
+    fn from(_: AllocError) -> Failure<'a> {
+        Failure::Told(RunFault::Plain(Fault::NoMemory))
     }
 }
 
-impl From<LineFault> for Failure {
+impl<'a> From<LineFault> for Failure<'a> {
     ghost from_gives = { λ fault made. made ≡ spec.failure_of_line fault };
 
-    fn from(fault: LineFault) -> Failure {
+    fn from(fault: LineFault) -> Failure<'a> {
         match fault {
             LineFault::Line => Failure::Line,
-            LineFault::NoMemory => Failure::Told(Fault::NoMemory),
+            LineFault::NoMemory => Failure::Told(RunFault::Plain(Fault::NoMemory)),
         }
     }
 }
 
 /// What the system answers to the program: that memory is out, that an argument is not UTF-8, or that the
 /// standard output failed.
-impl From<io::Error> for Failure {
+impl<'a> From<io::Error> for Failure<'a> {
     ghost from_gives = { λ error made. made ≡ spec.failure_of_kind (error_kind error) };
 
-    fn from(error: io::Error) -> Failure {
+    fn from(error: io::Error) -> Failure<'a> {
         match error.kind() {
-            io::ErrorKind::OutOfMemory => Failure::Told(Fault::NoMemory),
+            io::ErrorKind::OutOfMemory => Failure::Told(RunFault::Plain(Fault::NoMemory)),
             io::ErrorKind::InvalidData => Failure::NotText,
-            _ => Failure::Told(Fault::Write),
+            _ => Failure::Told(RunFault::Plain(Fault::Write)),
         }
     }
 }

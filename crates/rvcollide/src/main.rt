@@ -7,6 +7,7 @@
 pub mod arguments;
 pub mod asm;
 pub mod command;
+pub mod debug;
 #[cfg(test)]
 pub mod devices;
 pub mod failure;
@@ -22,11 +23,14 @@ pub mod words;
 use crate::arguments::{ImagePath, SavePath, SchedulePath};
 use crate::asm::run_asm;
 use crate::command::{Job, LineFault, Notice, command_of, notice_of};
+use crate::debug::engine::run_debug;
 use crate::failure::Failure;
 use crate::fault::Fault;
 use crate::files::{InputFile, OutputFile};
 use crate::list::run_list;
 use crate::replay::engine::run_replay;
+use crate::run::engine::run_campaign;
+use crate::run::fault::RunFault;
 use crate::run::options::Options;
 use crate::words::engine::run_words;
 use rv_memory::buffered::Buffered;
@@ -35,9 +39,25 @@ use std::env;
 use std::process::ExitCode;
 
 fn main(rt: HostRuntime) -> ExitCode {
-    let Err(failure) = run_program(&rt) else {
-        return ExitCode::SUCCESS;
-    };
+    match run_arguments(&rt) {
+        Ok(status) => status,
+        Err(failure) => tell_failure(&rt, failure),
+    }
+}
+
+/// Runs the command of the program's arguments, and tells why it fails while they are there.
+fn run_arguments(rt: &HostRuntime) -> Result<ExitCode, Failure<'static>> {
+    let alloc = rt.alloc();
+    let arguments: Vec<String> = env::args(rt)?.collect(alloc)?;
+    let words: Vec<&str> = arguments.iter().map(|word| word.as_str()).collect(alloc)?;
+    match run_line(rt, &words) {
+        Ok(()) => Ok(ExitCode::SUCCESS),
+        Err(failure) => Ok(tell_failure(rt, failure)),
+    }
+}
+
+/// Tells a failure, unless that was done, and gives its exit status.
+fn tell_failure(rt: &HostRuntime, failure: Failure<'_>) -> ExitCode {
     if !failure.is_told() {
         // Where the standard error fails there is nothing left to tell it to.
         let _ = eprintln!(rt; "rvcollide: {failure}");
@@ -45,23 +65,20 @@ fn main(rt: HostRuntime) -> ExitCode {
     ExitCode::from(failure.status())
 }
 
-/// Runs the command of the program's arguments.
-fn run_program(rt: &HostRuntime) -> Result<(), Failure> {
-    let alloc = rt.alloc();
-    let arguments: Vec<String> = env::args(rt)?.collect(alloc)?;
-    let words: Vec<&str> = arguments.iter().map(|word| word.as_str()).collect(alloc)?;
-    match command_of(alloc, &words) {
+/// Runs the command of a line.
+fn run_line<'a>(rt: &HostRuntime, words: &'a [&'a str]) -> Result<(), Failure<'a>> {
+    match command_of(rt.alloc(), words) {
         Ok(job) => Ok(run_job(rt, job)?),
-        Err(LineFault::Line) => tell(rt, &words),
-        Err(LineFault::NoMemory) => Err(Failure::Told(Fault::NoMemory)),
+        Err(LineFault::Line) => tell(rt, words),
+        Err(fault) => Err(Failure::from(fault)),
     }
 }
 
-/// Runs the engine of a job: the one place where a path becomes a file.
-fn run_job(rt: &HostRuntime, job: Job<'_>) -> Result<(), Fault> {
+/// Runs the engine of a job. Here, in `debug_files` and in `run_files` a path becomes a file, and nowhere else.
+fn run_job<'a>(rt: &HostRuntime, job: Job<'a>) -> Result<(), RunFault<'a>> {
     let alloc = rt.alloc();
     let mut writer = Buffered::new(alloc, rt.stdout());
-    match job {
+    let plain = match job {
         Job::Words => run_words(alloc, &mut Flagged::new(rt.stdin()), &mut writer),
         Job::Asm { source, image } => {
             let mut reader = Flagged::new(InputFile::new(rt, source.0));
@@ -76,36 +93,46 @@ fn run_job(rt: &HostRuntime, job: Job<'_>) -> Result<(), Fault> {
             let mut schedule = Flagged::new(InputFile::new(rt, schedule.0));
             run_replay(alloc, &mut image, &mut schedule, &mut writer)
         }
-        Job::Debug { image, schedule } => debug(rt, image, schedule),
+        Job::Debug { image, schedule } => debug_files(rt, image, schedule),
         Job::Run {
             image,
             options,
             save,
-        } => hunt(rt, image, options, save),
-    }
+        } => return run_files(rt, image, &options, save),
+    };
+    Ok(plain?)
 }
 
-/// To be replaced by the engine of `debug`.
-fn debug<'a>(
-    _rt: &HostRuntime,
-    _image: ImagePath<'a>,
-    _schedule: SchedulePath<'a>,
+/// Runs the engine of `debug` on two files, with commands from the standard input.
+fn debug_files(
+    rt: &HostRuntime,
+    image: ImagePath<'_>,
+    schedule: SchedulePath<'_>,
 ) -> Result<(), Fault> {
-    Err(Fault::Read)
+    let alloc = rt.alloc();
+    let mut image = Flagged::new(InputFile::new(rt, image.0));
+    let mut schedule = Flagged::new(InputFile::new(rt, schedule.0));
+    let mut commands = Flagged::new(rt.stdin());
+    let mut writer = Buffered::new(alloc, rt.stdout());
+    run_debug(alloc, &mut image, &mut schedule, &mut commands, &mut writer)
 }
 
-/// To be replaced by the engine of `run`.
-fn hunt<'a>(
-    _rt: &HostRuntime,
-    _image: ImagePath<'a>,
-    _options: Options<'a>,
-    _save: Option<SavePath<'a>>,
-) -> Result<(), Fault> {
-    Err(Fault::Read)
+/// Runs the engine of `run` on a file, and on one that it makes where that is asked for.
+fn run_files<'a>(
+    rt: &HostRuntime,
+    image: ImagePath<'_>,
+    options: &Options<'a>,
+    save: Option<SavePath<'_>>,
+) -> Result<(), RunFault<'a>> {
+    let alloc = rt.alloc();
+    let mut image = Flagged::new(InputFile::new(rt, image.0));
+    let mut file = save.map(|path| OutputFile::new(rt, path.0));
+    let mut writer = Buffered::new(alloc, rt.stdout());
+    run_campaign(rt, alloc, options, &mut image, &mut file, &mut writer)
 }
 
 /// Writes why the words give no job, or the help that they ask for.
-fn tell<'a>(rt: &HostRuntime, words: &'a [&'a str]) -> Result<(), Failure> {
+fn tell<'a>(rt: &HostRuntime, words: &'a [&'a str]) -> Result<(), Failure<'a>> {
     match notice_of(rt.alloc(), words)? {
         Notice::Answer(text) => Ok(print!(rt; "{text}")?),
         Notice::Refusal(text) => {

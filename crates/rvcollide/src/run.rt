@@ -1,3 +1,11 @@
-//! The command `run`.
+//! The command `run`: a campaign of seeded runs of an image, its race table, and the schedule of one run.
 
+pub mod engine;
+pub mod fault;
+mod hunting;
+mod lists;
 pub mod options;
+mod saving;
+mod table;
+#[cfg(test)]
+mod tests;

@@ -1,20 +1,21 @@
+//! What `run` is asked for, beside its files.
 use rv_collide::plan::Plan;
 
-/// What `run` is asked for, but for its files.
+/// The options of `run`.
 #[derive(Clone, Copy, Debug, PartialEq, Eq)]
 pub struct Options<'a> {
-    /// The plan of each run.
+    /// The numbers of each run.
     pub plan: Plan,
-    /// The seed from which each run's draws come.
+    /// The seed of all runs.
     pub seed: u32,
     /// How many runs there are.
     pub runs: u32,
-    /// How many threads make them.
+    /// How many workers make them.
     pub workers: u32,
-    /// Names of symbols, separated by commas, whose conflicts are counted apart.
+    /// Names of symbols, with a comma between two: what touches their bytes is counted apart.
     pub named: Option<&'a str>,
-    /// Addresses that are never armed, separated by commas.
+    /// Addresses in eight hexadecimal digits, with a comma between two: no hart is paused there.
     pub skip: Option<&'a str>,
-    /// The run whose schedule is saved, from 0 on.
+    /// The run whose schedule is saved, where one is.
     pub keep: u32,
 }

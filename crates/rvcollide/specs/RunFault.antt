@@ -1,0 +1,93 @@
+-- Why `run` is refused. A text that a refusal tells is its bytes.
+use Rattle.std.specs.Prelude.{◌≡◌, ⊤, ℕ, Bool, false, Option, Some, List, ◌++◌, codes, Result, Ok, Err}
+use Rattle.rv_campaign.specs.declared.runs.CampaignFault.{CampaignFault}
+use Rattle.rv_campaign.specs.declared.runs.CampaignFault.TheVariants as campaign
+use Rattle.rvcollide.specs.Fault as plain
+use Rattle.rvcollide.specs.FaultText as text
+use Rattle.rvcollide.specs.declared.fault.Fault.{Fault}
+use Rattle.rvcollide.specs.declared.fault.Fault.TheVariants.{Line, Step, Asm, Load, Schedule, Entry, TooLong, Read, Write, NoMemory}
+use Rattle.rvcollide.specs.declared.run.fault.RunFault.{RunFault}
+use Rattle.rvcollide.specs.declared.run.fault.RunFault.TheVariants as run
+
+-- a fault that any command may tell; an element of the list of addresses that is none; a name that no symbol has;
+-- and why the numbers of a campaign are refused
+pub data Refusal : Type 0 where
+  Plain : Fault → Refusal
+  Skip : (element : List ℕ) → Refusal
+  Name : (name : List ℕ) → Refusal
+  Campaign : CampaignFault → Refusal
+
+abbrev pub refusal : RunFault → Refusal
+refusal (run.Plain fault) = Plain fault
+refusal (run.Skip element) = Skip element.now
+refusal (run.Name name) = Name name.now
+refusal (run.Campaign fault) = Campaign fault
+
+-- that memory is out is no fault of a campaign's numbers
+abbrev pub refusal_of_campaign : CampaignFault → Refusal
+refusal_of_campaign campaign.NoMemory = Plain NoMemory
+refusal_of_campaign campaign.TooLarge = Campaign campaign.TooLarge
+refusal_of_campaign campaign.Runs = Campaign campaign.Runs
+refusal_of_campaign campaign.Workers = Campaign campaign.Workers
+
+-- a fault that any command may tell, as one of `run`
+abbrev pub plainly : {A : Type 0} → Result A Fault → Result A Refusal
+plainly (Ok a) = Ok a
+plainly (Err fault) = Err (Plain fault)
+
+-- The refusal is the one that is told of the inputs; that a device failed or memory is out says nothing of them.
+abbrev pub IsTold : {A : Type 0} → Result A Refusal → Refusal → Type 0
+IsTold told (Plain (Line number)) = told ≡ Err (Plain (Line number))
+IsTold told (Plain (Step number fault)) = told ≡ Err (Plain (Step number fault))
+IsTold told (Plain (Asm fault)) = told ≡ Err (Plain (Asm fault))
+IsTold told (Plain (Load fault)) = told ≡ Err (Plain (Load fault))
+IsTold told (Plain (Schedule fault)) = told ≡ Err (Plain (Schedule fault))
+IsTold told (Plain (Entry place why)) = told ≡ Err (Plain (Entry place why))
+IsTold told (Plain TooLong) = told ≡ Err (Plain TooLong)
+IsTold told (Plain Read) = ⊤
+IsTold told (Plain Write) = ⊤
+IsTold told (Plain NoMemory) = ⊤
+IsTold told (Skip element) = told ≡ Err (Skip element)
+IsTold told (Name name) = told ≡ Err (Name name)
+IsTold told (Campaign fault) = told ≡ Err (Campaign fault)
+
+-- the refusal is that the reader failed
+abbrev pub is_read : Refusal → Bool
+is_read (Plain fault) = plain.is_read fault
+is_read (Skip element) = false
+is_read (Name name) = false
+is_read (Campaign fault) = false
+
+-- the refusal is that a writer failed
+abbrev pub is_write : Refusal → Bool
+is_write (Plain fault) = plain.is_write fault
+is_write (Skip element) = false
+is_write (Name name) = false
+is_write (Campaign fault) = false
+
+-- something was refused, and the refusal passes the test
+abbrev pub fails_by : {A : Type 0} → (Refusal → Bool) → Result A RunFault → Bool
+fails_by test (Ok a) = false
+fails_by test (Err fault) = test (refusal fault)
+
+-- ---- what is told
+
+abbrev pub campaign_fault_name : CampaignFault → List ℕ
+campaign_fault_name campaign.NoMemory = codes "NoMemory"
+campaign_fault_name campaign.TooLarge = codes "TooLarge"
+campaign_fault_name campaign.Runs = codes "Runs"
+campaign_fault_name campaign.Workers = codes "Workers"
+
+-- what the program writes of a refusal, after its own name
+abbrev pub refusal_output : RunFault → Option (List ℕ)
+refusal_output (run.Plain fault) = text.fault_output fault
+refusal_output (run.Skip element) = Some (codes "skip " ++ element.now)
+refusal_output (run.Name name) = Some (codes "name " ++ name.now)
+refusal_output (run.Campaign fault) = Some (codes "campaign " ++ campaign_fault_name fault)
+
+-- the exit status
+abbrev pub status : RunFault → ℕ
+status (run.Plain fault) = text.status fault
+status (run.Skip element) = 1
+status (run.Name name) = 1
+status (run.Campaign fault) = 1

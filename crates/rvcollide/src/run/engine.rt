@@ -1,0 +1,53 @@
+//! The engine of `run`: an image in, a race table and a schedule out.
+ghost use Rattle.std.specs.Prelude.{◌≡◌, ◌||◌, true, false, IfErr, IfSome, OnOk, IsOkAnd};
+ghost use Rattle.std.specs.Io.KnownBytes.{Appends, Keeps};
+ghost use Rattle.rv_memory.specs.Buffered as buffer;
+ghost use Rattle.rv_memory.specs.Flagged as flag;
+ghost use Rattle.rvcollide.specs.Campaigns as spec;
+ghost use Rattle.rvcollide.specs.RunFault.{IsTold, refusal, fails_by, is_read, is_write};
+
+use crate::new_file::NewFile;
+use crate::run::fault::RunFault;
+use crate::run::hunting::hunt;
+use crate::run::options::Options;
+use crate::run::saving::save_run;
+use rv_memory::buffered::Buffered;
+use rv_memory::flagged::Flagged;
+use std::alloc::Global;
+use std::io::{Read, Write};
+use std::thread::Threads;
+
+/// Reads an image, makes the runs of a campaign of it, and writes their race table. Where a file is wanted it is
+/// made first, with the schedule of the run that is kept. A campaign that is refused makes no file and writes
+/// nothing.
+pub fn run_campaign<'a, R: Read, F: NewFile, W: Write>(
+    rt: &(impl Threads + Sync),
+    alloc: Global,
+    options: &Options<'a>,
+    image: &mut Flagged<R>,
+    save: &mut Option<F>,
+    writer: &mut Buffered<W>,
+) -> Result<(), RunFault<'a>>
+    ensures table { OnOk result (IfSome (R.remaining (flag.device image.old)) (λ bytes.
+        IsOkAnd (spec.campaign_of (spec.request options.now) bytes) (λ c.
+        spec.IsHunted (spec.request options.now) c
+        (Appends (buffer.written W.contents writer.old) (buffer.sent W.contents writer.new))
+        (spec.IfWanted F.Holds save.new)))) }
+    ensures refused { IfErr result (λ fault. IfSome (R.remaining (flag.device image.old)) (λ bytes.
+        IsTold (spec.campaign_of (spec.request options.now) bytes) (refusal fault))) }
+    ensures nothing { IfErr result (λ fault. is_write (refusal fault) ≡ false
+        → Keeps (buffer.sent W.contents writer.old) (buffer.sent W.contents writer.new)) }
+    ensures none { IfErr result (λ fault. is_write (refusal fault) ≡ false
+        → spec.passes F.is_made save.new ≡ spec.passes F.is_made save.old) }
+    ensures first { spec.passes F.has_failed save.old ≡ false → spec.passes F.has_failed save.new ≡ true
+        → Keeps (buffer.sent W.contents writer.old) (buffer.sent W.contents writer.new) }
+    ensures reader { flag.has_failed image.new ≡ (flag.has_failed image.old || fails_by is_read result) }
+    ensures writers { (spec.passes F.has_failed save.new || buffer.has_failed writer.new)
+        ≡ (spec.passes F.has_failed save.old || buffer.has_failed writer.old || fails_by is_write result) }
+{
+    let hunted = hunt(rt, alloc, options, image)?;
+    save_run(alloc, &hunted.runs, options.keep, save)?;
+    hunted.table.write_table(writer)?;
+    writer.finish()?;
+    Ok(())
+}
