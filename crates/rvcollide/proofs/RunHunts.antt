@@ -1,6 +1,6 @@
 -- The campaign that an image and the options ask for, and why it is refused.
-use Rattle.std.proofs.Common.{◌≡◌, ℕ, ◌<◌, List, [], length, get_or, Option, Some, None, Result, Ok, Err, refl, sym, ap, subst, ◌∙◌}
-use Rattle.std.specs.Prelude.{Bool, true, false, ◌||◌, All, IfSome, IsOkAnd, ◌⊎◌, slice_get}
+use Rattle.std.proofs.Common.{◌≡◌, ℕ, List, [], get_or, Option, Some, None, Result, Ok, Err, refl, sym, ap, subst, ◌∙◌}
+use Rattle.std.specs.Prelude.{Bool, true, false, ◌||◌, All, IfSome, IsOkAnd, ◌⊎◌}
 use Rattle.std.proofs.Common.{inl, inr}
 use Rattle.std.proofs.lemmas.Option.{slice_get-get_or}
 use Rattle.rv_campaign.specs.Campaign.{AreRuns, fault_of}
@@ -16,12 +16,11 @@ use Rattle.rv_collide.specs.Stored.{setting_of, stored}
 use Rattle.rv_collide.specs.declared.collider.Finished.{Finished}
 use Rattle.rv_elf.specs.Contents.{Contents}
 use Rattle.rv_memory.specs.Chain.{◌>>=◌}
-use Rattle.rv_report.specs.Races.{Table, races}
 use Rattle.rv_sample.specs.Sites.{sites}
-use Rattle.rvcollide.specs.Campaigns.{Campaign, Request, campaign_of, elements, listed, skipped, told_from, unless_some}
+use Rattle.rvcollide.specs.Campaigns.{Campaign, Request, campaign_of, elements, listed, skipped, unless_some}
 use Rattle.rvcollide.specs.Fault.{IsToldFault}
 use Rattle.rvcollide.specs.Images.{image_of}
-use Rattle.rvcollide.specs.RunFault.{Refusal, Plain, Skip, Name, Campaign as Numbered, IsTold, plainly, refusal_of_campaign}
+use Rattle.rvcollide.specs.RunFault.{Refusal, Plain, Campaign as Numbered, IsTold, plainly, refusal_of_campaign}
 use Rattle.rvcollide.specs.declared.fault.Fault.{Fault}
 use Rattle.rvcollide.specs.declared.fault.Fault.TheVariants.{Read, Write, NoMemory}
 

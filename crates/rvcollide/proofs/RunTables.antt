@@ -1,5 +1,5 @@
 -- What is added to a race table, ending by ending and run by run.
-use Rattle.std.proofs.Common.{◌≡◌, ℕ, ◌+◌, ◌≤◌, ◌<◌, List, [], ◌∷◌, ◌++◌, length, get_or, take, map, Some, refl, sym, ap, subst, ◌∙◌, arith, append_assoc, add-zero}
+use Rattle.std.proofs.Common.{◌≡◌, ℕ, ◌+◌, ◌<◌, List, [], ◌∷◌, ◌++◌, length, get_or, take, map, Some, refl, sym, ap, ◌∙◌, arith, append_assoc, add-zero}
 use Rattle.std.specs.Prelude.{slice_get, option_map}
 use Rattle.std.proofs.lemmas.List.{append-nil, length-map, length-take, take_more}
 use Rattle.std.proofs.lemmas.Option.{get_or_from_slice_get, slice_get_read}
@@ -8,7 +8,7 @@ use Rattle.rv_collide.specs.declared.ending.Ending.{Ending}
 use Rattle.rv_elf.specs.Contents.{Contents}
 use Rattle.rv_prune.specs.Class.{class}
 use Rattle.rv_prune.specs.declared.class.Class.{Class}
-use Rattle.rv_report.specs.Races.{Told, races}
+use Rattle.rv_report.specs.Races.{Told}
 use Rattle.rvcollide.specs.Campaigns.{told_from, with_class}
 use Rattle.rvcollide.proofs.RunLists.{get-mapped}
 

@@ -1,6 +1,4 @@
-use Rattle.std.proofs.Common.{refl, ap, ◌∙◌}
 use Rattle.std.proofs.lemmas.Result.{err_from_is_err_and}
-use Rattle.rv_collide.specs.Numbers.{numbers}
 use Rattle.rv_memory.specs.Flagged as flag
 use Rattle.rvcollide.specs.Campaigns.{request}
 use Rattle.rvcollide.specs.RunFault.{refusal}

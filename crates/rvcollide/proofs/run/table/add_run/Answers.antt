@@ -1,4 +1,4 @@
-use Rattle.std.proofs.Common.{◌≡◌, ◌∙◌, ◌++◌, ap, map, take}
+use Rattle.std.proofs.Common.{◌∙◌, ◌++◌, ap, map, take}
 use Rattle.rv_report.specs.Races.{races}
 use Rattle.rvcollide.specs.Campaigns.{with_class}
 use Rattle.rvcollide.proofs.RunLists.{own}

@@ -1,4 +1,4 @@
-use Rattle.std.proofs.Common.{◌≡◌, ◌∙◌, sym, ap, take, get_or, length, ◌<◌, arith}
+use Rattle.std.proofs.Common.{◌∙◌, sym, ap, take, get_or, length, ◌<◌, arith}
 use Rattle.rv_report.specs.Races.{races}
 use Rattle.rvcollide.specs.Campaigns.{told_from}
 use Rattle.rvcollide.proofs.RunLists.{own}
