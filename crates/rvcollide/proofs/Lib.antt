@@ -1,3 +1,7 @@
+pub mod DebugAnswerLemmas
+pub mod DebugCommandLemmas
+pub mod DebugLineLemmas
+pub mod DebugTalkLemmas
 pub mod Fits
 pub mod GivenLemmas
 pub mod InputSoFar
@@ -8,10 +12,10 @@ pub mod ReadBack
 pub mod ReadsLine
 pub mod ReplayLemmas
 pub mod RunGiven
-pub mod RunLemmas
-pub mod StepLemmas
-pub mod WordLemmas
-pub mod SourceLemmas
 pub mod RunHunts
+pub mod RunLemmas
 pub mod RunLists
 pub mod RunTables
+pub mod SourceLemmas
+pub mod StepLemmas
+pub mod WordLemmas

@@ -1,5 +1,8 @@
 pub mod Campaigns
 pub mod Command
+pub mod DebugAnswers
+pub mod DebugCommand
+pub mod DebugTalk
 pub mod Failure
 pub mod Fault
 pub mod FaultText

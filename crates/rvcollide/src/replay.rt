@@ -2,7 +2,7 @@
 //! is written.
 
 pub mod engine;
-mod input;
+pub mod input;
 mod report;
 #[cfg(test)]
 mod tests;

@@ -19,7 +19,7 @@ use std::alloc::Global;
 use std::io::Read;
 
 /// Reads a plan and its entries.
-fn read_entries<R: Read>(
+pub fn read_entries<R: Read>(
     alloc: Global,
     reader: &mut Flagged<R>,
 ) -> Result<(Plan, Vec<Entry>), Fault>

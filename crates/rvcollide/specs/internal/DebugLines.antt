@@ -1,0 +1,54 @@
+-- What a source of lines has, and what taking a line from it does.
+use Rattle.std.specs.Prelude.{◌≡◌, ℕ, ◌+◌, ◌<◌, ◌⊎◌, ⊤, Bool, true, false, if◌then◌else◌, Option, Some, None, IfSome, List, [], ◌∷◌, ◌++◌, length, take}
+use Rattle.std.specs.Io.KnownBytes.{Consumes, IsAtEnd, prepend_known}
+use Rattle.rv_text.specs.Lines.{has_line_feed}
+use Rattle.rvcollide.specs.declared.debug.lines.TheConstants.{KEPT}
+use Rattle.rvcollide.specs.declared.fault.Fault.{Fault}
+use Rattle.rvcollide.specs.declared.fault.Fault.TheVariants.{TooLong, Read}
+
+-- The bytes that were read and not taken, how many more the input may have, and whether its end was read.
+pub record Source : Type 0 where
+  pub pending : List ℕ
+  pub left : ℕ
+  pub is_over : Bool
+
+-- what is not taken of an input, of which a reader still has the known bytes
+abbrev pub rest_of : Source → Option (List ℕ) → Option (List ℕ)
+rest_of source known = if source.is_over then Some [] else prepend_known source.pending known
+
+-- the first bytes of a text, which tell the command of it
+abbrev pub kept : List ℕ → List ℕ
+kept text = take KEPT text
+
+-- The next line was taken, with its LF; or it was the last and had none.
+abbrev pub IsTaken : Source → Source → Option (List ℕ) → Option (List ℕ) → List ℕ → Type 0
+IsTaken before after old new text =
+    (Consumes old new (text ++ 10 ∷ []) × (before.left ≡ length text + 1 + after.left))
+    ⊎ (Consumes old new text × (before.left ≡ length text + after.left) × (0 < length text) × IsAtEnd new)
+
+-- A line was taken of an input, and this is kept of it.
+pub record TakesLine (before after : Source) (old new : Option (List ℕ)) (line : List ℕ) : Type 0 where
+  pub text : List ℕ
+  pub is_kept : line ≡ kept text
+  pub plain : has_line_feed text ≡ false
+  pub taken : IsTaken before after old new text
+
+-- The input has more bytes than it may have, and no line of it ends before.
+pub record IsPassed (before : Source) (old new : Option (List ℕ)) : Type 0 where
+  pub text : List ℕ
+  pub whole : length text ≡ before.left
+  pub plain : has_line_feed text ≡ false
+  pub taken : Consumes old new text
+  pub more : IfSome new (λ known. 0 < length known)
+
+-- why no line is taken
+abbrev pub IsUntaken : Source → Option (List ℕ) → Option (List ℕ) → Fault → Type 0
+IsUntaken before old new TooLong = IsPassed before old new
+IsUntaken before old new Read = ⊤
+IsUntaken before old new _ = ⊥
+
+-- why no byte is taken
+abbrev pub IsByteless : Source → Option (List ℕ) → Option (List ℕ) → Fault → Type 0
+IsByteless before old new TooLong = (before.left ≡ 0) × Consumes old new [] × IfSome new (λ known. 0 < length known)
+IsByteless before old new Read = ⊤
+IsByteless before old new _ = ⊥

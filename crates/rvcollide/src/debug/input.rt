@@ -1,0 +1,39 @@
+//! The session that two files describe: an image, and a legal schedule of it.
+ghost use Rattle.std.specs.Prelude.{◌≡◌, ◌||◌, false, Ok, IfOk, IfErr};
+ghost use Rattle.rv_collide.specs.Stored.{stored};
+ghost use Rattle.rv_memory.specs.Flagged as flag;
+ghost use Rattle.rvcollide.specs.Fault.{fails_by, is_read, is_write};
+ghost use Rattle.rvcollide.specs.Replay as spec;
+
+use crate::fault::Fault;
+use crate::image::read_image;
+use crate::replay::input::read_entries;
+use rv_debug::session::Session;
+use rv_memory::flagged::Flagged;
+use std::alloc::Global;
+use std::io::Read;
+
+/// Reads an image and then a schedule, and opens a session of them at place 0.
+pub fn read_session<R: Read, Q: Read>(
+    alloc: Global,
+    image: &mut Flagged<R>,
+    schedule: &mut Flagged<Q>,
+) -> Result<Session, Fault>
+    ensures ok { IfOk result (λ session.
+        spec.IfKnown (R.remaining (flag.device image.old)) (Q.remaining (flag.device schedule.old))
+        (λ i s. spec.run_of i s ≡ Ok (stored session.image session.plan session.entries))) }
+    ensures place { IfOk result (λ session. session.place ≡ 0) }
+    ensures err { IfErr result (λ fault.
+        spec.IfKnown (R.remaining (flag.device image.old)) (Q.remaining (flag.device schedule.old))
+        (λ i s. spec.IsReplayRefusal i s fault)) }
+    ensures readers { (flag.has_failed image.new || flag.has_failed schedule.new)
+        ≡ (flag.has_failed image.old || flag.has_failed schedule.old || fails_by is_read result) }
+    ensures writer { fails_by is_write result ≡ false }
+{
+    let contents = read_image(alloc, image)?;
+    let (plan, entries) = read_entries(alloc, schedule)?;
+    match Session::new(alloc, &contents, plan, entries) {
+        Ok(session) => Ok(session),
+        Err(fault) => Err(Fault::from(fault)),
+    }
+}
