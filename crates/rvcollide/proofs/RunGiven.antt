@@ -13,7 +13,8 @@ use Rattle.rvcollide.proofs.OptionLemmas.{Each, RowsStand, Told, image_stands, r
 use Rattle.rvcollide.proofs.ReadsLine.{run_rows}
 use Rattle.rvcollide.specs.Command.{IsGiven, run_job, run_of}
 use Rattle.rvcollide.specs.Reading.{is_accepted, program}
-use Rattle.rvcollide.specs.RunLine.{Asking, Gives, GivesNumber, IsRunGiven, asking_at, keep_at, number_at, number_in, number_or, plan_at}
+use Rattle.rvcollide.specs.Request.{Request}
+use Rattle.rvcollide.specs.RunLine.{Gives, GivesNumber, IsRunGiven, request_at, keep_at, number_at, number_in, number_or, plan_at}
 
 -- ---- the arguments of `run`
 
@@ -129,16 +130,16 @@ module _ (words : List Text) (rows : List Row) (stand : RowsStand words rows) wh
       below keep given false is = tt
 
   -- what stands in the words of the options that are asked for
-  abbrev AskingGiven : Text → Asking → Type 0
-  AskingGiven path asking = IsRunGiven words path asking (first_of (codes "save") rows)
+  abbrev RequestGiven : Text → Request → Type 0
+  RequestGiven path request = IsRunGiven words path request (first_of (codes "save") rows)
 
-  asking_given : (path : Text) → Contains words path → IfSome (asking_at rows) (AskingGiven path)
-  asking_given path stands =
-      then_holds _ (AskingGiven path) _ (plan_at rows) plan_given (λ plan p.
-      then_holds _ (AskingGiven path) _ (number_at (codes "seed") 0 4_294_967_295 rows) (number (codes "seed") 0 4_294_967_295 refl) (λ seed s.
-      then_holds _ (AskingGiven path) _ (number_at (codes "runs") 1 1000 rows) (number (codes "runs") 1 1000 refl) (λ runs r.
-      then_holds _ (AskingGiven path) _ (number_at (codes "workers") 1 16 rows) (number (codes "workers") 1 16 refl) (λ workers w.
-      map_holds _ (AskingGiven path) _ (keep_at runs rows) (keep_given runs) (λ keep k.
+  request_given : (path : Text) → Contains words path → IfSome (request_at rows) (RequestGiven path)
+  request_given path stands =
+      then_holds _ (RequestGiven path) _ (plan_at rows) plan_given (λ plan p.
+      then_holds _ (RequestGiven path) _ (number_at (codes "seed") 0 4_294_967_295 rows) (number (codes "seed") 0 4_294_967_295 refl) (λ seed s.
+      then_holds _ (RequestGiven path) _ (number_at (codes "runs") 1 1000 rows) (number (codes "runs") 1 1000 refl) (λ runs r.
+      then_holds _ (RequestGiven path) _ (number_at (codes "workers") 1 16 rows) (number (codes "workers") 1 16 refl) (λ workers w.
+      map_holds _ (RequestGiven path) _ (keep_at runs rows) (keep_given runs) (λ keep k.
       record {
         image = stands;
         harts = p.harts;
@@ -157,7 +158,7 @@ module _ (words : List Text) (rows : List Row) (stand : RowsStand words rows) wh
 
   rows_given : (n : Text) → IfSome (run_of rows) (IsGiven (n ∷ codes "run" ∷ words))
   rows_given n = then_holds (Contains words) (IsGiven (n ∷ codes "run" ∷ words)) _ (first_of (codes "IMAGE") rows) (image_stands words rows stand) (λ path image.
-      map_holds (AskingGiven path) (IsGiven (n ∷ codes "run" ∷ words)) _ (asking_at rows) (asking_given path image) (λ asking given. (refl, given)))
+      map_holds (RequestGiven path) (IsGiven (n ∷ codes "run" ∷ words)) _ (request_at rows) (request_given path image) (λ request given. (refl, given)))
 
 pub run_given : (n : Text) (rest : List Text) → IfSome (run_job (n ∷ codes "run" ∷ rest)) (IsGiven (n ∷ codes "run" ∷ rest))
 run_given n rest = go (is_accepted (n ∷ codes "run" ∷ rest))

@@ -17,7 +17,8 @@ use Rattle.rv_collide.specs.declared.collider.Finished.{Finished}
 use Rattle.rv_elf.specs.Contents.{Contents}
 use Rattle.rv_memory.specs.Chain.{◌>>=◌}
 use Rattle.rv_sample.specs.Sites.{sites}
-use Rattle.rvcollide.specs.Campaigns.{Campaign, Request, campaign_of, elements, listed, skipped, unless_some}
+use Rattle.rvcollide.specs.Request.{Request}
+use Rattle.rvcollide.specs.Campaigns.{Campaign, campaign_of, elements, listed, skipped, unless_some}
 use Rattle.rvcollide.specs.Fault.{IsToldFault}
 use Rattle.rvcollide.specs.Images.{image_of}
 use Rattle.rvcollide.specs.RunFault.{Refusal, Plain, Campaign as Numbered, IsTold, plainly, refusal_of_campaign}

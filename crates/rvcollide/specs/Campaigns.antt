@@ -17,30 +17,8 @@ use Rattle.rv_report.specs.TableText.{table_text}
 use Rattle.rv_text.specs.Hexadecimal.{word_of}
 use Rattle.rv_text.specs.Pieces.{pieces_of}
 use Rattle.rvcollide.specs.Images.{image_of}
+use Rattle.rvcollide.specs.Request.{Request}
 use Rattle.rvcollide.specs.RunFault.{Refusal, Skip, Name, Campaign as Numbered, plainly}
-use Rattle.rvcollide.specs.declared.run.options.Options.{Options}
-
--- What the options ask for: the numbers of a campaign, the names and the addresses that are listed, and the run
--- whose schedule is kept.
-pub record Request : Type 0 where
-  pub plan : Numbers
-  pub seed : ℕ
-  pub runs : ℕ
-  pub workers : ℕ
-  pub named : Option (List ℕ)
-  pub skip : Option (List ℕ)
-  pub keep : ℕ
-
-abbrev pub request : Options → Request
-request o = record {
-  plan = numbers o.plan;
-  seed = o.seed;
-  runs = o.runs;
-  workers = o.workers;
-  named = option_map (λ text. text.now) o.named;
-  skip = option_map (λ text. text.now) o.skip;
-  keep = o.keep;
-}
 
 -- ---- the lists
 

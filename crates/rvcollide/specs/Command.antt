@@ -2,12 +2,11 @@ use Rattle.std.specs.Prelude.{◌≡◌, ℕ, ◌==◌, ◌&&◌, Bool, false, i
 use Rattle.std.specs.Borrow.{Bor}
 use Rattle.std.specs.Str.{bytes_eq, chars}
 use Rattle.clap.specs.Words.{Row, first_of, subcommand_of}
-use Rattle.rv_collide.specs.Numbers.{numbers}
 use Rattle.rvcollide.specs.Reading.{is_accepted, program}
-use Rattle.rvcollide.specs.RunLine.{Asking, IsRunGiven, asking_at}
+use Rattle.rvcollide.specs.Request.{Request, request}
+use Rattle.rvcollide.specs.RunLine.{IsRunGiven, request_at}
 use Rattle.rvcollide.specs.declared.command.Job.{Job}
 use Rattle.rvcollide.specs.declared.command.Job.TheVariants as job
-use Rattle.rvcollide.specs.declared.run.options.Options.{Options}
 
 -- Which job a command line asks for. A word is the list of its bytes.
 
@@ -22,19 +21,7 @@ pub data Asked : Type 0 where
   Listing : (image : List ℕ) → Asked
   Replay : (image schedule : List ℕ) → Asked
   Debug : (image schedule : List ℕ) → Asked
-  Run : (image : List ℕ) → (asking : Asking) → (save : Option (List ℕ)) → Asked
-
--- the options of `run`, with their texts
-abbrev pub asking_of : Options → Asking
-asking_of options = record {
-  plan = numbers options.plan;
-  seed = options.seed;
-  runs = options.runs;
-  workers = options.workers;
-  named = option_map (λ text. text.now) options.named;
-  skip = option_map (λ text. text.now) options.skip;
-  keep = options.keep;
-}
+  Run : (image : List ℕ) → (wanted : Request) → (save : Option (List ℕ)) → Asked
 
 -- what a job asks for: each of its paths in its own role
 abbrev pub asked : Job → Asked
@@ -43,7 +30,7 @@ asked (job.Asm source image) = Asm source.0.now image.0.now
 asked (job.List image) = Listing image.0.now
 asked (job.Replay image schedule) = Replay image.0.now schedule.0.now
 asked (job.Debug image schedule) = Debug image.0.now schedule.0.now
-asked (job.Run image options save) = Run image.0.now (asking_of options) (option_map (λ path. path.0.now) save)
+asked (job.Run image options save) = Run image.0.now (request options) (option_map (λ path. path.0.now) save)
 
 -- a hyphen and a character after it begin an option. No command but `run` has options.
 abbrev pub is_option : List ℕ → Bool
@@ -85,8 +72,8 @@ debug_of _ = None
 
 -- `run IMAGE` with its options, in what `clap` finds for them
 abbrev pub run_of : List Row → Option Asked
-run_of rows = option_and_then (λ image. option_map (λ asking. Run image asking (first_of (codes "save") rows))
-    (asking_at rows)) (first_of (codes "IMAGE") rows)
+run_of rows = option_and_then (λ image. option_map (λ wanted. Run image wanted (first_of (codes "save") rows))
+    (request_at rows)) (first_of (codes "IMAGE") rows)
 
 -- the job of a line whose command is `run`: `clap` finds no fault in it, and each number is in its range
 abbrev pub run_job : List (List ℕ) → Option Asked
@@ -114,4 +101,4 @@ IsGiven words (Asm source image) = (slice_get words 1 ≡ Some (codes "asm")) ×
 IsGiven words (Listing image) = (slice_get words 1 ≡ Some (codes "list")) × Contains (drop 2 words) image
 IsGiven words (Replay image schedule) = (slice_get words 1 ≡ Some (codes "replay")) × Contains (drop 2 words) image × Contains (drop 2 words) schedule
 IsGiven words (Debug image schedule) = (slice_get words 1 ≡ Some (codes "debug")) × Contains (drop 2 words) image × Contains (drop 2 words) schedule
-IsGiven words (Run image asking save) = (slice_get words 1 ≡ Some (codes "run")) × IsRunGiven (drop 2 words) image asking save
+IsGiven words (Run image wanted save) = (slice_get words 1 ≡ Some (codes "run")) × IsRunGiven (drop 2 words) image wanted save

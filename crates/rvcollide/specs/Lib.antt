@@ -12,6 +12,7 @@ pub mod Notice
 pub mod Prefix
 pub mod Reading
 pub mod Replay
+pub mod Request
 pub mod RunFault
 pub mod RunLine
 pub mod Sources

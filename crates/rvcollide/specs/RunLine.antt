@@ -2,18 +2,9 @@ use Rattle.std.specs.Prelude.{ℕ, ◌+◌, ◌≡◌, ◌≤◌, ◌<◌, IfSom
 use Rattle.clap.specs.Words.{Row, Text, first_of}
 use Rattle.rv_collide.specs.Plan.{Numbers}
 use Rattle.rv_text.specs.Numeral.{number_of, up_to}
+use Rattle.rvcollide.specs.Request.{Request}
 
 -- The options of `run`: what each value means, and that it stands in the line.
-
--- what `run` is asked for, but for its files
-pub record Asking : Type 0 where
-  pub plan : Numbers
-  pub seed : ℕ
-  pub runs : ℕ
-  pub workers : ℕ
-  pub named : Option Text
-  pub skip : Option Text
-  pub keep : ℕ
 
 -- the number that a text writes in decimal digits, if it lies in the range
 abbrev pub number_in : ℕ → ℕ → Text → Option ℕ
@@ -40,8 +31,8 @@ plan_at rows =
 abbrev pub keep_at : ℕ → List Row → Option ℕ
 keep_at runs rows = option_and_then (λ keep. if nat_lt keep runs then Some keep else None) (number_or 0 (codes "keep") 0 999 rows)
 
-abbrev pub asking_at : List Row → Option Asking
-asking_at rows =
+abbrev pub request_at : List Row → Option Request
+request_at rows =
     option_and_then (λ plan. option_and_then (λ seed. option_and_then (λ runs. option_and_then (λ workers. option_map (λ keep.
     record { plan = plan; seed = seed; runs = runs; workers = workers; named = first_of (codes "named") rows; skip = first_of (codes "skip") rows; keep = keep })
     (keep_at runs rows))
@@ -66,17 +57,17 @@ pub record GivesNumber (words : List Text) (name : Text) (least most n : ℕ) : 
   pub no_more : n ≤ most
 
 -- each option of the job stands in the words
-pub record IsRunGiven (words : List Text) (path : Text) (asking : Asking) (saved : Option Text) : Type 0 where
+pub record IsRunGiven (words : List Text) (path : Text) (wanted : Request) (saved : Option Text) : Type 0 where
   pub image : Contains words path
-  pub harts : GivesNumber words (codes "harts") 1 16 asking.plan.harts
-  pub steps : GivesNumber words (codes "steps") 1 1_000_000 asking.plan.steps
-  pub arms : GivesNumber words (codes "arms") 0 4096 asking.plan.arms
-  pub pause : GivesNumber words (codes "pause") 1 65_535 asking.plan.pause
-  pub seed : GivesNumber words (codes "seed") 0 4_294_967_295 asking.seed
-  pub runs : GivesNumber words (codes "runs") 1 1000 asking.runs
-  pub workers : GivesNumber words (codes "workers") 1 16 asking.workers
-  pub keep : (asking.keep ≡ 0) ⊎ GivesNumber words (codes "keep") 0 999 asking.keep
-  pub keep_is_run : asking.keep < asking.runs
-  pub named : IfSome asking.named (Gives words (codes "named"))
-  pub skip : IfSome asking.skip (Gives words (codes "skip"))
+  pub harts : GivesNumber words (codes "harts") 1 16 wanted.plan.harts
+  pub steps : GivesNumber words (codes "steps") 1 1_000_000 wanted.plan.steps
+  pub arms : GivesNumber words (codes "arms") 0 4096 wanted.plan.arms
+  pub pause : GivesNumber words (codes "pause") 1 65_535 wanted.plan.pause
+  pub seed : GivesNumber words (codes "seed") 0 4_294_967_295 wanted.seed
+  pub runs : GivesNumber words (codes "runs") 1 1000 wanted.runs
+  pub workers : GivesNumber words (codes "workers") 1 16 wanted.workers
+  pub keep : (wanted.keep ≡ 0) ⊎ GivesNumber words (codes "keep") 0 999 wanted.keep
+  pub keep_is_run : wanted.keep < wanted.runs
+  pub named : IfSome wanted.named (Gives words (codes "named"))
+  pub skip : IfSome wanted.skip (Gives words (codes "skip"))
   pub save : IfSome saved (Gives words (codes "save"))

@@ -2,7 +2,8 @@
 use Rattle.std.specs.Prelude.{◌≡◌}
 use Rattle.rv_campaign.specs.Campaign.{AreRuns}
 use Rattle.rv_report.specs.Races.{races}
-use Rattle.rvcollide.specs.Campaigns.{Request, Campaign, told_from}
+use Rattle.rvcollide.specs.Request.{Request}
+use Rattle.rvcollide.specs.Campaigns.{Campaign, told_from}
 use Rattle.rvcollide.specs.declared.run.hunting.Hunted.{Hunted}
 
 -- these are the runs that the campaign has, and their race table

@@ -7,6 +7,7 @@ ghost use Rattle.clap.specs.declared.builder.command.Command.TheViews.{out-Comma
 ghost use Rattle.rv_collide.specs.Numbers.{numbers};
 ghost use Rattle.rvcollide.specs.Command as spec;
 ghost use Rattle.rvcollide.specs.Reading as reading;
+ghost use Rattle.rvcollide.specs.Request.{request};
 ghost use Rattle.rvcollide.specs.RunLine as line;
 
 use super::complaint::{Complaint, NumberOption};
@@ -217,8 +218,8 @@ fn save_of<'a>(given: &ArgMatches<'a>) -> Option<SavePath<'a>>
 }
 
 fn options_of<'a>(given: &ArgMatches<'a>) -> Result<Options<'a>, Complaint<'a>>
-    ensures { MatchResult result (λ options. line.asking_at (rows_of (found_of given.now)) ≡ Some (spec.asking_of options))
-        (λ _. line.asking_at (rows_of (found_of given.now)) ≡ None) }
+    ensures { MatchResult result (λ options. line.request_at (rows_of (found_of given.now)) ≡ Some (request options))
+        (λ _. line.request_at (rows_of (found_of given.now)) ≡ None) }
 {
     let plan = plan_of(given)?;
     let seed = number_of(given, SEED)?;

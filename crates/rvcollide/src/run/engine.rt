@@ -4,6 +4,7 @@ ghost use Rattle.std.specs.Io.KnownBytes.{Appends, Keeps};
 ghost use Rattle.rv_memory.specs.Buffered as buffer;
 ghost use Rattle.rv_memory.specs.Flagged as flag;
 ghost use Rattle.rvcollide.specs.Campaigns as spec;
+ghost use Rattle.rvcollide.specs.Request.{request};
 ghost use Rattle.rvcollide.specs.RunFault.{IsTold, refusal, fails_by, is_read, is_write};
 
 use crate::new_file::NewFile;
@@ -29,12 +30,12 @@ pub fn run_campaign<'a, R: Read, F: NewFile, W: Write>(
     writer: &mut Buffered<W>,
 ) -> Result<(), RunFault<'a>>
     ensures table { OnOk result (IfSome (R.remaining (flag.device image.old)) (λ bytes.
-        IsOkAnd (spec.campaign_of (spec.request options.now) bytes) (λ c.
-        spec.IsHunted (spec.request options.now) c
+        IsOkAnd (spec.campaign_of (request options.now) bytes) (λ c.
+        spec.IsHunted (request options.now) c
         (Appends (buffer.written W.contents writer.old) (buffer.sent W.contents writer.new))
         (spec.IfWanted F.Holds save.new)))) }
     ensures refused { IfErr result (λ fault. IfSome (R.remaining (flag.device image.old)) (λ bytes.
-        IsTold (spec.campaign_of (spec.request options.now) bytes) (refusal fault))) }
+        IsTold (spec.campaign_of (request options.now) bytes) (refusal fault))) }
     ensures nothing { IfErr result (λ fault. is_write (refusal fault) ≡ false
         → Keeps (buffer.sent W.contents writer.old) (buffer.sent W.contents writer.new)) }
     ensures none { IfErr result (λ fault. is_write (refusal fault) ≡ false

@@ -5,6 +5,7 @@ ghost use Rattle.rv_collide.specs.Numbers.{numbers};
 ghost use Rattle.rv_collide.specs.declared.collider.Finished.{Finished};
 ghost use Rattle.rv_memory.specs.Flagged as flag;
 ghost use Rattle.rvcollide.specs.Campaigns as spec;
+ghost use Rattle.rvcollide.specs.Request.{request};
 ghost use Rattle.rvcollide.specs.RunFault.{IsTold, refusal, fails_by, is_read, is_write};
 ghost use Rattle.rvcollide.specs.internal.Hunted.{IsReady};
 
@@ -38,11 +39,11 @@ pub fn hunt<'a, R: Read>(
     image: &mut Flagged<R>,
 ) -> Result<Hunted, RunFault<'a>>
     ensures ok { IfOk result (λ hunted. IfSome (R.remaining (flag.device image.old)) (λ bytes.
-        IsOkAnd (spec.campaign_of (spec.request options.now) bytes) (IsReady (spec.request options.now) hunted))) }
+        IsOkAnd (spec.campaign_of (request options.now) bytes) (IsReady (request options.now) hunted))) }
     ensures writable { IfOk result (λ hunted.
         All (λ (run : Finished). IsWritable (numbers run.plan) run.entries.items) hunted.runs.items) }
     ensures err { IfErr result (λ fault. IfSome (R.remaining (flag.device image.old)) (λ bytes.
-        IsTold (spec.campaign_of (spec.request options.now) bytes) (refusal fault))) }
+        IsTold (spec.campaign_of (request options.now) bytes) (refusal fault))) }
     ensures reader { flag.has_failed image.new ≡ (flag.has_failed image.old || fails_by is_read result) }
     ensures writer { fails_by is_write result ≡ false }
 {

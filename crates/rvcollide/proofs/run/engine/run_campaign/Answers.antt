@@ -1,6 +1,6 @@
 use Rattle.std.proofs.lemmas.Result.{err_from_is_err_and}
 use Rattle.rv_memory.specs.Flagged as flag
-use Rattle.rvcollide.specs.Campaigns.{request}
+use Rattle.rvcollide.specs.Request.{request}
 use Rattle.rvcollide.proofs.RunHunts.{device_refused, file_failed}
 use Rattle.rvcollide.proofs.run.engine.run_campaign.Goals as goal
 
