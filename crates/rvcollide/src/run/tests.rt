@@ -1,3 +1,5 @@
+ghost use Rattle.std.specs.Prelude.{◌≤◌, length};
+
 use crate::devices::{Kept, assert_tells_each_failing_call, assert_tells_each_failing_read};
 use crate::fault::Fault;
 use crate::run::engine::run_campaign;
