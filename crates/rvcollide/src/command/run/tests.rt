@@ -198,10 +198,9 @@ fn refuses_other_values(rt: HostRuntime) -> Result<(), Fail> {
     Ok(())
 }
 
-/// Each option that is required left out, each option twice, one without its value, unknown ones, and
-/// no image or two.
+/// Each option that is required left out, and the image.
 #[test]
-fn refuses_other_options(rt: HostRuntime) -> Result<(), Fail> {
+fn wants_each_required_option(rt: HostRuntime) -> Result<(), Fail> {
     let alloc = rt.alloc();
     for (old, new, part) in [
         (" --harts 2", "", "--harts <N>"),
@@ -212,7 +211,17 @@ fn refuses_other_options(rt: HostRuntime) -> Result<(), Fail> {
         (" --runs 3", "", "--runs <N>"),
         (" --workers 6", "", "--workers <N>"),
         (" a.elf", "", "<IMAGE>"),
-        (" a.elf", " a.elf b.elf", "'b.elf'"),
+    ] {
+        assert_change_refused(&rt, alloc, old, new, part)?;
+    }
+    Ok(())
+}
+
+/// Each option of the plan and of the runs twice.
+#[test]
+fn refuses_a_number_twice(rt: HostRuntime) -> Result<(), Fail> {
+    let alloc = rt.alloc();
+    for (old, new, part) in [
         (
             "--harts 2",
             "--harts 2 --harts 2",
@@ -248,6 +257,17 @@ fn refuses_other_options(rt: HostRuntime) -> Result<(), Fail> {
             "--workers 6 --workers 6",
             "'--workers <N>' cannot be used multiple times",
         ),
+    ] {
+        assert_change_refused(&rt, alloc, old, new, part)?;
+    }
+    Ok(())
+}
+
+/// Each option that may be left out twice.
+#[test]
+fn refuses_a_list_twice(rt: HostRuntime) -> Result<(), Fail> {
+    let alloc = rt.alloc();
+    for (old, new, part) in [
         (
             "a.elf",
             "a.elf --named a --named b",
@@ -268,6 +288,18 @@ fn refuses_other_options(rt: HostRuntime) -> Result<(), Fail> {
             "a.elf --save a --save a",
             "'--save <FILE>' cannot be used multiple times",
         ),
+    ] {
+        assert_change_refused(&rt, alloc, old, new, part)?;
+    }
+    Ok(())
+}
+
+/// One option without its value, unknown ones, and two images.
+#[test]
+fn refuses_other_options(rt: HostRuntime) -> Result<(), Fail> {
+    let alloc = rt.alloc();
+    for (old, new, part) in [
+        (" a.elf", " a.elf b.elf", "'b.elf'"),
         ("--harts 2", "--harts", "--harts <N>"),
         ("--harts 2", "--hart 2", "'--hart'"),
         ("--harts 2", "-x2", "'-x'"),
