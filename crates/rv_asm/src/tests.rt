@@ -113,8 +113,10 @@ fn reads_what_people_write(rt: HostRuntime) {
     }
 }
 
+// Of several faults in a line the first by rank is told.
+
 #[test]
-fn tells_faults_by_rank(rt: HostRuntime) {
+fn tells_malformed_lines(rt: HostRuntime) {
     for line in [
         "",
         "  # nothing",
@@ -151,6 +153,10 @@ fn tells_faults_by_rank(rt: HostRuntime) {
     ] {
         assert_fault(&rt, line, AsmKind::Word);
     }
+}
+
+#[test]
+fn tells_directives_that_give_no_word(rt: HostRuntime) {
     for line in [
         ".text",
         ".data",
@@ -167,6 +173,10 @@ fn tells_faults_by_rank(rt: HostRuntime) {
     ] {
         assert_fault(&rt, line, AsmKind::Directive);
     }
+}
+
+#[test]
+fn tells_names_of_no_register(rt: HostRuntime) {
     for line in [
         "addi x32, x0, 5",
         "addi x1, X2, 5",
@@ -176,6 +186,10 @@ fn tells_faults_by_rank(rt: HostRuntime) {
     ] {
         assert_fault(&rt, line, AsmKind::Register);
     }
+}
+
+#[test]
+fn tells_numbers_out_of_range(rt: HostRuntime) {
     for line in [
         "addi x1, x0, 2048",
         "addi x1, x0, -2049",
@@ -193,6 +207,10 @@ fn tells_faults_by_rank(rt: HostRuntime) {
     ] {
         assert_fault(&rt, line, AsmKind::Range);
     }
+}
+
+#[test]
+fn tells_labels(rt: HostRuntime) {
     assert_fault(&rt, "beq x0, x0, far", AsmKind::LabelUnknown);
     assert_fault(&rt, "jal x1, x5", AsmKind::LabelUnknown);
     assert_fault(&rt, "beq x0, x99, far", AsmKind::Register);

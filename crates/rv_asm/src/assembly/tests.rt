@@ -60,42 +60,22 @@ fn address_of_a_later_label(rt: HostRuntime) -> Result<(), Fail> {
 #[test]
 fn faults(rt: HostRuntime) {
     let alloc = rt.alloc();
-    assert_eq!(rt; fault_of(alloc, ""), Some((0, AsmKind::Empty)));
-    assert_eq!(rt;
-        fault_of(alloc, ".data\n.word 1"),
-        Some((0, AsmKind::Empty))
-    );
-    assert_eq!(rt;
-        fault_of(alloc, "addi x32, x0, 5"),
-        Some((1, AsmKind::Register))
-    );
-    assert_eq!(rt;
-        fault_of(alloc, "addi x1, x0, 2048"),
-        Some((1, AsmKind::Range))
-    );
-    assert_eq!(rt;
-        fault_of(alloc, "beq x0, x0, far"),
-        Some((1, AsmKind::LabelUnknown))
-    );
-    assert_eq!(rt; fault_of(alloc, ".byte 1"), Some((1, AsmKind::Directive)));
-    assert_eq!(rt;
-        fault_of(alloc, "nop\nbad\nbeq x0, x0, far"),
-        Some((2, AsmKind::Word))
-    );
-    assert_eq!(rt;
-        fault_of(alloc, "j a\na: nop\na: bad\n"),
-        Some((3, AsmKind::LabelTwice))
-    );
-    assert_eq!(rt; fault_of(alloc, "nop\r"), Some((1, AsmKind::Word)));
+    for (source, fault) in [
+        ("", (0, AsmKind::Empty)),
+        (".data\n.word 1", (0, AsmKind::Empty)),
+        ("addi x32, x0, 5", (1, AsmKind::Register)),
+        ("addi x1, x0, 2048", (1, AsmKind::Range)),
+        ("beq x0, x0, far", (1, AsmKind::LabelUnknown)),
+        (".byte 1", (1, AsmKind::Directive)),
+        ("nop\nbad\nbeq x0, x0, far", (2, AsmKind::Word)),
+        ("j a\na: nop\na: bad\n", (3, AsmKind::LabelTwice)),
+        ("nop\r", (1, AsmKind::Word)),
+        (".data\n.zero 1048576\n.word a", (3, AsmKind::LabelUnknown)),
+        (".data\n.zero 1048576\n.word 1", (3, AsmKind::TooLarge)),
+    ] {
+        assert_eq!(rt; fault_of(alloc, source), Some(fault), "{source}");
+    }
     assert_eq!(rt; fault_of(alloc, "nop\r\n# last\r\n"), None);
-    assert_eq!(rt;
-        fault_of(alloc, ".data\n.zero 1048576\n.word a"),
-        Some((3, AsmKind::LabelUnknown))
-    );
-    assert_eq!(rt;
-        fault_of(alloc, ".data\n.zero 1048576\n.word 1"),
-        Some((3, AsmKind::TooLarge))
-    );
 }
 
 fn is_symbol(symbol: &Symbol, value: u32, size: u32, kind: u8) -> bool {
