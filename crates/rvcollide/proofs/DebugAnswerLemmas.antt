@@ -1,8 +1,7 @@
 -- What is put for a command, from what the session told.
-use Rattle.std.proofs.Common.{◌≡◌, ℕ, ◌+◌, ◌-◌, ◌<◌, ◌≤◌, true, false, ◌==◌, List, [], ◌∷◌, ◌++◌, Option, Some, None, Result, Ok, Err, length, refl, sym, ap, subst, ◌∙◌, inl, inr, arith}
-use Rattle.std.specs.Prelude.{OnOk, IsSomeAnd, nat_le, slice_get, map, ◌⊎◌, ◌↔◌}
+use Rattle.std.proofs.Common.{◌≡◌, ℕ, ◌+◌, ◌-◌, ◌<◌, ◌≤◌, true, false, ◌==◌, List, Option, Some, None, Result, Ok, Err, length, refl, inl, inr, arith}
+use Rattle.std.specs.Prelude.{OnOk, IsSomeAnd, nat_le, slice_get, ◌⊎◌}
 use Rattle.std.specs.Io.KnownBytes.{Appends}
-use Rattle.std.specs.List.{flat_map}
 use Rattle.std.proofs.lemmas.Bool.Decides.{nat_tests}
 use Rattle.std.proofs.lemmas.Option.{slice_get_past}
 use Rattle.rv_debug.specs.Answers.{HasNoTouch, IsFirstTouch, bytes_from, lines_from}
@@ -13,7 +12,7 @@ use Rattle.rv_hart.specs.SomeHart.{SomeHart}
 use Rattle.rv_hart.specs.State.{State}
 use Rattle.rv_hart.specs.declared.hart.Hart.{Hart}
 use Rattle.rv_text.specs.Lines.{text_of_lines}
-use Rattle.rvcollide.specs.DebugAnswers.{Answer, IsAnswer, IsAnswered, bytes_text, fault_text, found_text, going, going_back, going_forward, goes, hart_text, malformed_text, place_text, refuses, showing, shows, takes_memory}
+use Rattle.rvcollide.specs.DebugAnswers.{IsAnswer, IsAnswered, bytes_text, fault_text, found_text, goes, hart_text, malformed_text, place_text, refuses, showing, shows}
 use Rattle.rvcollide.specs.declared.debug.command.Command.{Command}
 use Rattle.rvcollide.specs.declared.debug.command.Command.TheVariants as said
 use Rattle.rvcollide.specs.internal.DebugPuts.{Puts}

@@ -1,15 +1,15 @@
 -- A line's first bytes tell its command, since no command is long.
-use Rattle.std.proofs.Common.{zero, suc, ◌≡◌, ℕ, ◌+◌, ◌-◌, ◌^◌, ◌<◌, ◌≤◌, Bool, true, false, ◌==◌, ◌&&◌, List, [], ◌∷◌, ◌++◌, Option, Some, None, cond, length, take, refl, sym, ap, subst, ◌∙◌, inl, inr, arith}
+use Rattle.std.proofs.Common.{◌≡◌, ℕ, ◌+◌, ◌-◌, ◌^◌, ◌<◌, ◌≤◌, Bool, true, false, ◌==◌, ◌&&◌, List, [], ◌∷◌, Option, Some, None, cond, length, refl, sym, ap, ◌∙◌, inl, inr, arith}
 use Rattle.std.specs.Prelude.{if◌then◌else◌, nat_le, option_and_then, option_map, ◌⊎◌, codes}
 use Rattle.std.specs.Fmt.{decimal}
-use Rattle.std.specs.List.{onto_first, slice_split}
+use Rattle.std.specs.List.{onto_first}
 use Rattle.std.specs.Str.{bytes_eq}
 use Rattle.std.proofs.lemmas.Bool.Decides.{nat_tests}
 use Rattle.std.proofs.lemmas.Fmt.{length-decimal-le}
 use Rattle.std.proofs.lemmas.List.{length-take, take_all}
 use Rattle.rv_text.specs.Decimal.{decimal_of}
 use Rattle.rv_text.specs.Hexadecimal.{word_of}
-use Rattle.rv_text.specs.Numeral.{number_of, up_to}
+use Rattle.rv_text.specs.Numeral.{up_to}
 use Rattle.rv_text.specs.Pieces.{pieces_of}
 use Rattle.rv_text.proofs.SpellingLemmas.{one_spelling}
 use Rattle.rvcollide.specs.DebugCommand.{command_from, command_in, command_of, command_with, count_in, number_in, plain_command, unless_zero}

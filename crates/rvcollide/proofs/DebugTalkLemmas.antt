@@ -1,12 +1,11 @@
 -- Lines that are taken of an input and answered, one after another.
-use Rattle.std.proofs.Common.{zero, suc, ◌≡◌, ℕ, ◌+◌, ◌<◌, ◌≤◌, Bool, true, false, ◌==◌, ◌&&◌, List, [], ◌∷◌, ◌++◌, Option, Some, None, Result, Ok, Err, length, take, refl, sym, ap, subst, ◌∙◌, inl, inr, arith, append-nil, append_assoc, cond, length-append, zero-add}
-use Rattle.std.specs.Prelude.{IfErr, IfSome, IsOkAnd, ◌||◌, count_by, if◌then◌else◌, take_while, ◌⊎◌}
-use Rattle.std.specs.Io.KnownBytes.{Appends, Consumes, IsAtEnd, Keeps, append_known, prepend_known}
+use Rattle.std.proofs.Common.{suc, ◌≡◌, ℕ, ◌+◌, ◌<◌, Bool, true, false, ◌==◌, ◌&&◌, List, [], ◌∷◌, ◌++◌, Option, Some, None, Result, Ok, Err, length, take, refl, sym, ap, subst, ◌∙◌, inl, inr, arith, append-nil, append_assoc, cond, length-append, zero-add}
+use Rattle.std.specs.Prelude.{IfErr, IfSome, IsOkAnd, ◌||◌, count_by, take_while}
+use Rattle.std.specs.Io.KnownBytes.{Appends, IsAtEnd, Keeps, append_known, prepend_known}
 use Rattle.std.specs.List.{list_all, onto_first}
 use Rattle.std.proofs.KnownBytes.{Appends-kept, Appends-nil, Appends-trans}
 use Rattle.std.proofs.Math.Seq.{take-append-add, take-append_seam}
 use Rattle.std.proofs.lemmas.Bool.{and_parts, and_from, or_parts}
-use Rattle.std.proofs.lemmas.Bool.Decides.{nat_tests}
 use Rattle.std.proofs.lemmas.List.Folds.{list_all-append}
 use Rattle.std.proofs.lemmas.List.Sums.{sum_by-cons, take_while-cons}
 use Rattle.rv_collide.specs.Stored.{stored}
@@ -17,10 +16,10 @@ use Rattle.rvcollide.specs.DebugAnswers.{Answer, IsAnswered}
 use Rattle.rvcollide.specs.DebugCommand.{command_of, is_quit}
 use Rattle.rvcollide.specs.DebugTalk.{Answers, IsBegun, IsCutOff, IsDebugRefusal, IsStopped, IsTalk, IsWithin, goes_on, lines_before_quit, start_of, whole_lines}
 use Rattle.rvcollide.specs.Replay.{IfKnown, IsReplayRefusal, run_of}
-use Rattle.rvcollide.specs.internal.DebugLines.{IsPassed, IsTaken, IsUntaken, Source, TakesLine, kept, rest_of}
+use Rattle.rvcollide.specs.internal.DebugLines.{IsPassed, IsUntaken, Source, TakesLine}
 use Rattle.rvcollide.specs.internal.DebugPuts.{Puts}
 use Rattle.rvcollide.specs.declared.fault.Fault.{Fault}
-use Rattle.rvcollide.specs.declared.fault.Fault.TheVariants.{TooLong, Read, Write, NoMemory}
+use Rattle.rvcollide.specs.declared.fault.Fault.TheVariants.{TooLong, Read}
 use Rattle.rvcollide.proofs.DebugCommandLemmas.{kept_command}
 
 -- ---- lines

@@ -1,5 +1,5 @@
 -- What `debug` writes of its three inputs: an image, a schedule, and the lines of commands.
-use Rattle.std.specs.Prelude.{◌≡◌, ℕ, ◌<◌, ◌==◌, ◌⊎◌, ⊤, Bool, true, false, if◌then◌else◌, IfSome, IsOkAnd, Option, Some, None, Result, Ok, Err, List, [], ◌∷◌, ◌++◌, length, take, take_while, count_by}
+use Rattle.std.specs.Prelude.{◌≡◌, ℕ, ◌<◌, ◌==◌, ◌⊎◌, ⊤, Bool, true, false, if◌then◌else◌, IfSome, IsOkAnd, Option, List, [], ◌∷◌, ◌++◌, length, take, take_while, count_by}
 use Rattle.std.specs.List.{list_all}
 use Rattle.rv_collide.specs.Stored.{Stored}
 use Rattle.rv_debug.specs.Placed.{Placed, moved, placed}
@@ -9,7 +9,7 @@ use Rattle.rvcollide.specs.DebugAnswers.{Answer, IsAnswered}
 use Rattle.rvcollide.specs.DebugCommand.{command_of, is_quit}
 use Rattle.rvcollide.specs.Replay.{IsReplayRefusal, run_of}
 use Rattle.rvcollide.specs.declared.fault.Fault.{Fault}
-use Rattle.rvcollide.specs.declared.fault.Fault.TheVariants.{TooLong, Read, Write, NoMemory}
+use Rattle.rvcollide.specs.declared.fault.Fault.TheVariants.{TooLong, Read, Write}
 
 -- ---- the lines
 

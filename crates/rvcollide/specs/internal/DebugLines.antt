@@ -1,5 +1,5 @@
 -- What a source of lines has, and what taking a line from it does.
-use Rattle.std.specs.Prelude.{◌≡◌, ℕ, ◌+◌, ◌<◌, ◌⊎◌, ⊤, Bool, true, false, if◌then◌else◌, Option, Some, None, IfSome, List, [], ◌∷◌, ◌++◌, length, take}
+use Rattle.std.specs.Prelude.{◌≡◌, ℕ, ◌+◌, ◌<◌, ◌⊎◌, ⊤, Bool, false, if◌then◌else◌, Option, Some, IfSome, List, [], ◌∷◌, ◌++◌, length, take}
 use Rattle.std.specs.Io.KnownBytes.{Consumes, IsAtEnd, prepend_known}
 use Rattle.rv_text.specs.Lines.{has_line_feed}
 use Rattle.rvcollide.specs.declared.debug.lines.TheConstants.{KEPT}

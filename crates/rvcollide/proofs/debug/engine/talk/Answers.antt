@@ -5,7 +5,6 @@ use Rattle.rv_memory.specs.Buffered as buffer
 use Rattle.rv_memory.specs.Flagged as flag
 use Rattle.rv_memory.specs.declared.flagged.TheConstants.{INPUT_LIMIT}
 use Rattle.rvcollide.specs.DebugCommand.{command_of, is_quit}
-use Rattle.rvcollide.specs.internal.DebugLines.{rest_of}
 use Rattle.rvcollide.proofs.DebugTalkLemmas.{TalkSoFar-more, TalkSoFar-none, ended_talk, quit_talk, stopped_talk, within_end, within_quit}
 use Rattle.rvcollide.proofs.debug.engine.talk.Goals as goal
 

@@ -1,4 +1,4 @@
-use Rattle.std.proofs.Common.{arith, sym, ◌∙◌}
+use Rattle.std.proofs.Common.{arith}
 use Rattle.rvcollide.proofs.DebugLineLemmas.{kept_more, kept_full}
 use Rattle.rvcollide.proofs.debug.lines.Line.push.Goals as goal
 
