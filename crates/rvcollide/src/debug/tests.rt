@@ -416,7 +416,7 @@ fn tells_a_file_that_is_refused(rt: HostRuntime) -> Result<(), Fail> {
 }
 
 /// How many lines are taken of a text that may have so many bytes, and why no more.
-fn lines_taken<R: Read>(limit: usize, reader: R) -> (u32, Result<(), Fault>) {
+fn lines_taken<R: Read + Drop>(limit: usize, reader: R) -> (u32, Result<(), Fault>) {
     let mut reader = Flagged::new(reader);
     let mut lines = LineSource::new(limit);
     for taken in 0..10 {
