@@ -37,20 +37,24 @@ use rv_memory::buffered::Buffered;
 use rv_memory::flagged::Flagged;
 use std::env;
 use std::process::ExitCode;
+use std::thread::Threads;
 
 fn main(rt: HostRuntime) -> ExitCode {
-    match run_arguments(&rt) {
+    match run_arguments(&rt, &rt) {
         Ok(status) => status,
         Err(failure) => tell_failure(&rt, failure),
     }
 }
 
 /// Runs the command of the program's arguments, and tells why it fails while they are there.
-fn run_arguments(rt: &HostRuntime) -> Result<ExitCode, Failure<'static>> {
+fn run_arguments(
+    rt: &HostRuntime,
+    threads: &(impl Threads + Sync),
+) -> Result<ExitCode, Failure<'static>> {
     let alloc = rt.alloc();
     let arguments: Vec<String> = env::args(rt)?.collect(alloc)?;
     let words: Vec<&str> = arguments.iter().map(|word| word.as_str()).collect(alloc)?;
-    match run_line(rt, &words) {
+    match run_line(rt, threads, &words) {
         Ok(()) => Ok(ExitCode::SUCCESS),
         Err(failure) => Ok(tell_failure(rt, failure)),
     }
@@ -66,16 +70,24 @@ fn tell_failure(rt: &HostRuntime, failure: Failure<'_>) -> ExitCode {
 }
 
 /// Runs the command of a line.
-fn run_line<'a>(rt: &HostRuntime, words: &'a [&'a str]) -> Result<(), Failure<'a>> {
+fn run_line<'a>(
+    rt: &HostRuntime,
+    threads: &(impl Threads + Sync),
+    words: &'a [&'a str],
+) -> Result<(), Failure<'a>> {
     match command_of(rt.alloc(), words) {
-        Ok(job) => Ok(run_job(rt, job)?),
+        Ok(job) => Ok(run_job(rt, threads, job)?),
         Err(LineFault::Line) => tell(rt, words),
         Err(fault) => Err(Failure::from(fault)),
     }
 }
 
 /// Runs the engine of a job. Here, in `debug_files` and in `run_files` a path becomes a file, and nowhere else.
-fn run_job<'a>(rt: &HostRuntime, job: Job<'a>) -> Result<(), RunFault<'a>> {
+fn run_job<'a>(
+    rt: &HostRuntime,
+    threads: &(impl Threads + Sync),
+    job: Job<'a>,
+) -> Result<(), RunFault<'a>> {
     let alloc = rt.alloc();
     let mut writer = Buffered::new(alloc, rt.stdout());
     let plain = match job {
@@ -98,7 +110,7 @@ fn run_job<'a>(rt: &HostRuntime, job: Job<'a>) -> Result<(), RunFault<'a>> {
             image,
             options,
             save,
-        } => return run_files(rt, image, &options, save),
+        } => return run_files(rt, threads, image, &options, save),
     };
     Ok(plain?)
 }
@@ -120,6 +132,7 @@ fn debug_files(
 /// Runs the engine of `run` on a file, and on one that it makes where that is asked for.
 fn run_files<'a>(
     rt: &HostRuntime,
+    threads: &(impl Threads + Sync),
     image: ImagePath<'_>,
     options: &Options<'a>,
     save: Option<SavePath<'_>>,
@@ -128,7 +141,7 @@ fn run_files<'a>(
     let mut image = Flagged::new(InputFile::new(rt, image.0));
     let mut file = save.map(|path| OutputFile::new(rt, path.0));
     let mut writer = Buffered::new(alloc, rt.stdout());
-    run_campaign(rt, alloc, options, &mut image, &mut file, &mut writer)
+    run_campaign(threads, alloc, options, &mut image, &mut file, &mut writer)
 }
 
 /// Writes why the words give no job, or the help that they ask for.
