@@ -1,0 +1,109 @@
+-- What the locked value keeps, after each of its calls.
+use Rattle.std.proofs.Common.{◌≡◌, ℕ, ◌+◌, Bool, true, false, cond, List, [], ◌∷◌, ◌++◌, refl, sym, ap, subst, ◌∙◌, arith}
+use Rattle.std.specs.Prelude.{IsTrue, not}
+use Rattle.rv_collide.specs.Able.{is_due}
+use Rattle.rv_collide.specs.Answers.{Turns}
+use Rattle.rv_collide.specs.DriverLaws.{AddsItsKind}
+use Rattle.rv_collide.specs.Draws.{arms_or_disarms, draws, first_draws, is_resumed, next_index}
+use Rattle.rv_collide.specs.Plan.{Numbers}
+use Rattle.rv_collide.specs.Stored.{Stored, added, setting_of, stored}
+use Rattle.rv_collide.specs.declared.collider.Turned.{Turned}
+use Rattle.rv_collide.specs.declared.collider.Turned.TheVariants as turned
+use Rattle.rv_collide.specs.declared.entry.Entry.{Entry}
+use Rattle.rv_collide.specs.declared.entry.Entry.TheVariants.{Stepped, Paused, Resumed}
+use Rattle.rv_elf.specs.Contents.{Contents}
+use Rattle.rv_locked.specs.Watched.{drew, opened, sampling, sampling_of}
+use Rattle.rv_locked.specs.internal.Kept.{IsKept}
+use Rattle.rv_locked.specs.internal.Watching.{IsWatching}
+use Rattle.rv_locked.proofs.ArmsLemmas.{HasDrawn, after_draws, after_resumption, after_turn, index_more, long_more, one_draw_more}
+use Rattle.rv_sample.specs.Sites.{sites}
+use Rattle.rv_sample.specs.Words.{Given}
+
+abbrev given : ℕ → ℕ → Given
+given seed taken = record { seed = seed; stream = 0; taken = taken }
+
+-- ---- a turn
+
+not_a_resumption : (e : Entry) (hart : ℕ) → is_resumed e ≡ false → e ≡ Resumed hart → ⊥
+not_a_resumption e hart stays is = (let differ : false ≡ true = sym stays ∙ ap is_resumed is in cc)
+
+plus_none : (n : ℕ) → n + 0 ≡ n
+plus_none n = omega arith
+
+after_entry : (old new : Stored) (e : Entry) (made made_more : ℕ) (made_at made_at_more among : List ℕ) (words : Given) (image : Contents) (seed : ℕ) → IsWatching old made made_at among words image seed → new ≡ added old e → is_resumed e ≡ false → IsTrue (not (arms_or_disarms e)) → IsKept new.entries made_more made_at_more → IsWatching new made_more made_at_more among words image seed
+after_entry old new e made made_more made_at made_at_more among words image seed w is stays arms_none kept =
+    subst (λ (s : Stored). IsKept s.entries made_more made_at_more → IsWatching s made_more made_at_more among words image seed) (sym is)
+    (λ at_new. record {
+      kept = at_new;
+      long = long_more (setting_of old) old.entries e w.long (λ hart same. absurd (not_a_resumption e hart stays same));
+      arms = after_turn (setting_of old) (sampling old.image seed) old.entries e w.arms stays arms_none;
+      sites_are = w.sites_are;
+      words_are = w.words_are ∙ ap (given seed) (sym (index_more old.entries e ∙ ap (λ b. next_index is_resumed old.entries + cond b 1 0) stays ∙ plus_none (next_index is_resumed old.entries)));
+      image_is = w.image_is;
+    }) kept
+
+pub turned_on : (old new : Stored) (h : ℕ) (t : Turned) (made made_more : ℕ) (made_at made_at_more among : List ℕ) (words : Given) (image : Contents) (seed : ℕ) → IsWatching old made made_at among words image seed → Turns old new h t → IsKept new.entries made_more made_at_more → IsWatching new made_more made_at_more among words image seed
+turned_on old new h (turned.Stepped event) made made_more made_at made_at_more among words image seed w turns kept =
+    after_entry old new (Stepped h) made made_more made_at made_at_more among words image seed w turns.0.is_added refl refl kept
+turned_on old new h (turned.Paused slot) made made_more made_at made_at_more among words image seed w turns kept =
+    after_entry old new (Paused h slot) made made_more made_at made_at_more among words image seed w turns.is_added refl refl kept
+
+-- ---- the end of a pause
+
+pub drew_on : (old mid new : Stored) (h made : ℕ) (made_at among : List ℕ) (words : Given) (image : Contents) (seed : ℕ) → IsWatching old made made_at among words image seed → mid ≡ added old (Resumed h) → new ≡ drew (sampling_of among words.seed words.stream) words.taken mid → new ≡ drew (sampling old.image seed) (next_index is_resumed old.entries) (added old (Resumed h))
+drew_on old mid new h made made_at among words image seed w resumes draws =
+    draws
+    ∙ ap (λ (g : Given). drew (sampling_of among g.seed g.stream) g.taken mid) w.words_are
+    ∙ ap (λ (xs : List ℕ). drew (sampling_of xs seed 0) (next_index is_resumed old.entries) mid) w.sites_are
+    ∙ ap (drew (sampling old.image seed) (next_index is_resumed old.entries)) resumes
+
+pub ended_on : AddsItsKind → (old new : Stored) (h made made_more : ℕ) (made_at made_at_more among : List ℕ) (words after : Given) (image : Contents) (seed : ℕ) → IsWatching old made made_at among words image seed → is_due (setting_of old) old.entries h ≡ true → new ≡ drew (sampling old.image seed) (next_index is_resumed old.entries) (added old (Resumed h)) → after ≡ record words { taken = words.taken + 1 } → IsKept new.entries made_more made_at_more → IsWatching new made_more made_at_more among after image seed
+ended_on kind old new h made made_more made_at made_at_more among words after image seed w due is one_more kept =
+    let drawn = after_resumption kind (setting_of old) (sampling old.image seed) old.entries h w.long w.arms due in
+    subst (λ (s : Stored). IsKept s.entries made_more made_at_more → IsWatching s made_more made_at_more among after image seed) (sym is)
+    (λ at_new. record {
+      kept = at_new;
+      long = drawn.long;
+      arms = drawn.arms;
+      sites_are = w.sites_are;
+      words_are = one_more ∙ ap (λ (g : Given). record g { taken = g.taken + 1 }) w.words_are ∙ ap (given seed) drawn.taken_are;
+      image_is = w.image_is;
+    }) kept
+
+-- ---- the first draws
+
+pub entries_as : (first : Stored) (xs : List Entry) → first.entries ≡ xs → first ≡ record first { entries = xs }
+entries_as first xs is = ap (λ (ys : List Entry). record first { entries = ys }) is
+
+pub taken_as : (words : Given) (n : ℕ) → words.taken ≡ n → words ≡ record words { taken = n }
+taken_as words n is = ap (λ (k : ℕ). record words { taken = k }) is
+
+pub one_taken : (words before after : Given) (n : ℕ) → before ≡ record words { taken = n } → after ≡ record before { taken = before.taken + 1 } → after ≡ record words { taken = n + 1 }
+one_taken words before after n is one_more = one_more ∙ ap (λ (g : Given). record g { taken = g.taken + 1 }) is
+
+pub draw_more : (first now new : Stored) (among : List ℕ) (words before : Given) (n : ℕ) → now ≡ record first { entries = draws (setting_of first) (sampling_of among words.seed words.stream) n } → before ≡ record words { taken = n } → new ≡ drew (sampling_of among before.seed before.stream) before.taken now → new ≡ record first { entries = draws (setting_of first) (sampling_of among words.seed words.stream) (n + 1) }
+draw_more first now new among words before n is taken draws_one =
+    draws_one
+    ∙ ap (λ (g : Given). drew (sampling_of among g.seed g.stream) g.taken now) taken
+    ∙ ap (drew (sampling_of among words.seed words.stream) n) is
+    ∙ ap (λ (xs : List Entry). record first { entries = xs }) (sym (one_draw_more (setting_of first) (sampling_of among words.seed words.stream) n))
+
+pub opened_is : (first new : Stored) (image : Contents) (plan : Numbers) (seed : ℕ) (among : List ℕ) (words : Given) → first ≡ stored image plan [] → words ≡ given seed 0 → among ≡ sites image [] → new ≡ record first { entries = draws (setting_of first) (sampling_of among words.seed words.stream) first_draws } → new ≡ opened image plan seed
+opened_is first new image plan seed among words is are sites_are gives =
+    gives
+    ∙ ap (λ (s : Stored). record s { entries = draws (setting_of s) (sampling_of among words.seed words.stream) first_draws }) is
+    ∙ ap (λ (g : Given). stored image plan (draws (setting_of (stored image plan [])) (sampling_of among g.seed g.stream) first_draws)) are
+    ∙ ap (λ (xs : List ℕ). stored image plan (draws (setting_of (stored image plan [])) (sampling_of xs seed 0) first_draws)) sites_are
+
+pub opened_watches : AddsItsKind → (new : Stored) (image copy : Contents) (plan : Numbers) (seed made : ℕ) (made_at among : List ℕ) (words after : Given) → new ≡ opened image plan seed → words ≡ given seed 0 → after ≡ record words { taken = first_draws } → among ≡ sites image [] → copy ≡ image → IsKept new.entries made made_at → IsWatching new made made_at among after copy seed
+opened_watches kind new image copy plan seed made made_at among words after is are more sites_are same kept =
+    let drawn = after_draws kind (setting_of (stored image plan [])) (sampling image seed) in
+    subst (λ (s : Stored). IsKept s.entries made made_at → IsWatching s made made_at among after copy seed) (sym is)
+    (λ at_new. record {
+      kept = at_new;
+      long = drawn.long;
+      arms = drawn.arms;
+      sites_are = sites_are;
+      words_are = more ∙ ap (λ (g : Given). record g { taken = first_draws }) are ∙ ap (given seed) drawn.taken_are;
+      image_is = same;
+    }) kept

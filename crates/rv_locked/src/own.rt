@@ -1,0 +1,60 @@
+//! Whether a worker's record of places is the hart's own.
+ghost use Rattle.std.specs.Prelude.{◌≡◌, ◌↔◌, ◌<◌, ◌≤◌, map, length, IsTrue, IfNone, IfSome};
+ghost use Rattle.rv_locked.specs.Own.{AreOwn, IsLeastStray, IsOwn, is_of, own_places};
+ghost use Rattle.rv_locked.specs.internal.Kept.{IsKept};
+
+use crate::driver::Driver;
+use rv_collide::collider::Collider;
+use rv_collide::entry::Entry;
+use rv_memory::flat::Flat;
+
+/// The least hart whose list is not its own.
+pub(crate) fn first_stray(driver: &Driver, places: &[Vec<u32>]) -> Option<u8>
+    requires kept { IsKept driver.now.collider.entries driver.now.made driver.now.made_at }
+    requires few { length places.now ≤ 16 }
+    ensures none { IfNone result (AreOwn driver.now.collider (map (λ p. p.items) places.now)) }
+    ensures some { IfSome result (λ hart. IsLeastStray driver.now.collider (map (λ p. p.items) places.now) hart) }
+{
+    for h in 0..places.len() {
+        let list = places[h].as_slice();
+        if !is_own(driver, h as u8, list) {
+            return Some(h as u8);
+        }
+    }
+    None
+}
+
+/// Whether the list has the places of the hart's own entries, and the hart is neither paused nor able.
+fn is_own(driver: &Driver, h: u8, list: &[u32]) -> bool
+    requires { IsKept driver.now.collider.entries driver.now.made driver.now.made_at }
+    ensures { IsTrue result ↔ IsOwn driver.now.collider h list.now }
+{
+    are_places(&driver.collider, h, list) && !driver.is_open(h) && !driver.is_able(h)
+}
+
+/// Whether the list has the places of the hart's own entries.
+fn are_places(collider: &Collider<Flat>, h: u8, list: &[u32]) -> bool
+    ensures { IsTrue result ↔ (list.now ≡ own_places collider.now.entries h) }
+{
+    let mut met = 0;
+    for place in 0..collider.entries() {
+        if is_of(h, collider.entry(place)) {
+            if met >= list.len() || list[met] != place {
+                return false;
+            }
+            met += 1;
+        }
+    }
+    met == list.len()
+}
+
+/// Whether an entry is a turn of the hart or the end of its pause.
+fn is_of(h: u8, entry: Entry) -> bool
+    ensures { result ≡ is_of h entry }
+{
+    match entry {
+        Entry::Stepped(other) | Entry::Resumed(other) => other == h,
+        Entry::Paused(other, _) => other == h,
+        Entry::Armed(_) | Entry::Disarmed(_) => false,
+    }
+}

@@ -1,0 +1,229 @@
+use crate::{Stray, Taken, Watched};
+use rv_collide::collider::Finished;
+use rv_collide::entry::Entry::{self, Armed, Paused, Resumed, Stepped};
+use rv_collide::plan::Plan;
+use rv_elf::{Image, Symbol};
+use rv_memory::region::Region;
+use std::alloc::Global;
+use std::process::Abort;
+use std::test::Fail;
+
+/// `lui x6,0x20`, `sw x10,0(x6)`, `lw x5,0(x6)`, `ecall`.
+const P: [u32; 4] = [0x0002_0337, 0x00a3_2023, 0x0003_2283, 0x0000_0073];
+
+/// `lui x6,0x20`, `sw x10,0(x6)`, `ecall`.
+const ONE_STORE: [u32; 3] = [0x0002_0337, 0x00a3_2023, 0x0000_0073];
+
+/// An image of words at 00010000, and 4,096 zero bytes at 00020000 with a symbol.
+fn image(rt: &impl Abort, alloc: Global, words: &[u32]) -> Result<Image, Fail> {
+    let mut bytes = Vec::new(alloc);
+    for word in words {
+        bytes.extend_from_slice(&word.to_le_bytes())?;
+    }
+    let len = bytes.len();
+    assert!(rt; 1 <= len && len <= 65_536);
+    let code = Region {
+        start: 0x10000,
+        bytes,
+        len: len as u32,
+        r: true,
+        w: false,
+        x: true,
+    };
+    let zeros = Region {
+        start: 0x20000,
+        bytes: Vec::new(alloc),
+        len: 4096,
+        r: true,
+        w: true,
+        x: false,
+    };
+    let symbol = Symbol {
+        name: String::from_str(alloc, "shared")?,
+        value: 0x20000,
+        size: 4,
+        kind: 1,
+    };
+    let segments = vec![in alloc; code, zeros]?;
+    let symbols = vec![in alloc; symbol]?;
+    Ok(Image::new(0x10000, segments, symbols).ok_or("an image")?)
+}
+
+fn plan(harts: u8, steps: u32, arms: u32, pause: u32) -> Result<Plan, Fail> {
+    Ok(Plan::new(harts, steps, arms, pause).ok_or("a plan")?)
+}
+
+/// Four turns of a hart of P, the last of which stops it.
+fn four_turns(rt: &impl Abort, watched: &mut Watched, h: u8) {
+    assert!(rt; h < watched.collider().plan().harts);
+    for _ in 0..4 {
+        let taken = watched.take_turn(h);
+        assert!(rt; taken != Taken::Over && taken != Taken::Paused);
+    }
+    let over = watched.take_turn(h);
+    assert_eq!(rt; over, Taken::Over);
+}
+
+/// P on two harts, after four turns of hart 0, then four of hart 1, finished with these lists.
+fn finished(
+    rt: &impl Abort,
+    alloc: Global,
+    seed: u64,
+    one: &[u32],
+    other: &[u32],
+) -> Result<Result<Finished, Stray>, Fail> {
+    let image = image(rt, alloc, &P)?;
+    let plan = plan(2, 20, 0, 5)?;
+    let mut watched = Watched::new(alloc, &image, plan, 7)?;
+    four_turns(rt, &mut watched, 0);
+    four_turns(rt, &mut watched, 1);
+    let one = Vec::from_slice(alloc, one)?;
+    let other = Vec::from_slice(alloc, other)?;
+    let places = vec![in alloc; one, other]?;
+    assert_eq!(rt; places.len(), usize::from(plan.harts));
+    Ok(watched.finish(&image, plan, seed, &places))
+}
+
+#[test]
+fn finishes_with_each_harts_own_places(rt: HostRuntime) -> Result<(), Fail> {
+    let alloc = rt.alloc();
+    match finished(&rt, alloc, 7, &[0, 1, 2, 3], &[4, 5, 6, 7])? {
+        Ok(told) => {
+            assert_eq!(rt;
+                told.entries.as_slice(),
+                [
+                    Stepped(0),
+                    Stepped(0),
+                    Stepped(0),
+                    Stepped(0),
+                    Stepped(1),
+                    Stepped(1),
+                    Stepped(1),
+                    Stepped(1)
+                ]
+                .as_slice()
+            );
+            assert_eq!(rt; told.endings.len(), 0);
+        }
+        Err(stray) => assert_eq!(rt; stray.hart, 16),
+    }
+    Ok(())
+}
+
+#[test]
+fn strays(rt: HostRuntime) -> Result<(), Fail> {
+    let alloc = rt.alloc();
+    let own: [u32; 4] = [0, 1, 2, 3];
+    let others: [u32; 4] = [4, 5, 6, 7];
+    let without: [u32; 3] = [4, 5, 6];
+    let twice: [u32; 5] = [4, 5, 6, 7, 7];
+    let short = finished(&rt, alloc, 7, &own, &without)?;
+    assert_eq!(rt; short.err(), Some(Stray { hart: 1 }));
+    let long = finished(&rt, alloc, 7, &own, &twice)?;
+    assert_eq!(rt; long.err(), Some(Stray { hart: 1 }));
+    let exchanged = finished(&rt, alloc, 7, &others, &own)?;
+    assert_eq!(rt; exchanged.err(), Some(Stray { hart: 0 }));
+    let seed = finished(&rt, alloc, 8, &own, &others)?;
+    assert_eq!(rt; seed.err(), Some(Stray { hart: 0 }));
+    Ok(())
+}
+
+/// A turn that pauses hart 0, and the end of that pause, which is due since no other hart is able.
+fn pause_and_end(rt: &impl Abort, watched: &mut Watched) {
+    assert!(rt; 0 < watched.collider().plan().harts);
+    let none = watched.end_pause(0);
+    assert!(rt; none.is_none());
+    let taken = watched.take_turn(0);
+    assert_eq!(rt; taken, Taken::Paused);
+    let over = watched.take_turn(0);
+    assert_eq!(rt; over, Taken::Over);
+    let ended = watched.end_pause(0);
+    assert!(rt; ended.is_some());
+}
+
+fn step(rt: &impl Abort, watched: &mut Watched) {
+    assert!(rt; 0 < watched.collider().plan().harts);
+    let taken = watched.take_turn(0);
+    assert!(rt; taken != Taken::Over && taken != Taken::Paused);
+}
+
+/// Whether the core has these entries.
+fn has_entries(watched: &Watched, entries: &[Entry]) -> bool {
+    let collider = watched.collider();
+    let count = collider.entries();
+    if entries.len() != count as usize {
+        return false;
+    }
+    for n in 0..count {
+        if collider.entry(n) != entries[n as usize] {
+            return false;
+        }
+    }
+    true
+}
+
+#[test]
+fn one_site_and_one_hart(rt: HostRuntime) -> Result<(), Fail> {
+    let alloc = rt.alloc();
+    let image = image(&rt, alloc, &ONE_STORE)?;
+    let plan = plan(1, 10, 2, 5)?;
+    for seed in [0, 1, 4_294_967_295] {
+        let mut watched = Watched::new(alloc, &image, plan, seed)?;
+        step(&rt, &mut watched);
+        pause_and_end(&rt, &mut watched);
+        pause_and_end(&rt, &mut watched);
+        step(&rt, &mut watched);
+        step(&rt, &mut watched);
+        assert!(rt;
+            has_entries(
+                &watched,
+                &[
+                    Armed(0x10004),
+                    Stepped(0),
+                    Paused(0, Some(0)),
+                    Resumed(0),
+                    Armed(0x10004),
+                    Paused(0, Some(0)),
+                    Resumed(0),
+                    Stepped(0),
+                    Stepped(0)
+                ]
+            )
+        );
+    }
+    Ok(())
+}
+
+/// A pause that isn't due stays: other hart's steps are fewer than the plan wants.
+#[test]
+fn ends_a_pause_when_it_is_due(rt: HostRuntime) -> Result<(), Fail> {
+    let alloc = rt.alloc();
+    let image = image(&rt, alloc, &ONE_STORE)?;
+    let mut watched = Watched::new(alloc, &image, plan(2, 10, 1, 2)?, 3)?;
+    assert!(rt; watched.collider().plan().harts == 2);
+    step(&rt, &mut watched);
+    let taken = watched.take_turn(0);
+    assert_eq!(rt; taken, Taken::Paused);
+    let early = watched.end_pause(0);
+    assert!(rt; early.is_none());
+    let first = watched.take_turn(1);
+    assert!(rt; first != Taken::Over);
+    let early = watched.end_pause(0);
+    assert!(rt; early.is_none());
+    let second = watched.take_turn(1);
+    assert!(rt; second != Taken::Over);
+    let ended = watched.end_pause(0);
+    assert!(rt; ended.is_some());
+    Ok(())
+}
+
+#[test]
+fn breaks_off(rt: HostRuntime) -> Result<(), Fail> {
+    let alloc = rt.alloc();
+    let image = image(&rt, alloc, &P)?;
+    let mut watched = Watched::new(alloc, &image, plan(1, 10, 0, 1)?, 0)?;
+    assert!(rt; !watched.broken_off());
+    watched.break_off();
+    assert!(rt; watched.broken_off());
+    Ok(())
+}

@@ -1,0 +1,204 @@
+//! The value that workers share under a lock.
+ghost use Rattle.std.specs.Prelude.{◌≡◌, ◌↔◌, ◌<◌, [], false, true, map, length, IsTrue, IfOk, IfErr, IfSome, IfNone};
+ghost use Rattle.rv_collide.specs.Able.{is_due};
+ghost use Rattle.rv_collide.specs.Draws.{draws, first_draws};
+ghost use Rattle.rv_collide.specs.Numbers.{numbers};
+ghost use Rattle.rv_collide.specs.Stored.{setting_of};
+ghost use Rattle.rv_locked.specs.Own.{AreCopies, AreOwn, IsStray};
+ghost use Rattle.rv_locked.specs.Watched.{Ends, IsHistory, IsLeft, Takes, opened, sampling_of};
+ghost use Rattle.rv_locked.specs.internal.Kept.{IsKept};
+ghost use Rattle.rv_locked.specs.internal.Watching.{watch};
+
+use crate::driver::Driver;
+use crate::own::first_stray;
+use crate::same::{same_image, same_plan};
+use rv_collide::collider::{Collider, Finished, Turned};
+use rv_collide::driver_laws::accepted_calls;
+use rv_collide::ending::Ending;
+use rv_collide::plan::Plan;
+use rv_elf::Image;
+use rv_hart::access::Event;
+use rv_memory::flat::Flat;
+use rv_memory::store::NoMemory;
+use rv_sample::{Sampler, Words};
+use std::alloc::Global;
+use std::marker::Model;
+
+/// How many addresses are drawn before the first turn.
+const FIRST_DRAWS: u32 = 16;
+
+/// What a call for a hart's turn did: a step of the hart, its pause, or nothing, since the hart isn't able.
+#[derive(Clone, Copy, Debug, PartialEq, Eq)]
+pub enum Taken {
+    Stepped(Event),
+    Paused,
+    Over,
+}
+
+/// The hart whose list of places is not the schedule's, or hart 0 where the image, the plan or the seed is
+/// another.
+#[derive(Clone, Copy, Debug, PartialEq, Eq, Hash)]
+pub struct Stray {
+    pub hart: u8,
+}
+
+/// A core with the draws of its seed, as workers share it. Its pauses end when they are due, and each
+/// resumption is followed by its draw. It carries copies of its image, plan and seed, and a flag that the run
+/// is broken off.
+#[derive(Drop)]
+pub struct Watched {
+    driver: Driver,
+    sampler: Sampler,
+    words: Words,
+    image: Image,
+    seed: u64,
+    is_broken_off: bool,
+}
+
+impl Model for Watched {
+    ghost use Rattle.rv_locked.specs.Watched.{Watch};
+    ghost use Rattle.rv_locked.specs.internal.Watching.{IsWatching, watch};
+
+    ghost Value = { Watch };
+
+    ghost view = { λ w. watch w.driver.collider w.seed w.is_broken_off };
+
+    ghost invariant = { λ w.
+        IsWatching w.driver.collider w.driver.made w.driver.made_at w.sampler w.words w.image w.seed };
+}
+
+impl Watched {
+    /// The image's core with the plan's harts, after the first draws of the seed.
+    pub fn new(alloc: Global, image: &Image, plan: Plan, seed: u64) -> Result<Watched, NoMemory>
+        ensures { IfOk result (λ w. w ≡ watch (opened image.now (numbers plan) seed) seed false) }
+    {
+        accepted_calls();
+        let sampler = Sampler::sites(alloc, image, &[])?;
+        let mut words = Words::new(seed, 0);
+        let mut driver = Driver::new(Collider::new(alloc, image, plan)?);
+        let image = image.copy(alloc)?;
+        first_draws(&mut driver, &mut words, &sampler);
+        Ok(Watched {
+            driver,
+            sampler,
+            words,
+            image,
+            seed,
+            is_broken_off: false,
+        })
+    }
+
+    /// What holds of the value whenever the lock is got.
+    pub fn facts(&self)
+        ensures { IsHistory self.now }
+    {
+        self.driver.collider.facts();
+    }
+
+    /// A turn of a hart, where it is able: where it runs, isn't paused and steps are left.
+    pub fn take_turn(&mut self, h: u8) -> Taken
+        requires { h < self.old.core.plan.harts }
+        ensures core { Takes self.old.core self.new.core h result }
+        ensures seed { self.new.seed ≡ self.old.seed }
+        ensures flag { self.new.broken_off ≡ self.old.broken_off }
+    {
+        if !self.driver.is_able(h) {
+            return Taken::Over;
+        }
+        match self.driver.turn(h) {
+            Turned::Stepped(event) => Taken::Stepped(event),
+            Turned::Paused(_) => Taken::Paused,
+        }
+    }
+
+    /// Ends the pause of a hart, where it is due, and makes the draw that follows.
+    pub fn end_pause(&mut self, h: u8) -> Option<Ending>
+        requires { h < self.old.core.plan.harts }
+        ensures some { IfSome result (λ told. Ends self.old.core self.new.core self.old.seed h told) }
+        ensures undue { IfNone result (is_due (setting_of self.old.core) self.old.core.entries h ≡ false) }
+        ensures stays { IfNone result (self.new.core ≡ self.old.core) }
+        ensures seed { self.new.seed ≡ self.old.seed }
+        ensures flag { self.new.broken_off ≡ self.old.broken_off }
+    {
+        accepted_calls();
+        self.driver.collider.facts();
+        let _plan = self.driver.collider.plan();
+        if !self.driver.is_due(h) {
+            return None;
+        }
+        let ending = self.driver.resume(h);
+        self.driver.draw(&self.sampler, &mut self.words);
+        Some(ending)
+    }
+
+    /// Notes that the run is broken off.
+    pub fn break_off(&mut self)
+        ensures { self.new ≡ record self.old { broken_off = true } }
+    {
+        self.is_broken_off = true;
+    }
+
+    /// Whether the run is broken off.
+    pub fn broken_off(&self) -> bool
+        ensures { result ≡ self.now.broken_off }
+    {
+        self.is_broken_off
+    }
+
+    /// The core.
+    pub fn collider(&self) -> &Collider<Flat>
+        ensures { result.now ≡ self.now.core }
+    {
+        &self.driver.collider
+    }
+
+    /// What the run leaves, where the value's copies are this image, this plan and this seed, and each hart's
+    /// list has the places of just that hart's turns and resumptions, and the hart is neither paused nor able.
+    /// The caller gives one list for each hart of the plan.
+    pub fn finish(
+        self,
+        image: &Image,
+        plan: Plan,
+        seed: u64,
+        places: &[Vec<u32>],
+    ) -> Result<Finished, Stray>
+        requires { length places.now ≡ plan.harts }
+        ensures copies { IfOk result (λ _. AreCopies self image.now (numbers plan) seed) }
+        ensures own { IfOk result (λ _. AreOwn self.core (map (λ p. p.items) places.now)) }
+        ensures left { IfOk result (λ told. IsLeft self.core told) }
+        ensures stray { IfErr result (λ stray. IsStray self image.now (numbers plan) seed
+            (map (λ p. p.items) places.now) stray.hart) }
+    {
+        if !self.has_copies(image, plan, seed) {
+            return Err(Stray { hart: 0 });
+        }
+        match first_stray(&self.driver, places) {
+            None => Ok(self.driver.collider.finish()),
+            Some(hart) => Err(Stray { hart }),
+        }
+    }
+
+    fn has_copies(&self, image: &Image, plan: Plan, seed: u64) -> bool
+        ensures { IsTrue result ↔ AreCopies self.now image.now (numbers plan) seed }
+    {
+        same_image(&self.image, image)
+            && same_plan(self.driver.collider.plan(), plan)
+            && self.seed == seed
+    }
+}
+
+/// The draws before the first turn.
+fn first_draws(driver: &mut Driver, words: &mut Words, sampler: &Sampler)
+    requires kept { IsKept driver.old.collider.entries driver.old.made driver.old.made_at }
+    requires none { driver.old.collider.entries ≡ [] }
+    requires taken { words.old.taken ≡ 0 }
+    ensures kept { IsKept driver.new.collider.entries driver.new.made driver.new.made_at }
+    ensures core { driver.new.collider ≡ record driver.old.collider {
+      entries = draws (setting_of driver.old.collider) (sampling_of sampler.now words.old.seed words.old.stream) first_draws;
+    } }
+    ensures words { words.new ≡ record words.old { taken = first_draws } }
+{
+    for _ in 0..FIRST_DRAWS {
+        driver.draw(sampler, words);
+    }
+}
