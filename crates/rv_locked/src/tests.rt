@@ -53,14 +53,25 @@ fn plan(harts: u8, steps: u32, arms: u32, pause: u32) -> Result<Plan, Fail> {
     Ok(Plan::new(harts, steps, arms, pause).ok_or("a plan")?)
 }
 
+/// A turn of a hart of the plan.
+fn turn(rt: &impl Abort, watched: &mut Watched, h: u8) -> Taken {
+    assert!(rt; h < watched.collider().plan().harts);
+    watched.take_turn(h)
+}
+
+/// Whether the pause of a hart of the plan has ended.
+fn ends(rt: &impl Abort, watched: &mut Watched, h: u8) -> bool {
+    assert!(rt; h < watched.collider().plan().harts);
+    watched.end_pause(h).is_some()
+}
+
 /// Four turns of a hart of P, the last of which stops it.
 fn four_turns(rt: &impl Abort, watched: &mut Watched, h: u8) {
-    assert!(rt; h < watched.collider().plan().harts);
     for _ in 0..4 {
-        let taken = watched.take_turn(h);
+        let taken = turn(rt, watched, h);
         assert!(rt; taken != Taken::Over && taken != Taken::Paused);
     }
-    let over = watched.take_turn(h);
+    let over = turn(rt, watched, h);
     assert_eq!(rt; over, Taken::Over);
 }
 
@@ -130,20 +141,19 @@ fn strays(rt: HostRuntime) -> Result<(), Fail> {
 
 /// A turn that pauses hart 0, and the end of that pause, which is due since no other hart is able.
 fn pause_and_end(rt: &impl Abort, watched: &mut Watched) {
-    assert!(rt; 0 < watched.collider().plan().harts);
-    let none = watched.end_pause(0);
-    assert!(rt; none.is_none());
-    let taken = watched.take_turn(0);
+    let early = ends(rt, watched, 0);
+    assert!(rt; !early);
+    let taken = turn(rt, watched, 0);
     assert_eq!(rt; taken, Taken::Paused);
-    let over = watched.take_turn(0);
+    let over = turn(rt, watched, 0);
     assert_eq!(rt; over, Taken::Over);
-    let ended = watched.end_pause(0);
-    assert!(rt; ended.is_some());
+    let ended = ends(rt, watched, 0);
+    assert!(rt; ended);
 }
 
-fn step(rt: &impl Abort, watched: &mut Watched) {
-    assert!(rt; 0 < watched.collider().plan().harts);
-    let taken = watched.take_turn(0);
+/// A turn that makes a step.
+fn step(rt: &impl Abort, watched: &mut Watched, h: u8) {
+    let taken = turn(rt, watched, h);
     assert!(rt; taken != Taken::Over && taken != Taken::Paused);
 }
 
@@ -169,11 +179,11 @@ fn one_site_and_one_hart(rt: HostRuntime) -> Result<(), Fail> {
     let plan = plan(1, 10, 2, 5)?;
     for seed in [0, 1, 4_294_967_295] {
         let mut watched = Watched::new(alloc, &image, plan, seed)?;
-        step(&rt, &mut watched);
+        step(&rt, &mut watched, 0);
         pause_and_end(&rt, &mut watched);
         pause_and_end(&rt, &mut watched);
-        step(&rt, &mut watched);
-        step(&rt, &mut watched);
+        step(&rt, &mut watched, 0);
+        step(&rt, &mut watched, 0);
         assert!(rt;
             has_entries(
                 &watched,
@@ -194,26 +204,23 @@ fn one_site_and_one_hart(rt: HostRuntime) -> Result<(), Fail> {
     Ok(())
 }
 
-/// A pause that isn't due stays: other hart's steps are fewer than the plan wants.
+/// A pause of two steps of others, after none, one and two of them.
 #[test]
 fn ends_a_pause_when_it_is_due(rt: HostRuntime) -> Result<(), Fail> {
     let alloc = rt.alloc();
     let image = image(&rt, alloc, &ONE_STORE)?;
     let mut watched = Watched::new(alloc, &image, plan(2, 10, 1, 2)?, 3)?;
-    assert!(rt; watched.collider().plan().harts == 2);
-    step(&rt, &mut watched);
-    let taken = watched.take_turn(0);
+    step(&rt, &mut watched, 0);
+    let taken = turn(&rt, &mut watched, 0);
     assert_eq!(rt; taken, Taken::Paused);
-    let early = watched.end_pause(0);
-    assert!(rt; early.is_none());
-    let first = watched.take_turn(1);
-    assert!(rt; first != Taken::Over);
-    let early = watched.end_pause(0);
-    assert!(rt; early.is_none());
-    let second = watched.take_turn(1);
-    assert!(rt; second != Taken::Over);
-    let ended = watched.end_pause(0);
-    assert!(rt; ended.is_some());
+    let early = ends(&rt, &mut watched, 0);
+    assert!(rt; !early);
+    step(&rt, &mut watched, 1);
+    let early = ends(&rt, &mut watched, 0);
+    assert!(rt; !early);
+    step(&rt, &mut watched, 1);
+    let ended = ends(&rt, &mut watched, 0);
+    assert!(rt; ended);
     Ok(())
 }
 
