@@ -4,13 +4,12 @@ use Rattle.std.specs.Prelude.{slice_get}
 use Rattle.std.specs.Option.{option_to_list}
 use Rattle.rv_campaign.specs.Run.{IsRunOver, sampling_of}
 use Rattle.rv_campaign.specs.internal.Driving.{IsDriving}
-use Rattle.rv_campaign.specs.internal.Kept.{Accepts}
-use Rattle.rv_collide.specs.Able.{able, due, is_able}
+use Rattle.rv_collide.specs.Able.{able, due}
 use Rattle.rv_collide.specs.Drawn.{IsDrawn, driven, picked_hart}
 use Rattle.rv_collide.specs.DriverLaws.{AddsItsKind}
 use Rattle.rv_collide.specs.Draws.{draw, draws}
 use Rattle.rv_collide.specs.Forced.{Setting, Turn}
-use Rattle.rv_collide.specs.Answers.{IsOutput}
+use Rattle.rv_collide.specs.Answers.{Adds, IsOutput, Turns}
 use Rattle.rv_collide.specs.Numbers.{numbers}
 use Rattle.rv_collide.specs.Plan.{Numbers}
 use Rattle.rv_collide.specs.Stored.{Stored, added, setting_of, stored}
@@ -18,10 +17,11 @@ use Rattle.rv_collide.specs.Verdict.{endings}
 use Rattle.rv_collide.specs.declared.collider.Finished.{Finished}
 use Rattle.rv_elf.specs.Contents.{Contents}
 use Rattle.rv_collide.specs.declared.entry.Entry.{Entry}
-use Rattle.rv_collide.specs.declared.entry.Entry.TheVariants.{Resumed}
+use Rattle.rv_collide.specs.declared.entry.Entry.TheVariants.{Stepped, Paused, Resumed}
+use Rattle.rv_collide.specs.declared.collider.Turned.{Turned}
+use Rattle.rv_collide.specs.declared.collider.Turned.TheVariants as turned
 use Rattle.rv_sample.specs.Words.{Given, word_at}
 use Rattle.rv_campaign.proofs.DrivingLemmas.{after_resumption, after_turn, one_draw_more, whole_run}
-use Rattle.rv_campaign.proofs.RowLemmas.{IsAmong, kept_by_filter}
 
 pub draw_more : (old new : Stored) (sites : List ℕ) (before after : Given) (n : ℕ) → old.entries ≡ draws (setting_of old) (sampling_of sites before.seed before.stream) n → before.taken ≡ n → after ≡ record before { taken = before.taken + 1 } → new ≡ record old { entries = old.entries ++ option_to_list (draw (setting_of old) (sampling_of sites before.seed before.stream) old.entries before.taken) } → new.entries ≡ draws (setting_of new) (sampling_of sites after.seed after.stream) (n + 1)
 draw_more old new sites before after n are taken words gives =
@@ -44,12 +44,18 @@ unfolding picked_hart
 is_picked setting xs word drawn count hart is counts there =
     ap (λ (w : ℕ). slice_get (able setting xs) (w % length (able setting xs))) (sym is) ∙ ap (λ (n : ℕ). slice_get (able setting xs) (word % n)) (sym counts) ∙ there
 
-pub picked_is_able : (setting : Setting) (xs : List Entry) (i hart : ℕ) → slice_get (able setting xs) i ≡ Some hart → IsAmong (is_able setting xs) 0 setting.plan.harts hart
-unfolding able
-picked_is_able setting xs i hart there = kept_by_filter (is_able setting xs) 0 setting.plan.harts i hart there
+-- the entry that a turn adds
+record HasTurned (old new : Stored) (hart : ℕ) : Type 0 where
+  entry : Entry
+  adds : Adds old new (Turn hart) entry
 
-pub turned_on : AddsItsKind → (old new : Stored) (sites : List ℕ) (before after : Given) (hart : ℕ) → IsDriving (setting_of old) (sampling_of sites before.seed before.stream) old.entries before.taken → due (setting_of old) old.entries ≡ None → picked_hart (setting_of old) old.entries (word_at before.seed before.stream before.taken) ≡ Some hart → Accepts old new (Turn hart) → after ≡ record before { taken = before.taken + 1 } → IsDriving (setting_of new) (sampling_of sites after.seed after.stream) new.entries after.taken
-turned_on kind old new sites before after hart d undue picked accepts words =
+has_turned : (old new : Stored) (hart : ℕ) (t : Turned) → Turns old new hart t → HasTurned old new hart
+has_turned old new hart (turned.Stepped event) turns = record { entry = Stepped hart; adds = turns.0 }
+has_turned old new hart (turned.Paused slot) turns = record { entry = Paused hart slot; adds = turns }
+
+pub turned_on : AddsItsKind → (old new : Stored) (sites : List ℕ) (before after : Given) (hart : ℕ) (t : Turned) → IsDriving (setting_of old) (sampling_of sites before.seed before.stream) old.entries before.taken → due (setting_of old) old.entries ≡ None → picked_hart (setting_of old) old.entries (word_at before.seed before.stream before.taken) ≡ Some hart → Turns old new hart t → after ≡ record before { taken = before.taken + 1 } → IsDriving (setting_of new) (sampling_of sites after.seed after.stream) new.entries after.taken
+turned_on kind old new sites before after hart t d undue picked turns words =
+    let accepts = has_turned old new hart t turns in
     let core = after_turn kind (setting_of old) (sampling_of sites before.seed before.stream) old.entries before.taken hart accepts.entry d undue picked accepts.adds.is_forced in
     let at_new = subst (λ (s : Stored). IsDriving (setting_of s) (sampling_of sites before.seed before.stream) s.entries (before.taken + 1)) (sym accepts.adds.is_added) core in
     subst (λ (w : Given). IsDriving (setting_of new) (sampling_of sites w.seed w.stream) new.entries w.taken) (sym words) at_new

@@ -2,15 +2,14 @@
 use Rattle.std.specs.Prelude.{◌≡◌, ℕ, List, []}
 use Rattle.rv_collide.specs.Answers.{IsOutput}
 use Rattle.rv_collide.specs.Drawn.{IsDrawn}
-use Rattle.rv_collide.specs.Draws.{Sampling}
 use Rattle.rv_collide.specs.Numbers.{numbers}
 use Rattle.rv_collide.specs.Plan.{Numbers}
 use Rattle.rv_collide.specs.Stored.{setting_of, stored}
 use Rattle.rv_collide.specs.Verdict.{endings}
 use Rattle.rv_collide.specs.declared.collider.Finished.{Finished}
 use Rattle.rv_elf.specs.Contents.{Contents}
-use Rattle.rv_sample.specs.Sites.{picked, sites}
-use Rattle.rv_sample.specs.Words.{word_at}
+pub use Rattle.rv_locked.specs.Watched.{sampling_of}
+use Rattle.rv_sample.specs.Sites.{sites}
 
 -- What a campaign is made of: an image, a plan, a seed, and the addresses that are no sites.
 pub record Hunt : Type 0 where
@@ -18,10 +17,6 @@ pub record Hunt : Type 0 where
   pub plan : Numbers
   pub seed : ℕ
   pub excluded : List ℕ
-
--- the words of the generator of a seed and a run's number, each of which picks one of the sites
-abbrev pub sampling_of : List ℕ → ℕ → ℕ → Sampling
-sampling_of sites seed run = record { word_at = word_at seed run; site_of = picked sites }
 
 -- What a run over a list of sites leaves: the schedule that its words drive, the endings of its pauses, and the
 -- bytes printed.

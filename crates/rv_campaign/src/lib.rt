@@ -4,7 +4,6 @@
 //! sites drive (`specs/Run.antt`), and a campaign is the list of its runs, in order.
 #![tactic(auto)]
 
-mod driver;
 mod run;
 mod runs;
 #[cfg(test)]

@@ -1,17 +1,16 @@
 ghost use Rattle.std.specs.Prelude.{◌≡◌, ◌<◌, ◌≤◌, [], true, false, None, length, IfOk};
 ghost use Rattle.rv_campaign.specs.Run.{IsRun, IsRunOver, sampling_of};
 ghost use Rattle.rv_campaign.specs.internal.Driving.{IsDriving, SameRun};
-ghost use Rattle.rv_campaign.specs.internal.Kept.{IsDriver};
 ghost use Rattle.rv_collide.specs.Drawn.{driven};
 ghost use Rattle.rv_collide.specs.Plan.{most_entries};
 ghost use Rattle.rv_collide.specs.Stored.{setting_of};
 ghost use Rattle.rv_collide.specs.Numbers.{numbers};
 
-use crate::driver::Driver;
 use rv_collide::collider::{Collider, Finished};
 use rv_collide::driver_laws::accepted_calls;
 use rv_collide::plan::Plan;
 use rv_elf::Image;
+use rv_locked::driver::Driver;
 use rv_memory::store::NoMemory;
 use rv_sample::{Sampler, Words};
 use std::alloc::Global;
@@ -55,18 +54,16 @@ pub(crate) fn run_sampled(
     let mut driver = Driver::new(alloc, Collider::new(alloc, image, plan)?)?;
     first_draws(&mut driver, &mut words, sampler);
     while go_on(&mut driver, &mut words, sampler) {}
-    Ok(driver.collider.finish())
+    Ok(driver.into_collider().finish())
 }
 
 /// The draws before the first turn.
 fn first_draws(driver: &mut Driver, words: &mut Words, sampler: &Sampler)
-    requires driver { IsDriver driver.old }
-    requires none { driver.old.collider.entries ≡ [] }
+    requires none { driver.old.entries ≡ [] }
     requires taken { words.old.taken ≡ 0 }
-    ensures driver { IsDriver driver.new }
-    ensures driving { IsDriving (setting_of driver.new.collider)
-        (sampling_of sampler.now words.new.seed words.new.stream) driver.new.collider.entries words.new.taken }
-    ensures same { SameRun driver.old.collider driver.new.collider words.old words.new }
+    ensures driving { IsDriving (setting_of driver.new)
+        (sampling_of sampler.now words.new.seed words.new.stream) driver.new.entries words.new.taken }
+    ensures same { SameRun driver.old driver.new words.old words.new }
 {
     accepted_calls();
     for _ in 0..FIRST_DRAWS {
@@ -77,25 +74,23 @@ fn first_draws(driver: &mut Driver, words: &mut Words, sampler: &Sampler)
 /// What the run adds next: the lowest pause that is due ends, and a draw follows; else an able hart takes a
 /// turn. It answers whether there was something to add.
 fn go_on(driver: &mut Driver, words: &mut Words, sampler: &Sampler) -> bool
-    requires driver { IsDriver driver.old }
-    requires driving { IsDriving (setting_of driver.old.collider)
-        (sampling_of sampler.now words.old.seed words.old.stream) driver.old.collider.entries words.old.taken }
-    ensures driver { IsDriver driver.new }
-    ensures driving { IsDriving (setting_of driver.new.collider)
-        (sampling_of sampler.now words.new.seed words.new.stream) driver.new.collider.entries words.new.taken }
-    ensures same { SameRun driver.old.collider driver.new.collider words.old words.new }
-    ensures longer { result ≡ true → length driver.old.collider.entries < length driver.new.collider.entries }
-    ensures few { length driver.new.collider.entries ≤ most_entries driver.new.collider.plan }
-    ensures over { result ≡ false → driven (setting_of driver.new.collider)
-        (sampling_of sampler.now words.new.seed words.new.stream) driver.new.collider.entries ≡ None }
+    requires driving { IsDriving (setting_of driver.old)
+        (sampling_of sampler.now words.old.seed words.old.stream) driver.old.entries words.old.taken }
+    ensures driving { IsDriving (setting_of driver.new)
+        (sampling_of sampler.now words.new.seed words.new.stream) driver.new.entries words.new.taken }
+    ensures same { SameRun driver.old driver.new words.old words.new }
+    ensures longer { result ≡ true → length driver.old.entries < length driver.new.entries }
+    ensures few { length driver.new.entries ≤ most_entries driver.new.plan }
+    ensures over { result ≡ false → driven (setting_of driver.new)
+        (sampling_of sampler.now words.new.seed words.new.stream) driver.new.entries ≡ None }
 {
     accepted_calls();
-    driver.collider.facts();
-    let _plan = driver.collider.plan();
+    driver.collider().facts();
+    let _plan = driver.collider().plan();
     if let Some(h) = driver.due() {
         driver.resume(h);
         driver.draw(sampler, words);
-        driver.collider.facts();
+        driver.collider().facts();
         return true;
     }
     let count = driver.count();
@@ -107,7 +102,7 @@ fn go_on(driver: &mut Driver, words: &mut Words, sampler: &Sampler) -> bool
         None => unreachable!(),
         Some(h) => {
             driver.turn(h);
-            driver.collider.facts();
+            driver.collider().facts();
             true
         }
     }

@@ -21,7 +21,7 @@ use Rattle.rv_collide.specs.declared.refused.Refused.{Refused}
 use Rattle.rv_collide.specs.declared.refused.Refused.TheVariants.{NoHart, NotPaused}
 use Rattle.rv_memory.specs.Chain.{◌>>=◌, want}
 
-steps_more : (entries : List Entry) (e : Entry) → steps (entries ++ e ∷ []) ≡ steps entries ++ filter_map stepped_hart (e ∷ [])
+pub steps_more : (entries : List Entry) (e : Entry) → steps (entries ++ e ∷ []) ≡ steps entries ++ filter_map stepped_hart (e ∷ [])
 unfolding steps
 steps_more entries e = filter_map-append stepped_hart entries (e ∷ [])
 

@@ -11,7 +11,7 @@ use Rattle.rv_hart.specs.State.{State, is_running}
 use Rattle.rv_hart.specs.declared.hart.Hart.{Hart}
 use Rattle.rv_hart.specs.declared.hart.Status.{Status}
 
-runs_of : (start s : State) (entries : List Entry) (place hart : ℕ) (b : Bool) → state_at start entries place ≡ Some s → b ≡ is_running_hart (slice_get s.harts hart) → b ≡ runs_at start entries place hart
+pub runs_of : (start s : State) (entries : List Entry) (place hart : ℕ) (b : Bool) → state_at start entries place ≡ Some s → b ≡ is_running_hart (slice_get s.harts hart) → b ≡ runs_at start entries place hart
 unfolding runs_at
 runs_of start s entries place hart b at is =
     is ∙ sym (ap (λ (o : Option State). option_map_or (λ (s : State). is_running_hart (slice_get s.harts hart)) o false) at)

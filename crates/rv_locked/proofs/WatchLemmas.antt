@@ -13,7 +13,6 @@ use Rattle.rv_collide.specs.declared.entry.Entry.{Entry}
 use Rattle.rv_collide.specs.declared.entry.Entry.TheVariants.{Stepped, Paused, Resumed}
 use Rattle.rv_elf.specs.Contents.{Contents}
 use Rattle.rv_locked.specs.Watched.{drew, opened, sampling, sampling_of}
-use Rattle.rv_locked.specs.internal.Kept.{IsKept}
 use Rattle.rv_locked.specs.internal.Watching.{IsWatching}
 use Rattle.rv_locked.proofs.ArmsLemmas.{HasDrawn, after_draws, after_resumption, after_turn, index_more, long_more, one_draw_more}
 use Rattle.rv_sample.specs.Sites.{sites}
@@ -30,45 +29,43 @@ not_a_resumption e hart stays is = (let differ : false ≡ true = sym stays ∙ 
 plus_none : (n : ℕ) → n + 0 ≡ n
 plus_none n = omega arith
 
-after_entry : (old new : Stored) (e : Entry) (made made_more : ℕ) (made_at made_at_more among : List ℕ) (words : Given) (image : Contents) (seed : ℕ) → IsWatching old made made_at among words image seed → new ≡ added old e → is_resumed e ≡ false → IsTrue (not (arms_or_disarms e)) → IsKept new.entries made_more made_at_more → IsWatching new made_more made_at_more among words image seed
-after_entry old new e made made_more made_at made_at_more among words image seed w is stays arms_none kept =
-    subst (λ (s : Stored). IsKept s.entries made_more made_at_more → IsWatching s made_more made_at_more among words image seed) (sym is)
-    (λ at_new. record {
-      kept = at_new;
+after_entry : (old new : Stored) (e : Entry) (among : List ℕ) (words : Given) (image : Contents) (seed : ℕ) → IsWatching old among words image seed → new ≡ added old e → is_resumed e ≡ false → IsTrue (not (arms_or_disarms e)) → IsWatching new among words image seed
+after_entry old new e among words image seed w is stays arms_none =
+    subst (λ (s : Stored). IsWatching s among words image seed) (sym is)
+    (record {
       long = long_more (setting_of old) old.entries e w.long (λ hart same. absurd (not_a_resumption e hart stays same));
       arms = after_turn (setting_of old) (sampling old.image seed) old.entries e w.arms stays arms_none;
       sites_are = w.sites_are;
       words_are = w.words_are ∙ ap (given seed) (sym (index_more old.entries e ∙ ap (λ b. next_index is_resumed old.entries + cond b 1 0) stays ∙ plus_none (next_index is_resumed old.entries)));
       image_is = w.image_is;
-    }) kept
+    })
 
-pub turned_on : (old new : Stored) (h : ℕ) (t : Turned) (made made_more : ℕ) (made_at made_at_more among : List ℕ) (words : Given) (image : Contents) (seed : ℕ) → IsWatching old made made_at among words image seed → Turns old new h t → IsKept new.entries made_more made_at_more → IsWatching new made_more made_at_more among words image seed
-turned_on old new h (turned.Stepped event) made made_more made_at made_at_more among words image seed w turns kept =
-    after_entry old new (Stepped h) made made_more made_at made_at_more among words image seed w turns.0.is_added refl refl kept
-turned_on old new h (turned.Paused slot) made made_more made_at made_at_more among words image seed w turns kept =
-    after_entry old new (Paused h slot) made made_more made_at made_at_more among words image seed w turns.is_added refl refl kept
+pub turned_on : (old new : Stored) (h : ℕ) (t : Turned) (among : List ℕ) (words : Given) (image : Contents) (seed : ℕ) → IsWatching old among words image seed → Turns old new h t → IsWatching new among words image seed
+turned_on old new h (turned.Stepped event) among words image seed w turns =
+    after_entry old new (Stepped h) among words image seed w turns.0.is_added refl refl
+turned_on old new h (turned.Paused slot) among words image seed w turns =
+    after_entry old new (Paused h slot) among words image seed w turns.is_added refl refl
 
 -- ---- the end of a pause
 
-pub drew_on : (old mid new : Stored) (h made : ℕ) (made_at among : List ℕ) (words : Given) (image : Contents) (seed : ℕ) → IsWatching old made made_at among words image seed → mid ≡ added old (Resumed h) → new ≡ drew (sampling_of among words.seed words.stream) words.taken mid → new ≡ drew (sampling old.image seed) (next_index is_resumed old.entries) (added old (Resumed h))
-drew_on old mid new h made made_at among words image seed w resumes draws =
+pub drew_on : (old mid new : Stored) (h : ℕ) (among : List ℕ) (words : Given) (image : Contents) (seed : ℕ) → IsWatching old among words image seed → mid ≡ added old (Resumed h) → new ≡ drew (sampling_of among words.seed words.stream) words.taken mid → new ≡ drew (sampling old.image seed) (next_index is_resumed old.entries) (added old (Resumed h))
+drew_on old mid new h among words image seed w resumes draws =
     draws
     ∙ ap (λ (g : Given). drew (sampling_of among g.seed g.stream) g.taken mid) w.words_are
     ∙ ap (λ (xs : List ℕ). drew (sampling_of xs seed 0) (next_index is_resumed old.entries) mid) w.sites_are
     ∙ ap (drew (sampling old.image seed) (next_index is_resumed old.entries)) resumes
 
-pub ended_on : AddsItsKind → (old new : Stored) (h made made_more : ℕ) (made_at made_at_more among : List ℕ) (words after : Given) (image : Contents) (seed : ℕ) → IsWatching old made made_at among words image seed → is_due (setting_of old) old.entries h ≡ true → new ≡ drew (sampling old.image seed) (next_index is_resumed old.entries) (added old (Resumed h)) → after ≡ record words { taken = words.taken + 1 } → IsKept new.entries made_more made_at_more → IsWatching new made_more made_at_more among after image seed
-ended_on kind old new h made made_more made_at made_at_more among words after image seed w due is one_more kept =
+pub ended_on : AddsItsKind → (old new : Stored) (h : ℕ) (among : List ℕ) (words after : Given) (image : Contents) (seed : ℕ) → IsWatching old among words image seed → is_due (setting_of old) old.entries h ≡ true → new ≡ drew (sampling old.image seed) (next_index is_resumed old.entries) (added old (Resumed h)) → after ≡ record words { taken = words.taken + 1 } → IsWatching new among after image seed
+ended_on kind old new h among words after image seed w due is one_more =
     let drawn = after_resumption kind (setting_of old) (sampling old.image seed) old.entries h w.long w.arms due in
-    subst (λ (s : Stored). IsKept s.entries made_more made_at_more → IsWatching s made_more made_at_more among after image seed) (sym is)
-    (λ at_new. record {
-      kept = at_new;
+    subst (λ (s : Stored). IsWatching s among after image seed) (sym is)
+    (record {
       long = drawn.long;
       arms = drawn.arms;
       sites_are = w.sites_are;
       words_are = one_more ∙ ap (λ (g : Given). record g { taken = g.taken + 1 }) w.words_are ∙ ap (given seed) drawn.taken_are;
       image_is = w.image_is;
-    }) kept
+    })
 
 -- ---- the first draws
 
@@ -95,15 +92,14 @@ opened_is first new image plan seed among words is are sites_are gives =
     ∙ ap (λ (g : Given). stored image plan (draws (setting_of (stored image plan [])) (sampling_of among g.seed g.stream) first_draws)) are
     ∙ ap (λ (xs : List ℕ). stored image plan (draws (setting_of (stored image plan [])) (sampling_of xs seed 0) first_draws)) sites_are
 
-pub opened_watches : AddsItsKind → (new : Stored) (image copy : Contents) (plan : Numbers) (seed made : ℕ) (made_at among : List ℕ) (words after : Given) → new ≡ opened image plan seed → words ≡ given seed 0 → after ≡ record words { taken = first_draws } → among ≡ sites image [] → copy ≡ image → IsKept new.entries made made_at → IsWatching new made made_at among after copy seed
-opened_watches kind new image copy plan seed made made_at among words after is are more sites_are same kept =
+pub opened_watches : AddsItsKind → (new : Stored) (image copy : Contents) (plan : Numbers) (seed : ℕ) (among : List ℕ) (words after : Given) → new ≡ opened image plan seed → words ≡ given seed 0 → after ≡ record words { taken = first_draws } → among ≡ sites image [] → copy ≡ image → IsWatching new among after copy seed
+opened_watches kind new image copy plan seed among words after is are more sites_are same =
     let drawn = after_draws kind (setting_of (stored image plan [])) (sampling image seed) in
-    subst (λ (s : Stored). IsKept s.entries made made_at → IsWatching s made made_at among after copy seed) (sym is)
-    (λ at_new. record {
-      kept = at_new;
+    subst (λ (s : Stored). IsWatching s among after copy seed) (sym is)
+    (record {
       long = drawn.long;
       arms = drawn.arms;
       sites_are = sites_are;
       words_are = more ∙ ap (λ (g : Given). record g { taken = first_draws }) are ∙ ap (given seed) drawn.taken_are;
       image_is = same;
-    }) kept
+    })

@@ -1,161 +1,134 @@
-//! The core as a driver has it: which harts are able, which pauses are due, and a draw.
-ghost use Rattle.std.specs.Prelude.{◌≡◌, ◌≢◌, ◌+◌, ◌<◌, ◌≤◌, ◌^◌, ◌++◌, ◌∷◌, [], ℕ, length, slice_get, nat_lt, true, is_some, Ok, Some};
-ghost use Rattle.rv_locked.specs.Watched.{drew, sampling_of};
-ghost use Rattle.rv_locked.specs.internal.Kept.{IsKept};
-ghost use Rattle.rv_collide.specs.Able.{another_is_able, is_able, is_due};
+//! A core as a driver has it: which harts are able, which pauses are due, and a draw.
+ghost use Rattle.std.specs.Prelude.{◌≡◌, ◌+◌, ◌<◌, ◌^◌, [], true, length, slice_get, IfOk, IfSome, IfNone, ◌≤◌};
+ghost use Rattle.rv_collide.specs.Able.{able, due, is_able, is_due};
 ghost use Rattle.rv_collide.specs.Answers.{Resumes, Turns};
-ghost use Rattle.rv_hart.specs.State.{is_running};
-ghost use Rattle.rv_collide.specs.Next.{runs_at};
-ghost use Rattle.rv_collide.specs.Pause.{opening_of};
 ghost use Rattle.rv_collide.specs.Stored.{setting_of};
+ghost use Rattle.rv_locked.specs.Watched.{drew, sampling_of};
 
+use crate::ahead::Ahead;
 use rv_collide::collider::{Collider, Turned};
-use rv_collide::driver_laws::{accepted_calls, open_pauses};
 use rv_collide::ending::Ending;
-use rv_hart::hart::Status;
 use rv_memory::flat::Flat;
+use rv_memory::store::NoMemory;
 use rv_sample::{Sampler, Words};
+use std::alloc::Global;
+use std::marker::Model;
 
-/// A core, how many steps its harts have made, and for each hart how many had been made when it was last
-/// paused.
+/// A core with what a driver counts beside it. To contracts it is the core alone. A draw is made by the words
+/// and the sites that it is lent.
 #[derive(Drop)]
-pub(crate) struct Driver {
-    pub collider: Collider<Flat>,
-    pub made: u32,
-    pub made_at: [u32; 16],
+pub struct Driver {
+    ahead: Ahead,
+}
+
+impl Model for Driver {
+    ghost use Rattle.rv_collide.specs.Stored.{Stored};
+    ghost use Rattle.rv_locked.specs.internal.Kept.{IsAhead};
+
+    ghost Value = { Stored };
+
+    ghost view = { λ d. d.ahead.collider };
+
+    ghost invariant = { λ d. IsAhead d.ahead };
 }
 
 impl Driver {
-    pub fn new(collider: Collider<Flat>) -> Driver
+    /// A driver of a core of which nothing has been done. All room is made here.
+    pub fn new(alloc: Global, collider: Collider<Flat>) -> Result<Driver, NoMemory>
         requires { collider.entries ≡ [] }
-        ensures collider { result.collider ≡ collider }
-        ensures kept { IsKept result.collider.entries result.made result.made_at }
+        ensures { IfOk result (λ driver. driver ≡ collider) }
     {
-        Driver {
-            collider,
-            made: 0,
-            made_at: [0; 16],
-        }
+        Ok(Driver {
+            ahead: Ahead::new(alloc, collider)?,
+        })
     }
 
-    /// Whether a hart runs.
-    fn runs(&self, h: u8) -> bool
-        ensures { result ≡ runs_at (setting_of self.now.collider).start self.now.collider.entries
-            (length self.now.collider.entries) h }
+    /// The core.
+    #[inline(always)]
+    pub fn collider(&self) -> &Collider<Flat>
+        ensures { result.now ≡ self.now }
     {
-        let machine = self.collider.machine();
-        if h >= machine.harts() {
-            return false;
-        }
-        is_running(machine.status(h))
+        &self.ahead.collider
     }
 
-    /// Whether a hart is paused.
-    pub fn is_open(&self, h: u8) -> bool
-        ensures { result ≡ is_some (opening_of self.now.collider.entries h) }
+    /// Hands the core out.
+    pub fn into_collider(self) -> Collider<Flat>
+        ensures { result ≡ self }
     {
-        self.collider.paused(h).is_some()
+        self.ahead.collider
     }
 
     /// Whether a hart may be given a turn.
-    #[tactic(auto, unfolding(rv_collide::specs::Able::is_able))]
     pub fn is_able(&self, h: u8) -> bool
-        requires { IsKept self.now.collider.entries self.now.made self.now.made_at }
-        ensures { result ≡ is_able (setting_of self.now.collider) self.now.collider.entries h }
+        ensures { result ≡ is_able (setting_of self.now) self.now.entries h }
     {
-        if !self.runs(h) || self.is_open(h) {
-            return false;
-        }
-        self.made < self.collider.plan().steps
+        self.ahead.is_able(h)
     }
 
-    /// Whether a hart other than this one is able.
-    fn another_is_able(&self, h: u8) -> bool
-        requires { IsKept self.now.collider.entries self.now.made self.now.made_at }
-        ensures { result ≡ another_is_able (setting_of self.now.collider) self.now.collider.entries h }
+    /// How many harts are able.
+    #[inline(always)]
+    pub fn count(&self) -> u32
+        ensures { result ≡ length (able (setting_of self.now) self.now.entries) }
     {
-        for other in 0..self.collider.plan().harts {
-            if other != h && self.is_able(other) {
-                return true;
-            }
-        }
-        false
+        self.ahead.count()
     }
 
-    /// Whether the pause of a hart is due to end.
+    /// The able hart at an index, in ascending order.
+    #[inline(always)]
+    pub fn nth(&self, index: u32) -> Option<u8>
+        ensures value { result ≡ slice_get (able (setting_of self.now) self.now.entries) index }
+        ensures hart { IfSome result (λ h. h < self.now.plan.harts) }
+        ensures able { IfSome result (λ h. is_able (setting_of self.now) self.now.entries h ≡ true) }
+        ensures none { IfNone result (length (able (setting_of self.now) self.now.entries) ≤ index) }
+    {
+        self.ahead.nth(index)
+    }
+
+    /// Whether the pause of a hart of the plan is due to end.
     pub fn is_due(&self, h: u8) -> bool
-        requires kept { IsKept self.now.collider.entries self.now.made self.now.made_at }
-        requires hart { h < 16 }
-        ensures { result ≡ is_due (setting_of self.now.collider) self.now.collider.entries h }
+        requires { h < self.now.plan.harts }
+        ensures { result ≡ is_due (setting_of self.now) self.now.entries h }
     {
-        if !self.is_open(h) {
-            return false;
-        }
-        let since = self.made.saturating_sub(self.made_at[usize::from(h)]);
-        self.collider.plan().pause <= since || !self.another_is_able(h)
+        let _plan = self.ahead.collider.plan();
+        self.ahead.is_due(h)
+    }
+
+    /// The lowest hart whose pause is due.
+    #[inline(always)]
+    pub fn due(&self) -> Option<u8>
+        ensures value { result ≡ due (setting_of self.now) self.now.entries }
+        ensures hart { IfSome result (λ h. h < self.now.plan.harts) }
+        ensures due { IfSome result (λ h. is_due (setting_of self.now) self.now.entries h ≡ true) }
+    {
+        self.ahead.due()
     }
 
     /// A draw: the next word picks a site, which is armed where that is allowed.
     pub fn draw(&mut self, sampler: &Sampler, words: &mut Words)
-        requires kept { IsKept self.old.collider.entries self.old.made self.old.made_at }
-        requires more { words.old.taken + 1 < 2 ^ 64 }
-        ensures kept { IsKept self.new.collider.entries self.new.made self.new.made_at }
+        requires { words.old.taken + 1 < 2 ^ 64 }
         ensures words { words.new ≡ record words.old { taken = words.old.taken + 1 } }
-        ensures entries { self.new.collider ≡ drew (sampling_of sampler.now words.old.seed words.old.stream)
-            words.old.taken self.old.collider }
+        ensures core { self.new ≡ drew (sampling_of sampler.now words.old.seed words.old.stream)
+            words.old.taken self.old }
     {
-        open_pauses();
-        let word = words.next();
-        if let Some(site) = sampler.pick(word) {
-            let _armed = self.collider.arm(site);
-        }
+        self.ahead.draw(sampler, words);
     }
 
     /// A turn of an able hart.
+    #[inline(always)]
     pub fn turn(&mut self, h: u8) -> Turned
-        requires kept { IsKept self.old.collider.entries self.old.made self.old.made_at }
-        requires hart { h < self.old.collider.plan.harts }
-        requires able { is_able (setting_of self.old.collider) self.old.collider.entries h ≡ true }
-        ensures kept { IsKept self.new.collider.entries self.new.made self.new.made_at }
-        ensures turns { Turns self.old.collider self.new.collider h result }
+        requires hart { h < self.old.plan.harts }
+        requires able { is_able (setting_of self.old) self.old.entries h ≡ true }
+        ensures { Turns self.old self.new h result }
     {
-        open_pauses();
-        accepted_calls();
-        let _plan = self.collider.plan();
-        match self.collider.turn(h) {
-            Ok(Turned::Stepped(event)) => {
-                self.made += 1;
-                Turned::Stepped(event)
-            }
-            Ok(Turned::Paused(slot)) => {
-                self.made_at[usize::from(h)] = self.made;
-                Turned::Paused(slot)
-            }
-            Err(_) => unreachable!(),
-        }
+        self.ahead.turn(h)
     }
 
-    /// Ends the pause of a hart.
+    /// Ends the pause of a hart, which is due.
     pub fn resume(&mut self, h: u8) -> Ending
-        requires kept { IsKept self.old.collider.entries self.old.made self.old.made_at }
-        requires hart { h < self.old.collider.plan.harts }
-        requires due { is_due (setting_of self.old.collider) self.old.collider.entries h ≡ true }
-        ensures kept { IsKept self.new.collider.entries self.new.made self.new.made_at }
-        ensures resumes { Resumes self.old.collider self.new.collider h result }
+        requires hart { h < self.old.plan.harts }
+        requires due { is_due (setting_of self.old) self.old.entries h ≡ true }
+        ensures { Resumes self.old self.new h result }
     {
-        open_pauses();
-        match self.collider.resume(h) {
-            Ok(ending) => ending,
-            Err(_) => unreachable!(),
-        }
-    }
-}
-
-fn is_running(status: Status) -> bool
-    ensures { result ≡ is_running status }
-{
-    match status {
-        Status::Running => true,
-        Status::Exited(_) | Status::Stopped(_) => false,
+        self.ahead.resume(h)
     }
 }

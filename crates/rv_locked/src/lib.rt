@@ -5,7 +5,8 @@
 //! recorded is compared with the whole schedule at the end (`specs/Own.antt`).
 #![tactic(auto)]
 
-mod driver;
+mod ahead;
+pub mod driver;
 mod own;
 mod same;
 #[cfg(test)]

@@ -1,7 +1,7 @@
 //! Whether a worker's record of places is the hart's own.
-ghost use Rattle.std.specs.Prelude.{◌≡◌, ◌↔◌, ◌<◌, ◌≤◌, map, length, IsTrue, IfNone, IfSome};
+ghost use Rattle.std.specs.Prelude.{◌≡◌, ◌↔◌, ◌<◌, ◌≤◌, map, length, IsTrue, IfNone, IfSome, is_some};
+ghost use Rattle.rv_collide.specs.Pause.{opening_of};
 ghost use Rattle.rv_locked.specs.Own.{AreOwn, IsLeastStray, IsOwn, is_of, own_places};
-ghost use Rattle.rv_locked.specs.internal.Kept.{IsKept};
 
 use crate::driver::Driver;
 use rv_collide::collider::Collider;
@@ -10,10 +10,9 @@ use rv_memory::flat::Flat;
 
 /// The least hart whose list is not its own.
 pub(crate) fn first_stray(driver: &Driver, places: &[Vec<u32>]) -> Option<u8>
-    requires kept { IsKept driver.now.collider.entries driver.now.made driver.now.made_at }
-    requires few { length places.now ≤ 16 }
-    ensures none { IfNone result (AreOwn driver.now.collider (map (λ p. p.items) places.now)) }
-    ensures some { IfSome result (λ hart. IsLeastStray driver.now.collider (map (λ p. p.items) places.now) hart) }
+    requires { length places.now ≤ 16 }
+    ensures none { IfNone result (AreOwn driver.now (map (λ p. p.items) places.now)) }
+    ensures some { IfSome result (λ hart. IsLeastStray driver.now (map (λ p. p.items) places.now) hart) }
 {
     for h in 0..places.len() {
         let list = places[h].as_slice();
@@ -26,10 +25,15 @@ pub(crate) fn first_stray(driver: &Driver, places: &[Vec<u32>]) -> Option<u8>
 
 /// Whether the list has the places of the hart's own entries, and the hart is neither paused nor able.
 fn is_own(driver: &Driver, h: u8, list: &[u32]) -> bool
-    requires { IsKept driver.now.collider.entries driver.now.made driver.now.made_at }
-    ensures { IsTrue result ↔ IsOwn driver.now.collider h list.now }
+    ensures { IsTrue result ↔ IsOwn driver.now h list.now }
 {
-    are_places(&driver.collider, h, list) && !driver.is_open(h) && !driver.is_able(h)
+    are_places(driver.collider(), h, list) && !is_open(driver, h) && !driver.is_able(h)
+}
+
+fn is_open(driver: &Driver, h: u8) -> bool
+    ensures { result ≡ is_some (opening_of driver.now.entries h) }
+{
+    driver.collider().paused(h).is_some()
 }
 
 /// Whether the list has the places of the hart's own entries.

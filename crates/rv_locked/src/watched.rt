@@ -6,7 +6,6 @@ ghost use Rattle.rv_collide.specs.Numbers.{numbers};
 ghost use Rattle.rv_collide.specs.Stored.{setting_of};
 ghost use Rattle.rv_locked.specs.Own.{AreCopies, AreOwn, IsStray};
 ghost use Rattle.rv_locked.specs.Watched.{Ends, IsHistory, IsLeft, Takes, opened, sampling_of};
-ghost use Rattle.rv_locked.specs.internal.Kept.{IsKept};
 ghost use Rattle.rv_locked.specs.internal.Watching.{watch};
 
 use crate::driver::Driver;
@@ -61,10 +60,10 @@ impl Model for Watched {
 
     ghost Value = { Watch };
 
-    ghost view = { λ w. watch w.driver.collider w.seed w.is_broken_off };
+    ghost view = { λ w. watch w.driver w.seed w.is_broken_off };
 
     ghost invariant = { λ w.
-        IsWatching w.driver.collider w.driver.made w.driver.made_at w.sampler w.words w.image w.seed };
+        IsWatching w.driver w.sampler w.words w.image w.seed };
 }
 
 impl Watched {
@@ -75,7 +74,7 @@ impl Watched {
         accepted_calls();
         let sampler = Sampler::sites(alloc, image, &[])?;
         let mut words = Words::new(seed, 0);
-        let mut driver = Driver::new(Collider::new(alloc, image, plan)?);
+        let mut driver = Driver::new(alloc, Collider::new(alloc, image, plan)?)?;
         let image = image.copy(alloc)?;
         first_draws(&mut driver, &mut words, &sampler);
         Ok(Watched {
@@ -92,7 +91,7 @@ impl Watched {
     pub fn facts(&self)
         ensures { IsHistory self.now }
     {
-        self.driver.collider.facts();
+        self.driver.collider().facts();
     }
 
     /// A turn of a hart, where it is able: where it runs, isn't paused and steps are left.
@@ -121,8 +120,8 @@ impl Watched {
         ensures flag { self.new.broken_off ≡ self.old.broken_off }
     {
         accepted_calls();
-        self.driver.collider.facts();
-        let _plan = self.driver.collider.plan();
+        self.driver.collider().facts();
+        let _plan = self.driver.collider().plan();
         if !self.driver.is_due(h) {
             return None;
         }
@@ -149,7 +148,7 @@ impl Watched {
     pub fn collider(&self) -> &Collider<Flat>
         ensures { result.now ≡ self.now.core }
     {
-        &self.driver.collider
+        self.driver.collider()
     }
 
     /// What the run leaves, where the value's copies are this image, this plan and this seed, and each hart's
@@ -173,7 +172,7 @@ impl Watched {
             return Err(Stray { hart: 0 });
         }
         match first_stray(&self.driver, places) {
-            None => Ok(self.driver.collider.finish()),
+            None => Ok(self.driver.into_collider().finish()),
             Some(hart) => Err(Stray { hart }),
         }
     }
@@ -182,19 +181,17 @@ impl Watched {
         ensures { IsTrue result ↔ AreCopies self.now image.now (numbers plan) seed }
     {
         same_image(&self.image, image)
-            && same_plan(self.driver.collider.plan(), plan)
+            && same_plan(self.driver.collider().plan(), plan)
             && self.seed == seed
     }
 }
 
 /// The draws before the first turn.
 fn first_draws(driver: &mut Driver, words: &mut Words, sampler: &Sampler)
-    requires kept { IsKept driver.old.collider.entries driver.old.made driver.old.made_at }
-    requires none { driver.old.collider.entries ≡ [] }
+    requires none { driver.old.entries ≡ [] }
     requires taken { words.old.taken ≡ 0 }
-    ensures kept { IsKept driver.new.collider.entries driver.new.made driver.new.made_at }
-    ensures core { driver.new.collider ≡ record driver.old.collider {
-      entries = draws (setting_of driver.old.collider) (sampling_of sampler.now words.old.seed words.old.stream) first_draws;
+    ensures core { driver.new ≡ record driver.old {
+      entries = draws (setting_of driver.old) (sampling_of sampler.now words.old.seed words.old.stream) first_draws;
     } }
     ensures words { words.new ≡ record words.old { taken = first_draws } }
 {

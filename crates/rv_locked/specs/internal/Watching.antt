@@ -5,15 +5,13 @@ use Rattle.rv_collide.specs.Draws.{IsArmedByDraws, is_resumed, next_index}
 use Rattle.rv_collide.specs.Stored.{Stored, setting_of}
 use Rattle.rv_elf.specs.Contents.{Contents}
 use Rattle.rv_locked.specs.Watched.{Watch, sampling}
-use Rattle.rv_locked.specs.internal.Kept.{IsKept}
 use Rattle.rv_sample.specs.Sites.{sites}
 use Rattle.rv_sample.specs.Words.{Given}
 
 abbrev pub watch : Stored → ℕ → Bool → Watch
 watch core seed broken_off = record { core = core; seed = seed; broken_off = broken_off }
 
-pub record IsWatching (core : Stored) (made : ℕ) (made_at : List ℕ) (among : List ℕ) (words : Given) (image : Contents) (seed : ℕ) : Type 0 where
-  pub kept : IsKept core.entries made made_at
+pub record IsWatching (core : Stored) (among : List ℕ) (words : Given) (image : Contents) (seed : ℕ) : Type 0 where
   pub long : IsLong (setting_of core) core.entries
   pub arms : IsArmedByDraws (setting_of core) (sampling core.image seed) is_resumed core.entries
   pub sites_are : among ≡ sites core.image []

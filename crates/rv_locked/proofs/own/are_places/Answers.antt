@@ -1,4 +1,4 @@
-use Rattle.std.proofs.Common.{ℕ, ◌≡◌, ◌+◌, ◌≤◌, length, refl, sym, subst, arith}
+use Rattle.std.proofs.Common.{ℕ, ◌+◌, refl, sym, subst, arith}
 use Rattle.rv_locked.proofs.OwnLemmas.{AgreesFrom, agrees_at_end, agrees_at_first, agrees_at_other, agrees_at_own, another_there, too_short}
 use Rattle.rv_locked.proofs.own.are_places.Goals as goal
 use Rattle.rv_locked.proofs.own.are_places.Goals.{then-is_of+else-met-list+else-list-met, else-is_of, then-met-list-via-then-met-list, then-met-list-via-else-met-list+then-list-met}

@@ -1,6 +1,5 @@
 use Rattle.std.proofs.Common.{sym, ◌∙◌}
 use Rattle.rv_collide.specs.Stored.{setting_of}
-use Rattle.rv_collide.specs.declared.entry.Entry.{Entry}
 use Rattle.rv_locked.specs.Watched.{sampling_of}
 use Rattle.rv_locked.proofs.ArmsLemmas.{no_draws}
 use Rattle.rv_locked.proofs.WatchLemmas.{draw_more, entries_as, taken_as, one_taken}
@@ -8,14 +7,12 @@ use Rattle.rv_locked.proofs.watched.first_draws.Goals as goal
 
 pub loop-init : goal.loop-init
 loop-init c = record {
-  kept = c.requires.kept;
-  core = entries_as c.args.driver.now.collider _ (c.requires.none ∙ sym (no_draws (setting_of c.args.driver.now.collider) (sampling_of c.args.sampler.now c.args.words.now.seed c.args.words.now.stream)));
+  core = entries_as c.args.driver.now _ (c.requires.none ∙ sym (no_draws (setting_of c.args.driver.now) (sampling_of c.args.sampler.now c.args.words.now.seed c.args.words.now.stream)));
   words = taken_as c.args.words.now 0 c.requires.taken;
 }
 
 pub loop-preserved : goal.loop-preserved
 loop-preserved c = record {
-  kept = c.draw.ensures.kept;
-  core = draw_more c.args.driver.now.collider c.loop.driver.collider c.draw.new.self.collider c.args.sampler.now c.args.words.now c.loop.words c.loop.counter c.loop.invariant.core c.loop.invariant.words c.draw.ensures.entries;
+  core = draw_more c.args.driver.now c.loop.driver c.draw.new.self c.args.sampler.now c.args.words.now c.loop.words c.loop.counter c.loop.invariant.core c.loop.invariant.words c.draw.ensures.core;
   words = one_taken c.args.words.now c.loop.words c.draw.new.words c.loop.counter c.loop.invariant.words c.draw.ensures.words;
 }

@@ -2,12 +2,10 @@ use Rattle.std.proofs.Common.{◌≡◌}
 use Rattle.rv_collide.specs.Draws.{draws}
 use Rattle.rv_collide.specs.Stored.{setting_of}
 use Rattle.rv_locked.specs.Watched.{sampling_of}
-use Rattle.rv_locked.specs.internal.Kept.{IsKept}
 use Rattle.rv_locked.proofs.watched.first_draws.Given as goal
 
 abbrev pub invariant-loop : goal.invariant-loop
 invariant-loop l = record {
-  kept : IsKept l.driver.collider.entries l.driver.made l.driver.made_at;
-  core : l.driver.collider ≡ record l.initial.driver.collider { entries = draws (setting_of l.initial.driver.collider) (sampling_of l.sampler l.initial.words.seed l.initial.words.stream) l.counter };
+  core : l.driver ≡ record l.initial.driver { entries = draws (setting_of l.initial.driver) (sampling_of l.sampler l.initial.words.seed l.initial.words.stream) l.counter };
   words : l.words ≡ record l.initial.words { taken = l.counter };
 }
