@@ -14,7 +14,7 @@ use Rattle.rv_collide.specs.Entries.{stepped_hart, steps}
 use Rattle.rv_collide.specs.Forced.{Setting, Arm, Resume, Turn, forced}
 use Rattle.rv_collide.specs.Next.{runs_at}
 use Rattle.rv_collide.specs.Pause.{Opening, opening_of, openings, openings_from}
-use Rattle.rv_collide.specs.Stored.{Stored, added, setting_of}
+use Rattle.rv_collide.specs.Stored.{Stored, setting_of}
 use Rattle.rv_collide.specs.declared.entry.Entry.{Entry}
 use Rattle.rv_collide.specs.declared.entry.Entry.TheVariants.{Stepped, Paused, Resumed, Armed}
 use Rattle.rv_collide.specs.declared.refused.Refused.{Refused}

@@ -1,5 +1,5 @@
 -- What the locked value keeps, after each of its calls.
-use Rattle.std.proofs.Common.{◌≡◌, ℕ, ◌+◌, Bool, true, false, cond, List, [], ◌∷◌, ◌++◌, refl, sym, ap, subst, ◌∙◌, arith}
+use Rattle.std.proofs.Common.{◌≡◌, ℕ, ◌+◌, true, false, cond, List, [], refl, sym, ap, subst, ◌∙◌, arith}
 use Rattle.std.specs.Prelude.{IsTrue, not}
 use Rattle.rv_collide.specs.Able.{is_due}
 use Rattle.rv_collide.specs.Answers.{Turns}
@@ -14,7 +14,7 @@ use Rattle.rv_collide.specs.declared.entry.Entry.TheVariants.{Stepped, Paused, R
 use Rattle.rv_elf.specs.Contents.{Contents}
 use Rattle.rv_locked.specs.Watched.{drew, opened, sampling, sampling_of}
 use Rattle.rv_locked.specs.internal.Watching.{IsWatching}
-use Rattle.rv_locked.proofs.ArmsLemmas.{HasDrawn, after_draws, after_resumption, after_turn, index_more, long_more, one_draw_more}
+use Rattle.rv_locked.proofs.ArmsLemmas.{after_draws, after_resumption, after_turn, index_more, long_more, one_draw_more}
 use Rattle.rv_sample.specs.Sites.{sites}
 use Rattle.rv_sample.specs.Words.{Given}
 

@@ -2,7 +2,7 @@
 -- is got, and what its calls answer.
 use Rattle.std.specs.Prelude.{◌≡◌, ℕ, true, false, Bool, Option, List, [], ◌++◌}
 use Rattle.std.specs.Option.{option_to_list}
-use Rattle.rv_collide.specs.Able.{HasEnded, IsLong, is_able, is_due}
+use Rattle.rv_collide.specs.Able.{IsLong, is_able, is_due}
 use Rattle.rv_collide.specs.Answers.{AreFacts, IsOutput, Resumes, Turns}
 use Rattle.rv_collide.specs.Draws.{IsArmedByDraws, Sampling, draw, draws, first_draws, is_resumed, next_index}
 use Rattle.rv_collide.specs.Numbers.{numbers}
