@@ -127,7 +127,7 @@ fn with_runs<'a>(alloc: Global, command: Command<'a>) -> Result<Command<'a>, All
     let workers = required_option(
         alloc,
         "workers",
-        "Threads that make the runs, 1 to 16; the table does not depend on them",
+        "Workers, 1 to 16; today the runs are made one after another, whatever this says",
     );
     let command = with_argument(command, seed)?;
     let command = with_argument(command, runs)?;
