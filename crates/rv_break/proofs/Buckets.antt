@@ -1,12 +1,12 @@
 -- Addresses without a repeat, and how many of them stand in a bucket.
-use Rattle.std.proofs.Common.{◌≡◌, ℕ, subst, zero-le, inl, inr, add-zero, add-one, add_assoc, add_comm, zero-add, ◌-◌, ◌+◌, ◌≤◌, ◌<◌, Bool, true, false, cond, List, [], ◌∷◌, ◌++◌, length, refl, sym, ap, ◌∙◌, arith, nat_eq}
+use Rattle.std.proofs.Common.{◌≡◌, ℕ, subst, zero-le, inl, inr, add-zero, add-one, add_assoc, add_comm, zero-add, ◌-◌, ◌+◌, ◌≤◌, ◌<◌, Bool, true, false, cond, List, [], ◌∷◌, ◌++◌, length, refl, sym, ap, ◌∙◌, arith}
 use Rattle.std.specs.Prelude.{nat_lt, ◌==◌, ◌&&◌, ◌||◌, not, filter}
 use Rattle.std.specs.List.{list_any}
 use Rattle.std.specs.Cmp.{nat_cmp_total}
 use Rattle.std.specs.FinSet.{FinSet, contains, from_list, len, contains-from_list_nat, len-insert, len-empty}
 use Rattle.std.specs.Ordering.{nat_cmp}
 use Rattle.std.proofs.lemmas.Bool.Decides.{nat_tests}
-use Rattle.std.specs.FinSet.{insert, remove, from_list_push, contains-remove, same_set, nat_cmp-IsAntisymmetric, contains-from_list}
+use Rattle.std.specs.FinSet.{insert, remove, from_list_push, contains-remove, same_set, nat_cmp-IsAntisymmetric}
 use Rattle.std.specs.Cmp.{unsigned_tied}
 use Rattle.std.proofs.Common.{get_or, set, get_or-set_same, get_or-set_other, length-append, replicate}
 use Rattle.std.proofs.lemmas.List.{get_or_default, length-set, get_or-replicate, length-replicate}
@@ -235,11 +235,6 @@ remove_absent s a absent =
 pub absent_at : (addresses counts : List ℕ) → IsFiltered addresses counts → (a b n : ℕ) → b ≡ bucket_of a → n ≡ get_or counts b n → b < BUCKETS → n ≡ 0 → false ≡ contains (from_list {R = nat_cmp} addresses) a
 absent_at addresses counts f a b n is read within none =
     sym (absent addresses counts f a n (read ∙ ap (λ k. get_or counts k n) is) (subst (λ k. k < BUCKETS) is within) none)
-
--- where there is no address, none is armed
-pub none_armed : (addresses : List ℕ) (a n : ℕ) → n ≡ length addresses → (n == 0) ≡ true → false ≡ contains (from_list {R = nat_cmp} addresses) a
-none_armed [] a n is none = sym (contains-from_list_nat [] a)
-none_armed (x ∷ xs) a n is none = absurd (grind (arith, nat_tests))
 
 pub none_filtered_at : (addresses counts : List ℕ) → addresses ≡ [] → counts ≡ replicate BUCKETS 0 → IsFiltered addresses counts
 none_filtered_at addresses counts none zeros =

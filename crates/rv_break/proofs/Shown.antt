@@ -1,6 +1,6 @@
 -- What the data breakpoints hold after accesses.
-use Rattle.std.proofs.Common.{◌≡◌, ◌≤◌, ℕ, zero, suc, ◌+◌, ◌<◌, Bool, true, false, cond, List, [], ◌∷◌, ◌++◌, length, get_or, take, drop, set, map, Option, Some, None, refl, sym, ap, ◌∙◌, arith, add-one}
-use Rattle.std.specs.Prelude.{fold, find, is_none, ◌&&◌}
+use Rattle.std.proofs.Common.{◌≡◌, ◌≤◌, ℕ, zero, suc, ◌+◌, ◌<◌, true, false, cond, List, [], ◌∷◌, ◌++◌, length, get_or, take, drop, set, map, Some, refl, sym, ap, ◌∙◌, arith, add-one}
+use Rattle.std.specs.Prelude.{fold, find}
 use Rattle.rv_break.specs.Slots.{claim_after, is_for}
 use Rattle.rv_break.specs.SlotsLaw.{FirstIsSeen}
 use Rattle.rv_break.specs.declared.claim.Claim.{Claim}

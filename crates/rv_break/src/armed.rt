@@ -43,15 +43,29 @@ impl Armed {
         Ok(Armed { addresses, counts })
     }
 
+    /// Whether no address is in the set.
+    #[inline(always)]
+    pub fn is_empty(&self) -> bool
+        ensures { result ≡ (set.len self.now == 0) }
+    {
+        self.addresses.is_empty()
+    }
+
     /// Whether the address is in the set.
     #[inline(always)]
     pub fn contains(&self, address: u32) -> bool
         ensures { result ≡ set.contains self.now address }
     {
-        if self.addresses.is_empty() {
-            return false;
-        }
-        self.counts[bucket_of(address)] != 0 && self.addresses.contains(&address)
+        self.counts[bucket_of(address)] != 0 && self.is_among(address)
+    }
+
+    /// The same, where each address is looked at.
+    #[cold]
+    #[inline(never)]
+    fn is_among(&self, address: u32) -> bool
+        ensures { result ≡ set.contains self.now address }
+    {
+        self.addresses.contains(&address)
     }
 
     /// Adds an address that is not in the set, which has room; answers whether it was added.

@@ -1,5 +1,5 @@
 //! Code breakpoints and data breakpoints.
-ghost use Rattle.std.specs.Prelude.{◌≡◌, ◌<◌, ◌≤◌, ◌&&◌, not, nat_lt, IfOk, IfSome, IfNone, IsTrue, ◌↔◌, Some, None, slice_set, if◌then◌else◌};
+ghost use Rattle.std.specs.Prelude.{◌≡◌, ◌<◌, ◌≤◌, ◌&&◌, ◌==◌, not, nat_lt, IfOk, IfSome, IfNone, IsTrue, ◌↔◌, Some, None, slice_set, if◌then◌else◌};
 ghost use Rattle.std.specs.FinSet as set;
 ghost use Rattle.rv_break.specs.Breakpoints.{no_breaks};
 ghost use Rattle.rv_break.specs.Slots as spec;
@@ -47,6 +47,14 @@ impl Breakpoints {
             armed: Armed::new(alloc)?,
             slots: Slots::new(alloc)?,
         })
+    }
+
+    /// Whether no address is armed.
+    #[inline(always)]
+    pub fn is_unarmed(&self) -> bool
+        ensures { result ≡ (set.len self.now.armed == 0) }
+    {
+        self.armed.is_empty()
     }
 
     /// Whether the address is armed.

@@ -1,5 +1,5 @@
 -- How a seeded run goes on, entry by entry.
-use Rattle.std.proofs.Common.{◌≡◌, ℕ, zero, suc, ◌+◌, ◌-◌, ◌≤◌, ◌<◌, inl, inr, true, false, cond, List, [], ◌∷◌, ◌++◌, length, take, Option, Some, None, Ok, Err, Result, refl, sym, ap, subst, ◌∙◌, arith, length-append, add-one, ◌%◌}
+use Rattle.std.proofs.Common.{◌≡◌, ℕ, zero, suc, ◌+◌, ◌-◌, ◌≤◌, ◌<◌, inl, inr, true, false, cond, List, [], ◌∷◌, ◌++◌, length, take, Option, Some, None, Ok, Err, Result, refl, sym, ap, subst, ◌∙◌, arith, length-append, ◌%◌}
 use Rattle.std.specs.Prelude.{slice_get, option_and_then, option_map, count_by}
 use Rattle.std.specs.Result.{result_ok}
 use Rattle.std.specs.Option.{option_or, option_to_list}
@@ -283,11 +283,3 @@ after_draws kind setting sampling xs taken are count =
       paid = all_paid kind setting sampling;
       taken_are = omega (arith, none, count);
     })
-
-pub one_draw_more : (setting : Setting) (sampling : Sampling) (n : ℕ) → draws setting sampling (n + 1) ≡ draws setting sampling n ++ option_to_list (draw setting sampling (draws setting sampling n) n)
-unfolding draws
-one_draw_more setting sampling n = ap (draws setting sampling) (add-one n)
-
-pub no_draws : (setting : Setting) (sampling : Sampling) → draws setting sampling 0 ≡ []
-unfolding draws
-no_draws setting sampling = refl

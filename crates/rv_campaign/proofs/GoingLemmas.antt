@@ -1,5 +1,5 @@
 -- A driver's calls, as a seeded run goes on.
-use Rattle.std.proofs.Common.{◌≡◌, ℕ, ◌+◌, ◌%◌, List, [], ◌++◌, length, Some, None, sym, ap, subst, ◌∙◌}
+use Rattle.std.proofs.Common.{◌≡◌, ℕ, ◌+◌, ◌%◌, List, [], ◌++◌, length, Some, None, refl, sym, ap, subst, ◌∙◌}
 use Rattle.std.specs.Prelude.{slice_get}
 use Rattle.std.specs.Option.{option_to_list}
 use Rattle.rv_campaign.specs.Run.{IsRunOver, sampling_of}
@@ -7,7 +7,7 @@ use Rattle.rv_campaign.specs.internal.Driving.{IsDriving}
 use Rattle.rv_collide.specs.Able.{able, due}
 use Rattle.rv_collide.specs.Drawn.{IsDrawn, driven, picked_hart}
 use Rattle.rv_collide.specs.DriverLaws.{AddsItsKind}
-use Rattle.rv_collide.specs.Draws.{draw, draws}
+use Rattle.rv_collide.specs.Draws.{draw, draws, first_draws}
 use Rattle.rv_collide.specs.Forced.{Setting, Turn}
 use Rattle.rv_collide.specs.Answers.{Adds, IsOutput, Turns}
 use Rattle.rv_collide.specs.Numbers.{numbers}
@@ -20,17 +20,16 @@ use Rattle.rv_collide.specs.declared.entry.Entry.{Entry}
 use Rattle.rv_collide.specs.declared.entry.Entry.TheVariants.{Stepped, Paused, Resumed}
 use Rattle.rv_collide.specs.declared.collider.Turned.{Turned}
 use Rattle.rv_collide.specs.declared.collider.Turned.TheVariants as turned
+use Rattle.rv_locked.specs.Watched.{begun}
 use Rattle.rv_sample.specs.Words.{Given, word_at}
-use Rattle.rv_campaign.proofs.DrivingLemmas.{after_resumption, after_turn, one_draw_more, whole_run}
+use Rattle.rv_campaign.proofs.DrivingLemmas.{after_draws, after_resumption, after_turn, whole_run}
 
-pub draw_more : (old new : Stored) (sites : List ℕ) (before after : Given) (n : ℕ) → old.entries ≡ draws (setting_of old) (sampling_of sites before.seed before.stream) n → before.taken ≡ n → after ≡ record before { taken = before.taken + 1 } → new ≡ record old { entries = old.entries ++ option_to_list (draw (setting_of old) (sampling_of sites before.seed before.stream) old.entries before.taken) } → new.entries ≡ draws (setting_of new) (sampling_of sites after.seed after.stream) (n + 1)
-draw_more old new sites before after n are taken words gives =
-    let core : old.entries ++ option_to_list (draw (setting_of old) (sampling_of sites before.seed before.stream) old.entries before.taken) ≡ draws (setting_of old) (sampling_of sites before.seed before.stream) (n + 1) =
-    ap (λ (k : ℕ). old.entries ++ option_to_list (draw (setting_of old) (sampling_of sites before.seed before.stream) old.entries k)) taken
-    ∙ ap (λ xs. xs ++ option_to_list (draw (setting_of old) (sampling_of sites before.seed before.stream) xs n)) are
-    ∙ sym (one_draw_more (setting_of old) (sampling_of sites before.seed before.stream) n) in
-    subst (λ (s : Stored). s.entries ≡ draws (setting_of s) (sampling_of sites after.seed after.stream) (n + 1)) (sym gives)
-    (subst (λ (w : Given). old.entries ++ option_to_list (draw (setting_of old) (sampling_of sites before.seed before.stream) old.entries before.taken) ≡ draws (setting_of old) (sampling_of sites w.seed w.stream) (n + 1)) (sym words) core)
+pub opened_drives : AddsItsKind → (driver : Stored) (image : Contents) (plan : Numbers) (sites : List ℕ) (before after : Given) → driver ≡ begun image plan (sampling_of sites before.seed before.stream) → after ≡ record before { taken = first_draws } → IsDriving (setting_of driver) (sampling_of sites after.seed after.stream) driver.entries after.taken
+opened_drives kind driver image plan sites before after is words =
+    let sampling = sampling_of sites before.seed before.stream in
+    let core = after_draws kind (setting_of (stored image plan [])) sampling (draws (setting_of (stored image plan [])) sampling first_draws) first_draws refl refl in
+    let at_driver = subst (λ (s : Stored). IsDriving (setting_of s) sampling s.entries first_draws) (sym is) core in
+    subst (λ (w : Given). IsDriving (setting_of driver) (sampling_of sites w.seed w.stream) driver.entries w.taken) (sym words) at_driver
 
 pub resumed_on : AddsItsKind → (old mid new : Stored) (sites : List ℕ) (before after : Given) (hart : ℕ) → IsDriving (setting_of old) (sampling_of sites before.seed before.stream) old.entries before.taken → due (setting_of old) old.entries ≡ Some hart → mid ≡ added old (Resumed hart) → new ≡ record mid { entries = mid.entries ++ option_to_list (draw (setting_of mid) (sampling_of sites before.seed before.stream) mid.entries before.taken) } → after ≡ record before { taken = before.taken + 1 } → IsDriving (setting_of new) (sampling_of sites after.seed after.stream) new.entries after.taken
 resumed_on kind old mid new sites before after hart d is resumes gives words =

@@ -1,4 +1,4 @@
-ghost use Rattle.std.specs.Prelude.{◌≡◌, ◌<◌, ◌≤◌, [], true, false, None, length, IfOk};
+ghost use Rattle.std.specs.Prelude.{◌≡◌, ◌<◌, ◌≤◌, true, false, None, length, IfOk};
 ghost use Rattle.rv_campaign.specs.Run.{IsRun, IsRunOver, sampling_of};
 ghost use Rattle.rv_campaign.specs.internal.Driving.{IsDriving, SameRun};
 ghost use Rattle.rv_collide.specs.Drawn.{driven};
@@ -6,7 +6,7 @@ ghost use Rattle.rv_collide.specs.Plan.{most_entries};
 ghost use Rattle.rv_collide.specs.Stored.{setting_of};
 ghost use Rattle.rv_collide.specs.Numbers.{numbers};
 
-use rv_collide::collider::{Collider, Finished};
+use rv_collide::collider::Finished;
 use rv_collide::driver_laws::accepted_calls;
 use rv_collide::plan::Plan;
 use rv_elf::Image;
@@ -14,9 +14,6 @@ use rv_locked::driver::Driver;
 use rv_memory::store::NoMemory;
 use rv_sample::{Sampler, Words};
 use std::alloc::Global;
-
-/// How many addresses are drawn before the first turn.
-const FIRST_DRAWS: u32 = 16;
 
 /// The one run of an image and a plan by the words of a seed and a run's number, at the image's sites without
 /// the excluded addresses. It answers want of memory alone.
@@ -50,25 +47,11 @@ pub(crate) fn run_sampled(
 ) -> Result<Finished, NoMemory>
     ensures { IfOk result (λ told. IsRunOver image.now (numbers plan) sampler.now seed run told) }
 {
+    accepted_calls();
     let mut words = Words::new(seed, u64::from(run));
-    let mut driver = Driver::new(alloc, Collider::new(alloc, image, plan)?)?;
-    first_draws(&mut driver, &mut words, sampler);
+    let mut driver = Driver::open(alloc, image, plan, sampler, &mut words)?;
     while go_on(&mut driver, &mut words, sampler) {}
     Ok(driver.into_collider().finish())
-}
-
-/// The draws before the first turn.
-fn first_draws(driver: &mut Driver, words: &mut Words, sampler: &Sampler)
-    requires none { driver.old.entries ≡ [] }
-    requires taken { words.old.taken ≡ 0 }
-    ensures driving { IsDriving (setting_of driver.new)
-        (sampling_of sampler.now words.new.seed words.new.stream) driver.new.entries words.new.taken }
-    ensures same { SameRun driver.old driver.new words.old words.new }
-{
-    accepted_calls();
-    for _ in 0..FIRST_DRAWS {
-        driver.draw(sampler, words);
-    }
 }
 
 /// What the run adds next: the lowest pause that is due ends, and a draw follows; else an able hart takes a

@@ -16,7 +16,7 @@ use Rattle.rv_collide.specs.Drawn.{IsDrawn, driven, picked_hart, turn_drawn, tur
 use Rattle.rv_collide.specs.Draws.{Sampling, IsOwed, arms_or_disarms, draw, draw_after, draws, first_draws, is_resumed, next_index, owed}
 use Rattle.rv_collide.specs.DriverLaws.{OneRunAtMost, DrawnIsLegal, DrawnIsLong, DrawnIsArmedByDraws, DrawnHasEnded, AddsItsKind, DueIsResumed, AbleTakesTurn}
 use Rattle.rv_collide.specs.Entries.{steps}
-use Rattle.rv_collide.specs.Forced.{Setting, Call, Turn, Resume, Arm, Disarm, forced, turn_entry, least_free}
+use Rattle.rv_collide.specs.Forced.{Setting, Turn, Resume, Arm, Disarm, forced, turn_entry, least_free}
 use Rattle.rv_collide.specs.Legal.{IsLegal, call_of}
 use Rattle.rv_collide.specs.Next.{plain, runs_at}
 use Rattle.rv_collide.specs.Pause.{Opening, opening_of, openings, openings_from, resumes}

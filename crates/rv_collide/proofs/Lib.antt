@@ -17,6 +17,7 @@ pub mod Fits
 pub mod FrontLemmas
 pub mod Fronts
 pub mod GoingOn
+pub mod GoesOn
 pub mod GrammarLemmas
 pub mod GrammarProof
 pub mod Growth

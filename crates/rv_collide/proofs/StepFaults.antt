@@ -20,7 +20,7 @@ not_both : (b : Bool) → b ≡ true → b ≡ false → ⊥
 not_both true h g = cc
 not_both false h g = cc
 
-no_hart : (harts : List Hart) (h : ℕ) → is_running_hart (slice_get harts h) ≡ true → length harts ≤ h → ⊥
+pub no_hart : (harts : List Hart) (h : ℕ) → is_running_hart (slice_get harts h) ≡ true → length harts ≤ h → ⊥
 no_hart harts h runs past = not_both (is_running_hart (slice_get harts h)) runs (ap is_running_hart (slice_get_past harts h past))
 
 idle_runs : (b : Bool) → b ≡ true → not b ≡ true → ⊥

@@ -1,14 +1,17 @@
--- The text that an ending is shown in.
-use Rattle.std.specs.Prelude.{ℕ, ◌+◌, List, [], ◌∷◌, ◌++◌, codes}
+-- The text that endings, and a run that is over, are shown in.
+use Rattle.std.specs.Prelude.{ℕ, ◌+◌, Bool, true, false, List, [], ◌∷◌, ◌++◌, codes, count_by}
 use Rattle.std.specs.Fmt.{decimal}
 use Rattle.rv_hart.specs.Texts.{access_text}
 use Rattle.rv_text.specs.Hexadecimal.{word_digits}
 use Rattle.rv_text.specs.Lines.{text_of_lines}
 use Rattle.rv_break.specs.declared.claim.Seen.{Seen}
 use Rattle.rv_collide.specs.Grammar.{slot_text}
+use Rattle.rv_collide.specs.declared.collider.Finished.{Finished}
 use Rattle.rv_collide.specs.declared.ending.Ending.{Ending}
 use Rattle.rv_collide.specs.declared.ending.Verdict.{Verdict}
 use Rattle.rv_collide.specs.declared.ending.Verdict.TheVariants.{Hit, Changed, Quiet}
+use Rattle.rv_collide.specs.declared.entry.Entry.{Entry}
+use Rattle.rv_collide.specs.declared.entry.Entry.TheVariants.{Stepped, Paused, Resumed, Armed, Disarmed}
 
 -- `hit J hart H ACCESS`
 abbrev pub seen_text : Seen → List ℕ
@@ -40,3 +43,19 @@ ending_lines number (ending ∷ endings) = ending_line number ending ∷ ending_
 -- the endings, counted from 0, an LF after each
 unfoldable pub endings_text : List Ending → List ℕ
 endings_text endings = text_of_lines (ending_lines 0 endings)
+
+-- the entry is a turn of a hart: its step, or its pause
+abbrev pub is_turn : Entry → Bool
+is_turn (Stepped hart) = true
+is_turn (Paused hart slot) = true
+is_turn (Resumed hart) = false
+is_turn (Armed address) = false
+is_turn (Disarmed address) = false
+
+-- `turns N`, the number of turns among the entries
+abbrev pub turns_line : List Entry → List ℕ
+turns_line entries = codes "turns " ++ decimal (count_by is_turn entries)
+
+-- what is shown of a run that is over: its endings, and how many turns its harts took
+unfoldable pub finished_text : Finished → List ℕ
+finished_text told = endings_text told.endings.items ++ turns_line told.entries.items ++ 10 ∷ []

@@ -1,3 +1,4 @@
 pub mod Before
 pub mod Capped
 pub mod Core
+pub mod GoesOn

@@ -7,12 +7,13 @@ ghost use Rattle.rv_collide.specs.Entries.{steps};
 ghost use Rattle.rv_collide.specs.Forced.{forced, Turn, Resume, Arm, Disarm, turn_entry, least_free};
 ghost use Rattle.rv_collide.specs.Next.{next, plain, runs_at};
 ghost use Rattle.rv_collide.specs.Numbers.{numbers};
-ghost use Rattle.rv_collide.specs.Pause.{opening_of, ended};
+ghost use Rattle.rv_collide.specs.Pause.{opening_of, openings, ended};
 ghost use Rattle.rv_collide.specs.StateAt.{state_at};
 ghost use Rattle.rv_collide.specs.Stored.{added, setting_of, Stored, stored};
 ghost use Rattle.rv_collide.specs.Verdict.{ending_at, endings, verdict_of};
 ghost use Rattle.rv_collide.specs.Answers as answer;
 ghost use Rattle.rv_collide.specs.internal.Core.{slots_freed, slots_seen};
+ghost use Rattle.rv_collide.specs.internal.GoesOn.{GoesOn};
 ghost use Rattle.rv_break.specs.Slots as break_slots;
 ghost use Rattle.rv_hart.specs.Next.{accessed};
 ghost use Rattle.rv_hart.specs.State.{is_running, start as first_state};
@@ -31,7 +32,6 @@ use rv_hart::access::{Access, Event};
 use rv_hart::hart::Status;
 use rv_hart::laws::{reservations_and_accesses, what_no_step_does};
 use rv_hart::machine::Machine;
-use rv_memory::region::Region;
 use rv_memory::store::{ByteStore, MemFault, NoMemory};
 use std::alloc::Global;
 use std::marker::Model;
@@ -127,22 +127,19 @@ impl<S: ByteStore> Collider<S> {
         ensures err { IfErr result (λ fault. answer.IsRefusedTurn self.old h fault S.can_refuse) }
         ensures refused { OnErr result (self.new ≡ self.old) }
     {
-        if h >= self.plan().harts {
-            return Err(Refused::NoHart);
+        // Apart from one another, since a step that is shown to no claim stays in registers.
+        if self.is_unwatched() {
+            if self.goes_on(h) {
+                if let Some(event) = self.step(h, false) {
+                    return Ok(Turned::Stepped(event));
+                }
+            }
+        } else if self.goes_on(h) {
+            if let Some(event) = self.step(h, true) {
+                return Ok(Turned::Stepped(event));
+            }
         }
-        if !self.runs(h) {
-            return Err(Refused::NotRunning);
-        }
-        if self.is_paused(h) {
-            return Err(Refused::Paused);
-        }
-        if !self.has_steps_left() {
-            return Err(Refused::StepsSpent);
-        }
-        match self.armed_access(h) {
-            Some(access) => Ok(Turned::Paused(self.pause(h, access))),
-            None => Ok(Turned::Stepped(self.step(h)?)),
-        }
+        self.turn_apart(h)
     }
 
     /// Ends the pause of a hart.
@@ -346,28 +343,109 @@ impl<S: ByteStore> Collider<S> {
         slot
     }
 
-    /// Lets a hart make a step.
+    /// The same, whose answer has a place of its own here, so that the event of a step stays in registers.
     #[inline(always)]
-    fn step(&mut self, h: u8) -> Result<Event, Refused>
-        requires { forced (setting_of self.old) self.old.entries (Turn h) ≡ Ok (Entry.Stepped h) }
-        ensures ok { IfOk result (λ event. answer.IsEvent self.old h event) }
-        ensures after { OnOk result (self.new ≡ added self.old (Entry.Stepped h)) }
-        ensures err { IfErr result (λ fault. fault ≡ Refused.NoMemory) }
-        ensures memory { OnErr result (IsTrue S.can_refuse) }
+    fn turn_apart(&mut self, h: u8) -> Result<Turned, Refused>
+        ensures ok { IfOk result (λ turned. answer.Turns self.old self.new h turned) }
+        ensures err { IfErr result (λ fault. answer.IsRefusedTurn self.old h fault S.can_refuse) }
         ensures refused { OnErr result (self.new ≡ self.old) }
+    {
+        let turned = self.turn_by_tests(h);
+        turned
+    }
+
+    /// A turn, with each refusal tested.
+    #[cold]
+    #[inline(never)]
+    fn turn_by_tests(&mut self, h: u8) -> Result<Turned, Refused>
+        ensures ok { IfOk result (λ turned. answer.Turns self.old self.new h turned) }
+        ensures err { IfErr result (λ fault. answer.IsRefusedTurn self.old h fault S.can_refuse) }
+        ensures refused { OnErr result (self.new ≡ self.old) }
+    {
+        if h >= self.plan().harts {
+            return Err(Refused::NoHart);
+        }
+        if !self.runs(h) {
+            return Err(Refused::NotRunning);
+        }
+        if self.is_paused(h) {
+            return Err(Refused::Paused);
+        }
+        if !self.has_steps_left() {
+            return Err(Refused::StepsSpent);
+        }
+        match self.armed_access(h) {
+            Some(access) => Ok(Turned::Paused(self.pause(h, access))),
+            None => match self.step(h, true) {
+                Some(event) => Ok(Turned::Stepped(event)),
+                None => Err(Refused::NoMemory),
+            },
+        }
+    }
+
+    /// Whether no pause is open.
+    #[inline(always)]
+    fn is_unwatched(&self) -> bool
+        ensures { result ≡ true → openings self.now.entries ≡ [] }
+    {
+        self.openings.is_empty()
+    }
+
+    /// Whether a turn of the hart is a step, if there is such a hart and it runs.
+    #[inline(always)]
+    fn goes_on(&self, h: u8) -> bool
+        ensures { result ≡ true → GoesOn self.now h }
+    {
+        self.has_steps_left() && !self.is_paused(h) && self.passes(h)
+    }
+
+    /// Whether no turn of the hart pauses it now.
+    #[inline(always)]
+    fn passes(&self, h: u8) -> bool
+        ensures { result ≡ true → turn_entry (setting_of self.now) self.now.entries h
+            (plain (setting_of self.now).start self.now.entries (length self.now.entries) h) ≡ Entry.Stepped h }
+    {
+        if self.breaks.is_unarmed() {
+            return true;
+        }
+        h < self.plan.harts && !self.stands_armed(h)
+    }
+
+    /// Whether a hart stands at an armed address.
+    #[inline(always)]
+    fn stands_armed(&self, h: u8) -> bool
+        requires { h < self.now.plan.harts }
+        ensures { result ≡ false → turn_entry (setting_of self.now) self.now.entries h
+            (plain (setting_of self.now).start self.now.entries (length self.now.entries) h) ≡ Entry.Stepped h }
+    {
+        self.breaks.is_armed(self.machine.pc(h))
+    }
+
+    /// Lets a hart make a step, if there is such a hart and it runs. The claims are shown its access where there
+    /// may be claims.
+    #[inline(always)]
+    fn step(&mut self, h: u8, is_watched: bool) -> Option<Event>
+        requires goes_on { GoesOn self.old h }
+        requires unwatched { is_watched ≡ false → openings self.old.entries ≡ [] }
+        ensures forced { IfSome result (λ _.
+            forced (setting_of self.old) self.old.entries (Turn h) ≡ Ok (Entry.Stepped h)) }
+        ensures event { IfSome result (λ event. answer.IsEvent self.old h event) }
+        ensures after { IfSome result (λ _. self.new ≡ added self.old (Entry.Stepped h)) }
+        ensures none { IfNone result (self.new ≡ self.old) }
+        ensures memory { IfNone result
+            (forced (setting_of self.old) self.old.entries (Turn h) ≡ Ok (Entry.Stepped h) → IsTrue S.can_refuse) }
     {
         reservations_and_accesses();
         what_no_step_does();
-        let is_watched = !self.openings.is_empty();
         let event = match self.machine.step(h) {
             Ok(event) => event,
-            Err(_) => return Err(Refused::NoMemory),
+            Err(_) => return None,
         };
         let place = self.entries.len() as u32;
         show(&mut self.breaks, is_watched, place, h, event);
         self.steps += 1;
         self.entries.push_reserved(Entry::Stepped(h));
-        Ok(event)
+        Some(event)
     }
 
     /// Arms an address that is not armed, where fewer than the most are; answers whether it did.
@@ -421,8 +499,8 @@ fn machine_of<S: ByteStore>(
     ensures state { IfOk result (λ m. m.state ≡ first_state image.now.segments image.now.entry plan.harts) }
     ensures limit { IfOk result (λ m. m.limit ≡ plan.steps) }
 {
-    let regions = regions_of(alloc, image.segments())?;
-    match Machine::new(alloc, regions, image.entry(), plan.harts, plan.steps) {
+    let segments = image.segments();
+    match Machine::new(alloc, segments, image.entry(), plan.harts, plan.steps) {
         Ok(machine) => Ok(machine),
         Err(fault) => Err(no_memory(fault)),
     }
@@ -436,16 +514,6 @@ fn no_memory(fault: MemFault) -> NoMemory
         MemFault::NoMemory => NoMemory,
         MemFault::PastEnd | MemFault::Overlap | MemFault::TooLarge => unreachable!(),
     }
-}
-
-fn regions_of(alloc: Global, segments: &[Region]) -> Result<Vec<Region>, NoMemory>
-    ensures { IfOk result (λ copies. copies.items ≡ segments.now) }
-{
-    let mut copies = Vec::new(alloc);
-    for segment in segments {
-        copies.push(segment.copy(alloc)?)?;
-    }
-    Ok(copies)
 }
 
 /// Shows the claims what a step accessed, where there may be claims.
@@ -479,7 +547,10 @@ fn is_running(status: Status) -> bool
 fn is_one_of(openings: &[OpenPause], h: u8) -> bool
     ensures { result ≡ list_any (λ p. p.hart == h) openings.now }
 {
-    openings.iter().any(|p| p.hart == h)
+    match openings {
+        [] => false,
+        _ => openings.iter().any(|p| p.hart == h),
+    }
 }
 
 /// The open pause of a hart among the open ones.

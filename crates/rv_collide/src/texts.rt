@@ -1,10 +1,12 @@
-//! The text that endings are shown in. It is written piece by piece and takes no memory.
+//! The text that endings, and a run that is over, are shown in. It is written piece by piece and takes no memory.
 ghost use Rattle.std.specs.Prelude.{◌≡◌, ◌∷◌, [], ◌++◌, ◌||◌, is_err, OnOk};
 ghost use Rattle.std.specs.Io.KnownBytes.{Appends};
 ghost use Rattle.rv_text.specs.Lines.{text_of_lines};
 ghost use Rattle.rv_collide.specs.Texts as spec;
 
+use crate::collider::Finished;
 use crate::ending::{Ending, Verdict};
+use crate::entry::Entry;
 use crate::schedule::writing::write_slot;
 use rv_break::claim::Seen;
 use rv_hart::texts::write_access;
@@ -97,6 +99,34 @@ pub fn write_endings<O: Output>(writer: &mut O, endings: &[Ending]) -> Result<()
         write_ending(writer, number as u64, ending)?;
     }
     Ok(())
+}
+
+/// Whether the entry is a turn of a hart: its step, or its pause.
+fn is_turn(entry: &Entry) -> bool
+    ensures { result ≡ spec.is_turn entry.now }
+{
+    matches!(entry, Entry::Stepped(_) | Entry::Paused(..))
+}
+
+/// Writes the line with the number of turns.
+fn write_turns<O: Output>(writer: &mut O, entries: &[Entry]) -> Result<(), WriteFault>
+    ensures ok { OnOk result (Appends (O.written writer.old) (O.written writer.new)
+        (spec.turns_line entries.now ++ 10 ∷ [])) }
+    ensures failed { O.has_failed writer.new ≡ (O.has_failed writer.old || is_err result) }
+{
+    let turns = entries.iter().filter(|entry| is_turn(entry)).count();
+    let turns = Decimal::new(turns as u64);
+    put_pieces(writer, &[b"turns ", turns.as_bytes(), b"\n"])
+}
+
+/// Writes what a run leaves: a line of each ending, counted from 0, and the number of turns that its harts took.
+#[tactic(auto, unfolding(crate::specs::Texts::finished_text))]
+pub fn write_finished<O: Output>(writer: &mut O, told: &Finished) -> Result<(), WriteFault>
+    ensures ok { OnOk result (Appends (O.written writer.old) (O.written writer.new) (spec.finished_text told.now)) }
+    ensures failed { O.has_failed writer.new ≡ (O.has_failed writer.old || is_err result) }
+{
+    write_endings(writer, &told.endings)?;
+    write_turns(writer, &told.entries)
 }
 
 #[cfg(test)]

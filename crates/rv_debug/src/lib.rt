@@ -4,11 +4,16 @@
 //! (`specs/Placed.antt`), whatever commands brought it there; a fault leaves the place.
 #![tactic(auto)]
 
+mod answer;
+pub mod command;
+pub mod fault;
 mod finding;
 pub mod hart_view;
+mod lines;
 mod listing;
 pub mod session;
 mod shown;
+pub mod talk;
 #[cfg(test)]
 mod tests;
 mod told;

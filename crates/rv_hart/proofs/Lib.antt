@@ -6,6 +6,7 @@ pub mod LawLemmas
 pub mod NextLemmas
 pub mod OutputLemmas
 pub mod QuickLemmas
+pub mod RegisterLemmas
 pub mod ReservationLemmas
 pub mod StartLemmas
 pub mod StepLemmas

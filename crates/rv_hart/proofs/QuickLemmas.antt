@@ -1,12 +1,13 @@
 -- The quick path takes the step that the definitions have.
-use Rattle.std.proofs.Common.{◌≡◌, ℕ, ◌%◌, ◌<◌, set, get_or, Bool, true, false, cond, List, [], length, Option, Some, None, refl, sym, ap, subst, ◌∙◌}
-use Rattle.std.specs.Prelude.{◌==◌, slice_get, IsSomeAnd}
-use Rattle.std.proofs.lemmas.List.{append-nil}
+use Rattle.std.proofs.Common.{◌≡◌, ℕ, ◌%◌, ◌<◌, zero, suc, map, set, get_or, Bool, true, false, cond, List, [], ◌∷◌, length, Option, Some, None, refl, sym, ap, subst, ◌∙◌}
+use Rattle.std.specs.Prelude.{◌==◌, ◌||◌, is_some, slice_get, IfSome, IsSomeAnd}
+use Rattle.std.proofs.lemmas.List.{append-nil, get_or-set_same, length-set, map-set, set-get_or, set-set}
 use Rattle.std.proofs.lemmas.Option.{slice_get-get_or}
 use Rattle.rv_hart.specs.Act.{action_of}
 use Rattle.rv_hart.specs.Next.{is_print}
-use Rattle.rv_hart.specs.Step.{action_at_word, allowed, event_of, hart_after, loaded_by, memory_after, printed, written_by}
+use Rattle.rv_hart.specs.Step.{action_at_word, allowed, hart_after, kept, loaded_by, seen_by, written_by}
 use Rattle.rv_hart.specs.Words.{combined}
+use Rattle.rv_hart.specs.declared.access.Access.{Access}
 use Rattle.rv_hart.specs.declared.access.Event.{Event}
 use Rattle.rv_hart.specs.declared.access.Event.TheVariants.{Moved}
 use Rattle.rv_hart.specs.declared.action.Action.{Action}
@@ -14,45 +15,33 @@ use Rattle.rv_hart.specs.declared.action.Action.TheVariants.{Set, Load, Store, R
 use Rattle.rv_hart.specs.declared.action.Combine.{Combine}
 use Rattle.rv_hart.specs.declared.hart.Hart.{Hart}
 use Rattle.rv_hart.specs.declared.hart.Status.TheVariants.{Running}
+use Rattle.rv_hart.specs.declared.quick.Attempt.{Attempt}
+use Rattle.rv_hart.specs.declared.quick.Attempt.TheVariants as attempt
 use Rattle.rv_hart.specs.declared.write.Write.{Write}
 use Rattle.rv_hart.specs.internal.Able.{HasSize}
-use Rattle.rv_hart.specs.internal.Harts.{HartsAfter}
+use Rattle.rv_hart.specs.internal.Harts.{HartsAfter, Sees, any_holds, holds, write_of_access}
 use Rattle.rv_hart.specs.internal.Machine.{RunsTo}
-use Rattle.rv_hart.specs.internal.Quick.{Begins, Fetches, HartIs, IsQuick, over}
+use Rattle.rv_hart.specs.internal.Quick.{Begins, Fetches, IsQuick, Moves, Tried, TriedAt, event_of_attempt, over, write_of, write_of_attempt}
 use Rattle.rv_hart.proofs.AbleLemmas.{fetched_word, sized_fetched}
 use Rattle.rv_hart.proofs.HartsLemmas.{none_seen}
-use Rattle.rv_hart.proofs.StepLemmas.{harts_count, some_hart, step_made}
+use Rattle.rv_hart.proofs.StepLemmas.{harts_count, step_made}
 use Rattle.rv_isa.specs.Decoded.{decoded}
 use Rattle.rv_isa.specs.declared.instr.Instr.{Instr}
-use Rattle.rv_memory.specs.Memory.{Memory, load, load_permitted, permits}
+use Rattle.rv_memory.specs.Memory.{Memory, load, load_permitted, permits, store}
 use Rattle.rv_memory.specs.Sound.{IsSound}
 use Rattle.rv_memory.specs.declared.store.Need.TheVariants as need
 
--- ---- a hart of the list
-
-pub hart_is : (harts : List Hart) (h : ℕ) (hart : Hart) (P : Hart → Type 0) → slice_get harts h ≡ Some hart → P hart → HartIs harts h P
-hart_is harts h hart P found p = subst (λ (o : Option Hart). IsSomeAnd o P) (sym found) p
-
-pub of_hart : (harts : List Hart) (h : ℕ) (hart : Hart) (P : Hart → Type 0) → slice_get harts h ≡ Some hart → HartIs harts h P → P hart
-of_hart harts h hart P found p = subst (λ (o : Option Hart). IsSomeAnd o P) found p
-
 -- ---- the action that a hart begins
 
-begins : (m : Memory) (word : ℕ) (hart : Hart) (i : Instr) (action : Action) → Fetches m word hart → decoded word ≡ Some i → action ≡ action_of i hart → Begins m action hart
+pub begins : (m : Memory) (word : ℕ) (hart : Hart) (i : Instr) (action : Action) → Fetches m word hart → decoded word ≡ Some i → action ≡ action_of i hart → Begins m action hart
 begins m word hart i action f is a =
     record {
       running = f.running;
       action_is = a ∙ sym (ap (λ o. action_at_word o hart) is) ∙ fetched_word hart (permits m hart.pc 4 need.Execute) (load m hart.pc 4) word f.word_is;
     }
 
-pub begins_at : (m : Memory) (word : ℕ) (harts : List Hart) (h : ℕ) (hart : Hart) (i : Instr) (action : Action) → slice_get harts h ≡ Some hart → HartIs harts h (Fetches m word) → decoded word ≡ Some i → action ≡ action_of i hart → HartIs harts h (Begins m action)
-begins_at m word harts h hart i action found f is a =
-    hart_is harts h hart (Begins m action) found (begins m word hart i action (of_hart harts h hart (Fetches m word) found f) is a)
-
-pub sized_begun : (m : Memory) (harts : List Hart) (h : ℕ) (action : Action) → HartIs harts h (Begins m action) → HasSize action
-sized_begun m harts h action b =
-    let (hart, found, begun) = some_hart {P = Begins m action} (slice_get harts h) b in
-    subst HasSize (sym begun.action_is) (sized_fetched m hart)
+pub sized_begun : (m : Memory) (hart : Hart) (action : Action) → Begins m action hart → HasSize action
+sized_begun m hart action b = subst HasSize (sym b.action_is) (sized_fetched m hart)
 
 -- ---- what passed its test is what the hart does next
 
@@ -77,53 +66,6 @@ pub permitted_parts : (b : Bool) (n loaded : ℕ) → cond b (Some n) None ≡ S
 permitted_parts true n loaded e = (refl, cc)
 permitted_parts false n loaded e = cc
 
--- ---- the step of its parts
-
--- one hart moved on, where nothing is written
-pub taken_after : (old : List Hart) (h loaded : ℕ) (action : Action) (default new : Hart) → h < length old → new ≡ hart_after loaded (get_or old h default) action → HartsAfter old (set old h new) h loaded action None
-taken_after old h loaded action default new within is =
-    let found : slice_get old h ≡ Some (get_or old h default) = slice_get-get_or old h default within in
-    rw (found, none_seen old, is) refl
-
-abbrev pub none_hart : Hart
-none_hart = record { registers = []; pc = 0; status = Running; reservation = None }
-
-quick_step : (old new : List Hart) (before after : Memory) (h loaded : ℕ) (hart : Hart) (action : Action) (w : Option Write) (event : Event) → slice_get old h ≡ Some hart → RunsTo before hart action →
-    loaded ≡ loaded_by before action → w ≡ written_by loaded hart action → event ≡ event_of hart action →
-    HartsAfter old new h loaded action w → after ≡ memory_after before w → printed action ≡ [] → is_print action ≡ false → (IsSound before → IsSound after) →
-    IsQuick old new before after h event
-quick_step old new before after h loaded hart action w event found runs l w_is e harts memory none quiet sound =
-    record {
-      step = λ output. step_made (over old before output) (over new after output) h loaded hart action w event found (rw found runs) l w_is e harts memory (rw none (sym (append-nil output)));
-      running = rw found runs.running;
-      silent = rw (found, runs.running) (ap is_print (sym runs.next) ∙ quiet);
-      count = harts_count old new h loaded action w hart found harts;
-      sound = sound;
-    }
-
-pub quick_set : (m : Memory) (old new : List Hart) (h rd value next : ℕ) → HartIs old h (Begins m (Set rd value next)) →
-    HartsAfter old new h 0 (Set rd value next) None → IsQuick old new m m h (Moved None)
-quick_set m old new h rd value next b harts =
-    let action : Action = Set rd value next in
-    let (hart, found, begun) = some_hart {P = Begins m action} (slice_get old h) b in
-    quick_step old new m m h 0 hart action None (Moved None) found (set_runs m hart rd value next begun) refl refl refl harts refl refl refl (λ sound. sound)
-
-pub quick_load : (m : Memory) (old new : List Hart) (h rd address size loaded : ℕ) (signed : Bool) (hart : Hart) (event : Event) → slice_get old h ≡ Some hart → HartIs old h (Begins m (Load rd address size signed)) → (address % size == 0) ≡ true → load_permitted m address size need.Read ≡ Some loaded →
-    event ≡ event_of hart (Load rd address size signed) → HartsAfter old new h loaded (Load rd address size signed) None → IsQuick old new m m h event
-quick_load m old new h rd address size loaded signed hart event found b aligned read e harts =
-    let action : Action = Load rd address size signed in
-    let begun = of_hart old h hart (Begins m action) found b in
-    let parts = permitted_parts (permits m address size need.Read) (load m address size) loaded read in
-    quick_step old new m m h loaded hart action None event found (load_runs m hart rd address size signed begun aligned parts.0) parts.1 refl e harts refl refl refl (λ sound. sound)
-
-pub quick_store : (before after : Memory) (old new : List Hart) (h address size value : ℕ) (hart : Hart) (event : Event) → slice_get old h ≡ Some hart → HartIs old h (Begins before (Store address size value)) → (address % size == 0) ≡ true → permits before address size need.Write ≡ true →
-    event ≡ event_of hart (Store address size value) → HartsAfter old new h 0 (Store address size value) (Some (record { address = address; size = size; value = value })) →
-    after ≡ memory_after before (Some (record { address = address; size = size; value = value })) → (IsSound before → IsSound after) → IsQuick old new before after h event
-quick_store before after old new h address size value hart event found b aligned permitted e harts memory sound =
-    let action : Action = Store address size value in
-    let begun = of_hart old h hart (Begins before action) found b in
-    quick_step old new before after h 0 hart action (Some (record { address = address; size = size; value = value })) event found (store_runs before hart address size value begun aligned permitted) refl refl e harts memory refl refl sound
-
 replace_allowed : (m : Memory) (rd address value : ℕ) (combine : Combine) → (address % 4 == 0) ≡ true → permits m address 4 need.ReadWrite ≡ true → allowed m (Replace rd address combine value) ≡ Replace rd address combine value
 replace_allowed m rd address value combine aligned permitted = rw (aligned, permitted) refl
 
@@ -131,13 +73,162 @@ replace_runs : (m : Memory) (hart : Hart) (rd address value : ℕ) (combine : Co
 replace_runs m hart rd address value combine b aligned permitted =
     record { running = b.running; next = sym (replace_allowed m rd address value combine aligned permitted) ∙ ap (allowed m) b.action_is }
 
-pub quick_replace : (before after : Memory) (old new : List Hart) (h rd address value loaded stored : ℕ) (combine : Combine) (hart : Hart) (event : Event) → slice_get old h ≡ Some hart → HartIs old h (Begins before (Replace rd address combine value)) → (address % 4 == 0) ≡ true → load_permitted before address 4 need.ReadWrite ≡ Some loaded →
-    stored ≡ combined combine loaded value → event ≡ event_of hart (Replace rd address combine value) → HartsAfter old new h loaded (Replace rd address combine value) (Some (record { address = address; size = 4; value = stored })) →
-    after ≡ memory_after before (Some (record { address = address; size = 4; value = stored })) → (IsSound before → IsSound after) → IsQuick old new before after h event
-quick_replace before after old new h rd address value loaded stored combine hart event found b aligned read s e harts memory sound =
+-- ---- a hart's own part of a step
+
+kept_alike : (address size a b : ℕ) (r : Option ℕ) → kept (Some (record { address = address; size = size; value = a })) r ≡ kept (Some (record { address = address; size = size; value = b })) r
+kept_alike address size a b None = refl
+kept_alike address size a b (Some r) = refl
+
+-- a hart sees where a write is, and not what is written
+seen_alike : (address size a b : ℕ) (other : Hart) → seen_by (Some (record { address = address; size = size; value = a })) other ≡ seen_by (Some (record { address = address; size = size; value = b })) other
+seen_alike address size a b other =
+    ap (λ (r : Option ℕ). record other { reservation = r }) (kept_alike address size a b other.reservation)
+
+pub moves_set : (m : Memory) (old new : Hart) (rd value next : ℕ) → Begins m (Set rd value next) old → new ≡ hart_after 0 old (Set rd value next) → Moves old new m m (Moved None)
+moves_set m old new rd value next b is =
+    record {
+      action = Set rd value next;
+      runs = set_runs m old rd value next b;
+      hart_is = is;
+      memory_is = refl;
+      event_is = refl;
+      none = refl;
+      quiet = refl;
+      reservation = ap (λ (x : Hart). x.reservation) is;
+      seen = λ other. refl;
+      sound = λ sound. sound;
+    }
+
+seen_in : (a b : Access) (other : Hart) → a ≡ b → seen_by (write_of_access b) other ≡ seen_by (write_of (Moved (Some a))) other
+seen_in a b other e = ap (λ (x : Access). seen_by (write_of_access x) other) (sym e)
+
+pub moves_load : (m : Memory) (old new : Hart) (rd address size loaded : ℕ) (signed : Bool) (a : Access) → Begins m (Load rd address size signed) old → (address % size == 0) ≡ true → load_permitted m address size need.Read ≡ Some loaded →
+    a ≡ record { pc = old.pc; first = address; size = size; read = true; write = false } → new ≡ hart_after loaded old (Load rd address size signed) → Moves old new m m (Moved (Some a))
+moves_load m old new rd address size loaded signed a b aligned read e is =
+    let action : Action = Load rd address size signed in
+    let parts = permitted_parts (permits m address size need.Read) (load m address size) loaded read in
+    record {
+      action = action;
+      runs = load_runs m old rd address size signed b aligned parts.0;
+      hart_is = is ∙ ap (λ n. hart_after n old action) parts.1;
+      memory_is = refl;
+      event_is = ap (λ (x : Access). Moved (Some x)) e;
+      none = refl;
+      quiet = refl;
+      reservation = ap (λ (x : Hart). x.reservation) is;
+      seen = λ other. seen_in a (record { pc = old.pc; first = address; size = size; read = true; write = false }) other e;
+      sound = λ sound. sound;
+    }
+
+pub moves_store : (before after : Memory) (old new : Hart) (address size value : ℕ) (a : Access) → Begins before (Store address size value) old → (address % size == 0) ≡ true → permits before address size need.Write ≡ true →
+    a ≡ record { pc = old.pc; first = address; size = size; read = false; write = true } → new ≡ hart_after 0 old (Store address size value) → after ≡ store before address size value → (IsSound before → IsSound after) → Moves old new before after (Moved (Some a))
+moves_store before after old new address size value a b aligned permitted e is memory sound =
+    record {
+      action = Store address size value;
+      runs = store_runs before old address size value b aligned permitted;
+      hart_is = is;
+      memory_is = memory;
+      event_is = ap (λ (x : Access). Moved (Some x)) e;
+      none = refl;
+      quiet = refl;
+      reservation = ap (λ (x : Hart). x.reservation) is;
+      seen = λ other. seen_alike address size value 0 other ∙ seen_in a (record { pc = old.pc; first = address; size = size; read = false; write = true }) other e;
+      sound = sound;
+    }
+
+pub moves_replace : (before after : Memory) (old new : Hart) (rd address value loaded stored : ℕ) (combine : Combine) (a : Access) → Begins before (Replace rd address combine value) old → (address % 4 == 0) ≡ true → load_permitted before address 4 need.ReadWrite ≡ Some loaded → stored ≡ combined combine loaded value →
+    a ≡ record { pc = old.pc; first = address; size = 4; read = true; write = true } → new ≡ hart_after loaded old (Replace rd address combine value) → after ≡ store before address 4 stored → (IsSound before → IsSound after) → Moves old new before after (Moved (Some a))
+moves_replace before after old new rd address value loaded stored combine a b aligned read s e is memory sound =
     let action : Action = Replace rd address combine value in
-    let begun = of_hart old h hart (Begins before action) found b in
     let parts = permitted_parts (permits before address 4 need.ReadWrite) (load before address 4) loaded read in
-    let written : ℕ → Option Write = λ n. Some (record { address = address; size = 4; value = n }) in
-    quick_step old new before after h loaded hart action (Some (record { address = address; size = 4; value = stored })) event found (replace_runs before hart rd address value combine begun aligned parts.0) parts.1
-    (ap written s) e harts memory refl refl sound
+    record {
+      action = action;
+      runs = replace_runs before old rd address value combine b aligned parts.0;
+      hart_is = is ∙ ap (λ n. hart_after n old action) parts.1;
+      memory_is = memory ∙ ap (λ n. store before address 4 n) (s ∙ ap (λ n. combined combine n value) parts.1);
+      event_is = ap (λ (x : Access). Moved (Some x)) e;
+      none = refl;
+      quiet = refl;
+      reservation = ap (λ (x : Hart). x.reservation) is;
+      seen = λ other. seen_alike address 4 (combined combine (load before address 4) value) 0 other ∙ seen_in a (record { pc = old.pc; first = address; size = 4; read = true; write = true }) other e;
+      sound = sound;
+    }
+
+-- ---- the other harts
+
+or_parts : (b c : Bool) → (b || c) ≡ false → (b ≡ false) × (c ≡ false)
+or_parts false c h = (refl, h)
+or_parts true c h = cc
+
+kept_none : (w : Option Write) (r : Option ℕ) → is_some r ≡ false → kept w r ≡ r
+kept_none None r none = refl
+kept_none (Some w) None none = refl
+kept_none (Some w) (Some r) none = cc
+
+unseen : (w : Option Write) (hart : Hart) → holds hart ≡ false → seen_by w hart ≡ hart
+unseen w hart none = ap (λ (r : Option ℕ). record hart { reservation = r }) (kept_none w hart.reservation none)
+
+-- where no hart holds a reservation, none sees a write
+pub none_held : (w : Option Write) (harts : List Hart) → any_holds harts ≡ false → map (seen_by w) harts ≡ harts
+none_held w [] none = refl
+none_held w (hart ∷ harts) none =
+    let parts = or_parts (holds hart) (any_holds harts) none in
+    ap (λ (x : Hart). x ∷ map (seen_by w) harts) (unseen w hart parts.0) ∙ ap (λ (xs : List Hart). hart ∷ xs) (none_held w harts parts.1)
+
+map_seen : (v w : Option Write) (harts : List Hart) → ((other : Hart) → seen_by v other ≡ seen_by w other) → map (seen_by v) harts ≡ map (seen_by w) harts
+map_seen v w [] same = refl
+map_seen v w (hart ∷ harts) same =
+    ap (λ (x : Hart). x ∷ map (seen_by v) harts) (same hart) ∙ ap (λ (xs : List Hart). seen_by w hart ∷ xs) (map_seen v w harts same)
+
+any_holds_set : (harts : List Hart) (h : ℕ) (hart moved : Hart) → slice_get harts h ≡ Some hart → holds moved ≡ holds hart → any_holds (set harts h moved) ≡ any_holds harts
+any_holds_set [] h hart moved found same = refl
+any_holds_set (x ∷ xs) zero hart moved found same =
+    let is : hart ≡ x = cc in
+    ap (λ (b : Bool). b || any_holds xs) (same ∙ ap holds is)
+any_holds_set (x ∷ xs) (suc h) hart moved found same =
+    ap (λ (b : Bool). holds x || b) (any_holds_set xs h hart moved found same)
+
+-- ---- the step of its parts
+
+abbrev pub none_hart : Hart
+none_hart = record { registers = []; pc = 0; status = Running; reservation = None }
+
+pub quick_made : (old new : List Hart) (before after : Memory) (h : ℕ) (hart moved : Hart) (event : Event) → slice_get old h ≡ Some hart → Moves hart moved before after event → new ≡ set (map (seen_by (write_of event)) old) h moved → IsQuick old new before after h event
+quick_made old new before after h hart moved event found m is =
+    let loaded : ℕ = loaded_by before m.action in
+    let w : Option Write = written_by loaded hart m.action in
+    let seen : map (seen_by (write_of event)) old ≡ map (seen_by w) old = sym (map_seen w (write_of event) old m.seen) in
+    let harts : HartsAfter old new h loaded m.action w = rw found (is ∙ ap (λ (xs : List Hart). set xs h moved) seen ∙ ap (λ (x : Hart). set (map (seen_by w) old) h x) m.hart_is) in
+    record {
+      step = λ output. step_made (over old before output) (over new after output) h loaded hart m.action w event found (rw found m.runs) refl refl m.event_is harts m.memory_is (rw m.none (sym (append-nil output)));
+      running = rw found m.runs.running;
+      silent = rw (found, m.runs.running) (ap is_print (sym m.runs.next) ∙ m.quiet);
+      count = harts_count old new h loaded m.action w hart found harts;
+      sound = m.sound;
+      held = λ none. ap any_holds (is ∙ ap (λ (xs : List Hart). set xs h moved) (none_held (write_of event) old none)) ∙ any_holds_set old h hart moved found (ap is_some m.reservation) ∙ none;
+    }
+
+-- where no hart has to see the write, the hart's own part is the step
+pub tried_alone : (old : List Hart) (before after : Memory) (h : ℕ) (default moved : Hart) (event : Option Event) → h < length old → Tried (get_or old h default) moved before after event → IfSome event (λ e. map (seen_by (write_of e)) old ≡ old) → TriedAt old (set old h moved) before after h event
+tried_alone old before after h default moved None within m unseen = (ap (λ (x : Hart). set old h x) m.0 ∙ set-get_or old h default, m.1)
+tried_alone old before after h default moved (Some event) within m unseen =
+    quick_made old (set old h moved) before after h (get_or old h default) moved event (slice_get-get_or old h default within) m (ap (λ (xs : List Hart). set xs h moved) (sym unseen))
+
+pub none_sees : (event : Option Event) (old : List Hart) → any_holds old ≡ false → IfSome event (λ e. map (seen_by (write_of e)) old ≡ old)
+none_sees None old none = tt
+none_sees (Some event) old none = none_held (write_of event) old none
+
+-- and else they see it after that part
+seen_after : (old new : List Hart) (h : ℕ) (default moved : Hart) (w : Option Write) → h < length old → Sees (set old h moved) new h w → new ≡ set (map (seen_by w) old) h moved
+seen_after old new h default moved w within sees =
+    let there : slice_get (set old h moved) h ≡ Some moved = slice_get-get_or (set old h moved) h default (rw length-set within) ∙ ap Some (get_or-set_same old h moved default within) in
+    let seen : new ≡ set (map (seen_by w) (set old h moved)) h moved = subst (λ (o : Option Hart). IsSomeAnd o (λ x. new ≡ set (map (seen_by w) (set old h moved)) h x)) there sees in
+    seen ∙ ap (λ (xs : List Hart). set xs h moved) (map-set (seen_by w) old h moved) ∙ set-set (map (seen_by w) old) h (seen_by w moved) moved
+
+pub tried_seen : (old new : List Hart) (before after : Memory) (h : ℕ) (default moved : Hart) (attempt : Attempt) (a : Access) → h < length old → Tried (get_or old h default) moved before after (event_of_attempt attempt a) → Sees (set old h moved) new h (write_of_attempt attempt a) → TriedAt old new before after h (event_of_attempt attempt a)
+tried_seen old new before after h default moved attempt.Nothing a within m sees =
+    (seen_after old new h default moved None within sees ∙ ap (λ (xs : List Hart). set xs h moved) (none_seen old) ∙ ap (λ (x : Hart). set old h x) m.0 ∙ set-get_or old h default, m.1)
+tried_seen old new before after h default moved attempt.Set a within m sees =
+    quick_made old new before after h (get_or old h default) moved (Moved None) (slice_get-get_or old h default within) m (seen_after old new h default moved None within sees)
+tried_seen old new before after h default moved attempt.Accessed a within m sees =
+    quick_made old new before after h (get_or old h default) moved (Moved (Some a)) (slice_get-get_or old h default within) m (seen_after old new h default moved (write_of_access a) within sees)

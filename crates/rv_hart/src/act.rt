@@ -19,11 +19,7 @@ const PRINT: u32 = 1;
 pub fn register(hart: &Hart, register: u8) -> u32
     ensures { result ≡ get hart.now.registers register }
 {
-    if 0 < register && register < 32 {
-        hart.registers[register as usize]
-    } else {
-        0
-    }
+    hart.registers.read(register)
 }
 
 /// What an instruction does, before its access is tested.

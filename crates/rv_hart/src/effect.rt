@@ -1,7 +1,7 @@
 //! What an action does, one function a component of `specs/Step.antt`.
 ghost use Rattle.std.specs.Prelude.{◌≡◌, ◌==◌, ◌%◌, ◌<◌, ◌+◌, ◌++◌, vec_len, vec_capacity, Some, IsTrue, OnOk, OnErr, length, map};
 ghost use Rattle.rv_hart.specs.internal.Able.{HasSize, IsAble, IsAbleWrite, IsReady, Fits};
-ghost use Rattle.rv_hart.specs.internal.Harts.{HartsAfter};
+ghost use Rattle.rv_hart.specs.internal.Harts.{HartsAfter, Sees, any_holds, write_of_access};
 ghost use Rattle.rv_hart.specs.Next as next;
 ghost use Rattle.rv_hart.specs.Registers as registers;
 ghost use Rattle.rv_hart.specs.Step as spec;
@@ -210,9 +210,7 @@ pub fn event_of(hart: &Hart, action: Action) -> Event
 pub fn set_register(hart: &mut Hart, register: u8, value: u32)
     ensures { hart.new ≡ record hart.old { registers = registers.set hart.old.registers register value } }
 {
-    if 0 < register && register < 32 {
-        hart.registers[register as usize] = value;
-    }
+    hart.registers.write(register, value);
 }
 
 /// What the action does to the hart itself.
@@ -346,6 +344,40 @@ fn move_on(hart: &mut Hart, own: Option<u32>, loaded: u32, action: Action)
 {
     hart.reservation = own;
     advance(hart, loaded, action);
+}
+
+/// Whether a hart holds a reservation.
+pub fn any_holds(harts: &[Hart]) -> bool
+    ensures { result ≡ any_holds harts.now }
+{
+    harts.iter().any(|hart| hart.reservation.is_some())
+}
+
+/// Ends each reservation that the write of an access by hart h meets, but for its own.
+pub fn see_access(harts: &mut [Hart], h: u8, access: &Access)
+    requires { h < length harts.old }
+    ensures { Sees harts.old harts.new h (write_of_access access.now) }
+{
+    let own = harts[h as usize].reservation;
+    see_all(harts, write_of_access(access));
+    restore(&mut harts[h as usize], own);
+}
+
+/// What an access writes, as far as another hart sees it: where, and not what.
+fn write_of_access(access: &Access) -> Option<Write>
+    ensures { result ≡ write_of_access access.now }
+{
+    access.write.then_some(Write {
+        address: access.first,
+        size: access.size,
+        value: 0,
+    })
+}
+
+fn restore(hart: &mut Hart, own: Option<u32>)
+    ensures { hart.new ≡ record hart.old { reservation = own } }
+{
+    hart.reservation = own;
 }
 
 /// Appends the byte that the action prints.

@@ -2,6 +2,8 @@ ghost use Rattle.std.specs.Prelude.{◌≡◌};
 ghost use Rattle.rv_hart.specs.Cause as spec;
 ghost use Rattle.rv_hart.specs.State as state;
 
+use crate::registers::Registers;
+
 /// Why a hart stopped. The numbers, in this order from 0, are this project's own; what a hart does to be
 /// stopped so is the RISC-V Unprivileged ISA's "exception" of the chapters RV32I and A.
 #[derive(Clone, Copy, Debug, PartialEq, Eq, Hash)]
@@ -54,11 +56,11 @@ pub(crate) fn is_running(status: Status) -> bool
     }
 }
 
-/// One hart: its 32 registers (x0 is read as 0 whatever stands here), the address of its next
-/// instruction, its status, and the address of the word that its last LR reserved, if it still holds it.
+/// One hart: its 32 registers, the address of its next instruction, its status, and the address of the word
+/// that its last LR reserved, if it still holds it.
 #[derive(Clone, Copy, Debug)]
 pub struct Hart {
-    pub registers: [u32; 32],
+    pub registers: Registers,
     pub pc: u32,
     pub status: Status,
     pub reservation: Option<u32>,

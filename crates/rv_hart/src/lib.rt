@@ -16,6 +16,7 @@ pub mod laws;
 pub mod machine;
 mod operations;
 mod quick;
+pub mod registers;
 mod start;
 #[cfg(test)]
 mod tests;

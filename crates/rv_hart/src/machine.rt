@@ -2,7 +2,6 @@ ghost use Rattle.std.specs.Prelude.{◌≡◌, ◌^◌, ◌≢◌, ℕ, ◌<◌,
 ghost use Rattle.rv_hart.specs.internal.Able.{IsAble};
 ghost use Rattle.rv_hart.specs.internal.Machine as machine;
 ghost use Rattle.rv_hart.specs.internal.Next as own;
-ghost use Rattle.rv_hart.specs.internal.Quick.{event_of_attempt};
 ghost use Rattle.rv_hart.specs.Next as next;
 ghost use Rattle.rv_hart.specs.Registers.{get};
 ghost use Rattle.rv_hart.specs.SomeHart.{SomeHart};
@@ -15,11 +14,12 @@ use crate::access::{Access, Event};
 use crate::act::register;
 use crate::action::Action;
 use crate::effect::{
-    access_of, action_at, event_of, loaded_by, print, put, ready, see_and_advance, written_by,
+    access_of, action_at, any_holds, event_of, loaded_by, print, put, ready, see_and_advance,
+    written_by,
 };
 use crate::hart::{Hart, Status, is_running};
-use crate::quick::{Attempt, quick};
-use crate::start::{first_harts, with_stacks};
+use crate::quick::{Attempt, quick, quick_seen};
+use crate::start::{first_harts, store_with_stacks};
 use rv_memory::laws::{bytes_stand_where_covered, memory_is_sound};
 use rv_memory::region::Region;
 use rv_memory::store::{ByteStore, MemFault, Need};
@@ -47,6 +47,10 @@ pub struct Machine<S: ByteStore> {
     store: S,
     output: Vec<u8>,
     limit: u32,
+    /// Whether a hart may hold a reservation: where none does, a write ends none.
+    reserved: bool,
+    /// The access that the last quick step made, if it made one: a place that stays, so that no step makes one.
+    noted: Access,
 }
 
 impl<S: ByteStore> Model for Machine<S> {
@@ -60,37 +64,37 @@ impl<S: ByteStore> Model for Machine<S> {
       limit = m.limit;
     } };
 
-    ghost invariant = { λ m. IsMachine m.harts (S.memory m.store) m.output m.limit };
+    ghost invariant = { λ m. IsMachine m.harts (S.memory m.store) m.output m.limit m.reserved };
 }
 
 impl<S: ByteStore> Machine<S> {
     /// A machine of so many harts (1 to 16) with these regions and the harts' stacks, each hart at the
     /// entry, a multiple of 4. It may print `out_limit` bytes, up to 1,000,000. The regions and the stacks
-    /// are tested together, as a store tests its regions, before memory is asked for.
+    /// are tested together, as a store tests its regions, before memory is asked for. The regions are lent,
+    /// and the store's copy of their bytes is the only one.
     pub fn new(
         alloc: Global,
-        regions: Vec<Region>,
+        regions: &[Region],
         entry: u32,
         harts: u8,
         out_limit: u32,
     ) -> Result<Machine<S>, MemFault>
-        requires regions { All IsExtent regions.items }
+        requires regions { All IsExtent regions.now }
         requires entry { entry % 4 ≡ 0 }
         requires some { 1 ≤ harts }
         requires within { harts ≤ 16 }
         requires limit { out_limit ≤ OUTPUT_LIMIT }
         ensures ok { IfOk result (λ m. m ≡ record {
-          state = state.start regions.items entry harts;
+          state = state.start regions.now entry harts;
           limit = out_limit;
         }) }
         ensures fits { OnOk result
-            (memory.fault_of (state.with_stacks regions.items harts) ≡ None) }
+            (memory.fault_of (state.with_stacks regions.now harts) ≡ None) }
         ensures err { IfErr result (λ fault. fault
-            ≡ unwrap_or (memory.fault_of (state.with_stacks regions.items harts)) MemFault.NoMemory) }
+            ≡ unwrap_or (memory.fault_of (state.with_stacks regions.now harts)) MemFault.NoMemory) }
     {
         memory_is_sound();
-        let regions = with_stacks(alloc, regions, harts)?;
-        let store = S::make(alloc, &regions)?;
+        let store: S = store_with_stacks(alloc, regions, harts)?;
         let output = Vec::with_capacity(alloc, out_limit as usize)?;
         let harts = first_harts(alloc, entry, harts)?;
         Ok(Machine {
@@ -98,6 +102,14 @@ impl<S: ByteStore> Machine<S> {
             store,
             output,
             limit: out_limit,
+            reserved: false,
+            noted: Access {
+                pc: 0,
+                first: 0,
+                size: 0,
+                read: false,
+                write: false,
+            },
         })
     }
 
@@ -206,39 +218,52 @@ impl<S: ByteStore> Machine<S> {
         ensures no_memory { (result ≡ Err StepFault.NoMemory) → IsTrue S.can_refuse }
         ensures refused { OnErr result (self.new ≡ self.old) }
     {
-        let mut access = Access {
-            pc: 0,
-            first: 0,
-            size: 0,
-            read: false,
-            write: false,
-        };
-        match self.step_quick(h, &mut access) {
-            Attempt::Nothing => {
-                // It has a place of its own, so that the event of the other arms stays in registers.
-                let general = self.step_any(h);
-                general
-            }
-            Attempt::Set => Ok(Event::Moved(None)),
-            Attempt::Accessed => Ok(Event::Moved(Some(access))),
+        match self.step_quick(h) {
+            Some(event) => Ok(event),
+            None => self.step_apart(h),
         }
     }
 
-    /// One step of a hart where it is a common one, with its access noted; else nothing has changed. It stays
-    /// a function of its own, since it answers in a register where `step` answers in memory.
-    #[inline(never)]
-    fn step_quick(&mut self, h: u8, access: &mut Access) -> Attempt
-        ensures step { IfSome (event_of_attempt result access.new) (λ event.
+    /// One step of a hart where it is a common one; else nothing has changed.
+    #[inline(always)]
+    fn step_quick(&mut self, h: u8) -> Option<Event>
+        ensures step { IfSome result (λ event.
             step_of self.old.state h ≡ Some (event, self.new.state)) }
-        ensures running { IsSome (event_of_attempt result access.new)
+        ensures running { IsSome result
             → IsTrue (next.is_running_hart (slice_get self.old.state.harts h)) }
-        ensures silent { IsSome (event_of_attempt result access.new)
+        ensures silent { IsSome result
             → next.prints self.old.state.memory (slice_get self.old.state.harts h) ≡ false }
         ensures harts { length self.new.state.harts ≡ length self.old.state.harts }
         ensures limit { self.new.limit ≡ self.old.limit }
-        ensures same { (result ≡ Attempt.Nothing) → self.new ≡ self.old }
+        ensures same { (result ≡ None) → self.new ≡ self.old }
     {
-        quick(&mut self.store, &mut self.harts, h, access)
+        let attempt = if self.reserved {
+            quick_seen(&mut self.store, &mut self.harts, h, &mut self.noted)
+        } else {
+            quick(&mut self.store, &mut self.harts, h, &mut self.noted)
+        };
+        match attempt {
+            Attempt::Nothing => None,
+            Attempt::Set => Some(Event::Moved(None)),
+            Attempt::Accessed => Some(Event::Moved(Some(self.noted))),
+        }
+    }
+
+    /// `step_any`, with a place of its own for what that answers: the event of `step_quick` stays in registers.
+    #[inline(always)]
+    fn step_apart(&mut self, h: u8) -> Result<Event, StepFault>
+        ensures step { IfOk result (λ event.
+            step_of self.old.state h ≡ Some (event, self.new.state)) }
+        ensures harts { length self.new.state.harts ≡ length self.old.state.harts }
+        ensures limit { self.new.limit ≡ self.old.limit }
+        ensures no_hart { (result ≡ Err StepFault.NoHart) ↔ (length self.old.state.harts ≤ h) }
+        ensures not_running { (result ≡ Err StepFault.NotRunning) ↔ next.IsIdle self.old.state h }
+        ensures output_full { (result ≡ Err StepFault.OutputFull) ↔ next.HasNoRoom self.old h }
+        ensures no_memory { (result ≡ Err StepFault.NoMemory) → IsTrue S.can_refuse }
+        ensures refused { OnErr result (self.new ≡ self.old) }
+    {
+        let general = self.step_any(h);
+        general
     }
 
     /// One step of a hart, whatever it is.
@@ -310,6 +335,7 @@ impl<S: ByteStore> Machine<S> {
         }
         put(&mut self.store, write);
         see_and_advance(&mut self.harts, h, loaded, action, write);
+        self.reserved = any_holds(&self.harts);
         print(&mut self.output, action);
         Ok(event)
     }

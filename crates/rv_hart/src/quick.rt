@@ -1,17 +1,16 @@
 //! Speed: the common steps, each executed at one place with one look-up an access. `effect` is the meaning's
 //! twin; what is not taken here has changed nothing, and is for the functions there.
-ghost use Rattle.std.specs.Prelude.{◌≡◌, ◌<◌, None, length, IfSome};
-ghost use Rattle.rv_hart.specs.internal.Able.{Fits, HasSize};
-ghost use Rattle.rv_hart.specs.internal.Harts.{HartsAfter};
-ghost use Rattle.rv_hart.specs.internal.Quick.{Begins, Fetches, HartIs, Tried, event_of_attempt};
+ghost use Rattle.std.specs.Prelude.{◌≡◌, ◌<◌, false, length, IfSome};
+ghost use Rattle.rv_hart.specs.internal.Able.{HasSize};
+ghost use Rattle.rv_hart.specs.internal.Harts.{Sees, any_holds};
+ghost use Rattle.rv_hart.specs.internal.Quick.{Begins, Fetches, Tried, TriedAt, event_of_attempt, write_of_attempt};
 
 use crate::access::Access;
 use crate::act::{act, combined};
 use crate::action::Action;
-use crate::effect::{advance, is_aligned, see_and_advance};
+use crate::effect::{advance, is_aligned, see_access};
 use crate::hart::{Hart, is_running};
 use crate::operations::{self, Operation};
-use crate::write::Write;
 use rv_isa::codec::decode_as;
 use rv_isa::op::Op;
 use rv_memory::laws::memory_is_sound;
@@ -26,22 +25,63 @@ pub enum Attempt {
     Accessed,
 }
 
-/// Takes a step of a hart, where it is a common one, and notes its access; or changes nothing.
+/// Takes a step of hart h, where it is a common one, and notes its access; or changes nothing. No hart holds a
+/// reservation, so none sees a write.
 #[inline(always)]
 pub fn quick<S: ByteStore>(store: &mut S, harts: &mut [Hart], h: u8, access: &mut Access) -> Attempt
-    ensures { Tried harts.old harts.new (S.memory store.old) (S.memory store.new) h (event_of_attempt result access.new) }
+    requires { any_holds harts.old ≡ false }
+    ensures { TriedAt harts.old harts.new (S.memory store.old) (S.memory store.new) h (event_of_attempt result access.new) }
 {
     if h as usize >= harts.len() {
         return Attempt::Nothing;
     }
-    let hart = &harts[h as usize];
+    moved(store, &mut harts[h as usize], access)
+}
+
+/// The same where a hart may hold a reservation. It is called and not inlined, so that the call of `moved` in
+/// `quick` has nothing to keep for after it.
+#[inline(never)]
+pub fn quick_seen<S: ByteStore>(
+    store: &mut S,
+    harts: &mut [Hart],
+    h: u8,
+    access: &mut Access,
+) -> Attempt
+    ensures { TriedAt harts.old harts.new (S.memory store.old) (S.memory store.new) h (event_of_attempt result access.new) }
+{
+    if h as usize >= harts.len() {
+        return Attempt::Nothing;
+    }
+    let attempt = moved(store, &mut harts[h as usize], access);
+    see_attempt(harts, h, attempt, access);
+    attempt
+}
+
+/// Ends the other harts' reservations that the write of an attempt meets, if it made one.
+#[tactic(auto, using(crate::proofs::HartsLemmas::sees_nothing))]
+fn see_attempt(harts: &mut [Hart], h: u8, attempt: Attempt, access: &Access)
+    requires { h < length harts.old }
+    ensures { Sees harts.old harts.new h (write_of_attempt attempt access.now) }
+{
+    match attempt {
+        Attempt::Nothing | Attempt::Set => {}
+        Attempt::Accessed => see_access(harts, h, access),
+    }
+}
+
+/// Takes the step of a hart itself, where it is a common one; no other hart has seen its write yet. It stays
+/// a function of its own, with no more arguments than the functions of accesses have, to which it jumps.
+#[inline(never)]
+fn moved<S: ByteStore>(store: &mut S, hart: &mut Hart, access: &mut Access) -> Attempt
+    ensures { Tried hart.old hart.new (S.memory store.old) (S.memory store.new) (event_of_attempt result access.new) }
+{
     if !is_running(hart.status) {
         return Attempt::Nothing;
     }
     let Some(word) = store.fetch_at_once(hart.pc) else {
         return Attempt::Nothing;
     };
-    dispatched(store, harts, h, word, access)
+    dispatched(store, hart, word, access)
 }
 
 /// Takes the step of a word, by one jump over the opcode's five upper bits and funct3. No more is asked of
@@ -52,65 +92,63 @@ pub fn quick<S: ByteStore>(store: &mut S, harts: &mut [Hart], h: u8, access: &mu
 #[inline(always)]
 fn dispatched<S: ByteStore>(
     store: &mut S,
-    harts: &mut [Hart],
-    h: u8,
+    hart: &mut Hart,
     word: u32,
     access: &mut Access,
 ) -> Attempt
-    requires hart { h < length harts.old }
-    requires fetches { HartIs harts.old h (Fetches (S.memory store.old) word) }
-    ensures { Tried harts.old harts.new (S.memory store.old) (S.memory store.new) h (event_of_attempt result access.new) }
+    requires fetches { Fetches (S.memory store.old) word hart.old }
+    ensures { Tried hart.old hart.new (S.memory store.old) (S.memory store.new) (event_of_attempt result access.new) }
 {
     let is_plain = (word >> 25) % 128 == 0;
     match (word >> 2) % 32 * 8 + (word >> 12) % 8 {
-        0x00 => load_apart::<operations::Lb, S>(store, harts, h, word, access),
-        0x01 => load_apart::<operations::Lh, S>(store, harts, h, word, access),
-        0x02 => load_apart::<operations::Lw, S>(store, harts, h, word, access),
-        0x04 => load_apart::<operations::Lbu, S>(store, harts, h, word, access),
-        0x05 => load_apart::<operations::Lhu, S>(store, harts, h, word, access),
-        0x18..=0x1f => set_by(store, harts, h, Op::Fence, word, access),
-        0x20 => set_by(store, harts, h, Op::Addi, word, access),
-        0x21 => set_by(store, harts, h, Op::Slli, word, access),
-        0x22 => set_by(store, harts, h, Op::Slti, word, access),
-        0x23 => set_by(store, harts, h, Op::Sltiu, word, access),
-        0x24 => set_by(store, harts, h, Op::Xori, word, access),
+        0x00 => load_apart::<operations::Lb, S>(store, hart, word, access),
+        0x01 => load_apart::<operations::Lh, S>(store, hart, word, access),
+        0x02 => load_apart::<operations::Lw, S>(store, hart, word, access),
+        0x04 => load_apart::<operations::Lbu, S>(store, hart, word, access),
+        0x05 => load_apart::<operations::Lhu, S>(store, hart, word, access),
+        0x18..=0x1f => set_by(store, hart, Op::Fence, word, access),
+        0x20 => set_by(store, hart, Op::Addi, word, access),
+        0x21 => set_by(store, hart, Op::Slli, word, access),
+        0x22 => set_by(store, hart, Op::Slti, word, access),
+        0x23 => set_by(store, hart, Op::Sltiu, word, access),
+        0x24 => set_by(store, hart, Op::Xori, word, access),
         0x25 => if is_plain {
-            set_by(store, harts, h, Op::Srli, word, access)
+            set_by(store, hart, Op::Srli, word, access)
         } else {
-            set_by(store, harts, h, Op::Srai, word, access)
+            set_by(store, hart, Op::Srai, word, access)
         },
-        0x26 => set_by(store, harts, h, Op::Ori, word, access),
-        0x27 => set_by(store, harts, h, Op::Andi, word, access),
-        0x28..=0x2f => set_by(store, harts, h, Op::Auipc, word, access),
-        0x40 => store_apart::<operations::Sb, S>(store, harts, h, word, access),
-        0x41 => store_apart::<operations::Sh, S>(store, harts, h, word, access),
-        0x42 => store_apart::<operations::Sw, S>(store, harts, h, word, access),
-        0x5a => exchanged(store, harts, h, word, access),
+        0x26 => set_by(store, hart, Op::Ori, word, access),
+        0x27 => set_by(store, hart, Op::Andi, word, access),
+        0x28..=0x2f => set_by(store, hart, Op::Auipc, word, access),
+        0x40 => store_apart::<operations::Sb, S>(store, hart, word, access),
+        0x41 => store_apart::<operations::Sh, S>(store, hart, word, access),
+        0x42 => store_apart::<operations::Sw, S>(store, hart, word, access),
+        0x5a => exchanged(store, hart, word, access),
         0x60 => if is_plain {
-            set_by(store, harts, h, Op::Add, word, access)
+            set_by(store, hart, Op::Add, word, access)
         } else {
-            set_by(store, harts, h, Op::Sub, word, access)
+            set_by(store, hart, Op::Sub, word, access)
         },
-        0x61 => set_by(store, harts, h, Op::Sll, word, access),
-        0x62 => set_by(store, harts, h, Op::Slt, word, access),
-        0x63 => set_by(store, harts, h, Op::Sltu, word, access),
-        0x64 => set_by(store, harts, h, Op::Xor, word, access),
+        0x61 => set_by(store, hart, Op::Sll, word, access),
+        0x62 => set_by(store, hart, Op::Slt, word, access),
+        0x63 => set_by(store, hart, Op::Sltu, word, access),
+        0x64 => set_by(store, hart, Op::Xor, word, access),
         0x65 => if is_plain {
-            set_by(store, harts, h, Op::Srl, word, access)
+            set_by(store, hart, Op::Srl, word, access)
         } else {
-            set_by(store, harts, h, Op::Sra, word, access)
+            set_by(store, hart, Op::Sra, word, access)
         },
-        0x66 => set_by(store, harts, h, Op::Or, word, access),
-        0x67 => set_by(store, harts, h, Op::And, word, access),
-        0x68..=0x6f => set_by(store, harts, h, Op::Lui, word, access),
-        0xc0 => set_by(store, harts, h, Op::Beq, word, access),
-        0xc1 => set_by(store, harts, h, Op::Bne, word, access),
-        0xc4 => set_by(store, harts, h, Op::Blt, word, access),
-        0xc5 => set_by(store, harts, h, Op::Bge, word, access),
-        0xc6 => set_by(store, harts, h, Op::Bltu, word, access),
-        0xc7 => set_by(store, harts, h, Op::Bgeu, word, access),
-        0xc8 => set_by(store, harts, h, Op::Jalr, word, access),
-        0xd8..=0xdf => set_by(store, harts, h, Op::Jal, word, access),
+        0x66 => set_by(store, hart, Op::Or, word, access),
+        0x67 => set_by(store, hart, Op::And, word, access),
+        0x68..=0x6f => set_by(store, hart, Op::Lui, word, access),
+        0xc0 => set_by(store, hart, Op::Beq, word, access),
+        0xc1 => set_by(store, hart, Op::Bne, word, access),
+        0xc4 => set_by(store, hart, Op::Blt, word, access),
+        0xc5 => set_by(store, hart, Op::Bge, word, access),
+        0xc6 => set_by(store, hart, Op::Bltu, word, access),
+        0xc7 => set_by(store, hart, Op::Bgeu, word, access),
+        0xc8 => set_by(store, hart, Op::Jalr, word, access),
+        0xd8..=0xdf => set_by(store, hart, Op::Jal, word, access),
         _ => Attempt::Nothing,
     }
 }
@@ -119,59 +157,54 @@ fn dispatched<S: ByteStore>(
 #[inline(always)]
 fn exchanged<S: ByteStore>(
     store: &mut S,
-    harts: &mut [Hart],
-    h: u8,
+    hart: &mut Hart,
     word: u32,
     access: &mut Access,
 ) -> Attempt
-    requires hart { h < length harts.old }
-    requires fetches { HartIs harts.old h (Fetches (S.memory store.old) word) }
-    ensures { Tried harts.old harts.new (S.memory store.old) (S.memory store.new) h (event_of_attempt result access.new) }
+    requires fetches { Fetches (S.memory store.old) word hart.old }
+    ensures { Tried hart.old hart.new (S.memory store.old) (S.memory store.new) (event_of_attempt result access.new) }
 {
     match (word >> 27) % 32 {
-        0x00 => exchange_apart::<operations::AmoaddW, S>(store, harts, h, word, access),
-        0x01 => exchange_apart::<operations::AmoswapW, S>(store, harts, h, word, access),
-        0x04 => exchange_apart::<operations::AmoxorW, S>(store, harts, h, word, access),
-        0x08 => exchange_apart::<operations::AmoorW, S>(store, harts, h, word, access),
-        0x0c => exchange_apart::<operations::AmoandW, S>(store, harts, h, word, access),
-        0x10 => exchange_apart::<operations::AmominW, S>(store, harts, h, word, access),
-        0x14 => exchange_apart::<operations::AmomaxW, S>(store, harts, h, word, access),
-        0x18 => exchange_apart::<operations::AmominuW, S>(store, harts, h, word, access),
-        0x1c => exchange_apart::<operations::AmomaxuW, S>(store, harts, h, word, access),
+        0x00 => exchange_apart::<operations::AmoaddW, S>(store, hart, word, access),
+        0x01 => exchange_apart::<operations::AmoswapW, S>(store, hart, word, access),
+        0x04 => exchange_apart::<operations::AmoxorW, S>(store, hart, word, access),
+        0x08 => exchange_apart::<operations::AmoorW, S>(store, hart, word, access),
+        0x0c => exchange_apart::<operations::AmoandW, S>(store, hart, word, access),
+        0x10 => exchange_apart::<operations::AmominW, S>(store, hart, word, access),
+        0x14 => exchange_apart::<operations::AmomaxW, S>(store, hart, word, access),
+        0x18 => exchange_apart::<operations::AmominuW, S>(store, hart, word, access),
+        0x1c => exchange_apart::<operations::AmomaxuW, S>(store, hart, word, access),
         _ => Attempt::Nothing,
     }
 }
 
 /// The action that a hart begins by its word, where the word is of this operation.
 #[inline(always)]
-fn begun<S: ByteStore>(store: &S, harts: &[Hart], h: u8, op: Op, word: u32) -> Option<Action>
-    requires hart { h < length harts.now }
-    requires fetches { HartIs harts.now h (Fetches (S.memory store.now) word) }
-    ensures begins { IfSome result (λ action. HartIs harts.now h (Begins (S.memory store.now) action)) }
+fn begun<S: ByteStore>(_store: &S, hart: &Hart, op: Op, word: u32) -> Option<Action>
+    requires fetches { Fetches (S.memory _store.now) word hart.now }
+    ensures begins { IfSome result (λ action. Begins (S.memory _store.now) action hart.now) }
     ensures sized { IfSome result HasSize }
 {
     let Some(instr) = decode_as(op, word) else {
         return None;
     };
-    Some(act(&instr, &harts[h as usize]))
+    Some(act(&instr, hart))
 }
 
 /// Takes the step of a word of this operation, which sets a register.
 #[inline(always)]
 fn set_by<S: ByteStore>(
     store: &mut S,
-    harts: &mut [Hart],
-    h: u8,
+    hart: &mut Hart,
     op: Op,
     word: u32,
     access: &mut Access,
 ) -> Attempt
-    requires hart { h < length harts.old }
-    requires fetches { HartIs harts.old h (Fetches (S.memory store.old) word) }
-    ensures { Tried harts.old harts.new (S.memory store.old) (S.memory store.new) h (event_of_attempt result access.new) }
+    requires fetches { Fetches (S.memory store.old) word hart.old }
+    ensures { Tried hart.old hart.new (S.memory store.old) (S.memory store.new) (event_of_attempt result access.new) }
 {
-    match begun(store, harts, h, op, word) {
-        Some(action) => set(store, harts, h, action, access),
+    match begun(store, hart, op, word) {
+        Some(action) => set(store, hart, action, access),
         None => Attempt::Nothing,
     }
 }
@@ -180,17 +213,15 @@ fn set_by<S: ByteStore>(
 #[inline(never)]
 fn load_apart<O: Operation, S: ByteStore>(
     store: &mut S,
-    harts: &mut [Hart],
-    h: u8,
+    hart: &mut Hart,
     word: u32,
     access: &mut Access,
 ) -> Attempt
-    requires hart { h < length harts.old }
-    requires fetches { HartIs harts.old h (Fetches (S.memory store.old) word) }
-    ensures { Tried harts.old harts.new (S.memory store.old) (S.memory store.new) h (event_of_attempt result access.new) }
+    requires fetches { Fetches (S.memory store.old) word hart.old }
+    ensures { Tried hart.old hart.new (S.memory store.old) (S.memory store.new) (event_of_attempt result access.new) }
 {
-    match begun(store, harts, h, O::op(), word) {
-        Some(action) => loaded(store, harts, h, action, access),
+    match begun(store, hart, O::op(), word) {
+        Some(action) => loaded(store, hart, action, access),
         None => Attempt::Nothing,
     }
 }
@@ -199,17 +230,15 @@ fn load_apart<O: Operation, S: ByteStore>(
 #[inline(never)]
 fn store_apart<O: Operation, S: ByteStore>(
     store: &mut S,
-    harts: &mut [Hart],
-    h: u8,
+    hart: &mut Hart,
     word: u32,
     access: &mut Access,
 ) -> Attempt
-    requires hart { h < length harts.old }
-    requires fetches { HartIs harts.old h (Fetches (S.memory store.old) word) }
-    ensures { Tried harts.old harts.new (S.memory store.old) (S.memory store.new) h (event_of_attempt result access.new) }
+    requires fetches { Fetches (S.memory store.old) word hart.old }
+    ensures { Tried hart.old hart.new (S.memory store.old) (S.memory store.new) (event_of_attempt result access.new) }
 {
-    match begun(store, harts, h, O::op(), word) {
-        Some(action) => stored(store, harts, h, action, access),
+    match begun(store, hart, O::op(), word) {
+        Some(action) => stored(store, hart, action, access),
         None => Attempt::Nothing,
     }
 }
@@ -218,17 +247,15 @@ fn store_apart<O: Operation, S: ByteStore>(
 #[inline(never)]
 fn exchange_apart<O: Operation, S: ByteStore>(
     store: &mut S,
-    harts: &mut [Hart],
-    h: u8,
+    hart: &mut Hart,
     word: u32,
     access: &mut Access,
 ) -> Attempt
-    requires hart { h < length harts.old }
-    requires fetches { HartIs harts.old h (Fetches (S.memory store.old) word) }
-    ensures { Tried harts.old harts.new (S.memory store.old) (S.memory store.new) h (event_of_attempt result access.new) }
+    requires fetches { Fetches (S.memory store.old) word hart.old }
+    ensures { Tried hart.old hart.new (S.memory store.old) (S.memory store.new) (event_of_attempt result access.new) }
 {
-    match begun(store, harts, h, O::op(), word) {
-        Some(action) => replaced(store, harts, h, action, access),
+    match begun(store, hart, O::op(), word) {
+        Some(action) => replaced(store, hart, action, access),
         None => Attempt::Nothing,
     }
 }
@@ -237,19 +264,17 @@ fn exchange_apart<O: Operation, S: ByteStore>(
 #[inline(always)]
 fn set<S: ByteStore>(
     _store: &mut S,
-    harts: &mut [Hart],
-    h: u8,
+    hart: &mut Hart,
     action: Action,
     _access: &mut Access,
 ) -> Attempt
-    requires hart { h < length harts.old }
-    requires begins { HartIs harts.old h (Begins (S.memory _store.old) action) }
-    ensures { Tried harts.old harts.new (S.memory _store.old) (S.memory _store.new) h (event_of_attempt result _access.new) }
+    requires begins { Begins (S.memory _store.old) action hart.old }
+    ensures { Tried hart.old hart.new (S.memory _store.old) (S.memory _store.new) (event_of_attempt result _access.new) }
 {
     let Action::Set { .. } = action else {
         return Attempt::Nothing;
     };
-    advance_hart(harts, h, 0, action);
+    advance(hart, 0, action);
     Attempt::Set
 }
 
@@ -257,15 +282,13 @@ fn set<S: ByteStore>(
 #[inline(always)]
 fn loaded<S: ByteStore>(
     store: &mut S,
-    harts: &mut [Hart],
-    h: u8,
+    hart: &mut Hart,
     action: Action,
     access: &mut Access,
 ) -> Attempt
-    requires hart { h < length harts.old }
     requires sized { HasSize action }
-    requires begins { HartIs harts.old h (Begins (S.memory store.old) action) }
-    ensures { Tried harts.old harts.new (S.memory store.old) (S.memory store.new) h (event_of_attempt result access.new) }
+    requires begins { Begins (S.memory store.old) action hart.old }
+    ensures { Tried hart.old hart.new (S.memory store.old) (S.memory store.new) (event_of_attempt result access.new) }
 {
     let Action::Load { address, size, .. } = action else {
         return Attempt::Nothing;
@@ -276,8 +299,8 @@ fn loaded<S: ByteStore>(
     let Some(loaded) = store.load_permitted(address, size, Need::Read) else {
         return Attempt::Nothing;
     };
-    note(access, &harts[h as usize], address, size, true, false);
-    advance_hart(harts, h, loaded, action);
+    note(access, hart, address, size, true, false);
+    advance(hart, loaded, action);
     Attempt::Accessed
 }
 
@@ -285,15 +308,13 @@ fn loaded<S: ByteStore>(
 #[inline(always)]
 fn stored<S: ByteStore>(
     store: &mut S,
-    harts: &mut [Hart],
-    h: u8,
+    hart: &mut Hart,
     action: Action,
     access: &mut Access,
 ) -> Attempt
-    requires hart { h < length harts.old }
     requires sized { HasSize action }
-    requires begins { HartIs harts.old h (Begins (S.memory store.old) action) }
-    ensures { Tried harts.old harts.new (S.memory store.old) (S.memory store.new) h (event_of_attempt result access.new) }
+    requires begins { Begins (S.memory store.old) action hart.old }
+    ensures { Tried hart.old hart.new (S.memory store.old) (S.memory store.new) (event_of_attempt result access.new) }
 {
     memory_is_sound();
     let Action::Store {
@@ -307,13 +328,8 @@ fn stored<S: ByteStore>(
     if !is_aligned(address, size) || !store.store_permitted(address, size, value, Need::Write) {
         return Attempt::Nothing;
     }
-    note(access, &harts[h as usize], address, size, false, true);
-    let write = Write {
-        address,
-        size,
-        value,
-    };
-    see_and_advance(harts, h, 0, action, Some(write));
+    note(access, hart, address, size, false, true);
+    advance(hart, 0, action);
     Attempt::Accessed
 }
 
@@ -321,14 +337,12 @@ fn stored<S: ByteStore>(
 #[inline(always)]
 fn replaced<S: ByteStore>(
     store: &mut S,
-    harts: &mut [Hart],
-    h: u8,
+    hart: &mut Hart,
     action: Action,
     access: &mut Access,
 ) -> Attempt
-    requires hart { h < length harts.old }
-    requires begins { HartIs harts.old h (Begins (S.memory store.old) action) }
-    ensures { Tried harts.old harts.new (S.memory store.old) (S.memory store.new) h (event_of_attempt result access.new) }
+    requires begins { Begins (S.memory store.old) action hart.old }
+    ensures { Tried hart.old hart.new (S.memory store.old) (S.memory store.new) (event_of_attempt result access.new) }
 {
     memory_is_sound();
     let Action::Replace {
@@ -350,13 +364,8 @@ fn replaced<S: ByteStore>(
     if !store.store_permitted(address, 4, stored, Need::Write) {
         return Attempt::Nothing;
     }
-    note(access, &harts[h as usize], address, 4, true, true);
-    let write = Write {
-        address,
-        size: 4,
-        value: stored,
-    };
-    see_and_advance(harts, h, loaded, action, Some(write));
+    note(access, hart, address, 4, true, true);
+    advance(hart, loaded, action);
     Attempt::Accessed
 }
 
@@ -370,14 +379,4 @@ fn note(access: &mut Access, hart: &Hart, first: u32, size: u8, read: bool, writ
     access.size = size;
     access.read = read;
     access.write = write;
-}
-
-/// Moves a hart on by an action that writes nothing.
-#[inline(always)]
-fn advance_hart(harts: &mut [Hart], h: u8, loaded: u32, action: Action)
-    requires hart { h < length harts.old }
-    requires fits { Fits loaded action }
-    ensures { HartsAfter harts.old harts.new h loaded action None }
-{
-    advance(&mut harts[h as usize], loaded, action);
 }

@@ -3,12 +3,12 @@ ghost use Rattle.std.specs.Prelude.{◌≡◌, ◌≤◌, ◌<◌, None, All, If
 ghost use Rattle.std.specs.List.{range_with_len};
 ghost use Rattle.rv_hart.specs.State as state;
 ghost use Rattle.rv_memory.specs.Extent.{IsExtent};
-ghost use Rattle.rv_memory.specs.Memory.{fault_of};
+ghost use Rattle.rv_memory.specs.Memory.{fault_of, memory_of};
 
 use crate::hart::{Hart, Status};
-use rv_memory::fit::fault_of_both;
+use crate::registers::Registers;
 use rv_memory::region::Region;
-use rv_memory::store::MemFault;
+use rv_memory::store::{ByteStore, MemFault};
 use std::alloc::{AllocError, Global};
 
 /// The first address of hart 0's stack; the other harts' follow it.
@@ -55,50 +55,23 @@ fn all_stacks(alloc: Global) -> [Region; 16]
     ]
 }
 
-/// The first test that the regions and the stacks fail together, found before anything is allocated.
-#[tactic(auto, using(crate::proofs::StartLemmas::some_stacks))]
-fn fault_with_stacks(alloc: Global, regions: &[Region], count: u8) -> Option<MemFault>
-    requires { count ≤ 16 }
-    ensures { result ≡ fault_of (state.with_stacks regions.now count) }
+/// A store of the regions with the stacks of so many harts. It tests them together before it asks for memory.
+#[tactic(auto, using(crate::proofs::StartLemmas::some_stacks, crate::proofs::StartLemmas::stacks_are_extents))]
+pub(crate) fn store_with_stacks<S: ByteStore>(
+    alloc: Global,
+    regions: &[Region],
+    count: u8,
+) -> Result<S, MemFault>
+    requires count { count ≤ 16 }
+    requires extents { All IsExtent regions.now }
+    ensures fits { OnOk result (fault_of (state.with_stacks regions.now count) ≡ None) }
+    ensures memory { IfOk result (λ store.
+        S.memory store ≡ memory_of (state.with_stacks regions.now count)) }
+    ensures err { IfErr result (λ fault.
+        fault ≡ unwrap_or (fault_of (state.with_stacks regions.now count)) MemFault.NoMemory) }
 {
     let stacks = all_stacks(alloc);
-    fault_of_both(regions, &stacks[..count as usize])
-}
-
-/// The regions with the stacks of so many harts, if a store can be made of them.
-pub fn with_stacks(alloc: Global, regions: Vec<Region>, count: u8) -> Result<Vec<Region>, MemFault>
-    requires count { count ≤ 16 }
-    requires extents { All IsExtent regions.items }
-    ensures ok { IfOk result (λ all. all.items ≡ state.with_stacks regions.items count) }
-    ensures extents { IfOk result (λ all. All IsExtent all.items) }
-    ensures fits { OnOk result (fault_of (state.with_stacks regions.items count) ≡ None) }
-    ensures err { IfErr result (λ fault.
-        fault ≡ unwrap_or (fault_of (state.with_stacks regions.items count)) MemFault.NoMemory) }
-{
-    if let Some(fault) = fault_with_stacks(alloc, &regions, count) {
-        return Err(fault);
-    }
-    match push_stacks(alloc, regions, count) {
-        Ok(all) => Ok(all),
-        Err(_) => Err(MemFault::NoMemory),
-    }
-}
-
-#[tactic(auto, using(crate::proofs::StartLemmas::stacks_more))]
-fn push_stacks(
-    alloc: Global,
-    mut regions: Vec<Region>,
-    count: u8,
-) -> Result<Vec<Region>, AllocError>
-    requires count { count ≤ 16 }
-    requires extents { All IsExtent regions.items }
-    ensures ok { IfOk result (λ all. all.items ≡ state.with_stacks regions.items count) }
-    ensures extents { IfOk result (λ all. All IsExtent all.items) }
-{
-    for h in 0..count {
-        regions.push(stack(alloc, h))?;
-    }
-    Ok(regions)
+    S::make_of_both(alloc, regions, &stacks[..count as usize])
 }
 
 /// A hart as it begins.
@@ -106,10 +79,10 @@ fn first_hart(entry: u32, count: u8, h: u8) -> Hart
     requires { h < 16 }
     ensures { result ≡ state.first_hart entry count h }
 {
-    let mut registers = [0; 32];
-    registers[2] = STACKS + (u32::from(h) + 1) * STACK_LEN;
-    registers[10] = u32::from(h);
-    registers[11] = u32::from(count);
+    let mut registers = Registers::zeros();
+    registers.write(2, STACKS + (u32::from(h) + 1) * STACK_LEN);
+    registers.write(10, u32::from(h));
+    registers.write(11, u32::from(count));
     Hart {
         registers,
         pc: entry,
@@ -120,7 +93,7 @@ fn first_hart(entry: u32, count: u8, h: u8) -> Hart
 
 /// So many harts as they begin.
 #[tactic(auto, using(crate::proofs::StartLemmas::harts_more))]
-pub fn first_harts(alloc: Global, entry: u32, count: u8) -> Result<Vec<Hart>, AllocError>
+pub(crate) fn first_harts(alloc: Global, entry: u32, count: u8) -> Result<Vec<Hart>, AllocError>
     requires { count ≤ 16 }
     ensures harts { IfOk result (λ harts.
         harts.items ≡ map (state.first_hart entry count) (range_with_len 0 count)) }

@@ -57,7 +57,7 @@ fn machine(
     assert!(rt; data.bytes.len() <= 4096);
     data.len = 4096;
     let regions = two(alloc, text, data)?;
-    Ok(Machine::new(alloc, regions, 0x10000, harts, 8)?)
+    Ok(Machine::new(alloc, &regions, 0x10000, harts, 8)?)
 }
 
 fn two(alloc: Global, first: Region, second: Region) -> Result<Vec<Region>, Fail>

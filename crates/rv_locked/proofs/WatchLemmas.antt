@@ -4,7 +4,7 @@ use Rattle.std.specs.Prelude.{IsTrue, not}
 use Rattle.rv_collide.specs.Able.{is_due}
 use Rattle.rv_collide.specs.Answers.{Turns}
 use Rattle.rv_collide.specs.DriverLaws.{AddsItsKind}
-use Rattle.rv_collide.specs.Draws.{arms_or_disarms, draws, first_draws, is_resumed, next_index}
+use Rattle.rv_collide.specs.Draws.{Sampling, arms_or_disarms, draws, first_draws, is_resumed, next_index}
 use Rattle.rv_collide.specs.Plan.{Numbers}
 use Rattle.rv_collide.specs.Stored.{Stored, added, setting_of, stored}
 use Rattle.rv_collide.specs.declared.collider.Turned.{Turned}
@@ -12,7 +12,7 @@ use Rattle.rv_collide.specs.declared.collider.Turned.TheVariants as turned
 use Rattle.rv_collide.specs.declared.entry.Entry.{Entry}
 use Rattle.rv_collide.specs.declared.entry.Entry.TheVariants.{Stepped, Paused, Resumed}
 use Rattle.rv_elf.specs.Contents.{Contents}
-use Rattle.rv_locked.specs.Watched.{drew, opened, sampling, sampling_of}
+use Rattle.rv_locked.specs.Watched.{begun, drew, opened, sampling, sampling_of}
 use Rattle.rv_locked.specs.internal.Watching.{IsWatching}
 use Rattle.rv_locked.proofs.ArmsLemmas.{after_draws, after_resumption, after_turn, index_more, long_more, one_draw_more}
 use Rattle.rv_sample.specs.Sites.{sites}
@@ -85,12 +85,15 @@ draw_more first now new among words before n is taken draws_one =
     ∙ ap (drew (sampling_of among words.seed words.stream) n) is
     ∙ ap (λ (xs : List Entry). record first { entries = xs }) (sym (one_draw_more (setting_of first) (sampling_of among words.seed words.stream) n))
 
-pub opened_is : (first new : Stored) (image : Contents) (plan : Numbers) (seed : ℕ) (among : List ℕ) (words : Given) → first ≡ stored image plan [] → words ≡ given seed 0 → among ≡ sites image [] → new ≡ record first { entries = draws (setting_of first) (sampling_of among words.seed words.stream) first_draws } → new ≡ opened image plan seed
-opened_is first new image plan seed among words is are sites_are gives =
+pub begun_is : (first new : Stored) (image : Contents) (plan : Numbers) (sampling : Sampling) → first ≡ stored image plan [] → new ≡ record first { entries = draws (setting_of first) sampling first_draws } → new ≡ begun image plan sampling
+begun_is first new image plan sampling is gives =
+    gives ∙ ap (λ (s : Stored). record s { entries = draws (setting_of s) sampling first_draws }) is
+
+pub opened_is : (new : Stored) (image : Contents) (plan : Numbers) (seed : ℕ) (among : List ℕ) (words : Given) → words ≡ given seed 0 → among ≡ sites image [] → new ≡ begun image plan (sampling_of among words.seed words.stream) → new ≡ opened image plan seed
+opened_is new image plan seed among words are sites_are gives =
     gives
-    ∙ ap (λ (s : Stored). record s { entries = draws (setting_of s) (sampling_of among words.seed words.stream) first_draws }) is
-    ∙ ap (λ (g : Given). stored image plan (draws (setting_of (stored image plan [])) (sampling_of among g.seed g.stream) first_draws)) are
-    ∙ ap (λ (xs : List ℕ). stored image plan (draws (setting_of (stored image plan [])) (sampling_of xs seed 0) first_draws)) sites_are
+    ∙ ap (λ (g : Given). begun image plan (sampling_of among g.seed g.stream)) are
+    ∙ ap (λ (xs : List ℕ). begun image plan (sampling_of xs seed 0)) sites_are
 
 pub opened_watches : AddsItsKind → (new : Stored) (image copy : Contents) (plan : Numbers) (seed : ℕ) (among : List ℕ) (words after : Given) → new ≡ opened image plan seed → words ≡ given seed 0 → after ≡ record words { taken = first_draws } → among ≡ sites image [] → copy ≡ image → IsWatching new among after copy seed
 opened_watches kind new image copy plan seed among words after is are more sites_are same =

@@ -1,3 +1,4 @@
 pub mod Own
+pub mod Threaded
 pub mod Watched
 pub mod internal

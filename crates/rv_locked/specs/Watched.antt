@@ -39,8 +39,12 @@ drew sampling index core =
     record core { entries = core.entries ++ option_to_list (draw (setting_of core) sampling core.entries index) }
 
 -- a core of which nothing has been done but the first draws
+abbrev pub begun : Contents → Numbers → Sampling → Stored
+begun image plan sampling = stored image plan (draws (setting_of (stored image plan [])) sampling first_draws)
+
+-- the same, with what a core draws by its seed
 abbrev pub opened : Contents → Numbers → ℕ → Stored
-opened image plan seed = stored image plan (draws (setting_of (stored image plan [])) (sampling image seed) first_draws)
+opened image plan seed = begun image plan (sampling image seed)
 
 -- What holds of it whenever the lock is got: its schedule is legal, no pause has ended before it was due, and
 -- addresses are armed by draws alone, of which each resumption takes one word.

@@ -1,18 +1,25 @@
 //! A core as a driver has it: which harts are able, which pauses are due, and a draw.
-ghost use Rattle.std.specs.Prelude.{◌≡◌, ◌+◌, ◌<◌, ◌^◌, [], true, length, slice_get, IfOk, IfSome, IfNone, ◌≤◌};
+ghost use Rattle.std.specs.Prelude.{◌≡◌, ◌+◌, ◌<◌, ◌^◌, [], true, length, slice_get, IfOk, OnOk, OnErr, IfSome, IfNone, ◌≤◌};
 ghost use Rattle.rv_collide.specs.Able.{able, due, is_able, is_due};
 ghost use Rattle.rv_collide.specs.Answers.{Resumes, Turns};
+ghost use Rattle.rv_collide.specs.Draws.{draws, first_draws};
+ghost use Rattle.rv_collide.specs.Numbers.{numbers};
 ghost use Rattle.rv_collide.specs.Stored.{setting_of};
-ghost use Rattle.rv_locked.specs.Watched.{drew, sampling_of};
+ghost use Rattle.rv_locked.specs.Watched.{begun, drew, sampling_of};
 
 use crate::ahead::Ahead;
 use rv_collide::collider::{Collider, Turned};
 use rv_collide::ending::Ending;
+use rv_collide::plan::Plan;
+use rv_elf::Image;
 use rv_memory::flat::Flat;
 use rv_memory::store::NoMemory;
 use rv_sample::{Sampler, Words};
 use std::alloc::Global;
 use std::marker::Model;
+
+/// How many addresses are drawn before the first turn.
+const FIRST_DRAWS: u32 = 16;
 
 /// A core with what a driver counts beside it. To contracts it is the core alone. A draw is made by the words
 /// and the sites that it is lent.
@@ -33,14 +40,49 @@ impl Model for Driver {
 }
 
 impl Driver {
-    /// A driver of a core of which nothing has been done. All room is made here.
-    pub fn new(alloc: Global, collider: Collider<Flat>) -> Result<Driver, NoMemory>
+    /// The image's core with the plan's harts, after the first draws: the first of the words, of which none was
+    /// taken, each pick a site of the sampler. All room is made here.
+    #[tactic(auto, using(crate::proofs::WatchLemmas::begun_is))]
+    pub fn open(
+        alloc: Global,
+        image: &Image,
+        plan: Plan,
+        sampler: &Sampler,
+        words: &mut Words,
+    ) -> Result<Driver, NoMemory>
+        requires { words.old.taken ≡ 0 }
+        ensures core { IfOk result (λ driver. driver ≡ begun image.now (numbers plan)
+            (sampling_of sampler.now words.old.seed words.old.stream)) }
+        ensures words { OnOk result (words.new ≡ record words.old { taken = first_draws }) }
+        ensures refused { OnErr result (words.new ≡ words.old) }
+    {
+        let mut driver = Driver::new(alloc, Collider::new(alloc, image, plan)?)?;
+        driver.first_draws(sampler, words);
+        Ok(driver)
+    }
+
+    /// A driver of a core of which nothing has been done.
+    fn new(alloc: Global, collider: Collider<Flat>) -> Result<Driver, NoMemory>
         requires { collider.entries ≡ [] }
         ensures { IfOk result (λ driver. driver ≡ collider) }
     {
         Ok(Driver {
             ahead: Ahead::new(alloc, collider)?,
         })
+    }
+
+    /// The draws before the first turn.
+    fn first_draws(&mut self, sampler: &Sampler, words: &mut Words)
+        requires none { self.old.entries ≡ [] }
+        requires taken { words.old.taken ≡ 0 }
+        ensures core { self.new ≡ record self.old {
+          entries = draws (setting_of self.old) (sampling_of sampler.now words.old.seed words.old.stream) first_draws;
+        } }
+        ensures words { words.new ≡ record words.old { taken = first_draws } }
+    {
+        for _ in 0..FIRST_DRAWS {
+            self.draw(sampler, words);
+        }
     }
 
     /// The core.

@@ -1,16 +1,20 @@
-//! The locked machine: one core that several threads may share under a lock, with the draws of a seed.
+//! The locked machine: one core that a thread for each hart shares under a lock, with the draws of a seed.
 //!
-//! To the layer above, the locked value is a core whose schedule is legal, whose pauses end when they are due,
-//! and whose addresses are armed by the draws of its seed alone (`specs/Watched.antt`). What each worker
-//! recorded is compared with the whole schedule at the end (`specs/Own.antt`).
+//! To the layer above, what `run_threads` answers is a run whose schedule is legal, whose pauses end when they
+//! are due, whose addresses are armed by the draws of the seed alone, and which has ended
+//! (`specs/Threaded.antt`). `watched.rt` is the value under the lock, `worker.rt` the work of one thread,
+//! `threads.rt` the whole. What each worker recorded is compared with the schedule at the end (`specs/Own.antt`).
 #![tactic(auto)]
 
 mod ahead;
 pub mod driver;
+pub mod gate;
 mod own;
 mod same;
 #[cfg(test)]
 mod tests;
+pub mod threads;
 mod watched;
+mod worker;
 
 pub use watched::{Stray, Taken, Watched};

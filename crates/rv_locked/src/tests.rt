@@ -1,3 +1,6 @@
+mod gates;
+mod workers;
+
 use crate::{Stray, Taken, Watched};
 use rv_collide::collider::Finished;
 use rv_collide::entry::Entry::{self, Armed, Paused, Resumed, Stepped};

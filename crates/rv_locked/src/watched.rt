@@ -1,11 +1,10 @@
 //! The value that workers share under a lock.
-ghost use Rattle.std.specs.Prelude.{◌≡◌, ◌↔◌, ◌<◌, [], false, true, map, length, IsTrue, IfOk, IfErr, IfSome, IfNone};
-ghost use Rattle.rv_collide.specs.Able.{is_due};
-ghost use Rattle.rv_collide.specs.Draws.{draws, first_draws};
+ghost use Rattle.std.specs.Prelude.{◌≡◌, ◌↔◌, ◌<◌, false, true, map, length, is_some, IsTrue, IfOk, IfErr, IfSome, IfNone};
+ghost use Rattle.rv_collide.specs.Able.{due, is_due};
 ghost use Rattle.rv_collide.specs.Numbers.{numbers};
 ghost use Rattle.rv_collide.specs.Stored.{setting_of};
 ghost use Rattle.rv_locked.specs.Own.{AreCopies, AreOwn, IsStray};
-ghost use Rattle.rv_locked.specs.Watched.{Ends, IsHistory, IsLeft, Takes, opened, sampling_of};
+ghost use Rattle.rv_locked.specs.Watched.{Ends, IsHistory, IsLeft, Takes, opened};
 ghost use Rattle.rv_locked.specs.internal.Watching.{watch};
 
 use crate::driver::Driver;
@@ -22,9 +21,6 @@ use rv_memory::store::NoMemory;
 use rv_sample::{Sampler, Words};
 use std::alloc::Global;
 use std::marker::Model;
-
-/// How many addresses are drawn before the first turn.
-const FIRST_DRAWS: u32 = 16;
 
 /// What a call for a hart's turn did: a step of the hart, its pause, or nothing, since the hart isn't able.
 #[derive(Clone, Copy, Debug, PartialEq, Eq)]
@@ -74,9 +70,8 @@ impl Watched {
         accepted_calls();
         let sampler = Sampler::sites(alloc, image, &[])?;
         let mut words = Words::new(seed, 0);
-        let mut driver = Driver::new(alloc, Collider::new(alloc, image, plan)?)?;
+        let driver = Driver::open(alloc, image, plan, &sampler, &mut words)?;
         let image = image.copy(alloc)?;
-        first_draws(&mut driver, &mut words, &sampler);
         Ok(Watched {
             driver,
             sampler,
@@ -144,6 +139,13 @@ impl Watched {
         self.is_broken_off
     }
 
+    /// Whether some pause is due to end.
+    pub(crate) fn is_any_due(&self) -> bool
+        ensures { result ≡ is_some (due (setting_of self.now.core) self.now.core.entries) }
+    {
+        self.driver.due().is_some()
+    }
+
     /// The core.
     pub fn collider(&self) -> &Collider<Flat>
         ensures { result.now ≡ self.now.core }
@@ -183,19 +185,5 @@ impl Watched {
         same_image(&self.image, image)
             && same_plan(self.driver.collider().plan(), plan)
             && self.seed == seed
-    }
-}
-
-/// The draws before the first turn.
-fn first_draws(driver: &mut Driver, words: &mut Words, sampler: &Sampler)
-    requires none { driver.old.entries ≡ [] }
-    requires taken { words.old.taken ≡ 0 }
-    ensures core { driver.new ≡ record driver.old {
-      entries = draws (setting_of driver.old) (sampling_of sampler.now words.old.seed words.old.stream) first_draws;
-    } }
-    ensures words { words.new ≡ record words.old { taken = first_draws } }
-{
-    for _ in 0..FIRST_DRAWS {
-        driver.draw(sampler, words);
     }
 }

@@ -15,17 +15,18 @@ pub(crate) fn end_of(region: &Region) -> u64
     u64::from(region.start) + u64::from(region.len)
 }
 
-/// The first test that the regions fail.
-pub fn fault_of(regions: &[Region]) -> Option<MemFault>
-    ensures { result ≡ spec.fault_of regions.now }
+/// The first test that the regions of two lists fail together.
+#[tactic(auto, using(crate::proofs::Both::fault_of_both_lists))]
+pub(crate) fn fault_of_both(first: &[Region], second: &[Region]) -> Option<MemFault>
+    ensures { result ≡ spec.fault_of (first.now ++ second.now) }
 {
-    if one_ends_past(regions) {
+    if one_ends_past(first) || one_ends_past(second) {
         return Some(MemFault::PastEnd);
     }
-    if overlap(regions) {
+    if overlap(first) || overlap(second) || meet(first, second) {
         return Some(MemFault::Overlap);
     }
-    if are_too_large(regions) {
+    if sum_of(second, sum_of(first, 0)) > LIMIT {
         return Some(MemFault::TooLarge);
     }
     None
@@ -74,30 +75,6 @@ fn sum_of(regions: &[Region], before: u64) -> u64
         sum = (sum + u64::from(region.len)).min(LIMIT + 1);
     }
     sum
-}
-
-/// Whether the lengths sum to more than `LIMIT`.
-fn are_too_large(regions: &[Region]) -> bool
-    ensures { result ≡ nat_lt LIMIT (sum_by (λ e. e.len) regions.now) }
-{
-    sum_of(regions, 0) > LIMIT
-}
-
-/// The first test that two lists of regions fail together, one after the other.
-#[tactic(auto, using(crate::proofs::Both::fault_of_both_lists))]
-pub fn fault_of_both(first: &[Region], second: &[Region]) -> Option<MemFault>
-    ensures { result ≡ spec.fault_of (first.now ++ second.now) }
-{
-    if one_ends_past(first) || one_ends_past(second) {
-        return Some(MemFault::PastEnd);
-    }
-    if overlap(first) || overlap(second) || meet(first, second) {
-        return Some(MemFault::Overlap);
-    }
-    if sum_of(second, sum_of(first, 0)) > LIMIT {
-        return Some(MemFault::TooLarge);
-    }
-    None
 }
 
 /// Whether some region of the first list shares an address with one of the second.

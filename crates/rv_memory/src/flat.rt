@@ -1,11 +1,11 @@
-ghost use Rattle.std.specs.Prelude.{◌≡◌, ◌+◌, ◌-◌, ◌^◌, ◌<◌, ◌≤◌, false, ⊤, refl, None, is_some, IsTrue, IfOk, IfSome, All, HoldsAt, length, map, nat_lt, sum_by};
+ghost use Rattle.std.specs.Prelude.{◌≡◌, ◌+◌, ◌++◌, ◌-◌, ◌^◌, ◌<◌, ◌≤◌, false, ⊤, refl, None, is_some, IsTrue, IfOk, IfSome, All, HoldsAt, length, map, nat_lt, sum_by};
 ghost use Rattle.std.specs.List.{list_any};
 ghost use Rattle.rv_memory.specs.Extent.{IsExtent, span, filled, end_of as spec_end_of};
 ghost use Rattle.rv_memory.specs.Memory as spec;
 ghost use Rattle.rv_memory.specs.internal.Flat.{number_at, put_at};
 ghost use Rattle.rv_memory.specs.internal.Index.{Skips};
 
-use crate::fit::fault_of;
+use crate::fit::fault_of_both;
 use crate::index::{first_of, index_of};
 use crate::region::Region;
 use crate::store::{ByteStore, MemFault, Need, NoMemory, Steady};
@@ -42,11 +42,11 @@ impl ByteStore for Flat {
 
     ghost can_refuse = { false };
 
-    fn make(alloc: Global, regions: &[Region]) -> Result<Flat, MemFault> {
-        if let Some(fault) = fault_of(regions) {
+    fn make_of_both(alloc: Global, first: &[Region], second: &[Region]) -> Result<Flat, MemFault> {
+        if let Some(fault) = fault_of_both(first, second) {
             return Err(fault);
         }
-        match keep(alloc, regions) {
+        match keep(alloc, first, second) {
             Ok(flat) => Ok(flat),
             Err(NoMemory) => Err(MemFault::NoMemory),
         }
@@ -251,13 +251,14 @@ fn put(region: &mut Region, address: u32, size: u8, value: u32)
 }
 
 /// The store of regions that passed the tests.
-fn keep(alloc: Global, regions: &[Region]) -> Result<Flat, NoMemory>
-    requires extents { All IsExtent regions.now }
-    requires passed { spec.fault_of regions.now ≡ None }
-    ensures { IfOk result (λ flat. flat ≡ spec.memory_of regions.now) }
+fn keep(alloc: Global, first: &[Region], second: &[Region]) -> Result<Flat, NoMemory>
+    requires first { All IsExtent first.now }
+    requires second { All IsExtent second.now }
+    requires passed { spec.fault_of (first.now ++ second.now) ≡ None }
+    ensures { IfOk result (λ flat. flat ≡ spec.memory_of (first.now ++ second.now)) }
 {
-    let firsts = index_of(alloc, regions)?;
-    let regions = fill_all(alloc, regions)?;
+    let regions = fill_both(alloc, first, second)?;
+    let firsts = index_of(alloc, &regions)?;
     let code = regions.iter().position(|region| region.x).unwrap_or(0);
     Ok(Flat {
         regions,
@@ -266,7 +267,7 @@ fn keep(alloc: Global, regions: &[Region]) -> Result<Flat, NoMemory>
     })
 }
 
-/// The region with its zeros written out.
+/// The region with its zeros written out. Each byte is written once.
 fn fill(alloc: Global, region: &Region) -> Result<Region, NoMemory>
     requires { IsExtent region.now }
     ensures { IfOk result (λ full. full ≡ filled region.now) }
@@ -293,6 +294,17 @@ fn fill_all(alloc: Global, regions: &[Region]) -> Result<Vec<Region>, NoMemory>
     for region in regions {
         all.push(fill(alloc, region)?)?;
     }
+    Ok(all)
+}
+
+fn fill_both(alloc: Global, first: &[Region], second: &[Region]) -> Result<Vec<Region>, NoMemory>
+    requires first { All IsExtent first.now }
+    requires second { All IsExtent second.now }
+    ensures { IfOk result (λ all. all.items ≡ map filled (first.now ++ second.now)) }
+{
+    let mut all = fill_all(alloc, first)?;
+    let mut more = fill_all(alloc, second)?;
+    all.append(&mut more)?;
     Ok(all)
 }
 

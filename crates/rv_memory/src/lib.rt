@@ -10,7 +10,7 @@
 #![tactic(auto)]
 
 pub mod buffered;
-pub mod fit;
+mod fit;
 pub mod flagged;
 pub mod flat;
 mod index;

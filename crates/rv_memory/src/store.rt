@@ -1,4 +1,4 @@
-ghost use Rattle.std.specs.Prelude.{◌≡◌, ℕ, ◌^◌, ◌<◌, Bool, false, IsTrue, IfSome, IfOk, IfErr, OnOk, OnErr, None, Some, codes, unwrap_or, All};
+ghost use Rattle.std.specs.Prelude.{◌≡◌, ℕ, ◌^◌, ◌<◌, ◌++◌, Bool, false, IsTrue, IfSome, IfOk, IfErr, OnOk, OnErr, None, Some, codes, unwrap_or, All};
 ghost use Rattle.rv_memory.specs.Extent.{IsExtent};
 ghost use Rattle.rv_memory.specs.Memory as spec;
 ghost use Rattle.rv_memory.specs.declared.store.MemFault.TheVariants.{NoMemory as OutOfMemory};
@@ -90,7 +90,20 @@ pub trait ByteStore: Drop {
         ensures ok { IfOk result (λ store. (spec.fault_of regions.now ≡ None)
             × (memory store ≡ spec.memory_of regions.now)) }
         ensures err { IfErr result (λ fault.
-            fault ≡ unwrap_or (spec.fault_of regions.now) MemFault.NoMemory) };
+            fault ≡ unwrap_or (spec.fault_of regions.now) MemFault.NoMemory) }
+    {
+        Self::make_of_both(alloc, regions, &[])
+    }
+
+    /// A store of the regions of two lists, one after the other, which are tested together: so a caller may add
+    /// regions to those that it is lent.
+    fn make_of_both(alloc: Global, first: &[Region], second: &[Region]) -> Result<Self, MemFault>
+        requires first { All IsExtent first.now }
+        requires second { All IsExtent second.now }
+        ensures ok { IfOk result (λ store. (spec.fault_of (first.now ++ second.now) ≡ None)
+            × (memory store ≡ spec.memory_of (first.now ++ second.now))) }
+        ensures err { IfErr result (λ fault.
+            fault ≡ unwrap_or (spec.fault_of (first.now ++ second.now)) MemFault.NoMemory) };
 
     /// Whether the bytes lie wholly in one region that has the permissions.
     fn permits(&self, address: u32, size: u8, need: Need) -> bool

@@ -4,8 +4,8 @@ use Rattle.std.specs.Prelude.{Bool, Contains, IfSome, option_and_then}
 use Rattle.std.specs.Str.{bytes_eq}
 use Rattle.std.proofs.lemmas.Slice.Eq.{bytes_eq-Decides}
 use Rattle.clap.specs.Walk.{Text}
-use Rattle.rvcollide.specs.Command.{Asked, IsGiven, arguments, asm_of, command_job, debug_of, is_option, job_of, list_of, replay_of, run_job, words_of}
-use Rattle.rvcollide.proofs.RunGiven.{run_given}
+use Rattle.rvcollide.specs.Command.{Asked, IsGiven, arguments, asm_of, command_job, debug_of, is_option, job_of, list_of, options_job, replay_of, run_of, threads_of, words_of}
+use Rattle.rvcollide.proofs.RunGiven.{run_given, threads_given}
 
 later : (x word : Text) (words : List Text) → Contains words x → Contains (word ∷ words) x
 later x word words (k, below, is) = (suc k, omega arith, is)
@@ -100,11 +100,16 @@ job_given (n ∷ name ∷ rest) = by_run (bytes_eq (codes "run") name) refl
     by_words false no_words = by_asm (bytes_eq (codes "asm") name) no_words refl
 
     Means : Text → Type 0
-    Means w = IfSome (cond (bytes_eq (codes "run") w) (run_job (n ∷ w ∷ rest)) (command_job w rest)) (IsGiven (n ∷ w ∷ rest))
+    Means w = IfSome (cond (bytes_eq (codes "run") w) (options_job run_of (n ∷ w ∷ rest))
+        (cond (bytes_eq (codes "threads") w) (options_job threads_of (n ∷ w ∷ rest)) (command_job w rest))) (IsGiven (n ∷ w ∷ rest))
+
+    by_threads : (b : Bool) → bytes_eq (codes "run") name ≡ false → bytes_eq (codes "threads") name ≡ b → Means name
+    by_threads true no_run threads = subst Means ((bytes_eq-Decides (codes "threads") name).0 threads) (threads_given n rest)
+    by_threads false no_run no_threads = rw (no_run, no_threads) (by_words (bytes_eq (codes "words") name) refl)
 
     by_run : (b : Bool) → bytes_eq (codes "run") name ≡ b → Means name
     by_run true run = subst Means ((bytes_eq-Decides (codes "run") name).0 run) (run_given n rest)
-    by_run false no_run = rw no_run (by_words (bytes_eq (codes "words") name) refl)
+    by_run false no_run = by_threads (bytes_eq (codes "threads") name) no_run refl
 
 pub given_at : (words : List Text) (asked : Asked) → job_of words ≡ Some asked → IsGiven words asked
 given_at words asked is = rw is at (job_given words)

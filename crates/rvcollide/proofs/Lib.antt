@@ -1,7 +1,4 @@
-pub mod DebugAnswerLemmas
-pub mod DebugCommandLemmas
-pub mod DebugLineLemmas
-pub mod DebugTalkLemmas
+pub mod DebugLemmas
 pub mod Fits
 pub mod GivenLemmas
 pub mod InputSoFar
@@ -18,4 +15,5 @@ pub mod RunLists
 pub mod RunTables
 pub mod SourceLemmas
 pub mod StepLemmas
+pub mod ThreadsLemmas
 pub mod WordLemmas

@@ -11,7 +11,7 @@ use Rattle.clap.proofs.FaultLemmas.{stopped_fault}
 use Rattle.clap.proofs.WalkLemmas.{walk_stopped}
 use Rattle.rvcollide.proofs.WordLemmas.{Requests, first_stays, turn_is}
 use Rattle.rvcollide.proofs.LeafLemmas.{asm_leaf, asm_outcome, debug_leaf, debug_outcome, if_false, is_dashes, leaf, list_leaf, list_outcome, outcome, replay_leaf, replay_outcome, request_or, words_at, words_job, words_leaf, words_outcome}
-use Rattle.rvcollide.specs.Command.{command_job, job_of, run_job}
+use Rattle.rvcollide.specs.Command.{command_job, job_of, options_job, run_of, threads_of}
 use Rattle.rvcollide.specs.Reading.{program}
 use Rattle.rvcollide.specs.internal.Reading.{asm_in, debug_in, job_in, job_read, list_in, replay_in}
 
@@ -94,9 +94,17 @@ pub run_rows : (n : Text) (rest : List Text) → subcommand_of program (n ∷ co
 unfolding clap_on_literals
 run_rows n rest = ap (λ (w : Walk). entered Built w.stopped) (all_left (codes "run") rest)
 
-run_job_is : (n : Text) (rest : List Text) → job_read (n ∷ codes "run" ∷ rest) ≡ run_job (n ∷ codes "run" ∷ rest)
+run_job_is : (n : Text) (rest : List Text) → job_read (n ∷ codes "run" ∷ rest) ≡ options_job run_of (n ∷ codes "run" ∷ rest)
 unfolding job_read
 run_job_is n rest = rw (run_rows n rest) refl
+
+pub threads_rows : (n : Text) (rest : List Text) → subcommand_of program (n ∷ codes "threads" ∷ rest) ≡ Some (codes "threads", rows_after (leaf 6).rules [] rest)
+unfolding clap_on_literals
+threads_rows n rest = ap (λ (w : Walk). entered Built w.stopped) (all_left (codes "threads") rest)
+
+threads_job_is : (n : Text) (rest : List Text) → job_read (n ∷ codes "threads" ∷ rest) ≡ options_job threads_of (n ∷ codes "threads" ∷ rest)
+unfolding job_read
+threads_job_is n rest = rw (threads_rows n rest) refl
 
 -- ---- no other word is a command
 
@@ -125,9 +133,10 @@ record Unmet (word : Text) : Type 0 where
   pub no_replay : bytes_eq (codes "replay") word ≡ false
   pub no_debug : bytes_eq (codes "debug") word ≡ false
   pub no_run : bytes_eq (codes "run") word ≡ false
+  pub no_threads : bytes_eq (codes "threads") word ≡ false
 
 none_met : (word : Text) → Unmet word → bytes_eq (codes "help") word ≡ false → subcommand_met (names_of Built) idle word ≡ None
-none_met word unmet no_help = rw (unmet.no_words, unmet.no_asm, unmet.no_list, unmet.no_replay, unmet.no_debug, unmet.no_run, no_help) refl
+none_met word unmet no_help = rw (unmet.no_words, unmet.no_asm, unmet.no_list, unmet.no_replay, unmet.no_debug, unmet.no_run, unmet.no_threads, no_help) refl
 
 turn_refused : (n word : Text) (rest : List Text) → is_empty (turn_fault Built.top (names_of Built) (words_at false) word) ≡ false → job_read (n ∷ word ∷ rest) ≡ None
 unfolding clap_on_literals job_read
@@ -165,7 +174,11 @@ reads_line (n ∷ []) = refl
 reads_line (n ∷ word ∷ rest) = by_run (bytes_eq (codes "run") word) refl
   where
     Means : Text → Type 0
-    Means w = job_read (n ∷ w ∷ rest) ≡ cond (bytes_eq (codes "run") w) (run_job (n ∷ w ∷ rest)) (command_job w rest)
+    Means w = job_read (n ∷ w ∷ rest) ≡ cond (bytes_eq (codes "run") w) (options_job run_of (n ∷ w ∷ rest))
+        (cond (bytes_eq (codes "threads") w) (options_job threads_of (n ∷ w ∷ rest)) (command_job w rest))
+
+    WithoutOptions : Type 0
+    WithoutOptions = (bytes_eq (codes "run") word ≡ false) × (bytes_eq (codes "threads") word ≡ false)
 
     Same : Text → Type 0
     Same w = job_read (n ∷ w ∷ rest) ≡ command_job w rest
@@ -173,31 +186,38 @@ reads_line (n ∷ word ∷ rest) = by_run (bytes_eq (codes "run") word) refl
     nothing : Unmet word → None ≡ command_job word rest
     nothing unmet = rw (unmet.no_words, unmet.no_asm, unmet.no_list, unmet.no_replay, unmet.no_debug) refl
 
-    by_debug : (b : Bool) → bytes_eq (codes "run") word ≡ false → bytes_eq (codes "words") word ≡ false → bytes_eq (codes "asm") word ≡ false → bytes_eq (codes "list") word ≡ false
+    by_debug : (b : Bool) → WithoutOptions → bytes_eq (codes "words") word ≡ false → bytes_eq (codes "asm") word ≡ false → bytes_eq (codes "list") word ≡ false
         → bytes_eq (codes "replay") word ≡ false → bytes_eq (codes "debug") word ≡ b → Same word
-    by_debug true no_run no_words no_asm no_list no_replay debug = subst Same (is_word (codes "debug") word debug) (debug_job_is n rest ∙ debug_outcome rest)
-    by_debug false no_run no_words no_asm no_list no_replay no_debug =
-        let unmet : Unmet word = record { no_words = no_words; no_asm = no_asm; no_list = no_list; no_replay = no_replay; no_debug = no_debug; no_run = no_run } in
+    by_debug true plain no_words no_asm no_list no_replay debug = subst Same (is_word (codes "debug") word debug) (debug_job_is n rest ∙ debug_outcome rest)
+    by_debug false plain no_words no_asm no_list no_replay no_debug =
+        let unmet : Unmet word = record { no_words = no_words; no_asm = no_asm; no_list = no_list; no_replay = no_replay; no_debug = no_debug; no_run = plain.0; no_threads = plain.1 } in
         no_command n word rest unmet ∙ nothing unmet
 
-    by_replay : (b : Bool) → bytes_eq (codes "run") word ≡ false → bytes_eq (codes "words") word ≡ false → bytes_eq (codes "asm") word ≡ false → bytes_eq (codes "list") word ≡ false
+    by_replay : (b : Bool) → WithoutOptions → bytes_eq (codes "words") word ≡ false → bytes_eq (codes "asm") word ≡ false → bytes_eq (codes "list") word ≡ false
         → bytes_eq (codes "replay") word ≡ b → Same word
-    by_replay true no_run no_words no_asm no_list replay = subst Same (is_word (codes "replay") word replay) (replay_job_is n rest ∙ replay_outcome rest)
-    by_replay false no_run no_words no_asm no_list no_replay = by_debug (bytes_eq (codes "debug") word) no_run no_words no_asm no_list no_replay refl
+    by_replay true plain no_words no_asm no_list replay = subst Same (is_word (codes "replay") word replay) (replay_job_is n rest ∙ replay_outcome rest)
+    by_replay false plain no_words no_asm no_list no_replay = by_debug (bytes_eq (codes "debug") word) plain no_words no_asm no_list no_replay refl
 
-    by_list : (b : Bool) → bytes_eq (codes "run") word ≡ false → bytes_eq (codes "words") word ≡ false → bytes_eq (codes "asm") word ≡ false → bytes_eq (codes "list") word ≡ b → Same word
-    by_list true no_run no_words no_asm list = subst Same (is_word (codes "list") word list) (list_job_is n rest ∙ list_outcome rest)
-    by_list false no_run no_words no_asm no_list = by_replay (bytes_eq (codes "replay") word) no_run no_words no_asm no_list refl
+    by_list : (b : Bool) → WithoutOptions → bytes_eq (codes "words") word ≡ false → bytes_eq (codes "asm") word ≡ false → bytes_eq (codes "list") word ≡ b → Same word
+    by_list true plain no_words no_asm list = subst Same (is_word (codes "list") word list) (list_job_is n rest ∙ list_outcome rest)
+    by_list false plain no_words no_asm no_list = by_replay (bytes_eq (codes "replay") word) plain no_words no_asm no_list refl
 
-    by_asm : (b : Bool) → bytes_eq (codes "run") word ≡ false → bytes_eq (codes "words") word ≡ false → bytes_eq (codes "asm") word ≡ b → Same word
-    by_asm true no_run no_words asm = subst Same (is_word (codes "asm") word asm) (asm_job_is n rest ∙ asm_outcome rest)
-    by_asm false no_run no_words no_asm = by_list (bytes_eq (codes "list") word) no_run no_words no_asm refl
+    by_asm : (b : Bool) → WithoutOptions → bytes_eq (codes "words") word ≡ false → bytes_eq (codes "asm") word ≡ b → Same word
+    by_asm true plain no_words asm = subst Same (is_word (codes "asm") word asm) (asm_job_is n rest ∙ asm_outcome rest)
+    by_asm false plain no_words no_asm = by_list (bytes_eq (codes "list") word) plain no_words no_asm refl
 
-    by_words : (b : Bool) → bytes_eq (codes "run") word ≡ false → bytes_eq (codes "words") word ≡ b → Same word
-    by_words true no_run words = subst Same (is_word (codes "words") word words) (words_job_is n rest ∙ words_outcome rest)
-    by_words false no_run no_words = by_asm (bytes_eq (codes "asm") word) no_run no_words refl
+    by_words : (b : Bool) → WithoutOptions → bytes_eq (codes "words") word ≡ b → Same word
+    by_words true plain words = subst Same (is_word (codes "words") word words) (words_job_is n rest ∙ words_outcome rest)
+    by_words false plain no_words = by_asm (bytes_eq (codes "asm") word) plain no_words refl
+
+    by_threads : (b : Bool) → bytes_eq (codes "run") word ≡ false → bytes_eq (codes "threads") word ≡ b → Means word
+    by_threads true no_run threads = subst Means (is_word (codes "threads") word threads) (threads_job_is n rest)
+    by_threads false no_run no_threads =
+        subst (λ (b : Bool). job_read (n ∷ word ∷ rest) ≡ cond b (options_job run_of (n ∷ word ∷ rest))
+        (cond (bytes_eq (codes "threads") word) (options_job threads_of (n ∷ word ∷ rest)) (command_job word rest))) (sym no_run)
+        (subst (λ (b : Bool). job_read (n ∷ word ∷ rest) ≡ cond b (options_job threads_of (n ∷ word ∷ rest)) (command_job word rest)) (sym no_threads)
+        (by_words (bytes_eq (codes "words") word) (no_run, no_threads) refl))
 
     by_run : (b : Bool) → bytes_eq (codes "run") word ≡ b → Means word
     by_run true run = subst Means (is_word (codes "run") word run) (run_job_is n rest)
-    by_run false no_run = subst (λ (b : Bool). job_read (n ∷ word ∷ rest) ≡ cond b (run_job (n ∷ word ∷ rest)) (command_job word rest)) (sym no_run)
-        (by_words (bytes_eq (codes "words") word) no_run refl)
+    by_run false no_run = by_threads (bytes_eq (codes "threads") word) no_run refl

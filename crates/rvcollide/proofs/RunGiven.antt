@@ -1,4 +1,4 @@
--- Each option of a line of `run` that gives a job stands in its words.
+-- Each option of a line of `run` or `threads` that gives a job stands in its words.
 use Rattle.std.proofs.Common.{◌≡◌, ◌<◌, ℕ, refl, cond, true, false, List, Option, Some, None, [], ◌∷◌, inl, inr, arith, codes, nat_le, nat_lt}
 use Rattle.std.proofs.lemmas.Bool.Decides.{nat_tests}
 use Rattle.std.specs.Prelude.{Bool, ◌⊎◌, Contains, IfSome, is_some, option_and_then, option_map}
@@ -10,11 +10,11 @@ use Rattle.rv_collide.specs.Plan.{Numbers}
 use Rattle.rv_text.specs.Numeral.{number_of, up_to}
 use Rattle.rvcollide.proofs.LeafLemmas.{leaf}
 use Rattle.rvcollide.proofs.OptionLemmas.{Each, RowsStand, Told, image_stands, rows_stand, value_stands}
-use Rattle.rvcollide.proofs.ReadsLine.{run_rows}
-use Rattle.rvcollide.specs.Command.{IsGiven, run_job, run_of}
+use Rattle.rvcollide.proofs.ReadsLine.{run_rows, threads_rows}
+use Rattle.rvcollide.specs.Command.{Asked, IsGiven, options_job, run_of, threads_of}
 use Rattle.rvcollide.specs.Reading.{is_accepted, program}
 use Rattle.rvcollide.specs.Request.{Request}
-use Rattle.rvcollide.specs.RunLine.{Gives, GivesNumber, IsRunGiven, request_at, keep_at, number_at, number_in, number_or, plan_at}
+use Rattle.rvcollide.specs.RunLine.{Gives, GivesNumber, IsPlanGiven, IsRunGiven, request_at, keep_at, number_at, number_in, number_or, plan_at}
 
 -- ---- the arguments of `run`
 
@@ -61,6 +61,36 @@ run_told = (
   ),
 )
 
+-- ---- the arguments of `threads`
+
+threads_told : Each Told (leaf 6).rules
+unfolding clap_on_literals
+threads_told = (
+  record { missing = refl; defaults = refl; aliases = refl; short_aliases = refl; acts = inl refl; long = inl refl; short = inl refl; most = omega arith; place = inr (refl, refl) },
+  (
+    record { missing = refl; defaults = refl; aliases = refl; short_aliases = refl; acts = inl refl; long = inr (refl, refl); short = inl refl; most = omega arith; place = inl refl },
+    (
+      record { missing = refl; defaults = refl; aliases = refl; short_aliases = refl; acts = inl refl; long = inr (refl, refl); short = inl refl; most = omega arith; place = inl refl },
+      (
+        record { missing = refl; defaults = refl; aliases = refl; short_aliases = refl; acts = inl refl; long = inr (refl, refl); short = inl refl; most = omega arith; place = inl refl },
+        (
+          record { missing = refl; defaults = refl; aliases = refl; short_aliases = refl; acts = inl refl; long = inr (refl, refl); short = inl refl; most = omega arith; place = inl refl },
+          (
+            record { missing = refl; defaults = refl; aliases = refl; short_aliases = refl; acts = inl refl; long = inr (refl, refl); short = inl refl; most = omega arith; place = inl refl },
+            (
+              record { missing = refl; defaults = refl; aliases = refl; short_aliases = refl; acts = inl refl; long = inr (refl, refl); short = inl refl; most = omega arith; place = inl refl },
+              (
+                record { missing = refl; defaults = refl; aliases = refl; short_aliases = refl; acts = inr refl; long = inr (refl, refl); short = inr refl; most = omega arith; place = inl refl },
+                tt,
+              ),
+            ),
+          ),
+        ),
+      ),
+    ),
+  ),
+)
+
 -- ---- numbers
 
 then_holds : {X Y : Type 0} (P : X → Type 0) (Q : Y → Type 0) (f : X → Option Y) (o : Option X) → IfSome o P → ((x : X) → P x → IfSome (f x) Q) → IfSome (option_and_then f o) Q
@@ -96,11 +126,8 @@ module _ (words : List Text) (rows : List Row) (stand : RowsStand words rows) wh
       then_holds (Gives words name) (GivesNumber words name least most) (λ text. number_in least most text) (first_of name rows) (value name other)
       (λ text stands. number_holds words name text least most stands)
 
-  record PlanGiven (plan : Numbers) : Type 0 where
-    pub harts : GivesNumber words (codes "harts") 1 16 plan.harts
-    pub steps : GivesNumber words (codes "steps") 1 1_000_000 plan.steps
-    pub arms : GivesNumber words (codes "arms") 0 4096 plan.arms
-    pub pause : GivesNumber words (codes "pause") 1 65_535 plan.pause
+  abbrev PlanGiven : Numbers → Type 0
+  PlanGiven = IsPlanGiven words
 
   plan_given : IfSome (plan_at rows) PlanGiven
   plan_given =
@@ -142,10 +169,7 @@ module _ (words : List Text) (rows : List Row) (stand : RowsStand words rows) wh
       map_holds _ (RequestGiven path) _ (keep_at runs rows) (keep_given runs) (λ keep k.
       record {
         image = stands;
-        harts = p.harts;
-        steps = p.steps;
-        arms = p.arms;
-        pause = p.pause;
+        plan = p;
         seed = s;
         runs = r;
         workers = w;
@@ -160,12 +184,28 @@ module _ (words : List Text) (rows : List Row) (stand : RowsStand words rows) wh
   rows_given n = then_holds (Contains words) (IsGiven (n ∷ codes "run" ∷ words)) _ (first_of (codes "IMAGE") rows) (image_stands words rows stand) (λ path image.
       map_holds (RequestGiven path) (IsGiven (n ∷ codes "run" ∷ words)) _ (request_at rows) (request_given path image) (λ request given. (refl, given)))
 
-pub run_given : (n : Text) (rest : List Text) → IfSome (run_job (n ∷ codes "run" ∷ rest)) (IsGiven (n ∷ codes "run" ∷ rest))
-run_given n rest = go (is_accepted (n ∷ codes "run" ∷ rest))
-  where
-    found : IfSome (option_and_then (λ (p : Text × List Row). run_of p.1) (subcommand_of program (n ∷ codes "run" ∷ rest))) (IsGiven (n ∷ codes "run" ∷ rest))
-    found = rw (run_rows n rest) (rows_given rest (rows_after (leaf 5).rules [] rest) (rows_stand (leaf 5).rules run_told rest) n)
+  threads_rows_given : (n : Text) → IfSome (threads_of rows) (IsGiven (n ∷ codes "threads" ∷ words))
+  threads_rows_given n = then_holds (Contains words) Given _ (first_of (codes "IMAGE") rows) (image_stands words rows stand) (λ path image.
+      then_holds PlanGiven Given _ (plan_at rows) plan_given (λ plan p.
+      map_holds _ Given _ (number_at (codes "seed") 0 4_294_967_295 rows) (number (codes "seed") 0 4_294_967_295 refl) (λ seed s.
+      (refl, record { image = image; plan = p; seed = s; save = value (codes "save") refl }))))
+    where
+      Given : Asked → Type 0
+      Given = IsGiven (n ∷ codes "threads" ∷ words)
 
-    go : (b : Bool) → IfSome (cond b (option_and_then (λ (p : Text × List Row). run_of p.1) (subcommand_of program (n ∷ codes "run" ∷ rest))) None) (IsGiven (n ∷ codes "run" ∷ rest))
-    go true = found
+-- what holds of the job in what `clap` finds holds of the line's
+line_given : (meaning : List Row → Option Asked) (words : List Text) (name : Text) (rows : List Row) → subcommand_of program words ≡ Some (name, rows)
+    → IfSome (meaning rows) (IsGiven words) → IfSome (options_job meaning words) (IsGiven words)
+line_given meaning words name rows is given = go (is_accepted words)
+  where
+    go : (b : Bool) → IfSome (cond b (option_and_then (λ (p : Text × List Row). meaning p.1) (subcommand_of program words)) None) (IsGiven words)
+    go true = rw is given
     go false = tt
+
+pub run_given : (n : Text) (rest : List Text) → IfSome (options_job run_of (n ∷ codes "run" ∷ rest)) (IsGiven (n ∷ codes "run" ∷ rest))
+run_given n rest = line_given run_of (n ∷ codes "run" ∷ rest) (codes "run") (rows_after (leaf 5).rules [] rest) (run_rows n rest)
+    (rows_given rest (rows_after (leaf 5).rules [] rest) (rows_stand (leaf 5).rules run_told rest) n)
+
+pub threads_given : (n : Text) (rest : List Text) → IfSome (options_job threads_of (n ∷ codes "threads" ∷ rest)) (IsGiven (n ∷ codes "threads" ∷ rest))
+threads_given n rest = line_given threads_of (n ∷ codes "threads" ∷ rest) (codes "threads") (rows_after (leaf 6).rules [] rest) (threads_rows n rest)
+    (threads_rows_given rest (rows_after (leaf 6).rules [] rest) (rows_stand (leaf 6).rules threads_told rest) n)

@@ -2,9 +2,11 @@ use Rattle.std.specs.Prelude.{◌≡◌, ℕ, ◌==◌, ◌&&◌, Bool, false, i
 use Rattle.std.specs.Borrow.{Bor}
 use Rattle.std.specs.Str.{bytes_eq, chars}
 use Rattle.clap.specs.Words.{Row, first_of, subcommand_of}
+use Rattle.rv_collide.specs.Numbers.{numbers}
+use Rattle.rv_collide.specs.Plan.{Numbers}
 use Rattle.rvcollide.specs.Reading.{is_accepted, program}
 use Rattle.rvcollide.specs.Request.{Request, request}
-use Rattle.rvcollide.specs.RunLine.{IsRunGiven, request_at}
+use Rattle.rvcollide.specs.RunLine.{IsRunGiven, IsThreadsGiven, number_at, plan_at, request_at}
 use Rattle.rvcollide.specs.declared.command.Job.{Job}
 use Rattle.rvcollide.specs.declared.command.Job.TheVariants as job
 
@@ -22,6 +24,7 @@ pub data Asked : Type 0 where
   Replay : (image schedule : List ℕ) → Asked
   Debug : (image schedule : List ℕ) → Asked
   Run : (image : List ℕ) → (wanted : Request) → (save : Option (List ℕ)) → Asked
+  Threads : (image : List ℕ) → (plan : Numbers) → (seed : ℕ) → (save : Option (List ℕ)) → Asked
 
 -- what a job asks for: each of its paths in its own role
 abbrev pub asked : Job → Asked
@@ -31,8 +34,9 @@ asked (job.List image) = Listing image.0.now
 asked (job.Replay image schedule) = Replay image.0.now schedule.0.now
 asked (job.Debug image schedule) = Debug image.0.now schedule.0.now
 asked (job.Run image options save) = Run image.0.now (request options) (option_map (λ path. path.0.now) save)
+asked (job.Threads image plan seed save) = Threads image.0.now (numbers plan) seed (option_map (λ path. path.0.now) save)
 
--- a hyphen and a character after it begin an option. No command but `run` has options.
+-- a hyphen and a character after it begin an option. No command but `run` and `threads` has options.
 abbrev pub is_option : List ℕ → Bool
 is_option [] = false
 is_option (byte ∷ rest) = byte == 45 && is_some (slice_get (chars rest) 0)
@@ -75,9 +79,14 @@ abbrev pub run_of : List Row → Option Asked
 run_of rows = option_and_then (λ image. option_map (λ wanted. Run image wanted (first_of (codes "save") rows))
     (request_at rows)) (first_of (codes "IMAGE") rows)
 
--- the job of a line whose command is `run`: `clap` finds no fault in it, and each number is in its range
-abbrev pub run_job : List (List ℕ) → Option Asked
-run_job words = if is_accepted words then option_and_then (λ found. run_of found.1) (subcommand_of program words) else None
+-- `threads IMAGE` with its options
+abbrev pub threads_of : List Row → Option Asked
+threads_of rows = option_and_then (λ image. option_and_then (λ plan. option_map (λ seed. Threads image plan seed (first_of (codes "save") rows))
+    (number_at (codes "seed") 0 4_294_967_295 rows)) (plan_at rows)) (first_of (codes "IMAGE") rows)
+
+-- the job of a line whose command has options: `clap` finds no fault in it, and each number is in its range
+abbrev pub options_job : (List Row → Option Asked) → List (List ℕ) → Option Asked
+options_job meaning words = if is_accepted words then option_and_then (λ found. meaning found.1) (subcommand_of program words) else None
 
 -- the job of the command of this name with these words after it
 abbrev pub command_job : List ℕ → List (List ℕ) → Option Asked
@@ -91,7 +100,10 @@ command_job name rest =
 
 -- the job that a line asks for: the program's name, the command's, and the command's words
 unfoldable pub job_of : List (List ℕ) → Option Asked
-job_of (name ∷ command ∷ rest) = if bytes_eq (codes "run") command then run_job (name ∷ command ∷ rest) else command_job command rest
+job_of (name ∷ command ∷ rest) =
+    if bytes_eq (codes "run") command then options_job run_of (name ∷ command ∷ rest)
+    else (if bytes_eq (codes "threads") command then options_job threads_of (name ∷ command ∷ rest)
+    else command_job command rest)
 job_of _ = None
 
 -- the command's name and each path of the job stand in the line
@@ -102,3 +114,4 @@ IsGiven words (Listing image) = (slice_get words 1 ≡ Some (codes "list")) × C
 IsGiven words (Replay image schedule) = (slice_get words 1 ≡ Some (codes "replay")) × Contains (drop 2 words) image × Contains (drop 2 words) schedule
 IsGiven words (Debug image schedule) = (slice_get words 1 ≡ Some (codes "debug")) × Contains (drop 2 words) image × Contains (drop 2 words) schedule
 IsGiven words (Run image wanted save) = (slice_get words 1 ≡ Some (codes "run")) × IsRunGiven (drop 2 words) image wanted save
+IsGiven words (Threads image plan seed save) = (slice_get words 1 ≡ Some (codes "threads")) × IsThreadsGiven (drop 2 words) image plan seed save

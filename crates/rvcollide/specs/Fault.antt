@@ -9,12 +9,18 @@ use Rattle.rv_collide.specs.Reading.{is_of_text}
 use Rattle.rv_collide.specs.declared.replay.ReplayFault.{ReplayFault}
 use Rattle.rv_collide.specs.declared.replay.ReplayFault.TheVariants as replay
 use Rattle.rv_collide.specs.declared.schedule.fault.ScheduleFault.{ScheduleFault}
+use Rattle.std.specs.declared.convert.Infallible.{Infallible}
+use Rattle.rv_debug.specs.declared.fault.TalkFault.{TalkFault}
+use Rattle.rv_debug.specs.declared.fault.TalkFault.TheVariants as talk
 use Rattle.rv_elf.specs.declared.fault.LoadFault.{LoadFault}
 use Rattle.rv_elf.specs.declared.fault.LoadFault.TheVariants as load
+use Rattle.rv_locked.specs.declared.threads.RunFault.{RunFault}
+use Rattle.rv_locked.specs.declared.threads.RunFault.TheVariants as threaded
 use Rattle.rv_memory.specs.declared.flagged.ReadFault.{ReadFault}
 use Rattle.rv_memory.specs.declared.flagged.ReadFault.TheVariants as read
 use Rattle.rvcollide.specs.declared.fault.Fault.{Fault}
-use Rattle.rvcollide.specs.declared.fault.Fault.TheVariants.{Line, Step, Asm, Load, Schedule, Entry, TooLong, Read, Write, NoMemory}
+use Rattle.rvcollide.specs.declared.fault.Fault.TheVariants.{Line, Step, Asm, Load, Schedule, Entry, Threads, TooLong, Read, Write, NoMemory}
+use Rattle.rvcollide.specs.declared.fault.ThreadsFault.TheVariants.{NoThread, Stray}
 use Rattle.rvcollide.specs.declared.words.input.InputFault.{InputFault}
 use Rattle.rvcollide.specs.declared.words.input.InputFault.TheVariants as input
 
@@ -46,10 +52,22 @@ abbrev pub fault_of_replay : ReplayFault → Fault
 fault_of_replay replay.NoMemory = NoMemory
 fault_of_replay (replay.Entry place why) = Entry place why
 
+-- a gate that always lets in gives no value to refuse with
+abbrev pub fault_of_threads : RunFault Infallible → Fault
+fault_of_threads threaded.NoMemory = NoMemory
+fault_of_threads threaded.NoThread = Threads NoThread
+fault_of_threads (threaded.GateClosed hart shut) = elim shut [ ]
+fault_of_threads (threaded.Stray hart) = Threads Stray
+
 abbrev pub fault_of_read : ReadFault → Fault
 fault_of_read read.Read = Read
 fault_of_read read.TooLong = TooLong
 fault_of_read read.NoMemory = NoMemory
+
+abbrev pub fault_of_talk : TalkFault → Fault
+fault_of_talk talk.TooLong = TooLong
+fault_of_talk talk.Read = Read
+fault_of_talk talk.Write = Write
 
 -- the fault is the one that is told of an input; that a device failed or memory is out says nothing of it
 abbrev pub IsToldFault : {A : Type 0} → Result A Fault → Fault → Type 0
@@ -59,6 +77,7 @@ IsToldFault told (Asm fault) = told ≡ Err (Asm fault)
 IsToldFault told (Load fault) = told ≡ Err (Load fault)
 IsToldFault told (Schedule fault) = told ≡ Err (Schedule fault)
 IsToldFault told (Entry place why) = told ≡ Err (Entry place why)
+IsToldFault told (Threads fault) = told ≡ Err (Threads fault)
 IsToldFault told TooLong = told ≡ Err TooLong
 IsToldFault told Read = ⊤
 IsToldFault told Write = ⊤
@@ -72,6 +91,7 @@ is_read (Asm fault) = false
 is_read (Load fault) = false
 is_read (Schedule fault) = false
 is_read (Entry place why) = false
+is_read (Threads fault) = false
 is_read TooLong = false
 is_read Read = true
 is_read Write = false
@@ -85,6 +105,7 @@ is_write (Asm fault) = false
 is_write (Load fault) = false
 is_write (Schedule fault) = false
 is_write (Entry place why) = false
+is_write (Threads fault) = false
 is_write TooLong = false
 is_write Read = false
 is_write Write = true

@@ -5,7 +5,9 @@ use Rattle.rv_asm.specs.declared.statement.AsmKind.TheVariants as kind
 use Rattle.rv_hart.specs.declared.machine.StepFault.{StepFault}
 use Rattle.rv_hart.specs.declared.machine.StepFault.TheVariants as refused
 use Rattle.rvcollide.specs.declared.fault.Fault.{Fault}
-use Rattle.rvcollide.specs.declared.fault.Fault.TheVariants.{Line, Step, Asm, Load, Schedule, Entry, TooLong, Read, Write, NoMemory}
+use Rattle.rvcollide.specs.declared.fault.Fault.TheVariants.{Line, Step, Asm, Load, Schedule, Entry, Threads, TooLong, Read, Write, NoMemory}
+use Rattle.rvcollide.specs.declared.fault.ThreadsFault.{ThreadsFault}
+use Rattle.rvcollide.specs.declared.fault.ThreadsFault.TheVariants.{NoThread, Stray}
 
 abbrev pub step_fault_name : StepFault → List ℕ
 step_fault_name refused.NoHart = codes "NoHart"
@@ -24,6 +26,10 @@ asm_fault_name kind.TooLarge = codes "TooLarge"
 asm_fault_name kind.NoMemory = codes "NoMemory"
 asm_fault_name kind.Empty = codes "Empty"
 
+abbrev pub threads_fault_name : ThreadsFault → List ℕ
+threads_fault_name NoThread = codes "NoThread"
+threads_fault_name Stray = codes "Stray"
+
 -- what the program writes of a fault, after its own name; the names of load faults are rv_elf's, those of
 -- faults of schedules and of entries rv_collide's
 abbrev pub fault_output : Fault → Option (List ℕ)
@@ -33,12 +39,13 @@ fault_output (Asm fault) = Some (codes "asm line " ++ (decimal fault.line ++ (co
 fault_output (Load fault) = None
 fault_output (Schedule fault) = None
 fault_output (Entry place why) = None
+fault_output (Threads fault) = Some (codes "run " ++ threads_fault_name fault)
 fault_output TooLong = Some (codes "input TooLong")
 fault_output Read = Some (codes "read")
 fault_output Write = Some (codes "write")
 fault_output NoMemory = Some (codes "memory")
 
--- the exit status: 1 for a refused input, 3 for a device that failed, 4 for want of memory
+-- the exit status: 1 for a refused input or run, 3 for a device that failed, 4 for want of memory
 abbrev pub status : Fault → ℕ
 status (Line number) = 1
 status (Step number fault) = 1
@@ -46,6 +53,7 @@ status (Asm fault) = 1
 status (Load fault) = 1
 status (Schedule fault) = 1
 status (Entry place why) = 1
+status (Threads fault) = 1
 status TooLong = 1
 status Read = 3
 status Write = 3

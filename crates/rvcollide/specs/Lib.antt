@@ -1,8 +1,6 @@
 pub mod Campaigns
 pub mod Command
-pub mod DebugAnswers
-pub mod DebugCommand
-pub mod DebugTalk
+pub mod Debug
 pub mod Failure
 pub mod Fault
 pub mod FaultText
@@ -18,6 +16,7 @@ pub mod RunLine
 pub mod Sources
 pub mod StepsLaw
 pub mod StepsLine
+pub mod Threads
 pub mod Words
 pub mod WordsInput
 pub mod WordsText

@@ -64,6 +64,10 @@ with_lists s = with_argument (with_argument (with_argument (with_argument s
 abbrev pub run_shape : Shape
 run_shape = with_lists (with_runs (with_plan (with_argument (new_shape (codes "run")) (required_word (codes "IMAGE")))))
 
+abbrev pub threads_shape : Shape
+threads_shape = with_argument (with_argument (with_plan (with_argument (new_shape (codes "threads")) (required_word (codes "IMAGE"))))
+    (required_option (codes "seed"))) (option (codes "save"))
+
 abbrev pub without_commands : App
 without_commands = on_top (λ s. record s { has_version = true; subcommand_required = true }) (new_app (codes "rvcollide"))
 
@@ -73,8 +77,11 @@ with_texts = with_subcommand (with_subcommand without_commands words_shape) asm_
 abbrev pub with_schedules : App
 with_schedules = with_subcommand (with_subcommand (with_subcommand with_texts list_shape) replay_shape) debug_shape
 
+abbrev pub with_hunts : App
+with_hunts = with_subcommand with_schedules run_shape
+
 abbrev pub program : App
-program = with_subcommand with_schedules run_shape
+program = with_subcommand with_hunts threads_shape
 
 -- `clap` finds no fault in the words
 abbrev pub is_accepted : List Text → Bool

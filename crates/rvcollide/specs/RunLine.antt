@@ -4,7 +4,7 @@ use Rattle.rv_collide.specs.Plan.{Numbers}
 use Rattle.rv_text.specs.Numeral.{number_of, up_to}
 use Rattle.rvcollide.specs.Request.{Request}
 
--- The options of `run`: what each value means, and that it stands in the line.
+-- The options of `run` and `threads`: what each value means, and that it stands in the line.
 
 -- the number that a text writes in decimal digits, if it lies in the range
 abbrev pub number_in : ℕ → ℕ → Text → Option ℕ
@@ -56,13 +56,17 @@ pub record GivesNumber (words : List Text) (name : Text) (least most n : ℕ) : 
   pub no_less : least ≤ n
   pub no_more : n ≤ most
 
--- each option of the job stands in the words
+-- each number of the plan stands in the words
+pub record IsPlanGiven (words : List Text) (plan : Numbers) : Type 0 where
+  pub harts : GivesNumber words (codes "harts") 1 16 plan.harts
+  pub steps : GivesNumber words (codes "steps") 1 1_000_000 plan.steps
+  pub arms : GivesNumber words (codes "arms") 0 4096 plan.arms
+  pub pause : GivesNumber words (codes "pause") 1 65_535 plan.pause
+
+-- each option of `run` stands in the words
 pub record IsRunGiven (words : List Text) (path : Text) (wanted : Request) (saved : Option Text) : Type 0 where
   pub image : Contains words path
-  pub harts : GivesNumber words (codes "harts") 1 16 wanted.plan.harts
-  pub steps : GivesNumber words (codes "steps") 1 1_000_000 wanted.plan.steps
-  pub arms : GivesNumber words (codes "arms") 0 4096 wanted.plan.arms
-  pub pause : GivesNumber words (codes "pause") 1 65_535 wanted.plan.pause
+  pub plan : IsPlanGiven words wanted.plan
   pub seed : GivesNumber words (codes "seed") 0 4_294_967_295 wanted.seed
   pub runs : GivesNumber words (codes "runs") 1 1000 wanted.runs
   pub workers : GivesNumber words (codes "workers") 1 16 wanted.workers
@@ -70,4 +74,11 @@ pub record IsRunGiven (words : List Text) (path : Text) (wanted : Request) (save
   pub keep_is_run : wanted.keep < wanted.runs
   pub named : IfSome wanted.named (Gives words (codes "named"))
   pub skip : IfSome wanted.skip (Gives words (codes "skip"))
+  pub save : IfSome saved (Gives words (codes "save"))
+
+-- each option of `threads` stands in the words
+pub record IsThreadsGiven (words : List Text) (path : Text) (numbers : Numbers) (number : ℕ) (saved : Option Text) : Type 0 where
+  pub image : Contains words path
+  pub plan : IsPlanGiven words numbers
+  pub seed : GivesNumber words (codes "seed") 0 4_294_967_295 number
   pub save : IfSome saved (Gives words (codes "save"))

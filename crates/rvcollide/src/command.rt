@@ -17,13 +17,16 @@ ghost use Rattle.rvcollide.specs.internal.Reading as jobs;
 
 pub mod complaint;
 pub mod run;
+pub mod threads;
 
 use crate::arguments::{ImagePath, SavePath, SchedulePath, SourcePath};
 use crate::command::complaint::Complaint;
 use crate::command::run::{run_command, run_of};
+use crate::command::threads::{threads_command, threads_of};
 use crate::run::options::Options;
 use clap::error::ErrorKind;
 use clap::{Arg, ArgMatches, Command, Error};
+use rv_collide::plan::Plan;
 use std::alloc::{AllocError, Global};
 use std::fmt::Display;
 
@@ -55,6 +58,14 @@ pub enum Job<'a> {
     Run {
         image: ImagePath<'a>,
         options: Options<'a>,
+        save: Option<SavePath<'a>>,
+    },
+    /// `threads IMAGE` with its options: one run by a thread for each hart, whose schedule is saved where a file is
+    /// given.
+    Threads {
+        image: ImagePath<'a>,
+        plan: Plan,
+        seed: u32,
         save: Option<SavePath<'a>>,
     },
 }
@@ -156,6 +167,13 @@ fn read_line<'a>(alloc: Global, words: &'a [&'a str]) -> Result<ArgMatches<'a>, 
 /// The program with all its commands.
 fn program<'a>(alloc: Global) -> Result<Command<'a>, AllocError>
     ensures { IfOk result (λ c. app_of c ≡ reading.program) }
+{
+    with_hunts(alloc)?.subcommand(threads_command(alloc)?)
+}
+
+/// The program with all its commands but the last.
+fn with_hunts<'a>(alloc: Global) -> Result<Command<'a>, AllocError>
+    ensures { IfOk result (λ c. app_of c ≡ reading.with_hunts) }
 {
     with_schedules(alloc)?.subcommand(run_command(alloc)?)
 }
@@ -294,13 +312,15 @@ fn job_at<'a>(name: &str, given: &ArgMatches<'a>) -> Result<Job<'a>, Complaint<'
 {
     match name {
         "run" => run_of(given),
+        "threads" => threads_of(given),
         _ => path_job_at(name, given).ok_or(Complaint::Words),
     }
 }
 
 /// The job of a command that has paths alone.
 fn path_job_at<'a>(name: &str, given: &ArgMatches<'a>) -> Option<Job<'a>>
-    requires { bytes_eq name.now (codes "run") ≡ false }
+    requires run { bytes_eq name.now (codes "run") ≡ false }
+    requires threads { bytes_eq name.now (codes "threads") ≡ false }
     ensures { option_map spec.asked result ≡ jobs.job_in (name.now, rows_of (found_of given.now)) }
 {
     match name {

@@ -1,17 +1,28 @@
 ghost use Rattle.std.specs.Prelude.{◌≡◌};
 ghost use Rattle.rvcollide.specs.FaultText as spec;
-ghost use Rattle.rvcollide.specs.Fault.{fault_of_asm, fault_of_input, fault_of_list, fault_of_load, fault_of_read, fault_of_replay, fault_of_schedule};
+ghost use Rattle.rvcollide.specs.Fault.{fault_of_asm, fault_of_input, fault_of_list, fault_of_load, fault_of_read, fault_of_replay, fault_of_schedule, fault_of_talk, fault_of_threads};
 ghost use Rattle.rvcollide.specs.declared.fault.Fault.TheVariants as fault;
 
 use crate::words::input::InputFault;
 use rv_asm::{AsmFault, AsmKind, ListFault};
 use rv_collide::replay::{ReplayFault, Why};
 use rv_collide::schedule::{ScheduleFault, ScheduleKind};
+use rv_debug::fault::TalkFault;
 use rv_elf::LoadFault;
 use rv_hart::machine::StepFault;
+use rv_locked::threads::RunFault;
 use rv_memory::flagged::{ReadFault, WriteFault};
 use rv_memory::store::NoMemory;
+use std::convert::Infallible;
 use std::fmt;
+
+/// Why a run by threads is refused: a thread cannot be started, or what a thread recorded is not its hart's part
+/// of the schedule.
+#[derive(Clone, Copy, Debug, PartialEq, Eq)]
+pub enum ThreadsFault {
+    NoThread,
+    Stray,
+}
 
 /// Why a command does not write its text.
 #[derive(Clone, Copy, Debug, PartialEq, Eq)]
@@ -28,6 +39,8 @@ pub enum Fault {
     Schedule(ScheduleFault),
     /// The first entry of a schedule, from 0 on, that is not what a call would add there, and why.
     Entry { place: u32, why: Why },
+    /// Why a run by threads is refused.
+    Threads(ThreadsFault),
     /// The input has more bytes than an input may have.
     TooLong,
     /// The reader failed.
@@ -49,6 +62,7 @@ impl Fault {
             | Fault::Load(_)
             | Fault::Schedule(_)
             | Fault::Entry { .. }
+            | Fault::Threads(_)
             | Fault::TooLong => 1,
             Fault::Read | Fault::Write => 3,
             Fault::NoMemory => 4,
@@ -113,6 +127,18 @@ impl From<ReplayFault> for Fault {
     }
 }
 
+impl From<RunFault<Infallible>> for Fault {
+    ghost from_gives = { λ given made. made ≡ fault_of_threads given };
+
+    fn from(given: RunFault<Infallible>) -> Fault {
+        match given {
+            RunFault::NoMemory => Fault::NoMemory,
+            RunFault::NoThread => Fault::Threads(ThreadsFault::NoThread),
+            RunFault::Stray(_) => Fault::Threads(ThreadsFault::Stray),
+        }
+    }
+}
+
 impl From<ListFault> for Fault {
     ghost from_gives = { λ given made. made ≡ fault_of_list given };
 
@@ -120,6 +146,18 @@ impl From<ListFault> for Fault {
         match given {
             ListFault::Write => Fault::Write,
             ListFault::NoMemory => Fault::NoMemory,
+        }
+    }
+}
+
+impl From<TalkFault> for Fault {
+    ghost from_gives = { λ given made. made ≡ fault_of_talk given };
+
+    fn from(given: TalkFault) -> Fault {
+        match given {
+            TalkFault::TooLong => Fault::TooLong,
+            TalkFault::Read => Fault::Read,
+            TalkFault::Write => Fault::Write,
         }
     }
 }
@@ -168,6 +206,7 @@ impl fmt::Display for Fault {
             Fault::Load(fault) => write!(f, "load {fault}"),
             Fault::Schedule(fault) => write!(f, "schedule line {} {}", fault.line, fault.kind),
             Fault::Entry { place, why } => write!(f, "replay entry {place} {why}"),
+            Fault::Threads(fault) => write!(f, "run {}", threads_fault_name(*fault)),
             Fault::TooLong => f.write_str("input TooLong"),
             Fault::Read => f.write_str("read"),
             Fault::Write => f.write_str("write"),
@@ -200,5 +239,14 @@ fn asm_fault_name(kind: AsmKind) -> &'static str
         AsmKind::TooLarge => "TooLarge",
         AsmKind::NoMemory => "NoMemory",
         AsmKind::Empty => "Empty",
+    }
+}
+
+fn threads_fault_name(fault: ThreadsFault) -> &'static str
+    ensures { result.now ≡ spec.threads_fault_name fault }
+{
+    match fault {
+        ThreadsFault::NoThread => "NoThread",
+        ThreadsFault::Stray => "Stray",
     }
 }

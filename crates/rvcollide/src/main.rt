@@ -18,6 +18,7 @@ pub mod list;
 pub mod new_file;
 pub mod replay;
 pub mod run;
+pub mod threads;
 pub mod words;
 
 use crate::arguments::{ImagePath, SavePath, SchedulePath};
@@ -32,11 +33,13 @@ use crate::replay::engine::run_replay;
 use crate::run::engine::run_campaign;
 use crate::run::fault::RunFault;
 use crate::run::options::Options;
+use crate::threads::engine::run_by_threads;
 use crate::words::engine::run_words;
 use rv_memory::buffered::Buffered;
 use rv_memory::flagged::Flagged;
 use std::env;
 use std::process::ExitCode;
+use std::sync::Wait;
 use std::thread::Threads;
 
 fn main(rt: HostRuntime) -> ExitCode {
@@ -49,7 +52,7 @@ fn main(rt: HostRuntime) -> ExitCode {
 /// Runs the command of the program's arguments, and tells why it fails while they are there.
 fn run_arguments(
     rt: &HostRuntime,
-    threads: &(impl Threads + Sync),
+    threads: &(impl Threads + Wait + Sync),
 ) -> Result<ExitCode, Failure<'static>> {
     let alloc = rt.alloc();
     let arguments: Vec<String> = env::args(rt)?.collect(alloc)?;
@@ -72,7 +75,7 @@ fn tell_failure(rt: &HostRuntime, failure: Failure<'_>) -> ExitCode {
 /// Runs the command of a line.
 fn run_line<'a>(
     rt: &HostRuntime,
-    threads: &(impl Threads + Sync),
+    threads: &(impl Threads + Wait + Sync),
     words: &'a [&'a str],
 ) -> Result<(), Failure<'a>> {
     match command_of(rt.alloc(), words) {
@@ -85,7 +88,7 @@ fn run_line<'a>(
 /// Runs the engine of a job. Here, in `debug_files` and in `run_files` a path becomes a file, and nowhere else.
 fn run_job<'a>(
     rt: &HostRuntime,
-    threads: &(impl Threads + Sync),
+    threads: &(impl Threads + Wait + Sync),
     job: Job<'a>,
 ) -> Result<(), RunFault<'a>> {
     let alloc = rt.alloc();
@@ -111,6 +114,24 @@ fn run_job<'a>(
             options,
             save,
         } => return run_files(rt, threads, image, &options, save),
+        Job::Threads {
+            image,
+            plan,
+            seed,
+            save,
+        } => {
+            let mut image = Flagged::new(InputFile::new(rt, image.0));
+            let mut file = save.map(|path| OutputFile::new(rt, path.0));
+            run_by_threads(
+                threads,
+                alloc,
+                plan,
+                seed,
+                &mut image,
+                &mut file,
+                &mut writer,
+            )
+        }
     };
     Ok(plain?)
 }
@@ -132,7 +153,7 @@ fn debug_files(
 /// Runs the engine of `run` on a file, and on one that it makes where that is asked for.
 fn run_files<'a>(
     rt: &HostRuntime,
-    threads: &(impl Threads + Sync),
+    threads: &(impl Threads + Wait + Sync),
     image: ImagePath<'_>,
     options: &Options<'a>,
     save: Option<SavePath<'_>>,

@@ -5,7 +5,7 @@ pub mod fault;
 mod hunting;
 mod lists;
 pub mod options;
-mod saving;
+pub mod saving;
 mod table;
 #[cfg(test)]
-mod tests;
+pub mod tests;

@@ -1,4 +1,5 @@
 use super::*;
+use crate::plan::Plan;
 use rv_hart::access::Access;
 use rv_memory::flagged::Flagged;
 use std::test::Fail;
@@ -47,5 +48,32 @@ fn writes_endings(rt: HostRuntime) -> Result<(), Fail> {
         ending 2 hart 15 pc 00010004 store 00020000 4 slot 3 quiet old 00000000 new 00000000\n"
             .as_slice()
     );
+    Ok(())
+}
+
+/// Steps and pauses are turns; no other entry is.
+#[test]
+fn counts_turns(rt: HostRuntime) -> Result<(), Fail> {
+    let alloc = rt.alloc();
+    let mut entries = Vec::new(alloc);
+    for entry in [
+        Entry::Armed(0x0001_0004),
+        Entry::Stepped(0),
+        Entry::Paused(0, None),
+        Entry::Resumed(0),
+        Entry::Stepped(1),
+        Entry::Disarmed(0x0001_0004),
+    ] {
+        entries.push(entry)?;
+    }
+    let told = Finished {
+        plan: Plan::new(2, 10, 2, 5).ok_or("a plan")?,
+        entries,
+        endings: Vec::new(alloc),
+        output: Vec::new(alloc),
+    };
+    let mut writer = Flagged::new(Vec::new(alloc));
+    assert_eq!(rt; write_finished(&mut writer, &told), Ok(()));
+    assert_eq!(rt; writer.into_inner().as_slice(), b"turns 3\n".as_slice());
     Ok(())
 }

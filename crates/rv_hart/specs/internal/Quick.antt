@@ -1,7 +1,7 @@
-use Rattle.std.specs.Prelude.{◌≡◌, ℕ, false, IsTrue, Option, Some, None, List, length, slice_get, IsSomeAnd}
-use Rattle.rv_hart.specs.Next.{is_running_hart, prints}
+use Rattle.std.specs.Prelude.{◌≡◌, ℕ, false, IsTrue, Option, Some, None, List, [], length, slice_get}
+use Rattle.rv_hart.specs.Next.{is_print, is_running_hart, prints}
 use Rattle.rv_hart.specs.State.{State, is_running}
-use Rattle.rv_hart.specs.Step.{step_of, fetched}
+use Rattle.rv_hart.specs.Step.{event_of, fetched, hart_after, loaded_by, memory_after, printed, seen_by, step_of, written_by}
 use Rattle.rv_hart.specs.declared.access.Access.{Access}
 use Rattle.rv_hart.specs.declared.access.Event.{Event}
 use Rattle.rv_hart.specs.declared.access.Event.TheVariants as event
@@ -9,6 +9,9 @@ use Rattle.rv_hart.specs.declared.action.Action.{Action}
 use Rattle.rv_hart.specs.declared.hart.Hart.{Hart}
 use Rattle.rv_hart.specs.declared.quick.Attempt.{Attempt}
 use Rattle.rv_hart.specs.declared.quick.Attempt.TheVariants as attempt
+use Rattle.rv_hart.specs.declared.write.Write.{Write}
+use Rattle.rv_hart.specs.internal.Harts.{any_holds, write_of_access}
+use Rattle.rv_hart.specs.internal.Machine.{RunsTo}
 use Rattle.rv_memory.specs.Memory.{Memory, load_permitted}
 use Rattle.rv_memory.specs.Sound.{IsSound}
 use Rattle.rv_memory.specs.declared.store.Need.TheVariants.{Execute}
@@ -23,12 +26,34 @@ pub record Begins (memory : Memory) (action : Action) (hart : Hart) : Type 0 whe
   pub running : IsTrue (is_running hart.status)
   pub action_is : action ≡ fetched memory hart
 
--- there is a hart h, and it is so
-abbrev pub HartIs : List Hart → ℕ → (Hart → Type 0) → Type 0
-HartIs harts h P = IsSomeAnd (slice_get harts h) P
-
 abbrev pub over : List Hart → Memory → List ℕ → State
 over harts memory output = record { harts = harts; memory = memory; output = output }
+
+-- what other harts see of an event: the write of its access
+abbrev pub write_of : Event → Option Write
+write_of (event.Moved None) = None
+write_of (event.Moved (Some access)) = write_of_access access
+write_of (event.Exited code) = None
+write_of (event.Stopped cause) = None
+
+-- A hart's own part of a step, `old` before it and `new` after it. It prints nothing, and what others see of
+-- it stands in its event.
+pub record Moves (old new : Hart) (before after : Memory) (event : Event) : Type 0 where
+  pub action : Action
+  pub runs : RunsTo before old action
+  pub hart_is : new ≡ hart_after (loaded_by before action) old action
+  pub memory_is : after ≡ memory_after before (written_by (loaded_by before action) old action)
+  pub event_is : event ≡ event_of old action
+  pub none : printed action ≡ []
+  pub quiet : is_print action ≡ false
+  pub reservation : new.reservation ≡ old.reservation
+  pub seen : (other : Hart) → seen_by (written_by (loaded_by before action) old action) other ≡ seen_by (write_of event) other
+  pub sound : IsSound before → IsSound after
+
+-- what trying a hart's own part comes to: that part, or nothing at all
+abbrev pub Tried : Hart → Hart → Memory → Memory → Option Event → Type 0
+Tried old new before after None = (new ≡ old) × (after ≡ before)
+Tried old new before after (Some event) = Moves old new before after event
 
 -- a step of hart h that prints nothing, whatever was printed before
 pub record IsQuick (old new : List Hart) (before after : Memory) (h : ℕ) (event : Event) : Type 0 where
@@ -37,14 +62,21 @@ pub record IsQuick (old new : List Hart) (before after : Memory) (h : ℕ) (even
   pub silent : prints before (slice_get old h) ≡ false
   pub count : length new ≡ length old
   pub sound : IsSound before → IsSound after
+  pub held : any_holds old ≡ false → any_holds new ≡ false
 
 -- what trying a step by the quick path comes to: the step, or nothing at all
-abbrev pub Tried : List Hart → List Hart → Memory → Memory → ℕ → Option Event → Type 0
-Tried old new before after h None = (new ≡ old) × (after ≡ before)
-Tried old new before after h (Some event) = IsQuick old new before after h event
+abbrev pub TriedAt : List Hart → List Hart → Memory → Memory → ℕ → Option Event → Type 0
+TriedAt old new before after h None = (new ≡ old) × (after ≡ before)
+TriedAt old new before after h (Some event) = IsQuick old new before after h event
 
 -- the event that an attempt comes to, with the access that was noted
 abbrev pub event_of_attempt : Attempt → Access → Option Event
 event_of_attempt attempt.Nothing access = None
 event_of_attempt attempt.Set access = Some (event.Moved None)
 event_of_attempt attempt.Accessed access = Some (event.Moved (Some access))
+
+-- what other harts see of an attempt
+abbrev pub write_of_attempt : Attempt → Access → Option Write
+write_of_attempt attempt.Nothing access = None
+write_of_attempt attempt.Set access = None
+write_of_attempt attempt.Accessed access = write_of_access access

@@ -100,7 +100,7 @@ fn refused_regions(rt: HostRuntime) -> Result<(), Fail> {
         let other = region(&rt, rt.alloc(), start, &[0], true)?;
         let regions = two(rt.alloc(), text, other)?;
         assert!(rt; 1 <= harts && harts <= 16);
-        match Machine::<Flat>::new(rt.alloc(), regions, 0x10000, harts, 0) {
+        match Machine::<Flat>::new(rt.alloc(), &regions, 0x10000, harts, 0) {
             Ok(_) => assert!(rt; want.is_none(), "{start:08x}"),
             Err(fault) => assert_eq!(rt; Some(fault), want, "{start:08x}"),
         }

@@ -36,7 +36,7 @@ fn left(
     // lui x6; addi x8, x6; beq x10, x0, +8; the store; lr.w x5, (x8)
     let words = [upper, lower, 0x0005_0463, store, 0x1004_22af];
     let regions = pages(rt, alloc, &words)?;
-    let mut machine: Machine<Flat> = Machine::new(alloc, regions, 0x10000, 2, 8)?;
+    let mut machine: Machine<Flat> = Machine::new(alloc, &regions, 0x10000, 2, 8)?;
     run(rt, &mut machine, &[0, 0, 0, 0, 1, 1, 1]);
     let stored = machine.step(1);
     assert!(rt; matches!(stored, Ok(Event::Moved(Some(_)))));

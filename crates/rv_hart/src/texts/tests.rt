@@ -7,7 +7,7 @@ use std::test::Fail;
 #[test]
 fn shows_harts_and_output(rt: HostRuntime) -> Result<(), Fail> {
     let alloc = rt.alloc();
-    let mut machine: Machine<Flat> = Machine::new(alloc, Vec::new(alloc), 0x1_0000, 2, 8)?;
+    let mut machine: Machine<Flat> = Machine::new(alloc, &[], 0x1_0000, 2, 8)?;
     assert!(rt; machine.step(1).is_ok());
     let mut writer = Flagged::new(Vec::new(alloc));
     assert_eq!(rt; write_state(&mut writer, &machine), Ok(()));

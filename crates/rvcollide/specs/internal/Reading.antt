@@ -1,7 +1,7 @@
 use Rattle.std.specs.Prelude.{List, Option, Some, None, option_and_then, option_map, codes, if◌then◌else◌}
 use Rattle.std.specs.Str.{bytes_eq}
 use Rattle.clap.specs.Words.{Row, Text, first_of, subcommand_of}
-use Rattle.rvcollide.specs.Command.{Asked, Words, Asm, Listing, Replay, Debug, run_of}
+use Rattle.rvcollide.specs.Command.{Asked, Words, Asm, Listing, Replay, Debug, run_of, threads_of}
 use Rattle.rvcollide.specs.Reading.{is_accepted, program}
 
 -- The job in what `clap` finds. It is proved to be the one that the words spell.
@@ -34,7 +34,8 @@ job_in p =
     else (if bytes_eq p.0 (codes "replay") then replay_in p.1
     else (if bytes_eq p.0 (codes "debug") then debug_in p.1
     else (if bytes_eq p.0 (codes "run") then run_of p.1
-    else None)))))
+    else (if bytes_eq p.0 (codes "threads") then threads_of p.1
+    else None))))))
 
 -- the job that `clap` finds
 unfoldable pub job_read : List Text → Option Asked

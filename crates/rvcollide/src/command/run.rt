@@ -91,7 +91,7 @@ pub fn run_command<'a>(alloc: Global) -> Result<Command<'a>, AllocError>
 }
 
 /// The command with the options of a plan.
-fn with_plan<'a>(alloc: Global, command: Command<'a>) -> Result<Command<'a>, AllocError>
+pub fn with_plan<'a>(alloc: Global, command: Command<'a>) -> Result<Command<'a>, AllocError>
     ensures shape { IfOk result (λ c. shape_of c ≡ reading.with_plan (shape_of command.entry)) }
     ensures local { IfOk result (λ c. (fields_of c).has_globals ≡ (fields_of command.entry).has_globals) }
 {
@@ -170,7 +170,7 @@ fn with_lists<'a>(alloc: Global, command: Command<'a>) -> Result<Command<'a>, Al
 }
 
 /// The command with an argument more.
-fn with_argument<'a>(command: Command<'a>, arg: Arg<'a>) -> Result<Command<'a>, AllocError>
+pub fn with_argument<'a>(command: Command<'a>, arg: Arg<'a>) -> Result<Command<'a>, AllocError>
     requires { arg.global ≡ false }
     ensures shape { IfOk result (λ c. shape_of c ≡ reading.with_argument (shape_of command.entry) (rule_of arg.entry)) }
     ensures local { IfOk result (λ c. (fields_of c).has_globals ≡ (fields_of command.entry).has_globals) }
@@ -179,7 +179,7 @@ fn with_argument<'a>(command: Command<'a>, arg: Arg<'a>) -> Result<Command<'a>, 
 }
 
 /// An option `--name N` that has to be given.
-fn required_option<'a>(alloc: Global, name: &'a str, help: &'a str) -> Arg<'a>
+pub fn required_option<'a>(alloc: Global, name: &'a str, help: &'a str) -> Arg<'a>
     ensures rule { rule_of result ≡ reading.required_option name.entry.now }
     ensures local { result.global ≡ false }
 {
@@ -187,7 +187,7 @@ fn required_option<'a>(alloc: Global, name: &'a str, help: &'a str) -> Arg<'a>
 }
 
 /// An option `--name VALUE`.
-fn option<'a>(alloc: Global, name: &'a str, value: &'a str, help: &'a str) -> Arg<'a>
+pub fn option<'a>(alloc: Global, name: &'a str, value: &'a str, help: &'a str) -> Arg<'a>
     ensures rule { rule_of result ≡ reading.option name.entry.now }
     ensures local { result.global ≡ false }
 {
@@ -211,7 +211,8 @@ pub fn run_of<'a>(given: &ArgMatches<'a>) -> Result<Job<'a>, Complaint<'a>>
     })
 }
 
-fn save_of<'a>(given: &ArgMatches<'a>) -> Option<SavePath<'a>>
+/// The file for a schedule.
+pub fn save_of<'a>(given: &ArgMatches<'a>) -> Option<SavePath<'a>>
     ensures { option_map (λ path. path.0.now) result ≡ first_of (codes "save") (rows_of (found_of given.now)) }
 {
     text_of(given, "save").map(|path| SavePath(path))
@@ -237,7 +238,8 @@ fn options_of<'a>(given: &ArgMatches<'a>) -> Result<Options<'a>, Complaint<'a>>
     })
 }
 
-fn plan_of<'a>(given: &ArgMatches<'a>) -> Result<Plan, Complaint<'a>>
+/// The numbers of a run.
+pub fn plan_of<'a>(given: &ArgMatches<'a>) -> Result<Plan, Complaint<'a>>
     ensures { MatchResult result (λ plan. line.plan_at (rows_of (found_of given.now)) ≡ Some (numbers plan))
         (λ _. line.plan_at (rows_of (found_of given.now)) ≡ None) }
 {
@@ -272,7 +274,7 @@ fn keep_of<'a>(given: &ArgMatches<'a>, runs: u32) -> Result<u32, Complaint<'a>>
 }
 
 /// The number of an option that has to be given.
-fn number_of<'a>(given: &ArgMatches<'a>, option: NumberOption) -> Result<u32, Complaint<'a>>
+pub fn number_of<'a>(given: &ArgMatches<'a>, option: NumberOption) -> Result<u32, Complaint<'a>>
     ensures number { MatchResult result
         (λ n. line.number_at option.name.now option.least option.most (rows_of (found_of given.now)) ≡ Some n)
         (λ _. line.number_at option.name.now option.least option.most (rows_of (found_of given.now)) ≡ None) }
@@ -295,4 +297,4 @@ fn number_in<'a>(option: NumberOption, value: &'a str) -> Result<u32, Complaint<
 }
 
 #[cfg(test)]
-mod tests;
+pub mod tests;

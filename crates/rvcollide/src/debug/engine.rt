@@ -1,56 +1,21 @@
-//! The engine of `debug`: an image and a schedule in, and then a line in, its answer out, line by line.
-ghost use Rattle.std.specs.Prelude.{◌≡◌, ◌||◌, false, true, IfErr, IfSome, OnOk, IsOkAnd};
+//! The engine of `debug`: an image and a schedule in, and then a talk over the run that they say.
+ghost use Rattle.std.specs.Prelude.{◌≡◌, ◌||◌, false, IfErr, IfSome, OnOk, IsOkAnd};
 ghost use Rattle.std.specs.Io.KnownBytes.{Appends, Keeps};
+ghost use Rattle.rv_debug.specs.Talk as talk;
 ghost use Rattle.rv_memory.specs.Buffered as buffer;
 ghost use Rattle.rv_memory.specs.Flagged as flag;
 ghost use Rattle.rv_text.specs.Lines.{lines_of};
-ghost use Rattle.rvcollide.specs.DebugTalk as spec;
+ghost use Rattle.rvcollide.specs.Debug as spec;
 ghost use Rattle.rvcollide.specs.Fault.{fails_by, is_read, is_write};
 ghost use Rattle.rvcollide.specs.Replay.{IfKnown, run_of};
 
-use crate::debug::answer::answer;
-use crate::debug::command::{is_quit, read_command};
 use crate::debug::input::read_session;
-use crate::debug::lines::LineSource;
 use crate::fault::Fault;
-use rv_debug::session::Session;
+use rv_debug::talk::talk;
 use rv_memory::buffered::Buffered;
-use rv_memory::flagged::{Flagged, INPUT_LIMIT};
+use rv_memory::flagged::Flagged;
 use std::alloc::Global;
 use std::io::{Read, Write};
-
-/// Answers the lines of the input up to `q` or the end. All that was put before is sent before more is read.
-fn talk<C: Read, W: Write>(
-    alloc: Global,
-    session: &mut Session,
-    commands: &mut Flagged<C>,
-    writer: &mut Buffered<W>,
-) -> Result<(), Fault>
-    ensures text { OnOk result (IfSome (C.remaining (flag.device commands.old)) (λ input.
-        spec.IsTalk session.old (spec.lines_before_quit (lines_of input))
-        (Appends (buffer.written W.contents writer.old) (buffer.sent W.contents writer.new)))) }
-    ensures within { OnOk result (IfSome (C.remaining (flag.device commands.old)) spec.IsWithin) }
-    ensures stopped { IfErr result (λ fault. IfSome (C.remaining (flag.device commands.old)) (λ input.
-        spec.IsStopped session.old input
-        (Appends (buffer.written W.contents writer.old) (buffer.sent W.contents writer.new)) fault)) }
-    ensures fault { IfErr result (λ fault. spec.stops_talk fault ≡ true) }
-    ensures reader { flag.has_failed commands.new ≡ (flag.has_failed commands.old || fails_by is_read result) }
-    ensures writer { buffer.has_failed writer.new ≡ (buffer.has_failed writer.old || fails_by is_write result) }
-{
-    let mut lines = LineSource::new(INPUT_LIMIT);
-    'lines: loop {
-        writer.finish()?;
-        let line = match lines.next_line(commands)? {
-            Some(line) => line,
-            None => return Ok(()),
-        };
-        let command = read_command(line.as_bytes());
-        if is_quit(command) {
-            return Ok(());
-        }
-        answer(alloc, session, command, writer)?;
-    }
-}
 
 /// Reads an image and then a schedule, and answers the commands of the third input line by line, each before
 /// the next is read. Where one of the files is refused no command is read and nothing is written. Where a line
@@ -65,14 +30,16 @@ pub fn run_debug<R: Read, Q: Read, C: Read, W: Write>(
     ensures text { OnOk result (
         IfKnown (R.remaining (flag.device image.old)) (Q.remaining (flag.device schedule.old)) (λ i s.
         IsOkAnd (run_of i s) (λ run. IfSome (C.remaining (flag.device commands.old)) (λ input.
-        spec.IsTalk (spec.start_of run) (spec.lines_before_quit (lines_of input))
+        talk.IsTalk (spec.start_of run) (talk.lines_before_quit (lines_of input))
         (Appends (buffer.written W.contents writer.old) (buffer.sent W.contents writer.new)))))) }
-    ensures within { OnOk result (IfSome (C.remaining (flag.device commands.old)) spec.IsWithin) }
+    ensures within { OnOk result (IfSome (C.remaining (flag.device commands.old)) talk.IsWithin) }
     ensures refused { IfErr result (λ fault.
         IfKnown (R.remaining (flag.device image.old)) (Q.remaining (flag.device schedule.old)) (λ i s.
-        spec.IsDebugRefusal i s (C.remaining (flag.device commands.old))
-        (Appends (buffer.written W.contents writer.old) (buffer.sent W.contents writer.new))
-        (Keeps (buffer.sent W.contents writer.old) (buffer.sent W.contents writer.new)) fault)) }
+        spec.IsDebugRefusal i s
+        (Keeps (buffer.sent W.contents writer.old) (buffer.sent W.contents writer.new))
+        (λ start stop. IfSome (C.remaining (flag.device commands.old)) (λ input.
+        talk.IsStopped start input (C.remaining (flag.device commands.new))
+        (Appends (buffer.written W.contents writer.old) (buffer.sent W.contents writer.new)) stop)) fault)) }
     ensures nothing { IfErr result (λ fault. spec.stops_talk fault ≡ false
         → Keeps (buffer.sent W.contents writer.old) (buffer.sent W.contents writer.new)) }
     ensures readers { (flag.has_failed image.new || flag.has_failed schedule.new || flag.has_failed commands.new)
@@ -81,5 +48,6 @@ pub fn run_debug<R: Read, Q: Read, C: Read, W: Write>(
     ensures writer { buffer.has_failed writer.new ≡ (buffer.has_failed writer.old || fails_by is_write result) }
 {
     let mut session = read_session(alloc, image, schedule)?;
-    talk(alloc, &mut session, commands, writer)
+    talk(alloc, &mut session, commands, writer)?;
+    Ok(())
 }

@@ -27,6 +27,29 @@ fn text_of(alloc: Global, run: &Finished) -> Result<Vec<u8>, NoMemory>
     }
 }
 
+/// Makes the file with the schedule of a run, where one is wanted.
+pub fn save_schedule<F: NewFile>(
+    alloc: Global,
+    run: &Finished,
+    save: &mut Option<F>,
+) -> Result<(), Fault>
+    requires { IsWritable (numbers run.now.plan) run.now.entries.items }
+    ensures saved { OnOk result
+        (spec.IfWanted F.Holds save.new (schedule_text (numbers run.now.plan) run.now.entries.items)) }
+    ensures refused { IfErr result (λ fault. (fault ≡ Fault.Write) ⊎ (fault ≡ Fault.NoMemory)) }
+    ensures none { IfErr result (λ fault. is_write fault ≡ false
+        → spec.passes F.is_made save.new ≡ spec.passes F.is_made save.old) }
+    ensures reader { fails_by is_read result ≡ false }
+    ensures writer { spec.passes F.has_failed save.new ≡ (spec.passes F.has_failed save.old || fails_by is_write result) }
+{
+    let Some(file) = save else {
+        return Ok(());
+    };
+    let text = text_of(alloc, run)?;
+    file.make(&text)?;
+    Ok(())
+}
+
 /// Makes the file with the schedule of the run that is kept, where a file is wanted and there is that run.
 pub fn save_run<F: NewFile>(
     alloc: Global,
@@ -43,13 +66,8 @@ pub fn save_run<F: NewFile>(
     ensures reader { fails_by is_read result ≡ false }
     ensures writer { spec.passes F.has_failed save.new ≡ (spec.passes F.has_failed save.old || fails_by is_write result) }
 {
-    let Some(file) = save else {
-        return Ok(());
-    };
     let Some(run) = runs.get(keep as usize) else {
         return Ok(());
     };
-    let text = text_of(alloc, run)?;
-    file.make(&text)?;
-    Ok(())
+    save_schedule(alloc, run, save)
 }

@@ -20,7 +20,7 @@ use std::thread::Threads;
 const P: &[u32] = &[0x0002_0337, 0x00a3_2023, 0x0003_2283, 0x0000_0073];
 
 /// `lui x6,0x20`, `sw x10,0(x6)`, `ecall`.
-const ONE_STORE: &[u32] = &[0x0002_0337, 0x00a3_2023, 0x0000_0073];
+pub const ONE_STORE: &[u32] = &[0x0002_0337, 0x00a3_2023, 0x0000_0073];
 
 /// After the `lui`: `lw x5,0(x6)`, `addi x5,x5,1`, `sw x5,0(x6)`, `sw x10,4(x6)`, `ecall`.
 const COUNTS: &[u32] = &[
@@ -63,7 +63,7 @@ fn segment(start: u32, bytes: Vec<u8>, len: u32, code: bool) -> Region
 
 /// The file of an image: words at 00010000, R and X, 4,096 zero bytes at 00020000, R and W, and the symbol `word` for
 /// four of them, `byte` for another.
-fn file_of(rt: &impl Abort, alloc: Global, words: &[u32]) -> Result<Vec<u8>, Fail> {
+pub fn file_of(rt: &impl Abort, alloc: Global, words: &[u32]) -> Result<Vec<u8>, Fail> {
     let mut bytes = Vec::new(alloc);
     for word in words {
         bytes.extend_from_slice(&word.to_le_bytes())?;

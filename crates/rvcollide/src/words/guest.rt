@@ -86,7 +86,7 @@ pub fn machine_of(alloc: Global, input: &Input) -> Result<Machine<Flat>, NoMemor
     let regions = regions_of(alloc, &input.words)?;
     match Machine::new(
         alloc,
-        regions,
+        &regions,
         TEXT_START,
         input.harts,
         input.steps.len() as u32,

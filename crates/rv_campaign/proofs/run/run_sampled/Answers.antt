@@ -3,8 +3,18 @@ use Rattle.rv_collide.specs.Answers.{IsOutput}
 use Rattle.rv_collide.specs.Stored.{Stored, setting_of}
 use Rattle.rv_collide.specs.Verdict.{endings}
 use Rattle.rv_collide.specs.Numbers.{numbers}
-use Rattle.rv_campaign.proofs.GoingLemmas.{finished}
+use Rattle.rv_sample.specs.Words.{Given}
+use Rattle.rv_campaign.proofs.GoingLemmas.{finished, opened_drives}
 use Rattle.rv_campaign.proofs.run.run_sampled.Goals as goal
+
+pub loop-words-init : goal.loop-words-init
+loop-words-init c = record {
+  driving = opened_drives c.accepted_calls.ensures.kind c.in_ok-driver.driver c.args.image.now (numbers c.args.plan) c.args.sampler.now c.new-words.result c.open.new.words c.in_ok-driver.ensures.core c.in_ok-driver.ensures.words;
+  image = ap (λ (s : Stored). s.image) c.in_ok-driver.ensures.core;
+  plan = ap (λ (s : Stored). s.plan) c.in_ok-driver.ensures.core;
+  seed = ap (λ (w : Given). w.seed) c.in_ok-driver.ensures.words ∙ ap (λ (w : Given). w.seed) c.new-words.ensures;
+  stream = ap (λ (w : Given). w.stream) c.in_ok-driver.ensures.words ∙ ap (λ (w : Given). w.stream) c.new-words.ensures ∙ c.from.ensures;
+}
 
 pub returns : goal.returns
 returns c =

@@ -13,5 +13,5 @@ no_memory-requires g c =
     let image = c.entry.ensures.valid in
     let plan = c.args.plan.in_range in
     c.in-Err.ensures.err
-    ∙ ap (λ (es : List Extent). unwrap_or (fault_of (with_stacks es c.args.plan.harts)) NoMemory) (c.in_ok-regions.ensures ∙ c.segments.ensures.value)
+    ∙ ap (λ (es : List Extent). unwrap_or (fault_of (with_stacks es c.args.plan.harts)) NoMemory) c.segments-segments.ensures.value
     ∙ ap (λ (o : Option MemFault). unwrap_or o NoMemory) (fits c.args.image.now.entry c.args.image.now.segments c.args.plan.harts image.segments plan.harts)

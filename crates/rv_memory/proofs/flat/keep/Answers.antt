@@ -1,12 +1,13 @@
-use Rattle.std.proofs.Common.{sym}
-use Rattle.rv_memory.proofs.LookFrom.{same_index}
+use Rattle.std.proofs.Common.{◌++◌}
+use Rattle.std.proofs.lemmas.List.Elements.{All-append}
+use Rattle.rv_memory.specs.Extent.{IsExtent}
 use Rattle.rv_memory.proofs.Sound.{sound_made}
-use Rattle.rv_memory.proofs.Spans.{spans-memory_of}
 use Rattle.rv_memory.proofs.flat.keep.Goals as goal
 
 pub invariant_of-result : goal.invariant_of-result
 invariant_of-result c =
-    rw c.in_ok-regions.ensures (record {
-      sound = sound_made c.args.regions.now c.requires.extents c.requires.passed;
-      index = same_index _ _ _ (sym (spans-memory_of c.args.regions.now)) c.in_ok-firsts.ensures;
-    })
+    let all = c.args.first.now ++ c.args.second.now in
+    record {
+      sound = rw c.in_ok-regions.ensures (sound_made all (All-append IsExtent c.args.first.now c.args.second.now c.requires.first c.requires.second) c.requires.passed);
+      index = rw c.deref.ensures.value at c.in_ok-firsts.ensures;
+    }

@@ -32,7 +32,7 @@ fn hunt<'a>(
 }
 
 /// Asserts what a line, whose words are parted by single blanks, asks for.
-fn assert_asks(
+pub fn assert_asks(
     rt: &impl Abort,
     alloc: Global,
     line: &str,
@@ -44,7 +44,7 @@ fn assert_asks(
 }
 
 /// Asserts that a line is refused, and that this text is told.
-fn assert_refused(rt: &impl Abort, alloc: Global, line: &str, part: &str) -> Result<(), Fail> {
+pub fn assert_refused(rt: &impl Abort, alloc: Global, line: &str, part: &str) -> Result<(), Fail> {
     let words: Vec<&str> = line.split(' ').collect(alloc)?;
     assert_eq!(rt;
         command_of(alloc, &words),

@@ -1,4 +1,4 @@
-use Rattle.std.proofs.Common.{◌∙◌, sym, ap, subst, arith, ◌<◌, ℕ, ◌≤◌}
+use Rattle.std.proofs.Common.{◌∙◌, sym, arith, ◌≤◌}
 use Rattle.std.specs.FinSet.{contains, len}
 use Rattle.rv_break.specs.declared.claim.TheConstants.{ARMED_LIMIT}
 use Rattle.rv_break.proofs.Buckets.{insert_at, push_set, len_at, few_at, not_added_in, not_added_full, added_room}

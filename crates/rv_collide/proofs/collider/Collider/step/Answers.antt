@@ -1,4 +1,4 @@
-use Rattle.std.proofs.Common.{◌≡◌, ◌+◌, ◌*◌, ◌≤◌, ◌<◌, ℕ, List, length, Ok, sym, ap, subst, ◌∙◌, arith}
+use Rattle.std.proofs.Common.{◌≡◌, ◌+◌, ◌*◌, ◌≤◌, ◌<◌, ℕ, List, [], length, Ok, sym, ap, subst, ◌∙◌, arith}
 use Rattle.std.specs.Prelude.{option_map}
 use Rattle.std.specs.Vec.{vec_capacity}
 use Rattle.rv_hart.specs.Next.{accessed}
@@ -9,6 +9,9 @@ use Rattle.rv_collide.specs.Stored.{Stored, setting_of, stored}
 use Rattle.rv_collide.specs.declared.entry.Entry.{Entry}
 use Rattle.rv_collide.specs.declared.entry.Entry.TheVariants.{Stepped}
 use Rattle.rv_collide.specs.internal.Core.{IsCore, slots_seen}
+use Rattle.rv_collide.specs.Pause.{openings}
+use Rattle.rv_collide.specs.internal.GoesOn.{GoesOn}
+use Rattle.rv_collide.proofs.GoesOn.{step_forced}
 use Rattle.rv_collide.proofs.Growth.{core_step, turn_parts}
 use Rattle.rv_collide.proofs.LawLemmas.{runs_in}
 use Rattle.rv_collide.proofs.StepFaults.{only_memory}
@@ -19,7 +22,8 @@ use Rattle.rv_collide.proofs.collider.Collider.step.Goals as goal
 pub returns-in-Err-clause-memory : goal.returns-in-Err-clause-memory
 returns-in-Err-clause-memory g c =
     let s = setting_of (stored c.self.inside.image.value (numbers c.self.inside.plan) c.self.inside.entries.items) in
-    let ok = subst (λ (v : Stored). forced (setting_of v) v.entries (Turn c.args.h) ≡ Ok (Stepped c.args.h)) (sym c.self.view_is) c.requires in
+    λ was.
+    let ok = subst (λ (v : Stored). forced (setting_of v) v.entries (Turn c.args.h) ≡ Ok (Stepped c.args.h)) (sym c.self.view_is) was in
     let parts = turn_parts s c.self.inside.entries.items c.args.h (Stepped c.args.h) ok in
     let runs = runs_in s.start c.self.inside.machine.state c.self.inside.entries.items (length c.self.inside.entries.items) c.args.h c.self.invariant.0.now parts.runs in
     let left = parts.left in
@@ -31,12 +35,14 @@ returns-in-Err-clause-memory g c =
 pub show-requires : goal.show-requires
 show-requires g c =
     let s = setting_of (stored c.self.inside.image.value (numbers c.self.inside.plan) c.self.inside.entries.items) in
-    λ none. unwatched s.start c.self.inside.entries.items c.self.inside.openings.items c.self.inside.breaks.slots _ _ c.self.invariant.0.openings_are c.self.invariant.0.slots_are c.self.inside.openings.ok.0 c.is_empty-is_watched.ensures none
+    λ none. unwatched s.start c.self.inside.entries.items c.self.inside.breaks.slots c.self.invariant.0.slots_are
+    (subst (λ (v : Stored). openings v.entries ≡ []) (sym c.self.view_is) (c.requires.unwatched none))
 
 pub push_reserved-requires : goal.push_reserved-requires
 push_reserved-requires g c =
     let s = setting_of (stored c.self.inside.image.value (numbers c.self.inside.plan) c.self.inside.entries.items) in
-    let ok = subst (λ (v : Stored). forced (setting_of v) v.entries (Turn c.args.h) ≡ Ok (Stepped c.args.h)) (sym c.self.view_is) c.requires in
+    let goes = subst (λ (v : Stored). GoesOn v c.args.h) (sym c.self.view_is) c.requires.goes_on in
+    let ok = step_forced (stored c.self.inside.image.value (numbers c.self.inside.plan) c.self.inside.entries.items) c.self.inside.machine.state c.args.h (c.in-Ok.event, c.step.new.self.state) c.self.invariant.0.now c.self.invariant.0.harts goes c.in-Ok.ensures.step in
     let parts = turn_parts s c.self.inside.entries.items c.args.h (Stepped c.args.h) ok in
     let lt = room_to_step s c.self.inside.entries.items (length c.self.inside.endings.items) (vec_capacity c.self.inside.entries) c.self.invariant.0.room c.self.invariant.1.for_entries parts.left in
     omega (arith, c.self.inside.entries.ok.0)
@@ -44,7 +50,8 @@ push_reserved-requires g c =
 pub invariant_of-self-2 : goal.invariant_of-self-2
 invariant_of-self-2 g c =
     let s = setting_of (stored c.self.inside.image.value (numbers c.self.inside.plan) c.self.inside.entries.items) in
-    let ok = subst (λ (v : Stored). forced (setting_of v) v.entries (Turn c.args.h) ≡ Ok (Stepped c.args.h)) (sym c.self.view_is) c.requires in
+    let goes = subst (λ (v : Stored). GoesOn v c.args.h) (sym c.self.view_is) c.requires.goes_on in
+    let ok = step_forced (stored c.self.inside.image.value (numbers c.self.inside.plan) c.self.inside.entries.items) c.self.inside.machine.state c.args.h (c.in-Ok.event, c.step.new.self.state) c.self.invariant.0.now c.self.invariant.0.harts goes c.in-Ok.ensures.step in
     let size = c.len-place.ensures ∙ c.self.inside.entries.ok.0 in (
       subst (λ (ys : List Entry). IsCore s ys c.step.new.self c.show.new.breaks c.self.inside.openings.items c.self.inside.endings.items (c.self.inside.steps + 1) c.self.inside.arms) (sym c.push_reserved.ensures.items)
           (core_step c.reservations_and_accesses.ensures.next c.what_no_step_does.ensures.output s c.self.inside.entries.items c.self.inside.machine c.step.new.self c.self.inside.breaks c.show.new.breaks c.self.inside.openings.items c.self.inside.endings.items c.self.inside.steps c.self.inside.arms c.args.h c.in-Ok.event c.self.invariant.0 ok c.in-Ok.ensures.step c.step.ensures.harts c.step.ensures.limit
@@ -56,3 +63,9 @@ invariant_of-self-2 g c =
         for_endings = c.self.invariant.1.for_endings;
       },
     )
+
+pub returns-clause-forced : goal.returns-clause-forced
+returns-clause-forced g c =
+    let goes = subst (λ (v : Stored). GoesOn v c.args.h) (sym c.self.view_is) c.requires.goes_on in
+    let ok = step_forced (stored c.self.inside.image.value (numbers c.self.inside.plan) c.self.inside.entries.items) c.self.inside.machine.state c.args.h (c.in-Ok.event, c.step.new.self.state) c.self.invariant.0.now c.self.invariant.0.harts goes c.in-Ok.ensures.step in
+    subst (λ (v : Stored). forced (setting_of v) v.entries (Turn c.args.h) ≡ Ok (Stepped c.args.h)) c.self.view_is ok

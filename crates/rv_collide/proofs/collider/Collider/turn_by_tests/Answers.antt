@@ -1,0 +1,43 @@
+use Rattle.std.proofs.Common.{Ok, inl, inr, refl, sym, ap, ◌∙◌}
+use Rattle.rv_collide.specs.Plan.{Numbers}
+use Rattle.rv_collide.specs.Stored.{setting_of}
+use Rattle.rv_collide.proofs.Calls.{turn_no_hart, turn_not_running, turn_paused, turn_spent, turn_ok, not_below, is_below}
+use Rattle.rv_collide.specs.declared.entry.Entry.TheVariants.{Paused}
+use Rattle.rv_collide.proofs.ArmedAccesses.{armed_turn}
+use Rattle.rv_collide.proofs.collider.Collider.turn_by_tests.Goals as goal
+
+pub returns-then-h-plan-clause-err : goal.returns-then-h-plan-clause-err
+returns-then-h-plan-clause-err g c = inl (turn_no_hart (setting_of c.args.self.now) c.args.self.now.entries c.args.h (not_below c.args.h c.plan.result.harts c.args.self.now.plan.harts (ap (λ (n : Numbers). n.harts) c.plan.ensures) c.if-h-plan.true))
+
+pub returns-then-not-runs-clause-err : goal.returns-then-not-runs-clause-err
+returns-then-not-runs-clause-err g c = inl (turn_not_running (setting_of c.args.self.now) c.args.self.now.entries c.args.h (is_below c.args.h c.plan.result.harts c.args.self.now.plan.harts (ap (λ (n : Numbers). n.harts) c.plan.ensures) c.if-h-plan.false) (sym c.runs.ensures ∙ c.if-not-runs.true))
+
+pub returns-then-is_paused-clause-err : goal.returns-then-is_paused-clause-err
+returns-then-is_paused-clause-err g c = inl (turn_paused (setting_of c.args.self.now) c.args.self.now.entries c.args.h (is_below c.args.h c.plan.result.harts c.args.self.now.plan.harts (ap (λ (n : Numbers). n.harts) c.plan.ensures) c.if-h-plan.false) (sym c.runs.ensures ∙ c.if-not-runs.false) (sym c.is_paused.ensures ∙ c.if-is_paused.true))
+
+pub returns-then-not-has_steps_left-clause-err : goal.returns-then-not-has_steps_left-clause-err
+returns-then-not-has_steps_left-clause-err g c = inl (turn_spent (setting_of c.args.self.now) c.args.self.now.entries c.args.h (is_below c.args.h c.plan.result.harts c.args.self.now.plan.harts (ap (λ (n : Numbers). n.harts) c.plan.ensures) c.if-h-plan.false) (sym c.runs.ensures ∙ c.if-not-runs.false) (sym c.is_paused.ensures ∙ c.if-is_paused.false) (sym c.has_steps_left.ensures ∙ c.if-not-has_steps_left.true))
+
+pub pause-requires-clause-forced : goal.pause-requires-clause-forced
+pause-requires-clause-forced g c = turn_ok (setting_of c.args.self.now) c.args.self.now.entries c.args.h (is_below c.args.h c.plan.result.harts c.args.self.now.plan.harts (ap (λ (n : Numbers). n.harts) c.plan.ensures) c.if-h-plan.false) (sym c.runs.ensures ∙ c.if-not-runs.false) (sym c.is_paused.ensures ∙ c.if-is_paused.false) (sym c.has_steps_left.ensures ∙ c.if-not-has_steps_left.false) ∙ ap Ok (armed_turn c.args.self.now c.args.h c.in-Some.access c.in-Some.ensures.some)
+
+pub step-requires-clause-goes_on : goal.step-requires-clause-goes_on
+step-requires-clause-goes_on g c = record {
+  free = sym c.is_paused.ensures ∙ c.if-is_paused.false;
+  left = sym c.has_steps_left.ensures ∙ c.if-not-has_steps_left.false;
+  passes = c.in-None.ensures.none;
+}
+
+pub returns-in-Some-clause-ok : goal.returns-in-Some-clause-ok
+returns-in-Some-clause-ok g c = record {
+  is_forced = turn_ok (setting_of c.args.self.now) c.args.self.now.entries c.args.h (is_below c.args.h c.plan.result.harts c.args.self.now.plan.harts (ap (λ (n : Numbers). n.harts) c.plan.ensures) c.if-h-plan.false) (sym c.runs.ensures ∙ c.if-not-runs.false) (sym c.is_paused.ensures ∙ c.if-is_paused.false) (sym c.has_steps_left.ensures ∙ c.if-not-has_steps_left.false) ∙ ap Ok (armed_turn c.args.self.now c.args.h c.in-Some.access c.in-Some.ensures.some ∙ ap (Paused c.args.h) (sym c.pause.ensures.slot));
+  is_added = c.pause.ensures.after;
+}
+
+pub returns-in-Some-step-clause-ok : goal.returns-in-Some-step-clause-ok
+returns-in-Some-step-clause-ok g c = (record { is_forced = c.in-Some-step.ensures.forced; is_added = c.in-Some-step.ensures.after }, c.in-Some-step.ensures.event)
+
+pub returns-in-None-step-clause-err : goal.returns-in-None-step-clause-err
+returns-in-None-step-clause-err g c =
+    let ok = turn_ok (setting_of c.args.self.now) c.args.self.now.entries c.args.h (is_below c.args.h c.plan.result.harts c.args.self.now.plan.harts (ap (λ (n : Numbers). n.harts) c.plan.ensures) c.if-h-plan.false) (sym c.runs.ensures ∙ c.if-not-runs.false) (sym c.is_paused.ensures ∙ c.if-is_paused.false) (sym c.has_steps_left.ensures ∙ c.if-not-has_steps_left.false) ∙ ap Ok c.in-None.ensures.none in
+    inr (refl, c.in-None-step.ensures.memory ok, ok)

@@ -1,0 +1,12 @@
+use Rattle.std.proofs.Common.{get_or, refl}
+use Rattle.std.proofs.lemmas.Option.{slice_get-get_or}
+use Rattle.rv_hart.specs.declared.hart.Hart.{Hart}
+use Rattle.rv_hart.proofs.HartsLemmas.{seen_back}
+use Rattle.rv_hart.proofs.effect.see_access.Goals as goal
+
+pub returns : goal.returns
+returns c =
+    let first : Hart = c.index-harts-h.result in
+    let default : Hart = c.index-harts-h-2.result in
+    let hart : Hart = get_or c.args.harts.now c.args.h first in
+    rw (c.restore.ensures, c.see_all.ensures, c.write_of_access.ensures) (seen_back c.args.harts.now c.args.h _ hart default hart.reservation (slice_get-get_or c.args.harts.now c.args.h first c.requires) refl)
