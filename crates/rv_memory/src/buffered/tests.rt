@@ -11,10 +11,12 @@ fn over(alloc: Global, most: usize, fails_at: u64) -> Buffered<Sink> {
 fn gathers_pieces_for_one_write(rt: HostRuntime) {
     let alloc = rt.alloc();
     let mut writer = over(alloc, 100, 0);
-    assert_eq!(rt; writer.put(&[1, 2]), Ok(()));
-    assert_eq!(rt; writer.put(&[]), Ok(()));
-    assert_eq!(rt; writer.put(&[3]), Ok(()));
-    assert_eq!(rt; writer.finish(), Ok(()));
+    for piece in [[1, 2].as_slice(), &[], &[3]] {
+        let put = writer.put(piece);
+        assert_eq!(rt; put, Ok(()));
+    }
+    let finished = writer.finish();
+    assert_eq!(rt; finished, Ok(()));
     assert!(rt; !writer.failed());
     let device = writer.into_inner();
     assert_eq!(rt; device.taken.as_slice(), [1, 2, 3].as_slice());
@@ -30,28 +32,36 @@ fn sends_nothing_before_it_has_to(rt: HostRuntime) {
     assert_eq!(rt; device.calls, 0);
 }
 
-/// Pieces of these lengths, each of bytes of its own, reach the device in order, however many it takes a
-/// call, and also where a piece is longer than what is gathered.
+/// Puts pieces of these lengths, each of bytes of its own, and answers all that was put.
+fn put_all(rt: &impl Abort, alloc: Global, writer: &mut Buffered<Sink>) -> Result<Vec<u8>, Fail> {
+    let mut wanted = Vec::new(alloc);
+    for (byte, length) in [
+        (1, 4000),
+        (2, 96),
+        (3, 1),
+        (4, 5000),
+        (5, 4095),
+        (6, 2),
+        (7, 4097),
+    ] {
+        let piece = vec![in alloc; byte; length]?;
+        let put = writer.put(&piece);
+        assert_eq!(rt; put, Ok(()));
+        wanted.extend_from_slice(&piece)?;
+    }
+    Ok(wanted)
+}
+
+/// The pieces reach the device in order, however many bytes it takes a call, and also where a piece is longer
+/// than what is gathered.
 #[test]
 fn keeps_the_order(rt: HostRuntime) -> Result<(), Fail> {
     let alloc = rt.alloc();
     for most in [999, 4096, 100_000] {
         let mut writer = over(alloc, most, 0);
-        let mut wanted = Vec::new(alloc);
-        for (byte, length) in [
-            (1, 4000),
-            (2, 96),
-            (3, 1),
-            (4, 5000),
-            (5, 4095),
-            (6, 2),
-            (7, 4097),
-        ] {
-            let piece = vec![in alloc; byte; length]?;
-            assert_eq!(rt; writer.put(&piece), Ok(()));
-            wanted.extend_from_slice(&piece)?;
-        }
-        assert_eq!(rt; writer.finish(), Ok(()));
+        let wanted = put_all(&rt, alloc, &mut writer)?;
+        let finished = writer.finish();
+        assert_eq!(rt; finished, Ok(()));
         assert!(rt; !writer.failed());
         assert_eq!(rt; writer.into_inner().taken.as_slice(), wanted.as_slice());
     }

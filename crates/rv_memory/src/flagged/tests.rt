@@ -1,5 +1,6 @@
 use super::*;
 use std::io::ErrorKind;
+use std::process::Abort;
 use std::test::Fail;
 
 /// A reader of `bytes` sevens, one a read, whose read numbered `fails_at` from 1 on fails.
@@ -33,29 +34,36 @@ fn of_bytes(bytes: u64, fails_at: u64) -> Flagged<Trickle> {
     })
 }
 
+fn assert_reads<R: Read>(
+    rt: &impl Abort,
+    alloc: Global,
+    reader: &mut Flagged<R>,
+    limit: usize,
+    wanted: &[u8],
+) -> Result<(), Fail> {
+    let bytes = read_whole(alloc, reader, limit).ok().ok_or("refused")?;
+    assert_eq!(rt; bytes.as_slice(), wanted);
+    Ok(())
+}
+
 #[test]
 fn reads_whole(rt: HostRuntime) -> Result<(), Fail> {
     let alloc = rt.alloc();
     let mut reader = of_bytes(3, 0);
-    let bytes = read_whole(alloc, &mut reader, 3).ok().ok_or("refused")?;
-    assert_eq!(rt; bytes.as_slice(), [7, 7, 7].as_slice());
+    assert_reads(&rt, alloc, &mut reader, 3, &[7, 7, 7])?;
     assert!(rt; !reader.failed());
     let text: &[u8] = &[1, 2, 3, 4, 5];
     let mut reader = Flagged::new(text);
-    let bytes = read_whole(alloc, &mut reader, INPUT_LIMIT)
-        .ok()
-        .ok_or("refused")?;
-    assert_eq!(rt; bytes.as_slice(), text);
-    let mut reader = Flagged::new(text);
-    let bytes = read_whole(alloc, &mut reader, 5).ok().ok_or("refused")?;
-    assert_eq!(rt; bytes.as_slice(), text);
+    assert_reads(&rt, alloc, &mut reader, 5, text)?;
     assert_eq!(rt; reader.into_inner().len(), 0);
-    let mut reader = of_bytes(10_000, 0);
-    let bytes = read_whole(alloc, &mut reader, INPUT_LIMIT)
-        .ok()
-        .ok_or("refused")?;
-    assert_eq!(rt; bytes.len(), 10_000, "more than one buffer");
-    Ok(())
+    assert_reads(&rt, alloc, &mut Flagged::new(text), INPUT_LIMIT, text)
+}
+
+#[test]
+fn reads_more_than_a_buffer(rt: HostRuntime) -> Result<(), Fail> {
+    let alloc = rt.alloc();
+    let bytes = vec![in alloc; 7; 10_000]?;
+    assert_reads(&rt, alloc, &mut of_bytes(10_000, 0), INPUT_LIMIT, &bytes)
 }
 
 /// The refusal of `read_whole`, or none.
@@ -64,7 +72,7 @@ fn refusal<R: Read>(alloc: Global, reader: &mut Flagged<R>, limit: usize) -> Opt
 }
 
 #[test]
-fn refuses_to_read(rt: HostRuntime) -> Result<(), Fail> {
+fn refuses_a_byte_past_the_limit(rt: HostRuntime) {
     let alloc = rt.alloc();
     let mut endless = of_bytes(u64::MAX, 0);
     assert_eq!(rt; refusal(alloc, &mut endless, 9), Some(ReadFault::TooLong));
@@ -74,31 +82,29 @@ fn refuses_to_read(rt: HostRuntime) -> Result<(), Fail> {
         10,
         "the byte after the limit is seen, and no more"
     );
-    let text: &[u8] = &[1, 2, 3, 4, 5];
-    assert_eq!(rt;
-        refusal(alloc, &mut Flagged::new(text), 4),
-        Some(ReadFault::TooLong)
-    );
-    let empty: &[u8] = &[];
-    assert_eq!(rt; refusal(alloc, &mut Flagged::new(empty), 0), None);
-    for fails_at in 1..5 {
+    for (text, limit, want) in [
+        ([1, 2, 3, 4, 5].as_slice(), 4, Some(ReadFault::TooLong)),
+        (&[], 0, None),
+    ] {
+        assert_eq!(rt; refusal(alloc, &mut Flagged::new(text), limit), want);
+    }
+}
+
+/// Four reads suffice for three bytes. Each that fails is told, and none else.
+#[test]
+fn refuses_a_failed_read(rt: HostRuntime) {
+    let alloc = rt.alloc();
+    for fails_at in 1..6 {
         let mut reader = of_bytes(3, fails_at);
         assert!(rt; !reader.failed());
+        let want = (fails_at < 5).then_some(ReadFault::Read);
         assert_eq!(rt;
             refusal(alloc, &mut reader, 100),
-            Some(ReadFault::Read),
+            want,
             "at read {fails_at}"
         );
-        assert!(rt; reader.failed(), "at read {fails_at}");
+        assert_eq!(rt; reader.failed(), fails_at < 5, "at read {fails_at}");
     }
-    let mut reader = of_bytes(3, 5);
-    assert_eq!(rt;
-        refusal(alloc, &mut reader, 100),
-        None,
-        "four reads suffice"
-    );
-    assert!(rt; !reader.failed());
-    Ok(())
 }
 
 /// A writer that takes at most `most` bytes a write, and whose write or flush numbered `fails_at`
@@ -149,56 +155,68 @@ fn taking(alloc: Global, most: usize, fails_at: u64) -> Flagged<Sink> {
     Flagged::new(Sink::new(alloc, most, fails_at))
 }
 
-#[test]
-fn writes_whole(rt: HostRuntime) -> Result<(), Fail> {
-    let alloc = rt.alloc();
-    for most in [1, 2, 5, 9] {
-        let mut writer = taking(alloc, most, 0);
-        assert_eq!(rt; write_whole(&mut writer, &[1, 2, 3, 4, 5]), Ok(()));
-        assert_eq!(rt; write_whole(&mut writer, &[6]), Ok(()));
-        assert_eq!(rt; flush(&mut writer), Ok(()));
-        assert!(rt; !writer.failed());
-        assert_eq!(rt;
-            writer.into_inner().taken.as_slice(),
-            [1, 2, 3, 4, 5, 6].as_slice()
-        );
+/// Six bytes in two pieces and a flush, by writes of at most so many.
+fn assert_writes(rt: &impl Abort, alloc: Global, most: usize) {
+    let mut writer = taking(alloc, most, 0);
+    for piece in [[1, 2, 3, 4, 5].as_slice(), &[6]] {
+        let written = write_whole(&mut writer, piece);
+        assert_eq!(rt; written, Ok(()));
     }
-    let mut writer = taking(alloc, 0, 1);
-    assert_eq!(rt; write_whole(&mut writer, &[]), Ok(()), "no bytes, no write");
+    let flushed = flush(&mut writer);
+    assert_eq!(rt; flushed, Ok(()));
     assert!(rt; !writer.failed());
-    Ok(())
+    assert_eq!(rt;
+        writer.into_inner().taken.as_slice(),
+        [1, 2, 3, 4, 5, 6].as_slice()
+    );
 }
 
 #[test]
-fn refuses_to_write(rt: HostRuntime) -> Result<(), Fail> {
+fn writes_whole(rt: HostRuntime) {
+    for most in [1, 2, 5, 9] {
+        assert_writes(&rt, rt.alloc(), most);
+    }
+}
+
+#[test]
+fn writes_nothing_of_no_bytes(rt: HostRuntime) {
+    let mut writer = taking(rt.alloc(), 0, 1);
+    let written = write_whole(&mut writer, &[]);
+    assert_eq!(rt; written, Ok(()));
+    assert!(rt; !writer.failed());
+}
+
+/// Each write that fails is told, with what was taken before it.
+#[test]
+fn refuses_a_failed_write(rt: HostRuntime) {
     let alloc = rt.alloc();
     for fails_at in 1..4 {
         let mut writer = taking(alloc, 1, fails_at);
-        assert_eq!(rt;
-            write_whole(&mut writer, &[1, 2, 3]),
-            Err(WriteFault),
-            "at write {fails_at}"
-        );
+        let written = write_whole(&mut writer, &[1, 2, 3]);
+        assert_eq!(rt; written, Err(WriteFault), "at write {fails_at}");
         assert!(rt; writer.failed(), "at write {fails_at}");
         assert_eq!(rt; writer.into_inner().taken.len() as u64 + 1, fails_at);
     }
-    let mut full = taking(alloc, 0, 0);
-    assert_eq!(rt;
-        write_whole(&mut full, &[1]),
-        Err(WriteFault),
-        "it takes none"
-    );
+}
+
+#[test]
+fn refuses_a_writer_that_takes_none(rt: HostRuntime) {
+    let mut full = taking(rt.alloc(), 0, 0);
+    let written = write_whole(&mut full, &[1]);
+    assert_eq!(rt; written, Err(WriteFault));
     assert!(rt; full.failed());
-    let mut writer = taking(alloc, 1, 1);
-    assert_eq!(rt; flush(&mut writer), Err(WriteFault));
+}
+
+/// What follows goes on to the writer, and the failure stays.
+#[test]
+fn refuses_a_failed_flush(rt: HostRuntime) {
+    let mut writer = taking(rt.alloc(), 1, 1);
+    let flushed = flush(&mut writer);
+    assert_eq!(rt; flushed, Err(WriteFault));
     assert!(rt; writer.failed());
-    assert_eq!(rt;
-        write_whole(&mut writer, &[1]),
-        Ok(()),
-        "what follows goes on to the writer"
-    );
-    assert!(rt; writer.failed(), "and the failure stays");
-    Ok(())
+    let written = write_whole(&mut writer, &[1]);
+    assert_eq!(rt; written, Ok(()));
+    assert!(rt; writer.failed());
 }
 
 #[test]
