@@ -17,6 +17,19 @@ const P: [u32; 4] = [0x0002_0337, 0x00a3_2023, 0x0003_2283, 0x0000_0073];
 /// `lui x6,0x20`, `sw x10,0(x6)`, `ecall`.
 const ONE_STORE: [u32; 3] = [0x0002_0337, 0x00a3_2023, 0x0000_0073];
 
+/// The one schedule of ONE_STORE on one hart with two pauses to draw, whatever the seed.
+const ONE_SITE: [Entry; 9] = [
+    Armed(0x10004),
+    Stepped(0),
+    Paused(0, Some(0)),
+    Resumed(0),
+    Armed(0x10004),
+    Paused(0, Some(0)),
+    Resumed(0),
+    Stepped(0),
+    Stepped(0),
+];
+
 /// An image of words at 00010000, and 4,096 zero bytes at 00020000 with a symbol.
 fn image(rt: &impl Abort, alloc: Global, words: &[u32]) -> Result<Image, Fail> {
     let mut bytes = Vec::new(alloc);
@@ -88,37 +101,57 @@ fn finished(
 ) -> Result<Result<Finished, Stray>, Fail> {
     let image = image(rt, alloc, &P)?;
     let plan = plan(2, 20, 0, 5)?;
+    let places = places(alloc, one, other)?;
     let mut watched = Watched::new(alloc, &image, plan, 7)?;
     four_turns(rt, &mut watched, 0);
     four_turns(rt, &mut watched, 1);
-    let one = Vec::from_slice(alloc, one)?;
-    let other = Vec::from_slice(alloc, other)?;
-    let places = vec![in alloc; one, other]?;
+    Ok(finish(rt, watched, &image, plan, seed, &places))
+}
+
+/// Finishes with a list for each hart of the plan.
+fn finish(
+    rt: &impl Abort,
+    watched: Watched,
+    image: &Image,
+    plan: Plan,
+    seed: u64,
+    places: &[Vec<u32>],
+) -> Result<Finished, Stray> {
     assert_eq!(rt; places.len(), usize::from(plan.harts));
-    Ok(watched.finish(&image, plan, seed, &places))
+    watched.finish(image, plan, seed, places)
+}
+
+fn places(alloc: Global, one: &[u32], other: &[u32]) -> Result<Vec<Vec<u32>>, Fail> {
+    let mut places = Vec::new(alloc);
+    places.push(Vec::from_slice(alloc, one)?)?;
+    places.push(Vec::from_slice(alloc, other)?)?;
+    Ok(places)
+}
+
+/// Four steps of hart 0, then four of hart 1, and no ending.
+fn assert_four_and_four(rt: &impl Abort, told: &Finished) {
+    assert_eq!(rt;
+        told.entries.as_slice(),
+        [
+            Stepped(0),
+            Stepped(0),
+            Stepped(0),
+            Stepped(0),
+            Stepped(1),
+            Stepped(1),
+            Stepped(1),
+            Stepped(1)
+        ]
+        .as_slice()
+    );
+    assert_eq!(rt; told.endings.len(), 0);
 }
 
 #[test]
 fn finishes_with_each_harts_own_places(rt: HostRuntime) -> Result<(), Fail> {
     let alloc = rt.alloc();
-    match finished(&rt, alloc, 7, &[0, 1, 2, 3], &[4, 5, 6, 7])? {
-        Ok(told) => {
-            assert_eq!(rt;
-                told.entries.as_slice(),
-                [
-                    Stepped(0),
-                    Stepped(0),
-                    Stepped(0),
-                    Stepped(0),
-                    Stepped(1),
-                    Stepped(1),
-                    Stepped(1),
-                    Stepped(1)
-                ]
-                .as_slice()
-            );
-            assert_eq!(rt; told.endings.len(), 0);
-        }
+    match &finished(&rt, alloc, 7, &[0, 1, 2, 3], &[4, 5, 6, 7])? {
+        Ok(told) => assert_four_and_four(&rt, told),
         Err(stray) => assert_eq!(rt; stray.hart, 16),
     }
     Ok(())
@@ -175,6 +208,16 @@ fn has_entries(watched: &Watched, entries: &[Entry]) -> bool {
     true
 }
 
+/// ONE_STORE on one hart, with its two pauses.
+fn assert_one_site(rt: &impl Abort, watched: &mut Watched) {
+    step(rt, watched, 0);
+    pause_and_end(rt, watched);
+    pause_and_end(rt, watched);
+    step(rt, watched, 0);
+    step(rt, watched, 0);
+    assert!(rt; has_entries(watched, &ONE_SITE));
+}
+
 #[test]
 fn one_site_and_one_hart(rt: HostRuntime) -> Result<(), Fail> {
     let alloc = rt.alloc();
@@ -182,48 +225,32 @@ fn one_site_and_one_hart(rt: HostRuntime) -> Result<(), Fail> {
     let plan = plan(1, 10, 2, 5)?;
     for seed in [0, 1, 4_294_967_295] {
         let mut watched = Watched::new(alloc, &image, plan, seed)?;
-        step(&rt, &mut watched, 0);
-        pause_and_end(&rt, &mut watched);
-        pause_and_end(&rt, &mut watched);
-        step(&rt, &mut watched, 0);
-        step(&rt, &mut watched, 0);
-        assert!(rt;
-            has_entries(
-                &watched,
-                &[
-                    Armed(0x10004),
-                    Stepped(0),
-                    Paused(0, Some(0)),
-                    Resumed(0),
-                    Armed(0x10004),
-                    Paused(0, Some(0)),
-                    Resumed(0),
-                    Stepped(0),
-                    Stepped(0)
-                ]
-            )
-        );
+        assert_one_site(&rt, &mut watched);
     }
     Ok(())
 }
 
-/// A pause of two steps of others, after none, one and two of them.
+/// Hart 0's pause of two steps of others, after none, one and two of them.
+fn assert_due_after_two(rt: &impl Abort, watched: &mut Watched) {
+    step(rt, watched, 0);
+    let taken = turn(rt, watched, 0);
+    assert_eq!(rt; taken, Taken::Paused);
+    for _ in 0..2 {
+        let early = ends(rt, watched, 0);
+        assert!(rt; !early);
+        step(rt, watched, 1);
+    }
+    let ended = ends(rt, watched, 0);
+    assert!(rt; ended);
+}
+
 #[test]
 fn ends_a_pause_when_it_is_due(rt: HostRuntime) -> Result<(), Fail> {
     let alloc = rt.alloc();
     let image = image(&rt, alloc, &ONE_STORE)?;
-    let mut watched = Watched::new(alloc, &image, plan(2, 10, 1, 2)?, 3)?;
-    step(&rt, &mut watched, 0);
-    let taken = turn(&rt, &mut watched, 0);
-    assert_eq!(rt; taken, Taken::Paused);
-    let early = ends(&rt, &mut watched, 0);
-    assert!(rt; !early);
-    step(&rt, &mut watched, 1);
-    let early = ends(&rt, &mut watched, 0);
-    assert!(rt; !early);
-    step(&rt, &mut watched, 1);
-    let ended = ends(&rt, &mut watched, 0);
-    assert!(rt; ended);
+    let plan = plan(2, 10, 1, 2)?;
+    let mut watched = Watched::new(alloc, &image, plan, 3)?;
+    assert_due_after_two(&rt, &mut watched);
     Ok(())
 }
 

@@ -122,6 +122,26 @@ fn finished(
     }
 }
 
+/// A list of places for each hart, where each had a worker and no gate was shut.
+fn gathered<G: Gate>(
+    plan: Plan,
+    left: Vec<Mutex<Option<Record<G>>>>,
+    rooms: Rooms<G>,
+) -> Result<Vec<Vec<u32>>, RunFault<G::Shut>>
+    ensures ok { IfOk result (λ lists. length lists.items ≡ plan.harts) }
+    ensures err { IfErr result (λ fault. IsToldBy G.shuts fault) }
+{
+    let Rooms { records, lists } = rooms;
+    let Some(records) = records_of(left, records) else {
+        return Err(RunFault::NoThread);
+    };
+    let lists = lists_of(records, lists)?;
+    if lists.len() != usize::from(plan.harts) {
+        return Err(RunFault::NoThread);
+    }
+    Ok(lists)
+}
+
 /// What is told of a run whose workers have ended.
 fn told<G: Gate>(
     image: &Image,
@@ -134,13 +154,7 @@ fn told<G: Gate>(
     ensures err { IfErr result (λ fault. IsToldBy G.shuts fault) }
 {
     let Left { watched, records } = left;
-    let Some(records) = records_of(records, rooms.records) else {
-        return Err(RunFault::NoThread);
-    };
-    let lists = lists_of(records, rooms.lists)?;
-    if lists.len() != usize::from(plan.harts) {
-        return Err(RunFault::NoThread);
-    }
+    let lists = gathered(plan, records, rooms)?;
     match finished(image, plan, seed, watched, &lists) {
         Ok(told) => Ok(told),
         Err(stray) => Err(RunFault::Stray(stray.hart)),
@@ -186,10 +200,9 @@ pub fn run_threads<R: Threads + Wait + Sync, G: Gate>(
     ensures ok { IfOk result (λ told. IsThreaded image.now (numbers plan) seed told) }
     ensures err { IfErr result (λ fault. IsToldBy G.shuts fault) }
 {
-    let watched = Watched::new(alloc, image, plan, seed)?;
     let places = places(alloc, plan)?;
     let rooms = Rooms::new(alloc, plan)?;
-    let shared = Shared::new(alloc, watched, plan.harts)?;
+    let shared = Shared::new(alloc, Watched::new(alloc, image, plan, seed)?, plan.harts)?;
     start_all(rt, &shared, gate, places);
     told(image, plan, seed, shared.into_left(), rooms)
 }

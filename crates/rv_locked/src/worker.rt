@@ -94,13 +94,22 @@ impl<G: Gate> Record<G> {
     }
 }
 
+/// A place for the record of each worker, with none in it.
+fn empty_records<G: Gate>(
+    alloc: Global,
+    harts: u8,
+) -> Result<Vec<Mutex<Option<Record<G>>>>, NoMemory> {
+    let mut records = Vec::with_capacity(alloc, usize::from(harts))?;
+    for _ in 0..harts {
+        records.push(Mutex::new(None))?;
+    }
+    Ok(records)
+}
+
 impl<G: Gate> Shared<G> {
     /// What a number of workers share. All room is made here.
     pub fn new(alloc: Global, watched: Watched, harts: u8) -> Result<Shared<G>, NoMemory> {
-        let mut records = Vec::with_capacity(alloc, usize::from(harts))?;
-        for _ in 0..harts {
-            records.push(Mutex::new(None))?;
-        }
+        let records = empty_records(alloc, harts)?;
         Ok(Shared {
             watched: Mutex::new(watched),
             changed: Condvar::new(),
