@@ -40,4 +40,5 @@ pub mod Slots
 pub mod SpellLemmas
 pub mod StepFaults
 pub mod Writable
+pub mod Until
 pub mod Unwatched

@@ -12,7 +12,7 @@ ghost use Rattle.rv_collide.specs.StateAt.{state_at};
 ghost use Rattle.rv_collide.specs.Stored.{added, setting_of, Stored, stored};
 ghost use Rattle.rv_collide.specs.Verdict.{ending_at, endings, verdict_of};
 ghost use Rattle.rv_collide.specs.Answers as answer;
-ghost use Rattle.rv_collide.specs.internal.Core.{slots_freed, slots_seen};
+ghost use Rattle.rv_collide.specs.internal.Core.{IsUntil, slots_freed, slots_seen};
 ghost use Rattle.rv_collide.specs.internal.GoesOn.{GoesOn};
 ghost use Rattle.rv_break.specs.Slots as break_slots;
 ghost use Rattle.rv_hart.specs.Next.{accessed};
@@ -58,6 +58,8 @@ pub struct Collider<S: ByteStore> {
     endings: Vec<Ending>,
     steps: u32,
     arms: u32,
+    /// The plan's steps where no pause is open and no address armed, else 0.
+    until: u32,
 }
 
 /// What a run leaves.
@@ -72,7 +74,7 @@ pub struct Finished {
 impl<S: ByteStore> Model for Collider<S> {
     ghost use Rattle.rv_collide.specs.Numbers.{numbers};
     ghost use Rattle.rv_collide.specs.Stored.{Stored, stored, setting_of};
-    ghost use Rattle.rv_collide.specs.internal.Core.{IsCore, IsRoomy};
+    ghost use Rattle.rv_collide.specs.internal.Core.{IsCore, IsRoomy, IsUntil};
 
     ghost Value = { Stored };
 
@@ -82,7 +84,8 @@ impl<S: ByteStore> Model for Collider<S> {
         IsCore (setting_of (stored c.image.value (numbers c.plan) c.entries.items)) c.entries.items
         c.machine c.breaks c.openings.items c.endings.items c.steps c.arms
         × IsRoomy (setting_of (stored c.image.value (numbers c.plan) c.entries.items)) c.entries
-        c.openings c.endings };
+        c.openings c.endings
+        × IsUntil c.plan.steps c.breaks c.openings.items c.until };
 }
 
 impl<S: ByteStore> Collider<S> {
@@ -106,6 +109,7 @@ impl<S: ByteStore> Collider<S> {
             endings,
             steps: 0,
             arms: 0,
+            until: plan.steps,
         })
     }
 
@@ -128,11 +132,9 @@ impl<S: ByteStore> Collider<S> {
         ensures refused { OnErr result (self.new ≡ self.old) }
     {
         // Apart from one another, since a step that is shown to no claim stays in registers.
-        if self.is_unwatched() {
-            if self.goes_on(h) {
-                if let Some(event) = self.step(h, false) {
-                    return Ok(Turned::Stepped(event));
-                }
+        if self.goes_on_unwatched(h) {
+            if let Some(event) = self.step(h, false) {
+                return Ok(Turned::Stepped(event));
             }
         } else if self.goes_on(h) {
             if let Some(event) = self.step(h, true) {
@@ -340,6 +342,7 @@ impl<S: ByteStore> Collider<S> {
             old,
         });
         self.entries.push_reserved(Entry::Paused(h, slot));
+        self.until = 0;
         slot
     }
 
@@ -381,6 +384,25 @@ impl<S: ByteStore> Collider<S> {
                 None => Err(Refused::NoMemory),
             },
         }
+    }
+
+    /// Whether each turn of a hart that runs is a step, and shown to no claim.
+    #[inline(always)]
+    fn is_free(&self) -> bool
+        ensures unwatched { result ≡ true → openings self.now.entries ≡ [] }
+        ensures goes_on { result ≡ true → (h : ℕ) → GoesOn self.now h }
+    {
+        self.steps < self.until
+    }
+
+    /// Whether a turn of the hart is a step that no claim is shown, if there is such a hart and it runs. Mostly
+    /// one comparison tells.
+    #[inline(always)]
+    fn goes_on_unwatched(&self, h: u8) -> bool
+        ensures unwatched { result ≡ true → openings self.now.entries ≡ [] }
+        ensures goes_on { result ≡ true → GoesOn self.now h }
+    {
+        self.is_free() || self.is_unwatched() && self.goes_on(h)
     }
 
     /// Whether no pause is open.
@@ -461,6 +483,7 @@ impl<S: ByteStore> Collider<S> {
         }
         self.arms += 1;
         self.entries.push_reserved(Entry::Armed(pc));
+        self.until = 0;
         true
     }
 
@@ -471,6 +494,7 @@ impl<S: ByteStore> Collider<S> {
     {
         let _was_armed = self.breaks.disarm(pc);
         self.entries.push_reserved(Entry::Disarmed(pc));
+        self.until = until(self.plan, &self.breaks, &self.openings);
     }
 
     /// Ends the open pause of a hart.
@@ -486,6 +510,7 @@ impl<S: ByteStore> Collider<S> {
         let ending = ending_of(open, self.entries.len() as u32, seen, new);
         self.entries.push_reserved(Entry::Resumed(h));
         self.endings.push_reserved(ending);
+        self.until = until(self.plan, &self.breaks, &self.openings);
         ending
     }
 }
@@ -516,6 +541,17 @@ fn no_memory(fault: MemFault) -> NoMemory
     }
 }
 
+/// How many steps the plan allows, where each of them is of a turn that neither meets an armed address nor is
+/// shown to a claim; else 0.
+fn until(plan: Plan, breaks: &Breakpoints, openings: &[OpenPause]) -> u32
+    ensures { IsUntil plan.steps breaks.now openings.now result }
+{
+    match openings {
+        [] if breaks.is_unarmed() => plan.steps,
+        _ => 0,
+    }
+}
+
 /// Shows the claims what a step accessed, where there may be claims.
 #[inline(always)]
 fn show(breaks: &mut Breakpoints, is_watched: bool, place: u32, h: u8, event: Event)
@@ -543,12 +579,13 @@ fn is_running(status: Status) -> bool
     }
 }
 
-/// Whether one of the open pauses is the hart's.
+/// Whether one of the open pauses is the hart's. With a pause for each data breakpoint no loop is run.
 fn is_one_of(openings: &[OpenPause], h: u8) -> bool
     ensures { result ≡ list_any (λ p. p.hart == h) openings.now }
 {
     match openings {
         [] => false,
+        [a, b, c, d] => a.hart == h || b.hart == h || c.hart == h || d.hart == h,
         _ => openings.iter().any(|p| p.hart == h),
     }
 }

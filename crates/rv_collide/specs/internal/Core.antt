@@ -1,5 +1,5 @@
 -- What the core keeps beside its stored schedule, and how that follows from it.
-use Rattle.std.specs.Prelude.{◌≡◌, ℕ, ◌+◌, ◌*◌, ◌<◌, ◌≤◌, ◌==◌, Bool, false, Option, Some, None, option_map, option_and_then, IfSome, ⊤, List, [], ◌∷◌, map, length, count_by, find, slice_set, Vec, vec_capacity}
+use Rattle.std.specs.Prelude.{◌≡◌, ℕ, ◌+◌, ◌*◌, ◌<◌, ◌≤◌, ◌==◌, ◌⊎◌, Bool, true, false, Option, Some, None, option_map, option_and_then, IfSome, ⊤, List, [], ◌∷◌, map, length, count_by, find, slice_set, Vec, vec_capacity}
 use Rattle.std.specs.FinSet.{len}
 use Rattle.std.specs.List.{list_any, range_with_len}
 use Rattle.std.specs.Option.{option_map_or}
@@ -105,3 +105,8 @@ pub record IsRoomy (setting : Setting) (entries : Vec Entry Global) (opened : Ve
   pub for_entries : setting.plan.steps + 4 * setting.plan.arms ≤ vec_capacity entries
   pub for_openings : setting.plan.arms ≤ vec_capacity opened
   pub for_endings : setting.plan.arms ≤ vec_capacity told
+
+-- the plan's steps, where no pause is open and no address armed: up to so many each turn of a hart that runs is a
+-- step which no claim is shown
+abbrev pub IsUntil : ℕ → Breaks → List OpenPause → ℕ → Type 0
+IsUntil most breaks opened until = (until ≡ 0) ⊎ ((until ≡ most) × (opened ≡ []) × ((len breaks.armed == 0) ≡ true))

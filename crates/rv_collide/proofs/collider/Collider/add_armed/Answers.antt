@@ -1,4 +1,4 @@
-use Rattle.std.proofs.Common.{◌≡◌, ◌+◌, ◌*◌, ◌≤◌, ◌%◌, ℕ, true, false, cond, List, sym, ap, subst, ◌∙◌}
+use Rattle.std.proofs.Common.{inl, refl, ◌≡◌, ◌+◌, ◌*◌, ◌≤◌, ◌%◌, ℕ, true, false, cond, List, sym, ap, subst, ◌∙◌}
 use Rattle.std.specs.Prelude.{count_by, nat_lt}
 use Rattle.std.specs.FinSet.{FinSet, contains, insert, len}
 use Rattle.std.specs.Ordering.{nat_cmp}
@@ -29,4 +29,5 @@ invariant_of-self-2 g c =
         for_openings = c.self.invariant.1.for_openings;
         for_endings = c.self.invariant.1.for_endings;
       },
+      inl refl,
     )

@@ -6,7 +6,8 @@ use Rattle.rv_collide.specs.Armed.{armed}
 use Rattle.rv_collide.specs.Numbers.{numbers}
 use Rattle.rv_collide.specs.Stored.{Stored, setting_of, stored}
 use Rattle.rv_collide.specs.declared.entry.Entry.{Entry}
-use Rattle.rv_collide.specs.internal.Core.{IsCore}
+use Rattle.rv_collide.specs.declared.open_pause.OpenPause.{OpenPause}
+use Rattle.rv_collide.specs.internal.Core.{IsCore, IsUntil}
 use Rattle.rv_collide.proofs.Calls.{disarm_ok}
 use Rattle.rv_collide.proofs.Growth.{core_disarm}
 use Rattle.rv_collide.proofs.Rooms.{room_to_disarm}
@@ -31,4 +32,5 @@ invariant_of-self g c =
         for_openings = c.self.invariant.1.for_openings;
         for_endings = c.self.invariant.1.for_endings;
       },
+      subst (λ (ps : List OpenPause). IsUntil c.self.inside.plan.steps c.disarm-was_armed.new.self ps c.until-self-inside.result) c.deref.ensures.value c.until-self-inside.ensures,
     )

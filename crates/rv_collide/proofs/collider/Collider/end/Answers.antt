@@ -11,7 +11,7 @@ use Rattle.rv_collide.specs.declared.ending.Ending.{Ending}
 use Rattle.rv_collide.specs.declared.entry.Entry.{Entry}
 use Rattle.rv_collide.specs.declared.entry.Entry.TheVariants.{Resumed}
 use Rattle.rv_collide.specs.declared.open_pause.OpenPause.{OpenPause}
-use Rattle.rv_collide.specs.internal.Core.{IsCore, opening}
+use Rattle.rv_collide.specs.internal.Core.{IsCore, IsUntil, opening}
 use Rattle.rv_collide.proofs.Endings.{ending_now}
 use Rattle.rv_collide.proofs.Growth.{core_resume, kept_found, opening_kept, resume_part}
 use Rattle.rv_collide.proofs.OpenPauses.{bytes_now, is_kept_open, size_of, slot_claimed, slot_seen, told}
@@ -76,6 +76,7 @@ invariant_of-self g c =
         for_openings = subst (λ (n : ℕ). s.plan.arms ≤ n) (sym c.taken-open.ensures.capacity) c.self.invariant.1.for_openings;
         for_endings = subst (λ (n : ℕ). s.plan.arms ≤ n) (sym c.push_reserved-2.ensures.capacity) c.self.invariant.1.for_endings;
       },
+      subst (λ (ps : List OpenPause). IsUntil c.self.inside.plan.steps c.released-seen.new.breaks ps c.until-self-inside.result) c.deref.ensures.value c.until-self-inside.ensures,
     )
 
 pub returns-clause-ending : goal.returns-clause-ending

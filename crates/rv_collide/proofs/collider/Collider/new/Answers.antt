@@ -9,6 +9,7 @@ use Rattle.rv_collide.specs.internal.Core.{IsCore}
 use Rattle.rv_elf.specs.Contents.{Contents}
 use Rattle.rv_hart.specs.State.{first_hart, start}
 use Rattle.rv_collide.proofs.Begun.{core_new}
+use Rattle.rv_collide.proofs.Until.{until_new}
 use Rattle.rv_collide.proofs.collider.Collider.new.Goals as goal
 
 pub invariant_of-result : goal.invariant_of-result
@@ -30,4 +31,5 @@ invariant_of-result g c =
         for_openings = omega (arith, c.in_ok-openings.ensures.capacity);
         for_endings = omega (arith, c.in_ok-endings.ensures.capacity);
       },
+      until_new c.args.plan.steps c.in_ok-breaks.breaks c.in_ok-openings.openings.items c.in_ok-breaks.ensures c.in_ok-openings.ensures.items,
     )

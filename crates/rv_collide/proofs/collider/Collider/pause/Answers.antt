@@ -1,4 +1,4 @@
-use Rattle.std.proofs.Common.{refl, ◌≡◌, ◌+◌, ◌*◌, ◌≤◌, ℕ, List, ◌++◌, [], ◌∷◌, length, Ok, sym, ap, subst, ◌∙◌, arith}
+use Rattle.std.proofs.Common.{inl, refl, ◌≡◌, ◌+◌, ◌*◌, ◌≤◌, ℕ, List, ◌++◌, [], ◌∷◌, length, Ok, sym, ap, subst, ◌∙◌, arith}
 use Rattle.std.specs.Vec.{vec_capacity}
 use Rattle.rv_break.specs.Breakpoints.{Breaks}
 use Rattle.rv_break.specs.Slots.{free_slot}
@@ -68,4 +68,5 @@ invariant_of-self g c =
         for_openings = subst (λ (n : ℕ). s.plan.arms ≤ n) (sym c.push_reserved.ensures.capacity) c.self.invariant.1.for_openings;
         for_endings = c.self.invariant.1.for_endings;
       },
+      inl refl,
     )

@@ -12,6 +12,7 @@ use Rattle.rv_collide.specs.internal.Core.{IsCore, slots_seen}
 use Rattle.rv_collide.specs.Pause.{openings}
 use Rattle.rv_collide.specs.internal.GoesOn.{GoesOn}
 use Rattle.rv_collide.proofs.GoesOn.{step_forced}
+use Rattle.rv_collide.proofs.Until.{until_kept}
 use Rattle.rv_collide.proofs.Growth.{core_step, turn_parts}
 use Rattle.rv_collide.proofs.LawLemmas.{runs_in}
 use Rattle.rv_collide.proofs.StepFaults.{only_memory}
@@ -62,6 +63,7 @@ invariant_of-self-2 g c =
         for_openings = c.self.invariant.1.for_openings;
         for_endings = c.self.invariant.1.for_endings;
       },
+      until_kept c.self.inside.plan.steps c.self.inside.until c.self.inside.breaks c.show.new.breaks c.self.inside.openings.items (ap (λ (b : Breaks). b.armed) c.show.ensures) c.self.invariant.2,
     )
 
 pub returns-clause-forced : goal.returns-clause-forced
