@@ -58,7 +58,7 @@ pub struct Collider<S: ByteStore> {
     endings: Vec<Ending>,
     steps: u32,
     arms: u32,
-    /// The plan's steps where no pause is open and no address armed, else 0.
+    /// Up to which step each turn is a step that no claim is shown, or 0 where that is not known.
     until: u32,
 }
 
@@ -541,8 +541,7 @@ fn no_memory(fault: MemFault) -> NoMemory
     }
 }
 
-/// How many steps the plan allows, where each of them is of a turn that neither meets an armed address nor is
-/// shown to a claim; else 0.
+/// The plan's steps where no pause is open and no address armed, else 0.
 fn until(plan: Plan, breaks: &Breakpoints, openings: &[OpenPause]) -> u32
     ensures { IsUntil plan.steps breaks.now openings.now result }
 {
