@@ -1,5 +1,5 @@
 -- The mnemonics of a listing, read back: a line an operation.
-use Rattle.std.proofs.Common.{◌≡◌, ℕ, Bool, true, false, List, ◌++◌, Option, Some, Ok, refl}
+use Rattle.std.proofs.Common.{◌≡◌, ℕ, Bool, true, false, cond, List, [], ◌∷◌, ◌++◌, map, Option, Some, None, Result, Ok, refl}
 use Rattle.std.specs.List.{find, list_all}
 use Rattle.std.specs.Str.{bytes_eq}
 use Rattle.rv_isa.specs.Form.{has_ordering}
@@ -10,8 +10,10 @@ use Rattle.rv_isa.specs.declared.op.Op.TheVariants.{Lui, Auipc, Jal, Jalr, Beq, 
 use Rattle.rv_asm.specs.Keyword.{keyword_of}
 use Rattle.rv_asm.specs.Mnemonics.{mnemonic, mnemonic_of, ordering_suffix}
 use Rattle.rv_asm.specs.Text.{is_name_byte}
+use Rattle.rv_asm.specs.declared.reading.keyword.Keyword.{Keyword}
 use Rattle.rv_asm.specs.declared.reading.keyword.Keyword.TheVariants.{Instr}
 use Rattle.rv_asm.specs.declared.reading.mnemonic.TheConstants.{OPS}
+use Rattle.rv_asm.specs.declared.statement.AsmKind.{AsmKind}
 use Rattle.rv_asm.proofs.PlainLemmas.{all_append}
 
 abbrev pub spelled : Op → Bool → Bool → List ℕ
@@ -75,48 +77,68 @@ found AmomaxW = refl
 found AmominuW = refl
 found AmomaxuW = refl
 
+-- ---- a rule of the table, computed once, holds at each operation
+
+agree_in : {B : Type 0} (f g : Op → B) (p : Op → Bool) (x : Op) (ops : List Op) (op : Op) (here : Bool) → map f (x ∷ ops) ≡ map g (x ∷ ops) → cond here (Some x) (find p ops) ≡ Some op
+    → (map f ops ≡ map g ops → find p ops ≡ Some op → f op ≡ g op) → f op ≡ g op
+agree_in f g p x ops op true same is later = cc
+agree_in f g p x ops op false same is later = let rest : map f ops ≡ map g ops = cc in later rest is
+
+agree_at : {B : Type 0} (f g : Op → B) (p : Op → Bool) (ops : List Op) (op : Op) → map f ops ≡ map g ops → find p ops ≡ Some op → f op ≡ g op
+agree_at f g p [] op same is = cc
+agree_at f g p (x ∷ ops) op same is = agree_in f g p x ops op (p x) same is (agree_at f g p ops op)
+
+agree : {B : Type 0} (f g : Op → B) → map f OPS ≡ map g OPS → (op : Op) → f op ≡ g op
+agree f g same op = agree_at f g (λ o. bytes_eq (spelled o false false) (spelled op false false)) OPS op same (found op)
+
+-- ---- the mnemonics with ordering bits
+
+-- what the spelling of an operation that may have ordering bits is read as
+abbrev read_back : Bool → Op → Bool → Bool → Option (Result Keyword AsmKind)
+read_back true op aq rl = Some (keyword_of (spelled op aq rl))
+read_back false op aq rl = None
+
+abbrev meant : Bool → Op → Bool → Bool → Option (Result Keyword AsmKind)
+meant true op aq rl = Some (Ok (Instr (mnemonic op aq rl)))
+meant false op aq rl = None
+
+abbrev reads : Bool → Bool → Op → Option (Result Keyword AsmKind)
+reads aq rl op = read_back (has_ordering (form_of op)) op aq rl
+
+abbrev means : Bool → Bool → Op → Option (Result Keyword AsmKind)
+means aq rl op = meant (has_ordering (form_of op)) op aq rl
+
+acquires : map (reads true false) OPS ≡ map (means true false) OPS
+unfolding keyword_of
+acquires = refl
+
+releases : map (reads false true) OPS ≡ map (means false true) OPS
+unfolding keyword_of
+releases = refl
+
+orders : map (reads true true) OPS ≡ map (means true true) OPS
+unfolding keyword_of
+orders = refl
+
+has_order : (has : Bool) → is_ordering has true ≡ true → has ≡ true
+has_order true is = refl
+has_order false is = cc
+
+ordered : (op : Op) (aq rl : Bool) (has : Bool) → has ≡ true → read_back has op aq rl ≡ meant has op aq rl → keyword_of (spelled op aq rl) ≡ Ok (Instr (mnemonic op aq rl))
+ordered op aq rl true is same = cc
+ordered op aq rl false is same = cc
+
 plain_named : (op : Op) → keyword_of (spelled op false false) ≡ Ok (Instr (mnemonic op false false))
 unfolding keyword_of
 plain_named op = rw (found op) refl
 
 pub mnemonic_back : (op : Op) (aq rl : Bool) → is_ordering (has_ordering (form_of op)) aq ≡ true → is_ordering (has_ordering (form_of op)) rl ≡ true → keyword_of (spelled op aq rl) ≡ Ok (Instr (mnemonic op aq rl))
-unfolding keyword_of
 mnemonic_back op false false has_aq has_rl = plain_named op
-mnemonic_back LrW true false has_aq has_rl = refl
-mnemonic_back LrW false true has_aq has_rl = refl
-mnemonic_back LrW true true has_aq has_rl = refl
-mnemonic_back ScW true false has_aq has_rl = refl
-mnemonic_back ScW false true has_aq has_rl = refl
-mnemonic_back ScW true true has_aq has_rl = refl
-mnemonic_back AmoswapW true false has_aq has_rl = refl
-mnemonic_back AmoswapW false true has_aq has_rl = refl
-mnemonic_back AmoswapW true true has_aq has_rl = refl
-mnemonic_back AmoaddW true false has_aq has_rl = refl
-mnemonic_back AmoaddW false true has_aq has_rl = refl
-mnemonic_back AmoaddW true true has_aq has_rl = refl
-mnemonic_back AmoxorW true false has_aq has_rl = refl
-mnemonic_back AmoxorW false true has_aq has_rl = refl
-mnemonic_back AmoxorW true true has_aq has_rl = refl
-mnemonic_back AmoandW true false has_aq has_rl = refl
-mnemonic_back AmoandW false true has_aq has_rl = refl
-mnemonic_back AmoandW true true has_aq has_rl = refl
-mnemonic_back AmoorW true false has_aq has_rl = refl
-mnemonic_back AmoorW false true has_aq has_rl = refl
-mnemonic_back AmoorW true true has_aq has_rl = refl
-mnemonic_back AmominW true false has_aq has_rl = refl
-mnemonic_back AmominW false true has_aq has_rl = refl
-mnemonic_back AmominW true true has_aq has_rl = refl
-mnemonic_back AmomaxW true false has_aq has_rl = refl
-mnemonic_back AmomaxW false true has_aq has_rl = refl
-mnemonic_back AmomaxW true true has_aq has_rl = refl
-mnemonic_back AmominuW true false has_aq has_rl = refl
-mnemonic_back AmominuW false true has_aq has_rl = refl
-mnemonic_back AmominuW true true has_aq has_rl = refl
-mnemonic_back AmomaxuW true false has_aq has_rl = refl
-mnemonic_back AmomaxuW false true has_aq has_rl = refl
-mnemonic_back AmomaxuW true true has_aq has_rl = refl
-mnemonic_back op true rl has_aq has_rl = cc
-mnemonic_back op false true has_aq has_rl = cc
+mnemonic_back op true false has_aq has_rl = ordered op true false _ (has_order _ has_aq) (agree (reads true false) (means true false) acquires op)
+mnemonic_back op false true has_aq has_rl = ordered op false true _ (has_order _ has_rl) (agree (reads false true) (means false true) releases op)
+mnemonic_back op true true has_aq has_rl = ordered op true true _ (has_order _ has_aq) (agree (reads true true) (means true true) orders op)
+
+-- ---- the bytes of mnemonics
 
 suffix_bytes : (aq rl : Bool) → list_all is_name_byte (ordering_suffix aq rl) ≡ true
 suffix_bytes false false = refl
@@ -124,58 +146,11 @@ suffix_bytes true false = refl
 suffix_bytes false true = refl
 suffix_bytes true true = refl
 
+all_bytes : map (λ op. list_all is_name_byte (mnemonic_of op)) OPS ≡ map (λ op. true) OPS
+all_bytes = refl
+
 mnemonic_bytes : (op : Op) → list_all is_name_byte (mnemonic_of op) ≡ true
-mnemonic_bytes Lui = refl
-mnemonic_bytes Auipc = refl
-mnemonic_bytes Jal = refl
-mnemonic_bytes Jalr = refl
-mnemonic_bytes Beq = refl
-mnemonic_bytes Bne = refl
-mnemonic_bytes Blt = refl
-mnemonic_bytes Bge = refl
-mnemonic_bytes Bltu = refl
-mnemonic_bytes Bgeu = refl
-mnemonic_bytes Lb = refl
-mnemonic_bytes Lh = refl
-mnemonic_bytes Lw = refl
-mnemonic_bytes Lbu = refl
-mnemonic_bytes Lhu = refl
-mnemonic_bytes Sb = refl
-mnemonic_bytes Sh = refl
-mnemonic_bytes Sw = refl
-mnemonic_bytes Addi = refl
-mnemonic_bytes Slti = refl
-mnemonic_bytes Sltiu = refl
-mnemonic_bytes Xori = refl
-mnemonic_bytes Ori = refl
-mnemonic_bytes Andi = refl
-mnemonic_bytes Slli = refl
-mnemonic_bytes Srli = refl
-mnemonic_bytes Srai = refl
-mnemonic_bytes Add = refl
-mnemonic_bytes Sub = refl
-mnemonic_bytes Sll = refl
-mnemonic_bytes Slt = refl
-mnemonic_bytes Sltu = refl
-mnemonic_bytes Xor = refl
-mnemonic_bytes Srl = refl
-mnemonic_bytes Sra = refl
-mnemonic_bytes Or = refl
-mnemonic_bytes And = refl
-mnemonic_bytes Fence = refl
-mnemonic_bytes Ecall = refl
-mnemonic_bytes Ebreak = refl
-mnemonic_bytes LrW = refl
-mnemonic_bytes ScW = refl
-mnemonic_bytes AmoswapW = refl
-mnemonic_bytes AmoaddW = refl
-mnemonic_bytes AmoxorW = refl
-mnemonic_bytes AmoandW = refl
-mnemonic_bytes AmoorW = refl
-mnemonic_bytes AmominW = refl
-mnemonic_bytes AmomaxW = refl
-mnemonic_bytes AmominuW = refl
-mnemonic_bytes AmomaxuW = refl
+mnemonic_bytes op = agree (λ o. list_all is_name_byte (mnemonic_of o)) (λ o. true) all_bytes op
 
 pub spelled_bytes : (op : Op) (aq rl : Bool) → list_all is_name_byte (spelled op aq rl) ≡ true
 spelled_bytes op aq rl = all_append is_name_byte (mnemonic_of op) (ordering_suffix aq rl) (mnemonic_bytes op) (suffix_bytes aq rl)
