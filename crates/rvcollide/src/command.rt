@@ -6,10 +6,9 @@ ghost use Rattle.std.specs.String.{string_bytes};
 ghost use Rattle.clap.specs.Faults.{fault_of};
 ghost use Rattle.clap.specs.Kinds.{FailsBy};
 ghost use Rattle.clap.specs.Matches.{found_of};
-ghost use Rattle.clap.specs.Simple.{app_of, new_app, new_shape, shape_of, subcommand_of, subcommand_rows_of};
+ghost use Rattle.clap.specs.Simple.{app_of, subcommand_of, subcommand_rows_of};
 ghost use Rattle.clap.specs.Values.{kind_of};
-ghost use Rattle.clap.specs.Walk.{first_of, rows_of, rule_of};
-ghost use Rattle.clap.specs.declared.builder.command.Command.TheViews.{out-Command as fields_of};
+ghost use Rattle.clap.specs.Walk.{first_of, rows_of};
 ghost use Rattle.rvcollide.specs.Command as spec;
 ghost use Rattle.rvcollide.specs.Notice as notice;
 ghost use Rattle.rvcollide.specs.Reading as reading;
@@ -17,15 +16,19 @@ ghost use Rattle.rvcollide.specs.internal.Reading as jobs;
 
 pub mod complaint;
 pub mod run;
+pub mod subcommand;
+pub mod table;
 pub mod threads;
 
 use crate::arguments::{ImagePath, SavePath, SchedulePath, SourcePath};
 use crate::command::complaint::Complaint;
-use crate::command::run::{run_command, run_of};
-use crate::command::threads::{threads_command, threads_of};
+use crate::command::run::run_of;
+use crate::command::subcommand::with_subcommands;
+use crate::command::table::COMMANDS;
+use crate::command::threads::threads_of;
 use crate::run::options::Options;
 use clap::error::ErrorKind;
-use clap::{Arg, ArgMatches, Command, Error};
+use clap::{ArgMatches, Command, Error};
 use rv_collide::plan::Plan;
 use std::alloc::{AllocError, Global};
 use std::fmt::Display;
@@ -168,132 +171,11 @@ fn read_line<'a>(alloc: Global, words: &'a [&'a str]) -> Result<ArgMatches<'a>, 
 fn program<'a>(alloc: Global) -> Result<Command<'a>, AllocError>
     ensures { IfOk result (λ c. app_of c ≡ reading.program) }
 {
-    with_hunts(alloc)?.subcommand(threads_command(alloc)?)
-}
-
-/// The program with all its commands but the last.
-fn with_hunts<'a>(alloc: Global) -> Result<Command<'a>, AllocError>
-    ensures { IfOk result (λ c. app_of c ≡ reading.with_hunts) }
-{
-    with_schedules(alloc)?.subcommand(run_command(alloc)?)
-}
-
-/// The program with the commands that read texts or a schedule.
-fn with_schedules<'a>(alloc: Global) -> Result<Command<'a>, AllocError>
-    ensures { IfOk result (λ c. app_of c ≡ reading.with_schedules) }
-{
-    with_texts(alloc)?
-        .subcommand(list_command(alloc)?)?
-        .subcommand(replay_command(alloc)?)?
-        .subcommand(debug_command(alloc)?)
-}
-
-/// The program with the commands that read texts.
-fn with_texts<'a>(alloc: Global) -> Result<Command<'a>, AllocError>
-    ensures { IfOk result (λ c. app_of c ≡ reading.with_texts) }
-{
-    Command::new(alloc, "rvcollide")
+    let program = Command::new(alloc, "rvcollide")
         .version("0.1.0")
         .about("Hunts data races in RV32IA programs.")
-        .subcommand_required(true)
-        .subcommand(words_command(alloc))?
-        .subcommand(asm_command(alloc)?)
-}
-
-fn words_command<'a>(alloc: Global) -> Command<'a>
-    ensures shape { shape_of result ≡ reading.words_shape }
-    ensures local { (fields_of result).has_globals ≡ false }
-{
-    Command::new(alloc, "words").about("Runs the words of the standard input")
-}
-
-fn asm_command<'a>(alloc: Global) -> Result<Command<'a>, AllocError>
-    ensures { IfOk result (λ c. (shape_of c ≡ reading.asm_shape) × ((fields_of c).has_globals ≡ false)) }
-{
-    Command::new(alloc, "asm")
-        .about("Makes the image of a source")
-        .arg(required_word(alloc, "SOURCE").help(
-            "File with a source, in the assembler's language",
-        ))?
-        .arg(required_word(alloc, "IMAGE").help(
-            "File that is made, ELF32; a refused source makes none",
-        ))
-}
-
-fn list_command<'a>(alloc: Global) -> Result<Command<'a>, AllocError>
-    ensures { IfOk result (λ c. (shape_of c ≡ reading.list_shape) × ((fields_of c).has_globals ≡ false)) }
-{
-    Command::new(alloc, "list")
-        .about("Lists the instructions of an image")
-        .arg(required_word(alloc, "IMAGE").help("ELF32 file"))
-}
-
-fn replay_command<'a>(alloc: Global) -> Result<Command<'a>, AllocError>
-    ensures { IfOk result (λ c. (shape_of c ≡ reading.replay_shape) × ((fields_of c).has_globals ≡ false)) }
-{
-    Command::new(alloc, "replay")
-        .about("Runs a schedule again, and writes its endings and the state after it")
-        .arg(required_word(alloc, "IMAGE").help("ELF32 file"))?
-        .arg(required_word(alloc, "SCHEDULE").help("File with a schedule"))
-}
-
-fn debug_command<'a>(alloc: Global) -> Result<Command<'a>, AllocError>
-    ensures { IfOk result (λ c. (shape_of c ≡ reading.debug_shape) × ((fields_of c).has_globals ≡ false)) }
-{
-    let about = "Shows the places of a schedule, by commands on the standard input";
-    described_command(alloc, "debug", about, DEBUGGER)
-        .arg(described_word(alloc, "IMAGE", "ELF32 file"))?
-        .arg(described_word(alloc, "SCHEDULE", "File with a schedule"))
-}
-
-/// A command with a text before the list of its arguments and one after it.
-pub fn described_command<'a>(
-    alloc: Global,
-    name: &'a str,
-    about: &'a str,
-    after: &'a str,
-) -> Command<'a>
-    ensures app { app_of result ≡ new_app name.entry.now }
-    ensures shape { shape_of result ≡ new_shape name.entry.now }
-    ensures local { (fields_of result).has_globals ≡ false }
-{
-    Command::new(alloc, name).about(about).after_help(after)
-}
-
-/// What the help of `debug` says of the debugger's commands.
-const DEBUGGER: &str = "\
-Place N is the state after the first N entries of the schedule, and the session begins at place 0.
-Commands, one in each line:
-  g N           go to place N, as in g 4; the answer is the place: at 4
-  f             one place forwards: at 5
-  b             one place back: at 4
-  x H           the registers of hart H, as in x 0: hart 0 running pc 00010004 x2 c0010000
-  m ADDR LEN    LEN bytes of memory, 1 to 256, as in m 00020000 4: 00020000: 01 00 00 00
-  l ADDR COUNT  COUNT instructions, 1 to 64, as in l 00010000 1: 00010000: 00020337 lui x6, 0x20
-  w ADDR        find the next entry that touches the byte, as in w 00020000: found 4; the session then
-                stands behind that entry
-  q             end the session, as the end of the input does
-
-Numbers are decimal without leading zeros, addresses eight hexadecimal digits. What is refused leaves
-the place as it was and is answered by a line such as fault 1 NoPlace:
-  fault 0 Command  the line is no command       fault 3 NoBytes   no memory there, or misaligned
-  fault 1 NoPlace  the schedule is shorter      fault 4 NotFound  no such entry from here on
-  fault 2 NoHart   the machine has fewer harts  fault 5 NoMemory  want of memory";
-
-/// An argument that has to stand at its place, and what the help says of it.
-pub fn described_word<'a>(alloc: Global, name: &'a str, help: &'a str) -> Arg<'a>
-    ensures rule { rule_of result ≡ reading.required_word name.entry.now }
-    ensures local { result.global ≡ false }
-{
-    required_word(alloc, name).help(help)
-}
-
-/// An argument that has to stand at its place.
-fn required_word<'a>(alloc: Global, name: &'a str) -> Arg<'a>
-    ensures rule { rule_of result ≡ reading.required_word name.entry.now }
-    ensures local { result.global ≡ false }
-{
-    Arg::new(alloc, name).required(true)
+        .subcommand_required(true);
+    with_subcommands(alloc, program, &COMMANDS)
 }
 
 /// The job that `clap` found.
