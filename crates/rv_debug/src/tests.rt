@@ -11,6 +11,7 @@ use rv_collide::plan::Plan;
 use rv_elf::Image;
 use rv_memory::region::Region;
 use std::alloc::Global;
+use std::fmt::Debug;
 use std::process::Abort;
 use std::test::Fail;
 
@@ -28,27 +29,37 @@ fn zeros(alloc: Global, start: u32, len: u32) -> Region {
     }
 }
 
-/// An image of words at 00010000, which may be written, 4,096 zero bytes at 00020000, 16 right after them,
-/// and the last 4,096 bytes of all.
-pub fn image(rt: &impl Abort, alloc: Global, words: &[u32]) -> Result<Image, Fail> {
+/// What was found is what is wanted. (Each assertion that a test writes out costs the check a second, and a call of
+/// this one next to nothing.)
+fn assert_is<T: PartialEq + Debug + Drop>(rt: &impl Abort, found: T, wanted: T, what: &str) {
+    assert_eq!(rt; found, wanted, "{what}");
+}
+
+fn code(rt: &impl Abort, alloc: Global, words: &[u32]) -> Result<Region, Fail> {
     let mut bytes = Vec::new(alloc);
     for word in words {
         bytes.extend_from_slice(&word.to_le_bytes())?;
     }
     let len = bytes.len();
     assert!(rt; 1 <= len && len <= 4096);
-    let mut segments = Vec::new(alloc);
-    segments.push(Region {
+    Ok(Region {
         start: 0x10000,
         bytes,
         len: len as u32,
         r: true,
         w: true,
         x: true,
-    })?;
-    segments.push(zeros(alloc, 0x20000, 4096))?;
-    segments.push(zeros(alloc, 0x21000, 16))?;
-    segments.push(zeros(alloc, 0xffff_f000, 4096))?;
+    })
+}
+
+/// An image of words at 00010000, which may be written, 4,096 zero bytes at 00020000, 16 right after them,
+/// and the last 4,096 bytes of all.
+pub fn image(rt: &impl Abort, alloc: Global, words: &[u32]) -> Result<Image, Fail> {
+    let code = code(rt, alloc, words)?;
+    let data = zeros(alloc, 0x20000, 4096);
+    let more = zeros(alloc, 0x21000, 16);
+    let last = zeros(alloc, 0xffff_f000, 4096);
+    let segments = vec![in alloc; code, data, more, last]?;
     Ok(Image::new(0x10000, segments, Vec::new(alloc)).ok_or("an image")?)
 }
 
@@ -62,8 +73,10 @@ pub fn session_of(
     words: &[u32],
     entries: &[Entry],
 ) -> Result<Session, Fail> {
+    let plan = ample(2)?;
+    let entries = entries.to_vec(alloc)?;
     let image = image(rt, alloc, words)?;
-    Ok(Session::new(alloc, &image, ample(2)?, entries.to_vec(alloc)?)?)
+    Ok(Session::new(alloc, &image, plan, entries)?)
 }
 
 /// A store of hart 1 within a pause of hart 0 at the same one.

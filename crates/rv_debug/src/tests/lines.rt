@@ -18,23 +18,29 @@ fn lines_taken<R: Read + Drop>(limit: usize, reader: R) -> (u32, Result<(), Talk
     (10, Ok(()))
 }
 
+const LONG: Result<(), TalkFault> = Err(TalkFault::TooLong);
+
+/// A limit, a text, how many of its lines are taken, and why no more.
+type Row = (usize, &'static [u8], (u32, Result<(), TalkFault>));
+
+const LIMITS: [Row; 9] = [
+    (6, b"ab\ncd\n", (2, Ok(()))),
+    (5, b"ab\ncd", (2, Ok(()))),
+    (5, b"ab\ncd\n", (1, LONG)),
+    (4, b"ab\ncd", (1, LONG)),
+    (3, b"ab\ncd", (1, LONG)),
+    (2, b"ab\ncd", (0, LONG)),
+    (0, b"", (0, Ok(()))),
+    (0, b"\n", (0, LONG)),
+    (3, b"\n\n\n", (3, Ok(()))),
+];
+
 #[test]
 fn takes_whole_lines_within_the_limit(rt: HostRuntime) {
-    let long = Err(TalkFault::TooLong);
-    for (limit, text, taken) in [
-        (6, b"ab\ncd\n".as_slice(), (2, Ok(()))),
-        (5, b"ab\ncd", (2, Ok(()))),
-        (5, b"ab\ncd\n", (1, long)),
-        (4, b"ab\ncd", (1, long)),
-        (3, b"ab\ncd", (1, long)),
-        (2, b"ab\ncd", (0, long)),
-        (0, b"", (0, Ok(()))),
-        (0, b"\n", (0, long)),
-        (3, b"\n\n\n", (3, Ok(()))),
-    ] {
+    for (limit, text, taken) in &LIMITS {
         assert_eq!(rt;
-            lines_taken(limit, text),
-            taken,
+            lines_taken(*limit, *text),
+            *taken,
             "{limit} bytes of {text:?}"
         );
     }

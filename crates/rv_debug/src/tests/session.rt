@@ -1,8 +1,9 @@
 //! Sessions, called directly.
 ghost use Rattle.std.specs.Prelude.{◌≤◌, length};
 
+use crate::command::Command::{self, Back, Find, Forward, Go};
 use crate::session::{Session, SessionFault};
-use crate::tests::{HIT, P, ample, image, session_of};
+use crate::tests::{HIT, P, ample, assert_is, image, session_of};
 use rv_collide::collider::Collider;
 use rv_collide::entry::Entry::{self, Armed, Disarmed, Paused, Resumed, Stepped};
 use rv_collide::refused::Refused;
@@ -27,47 +28,68 @@ fn has_bytes(
     requires few { length wanted.now ≤ 256 }
 {
     let bytes = session.bytes(alloc, address, wanted.len() as u32)?;
-    assert_eq!(rt; bytes.as_slice(), wanted);
+    assert_is(rt, bytes.as_slice(), wanted, "bytes");
     Ok(())
 }
+
+/// The answer to a command that moves: the place found, where it looks for one.
+fn moved(
+    alloc: Global,
+    session: &mut Session,
+    command: Command,
+) -> Result<Option<u32>, SessionFault> {
+    match command {
+        Go(place) => session.go(alloc, place)?,
+        Forward => session.forward()?,
+        Back => session.back(alloc)?,
+        Find(address) => return Ok(Some(session.find(alloc, address)?)),
+        _ => {}
+    }
+    Ok(None)
+}
+
+/// Asserts what a command answers, and at which place it leaves the session.
+fn assert_moves(
+    rt: &impl Abort,
+    alloc: Global,
+    session: &mut Session,
+    command: Command,
+    answer: Result<Option<u32>, SessionFault>,
+    place: u32,
+) {
+    let answered = moved(alloc, session, command);
+    assert_eq!(rt; (answered, session.place()), (answer, place), "{command:?}");
+}
+
+/// A command, its answer, and then the place and the byte at 00020000.
+type Move = (Command, Result<Option<u32>, SessionFault>, u32, u8);
+
+/// A walk through P's hit, to its ends, and to the accesses of bytes.
+const RACE: [Move; 16] = [
+    (Go(4), Ok(None), 4, 0),
+    (Forward, Ok(None), 5, 1),
+    (Back, Ok(None), 4, 0),
+    (Go(9), Err(SessionFault::NoPlace), 4, 0),
+    (Go(6), Ok(None), 6, 1),
+    (Forward, Err(SessionFault::NoPlace), 6, 1),
+    (Find(0x20000), Err(SessionFault::NotFound), 6, 1),
+    (Go(0), Ok(None), 0, 0),
+    (Back, Err(SessionFault::NoPlace), 0, 0),
+    (Go(4), Ok(None), 4, 0),
+    (Find(0x20000), Ok(Some(4)), 5, 1),
+    (Find(0x20000), Err(SessionFault::NotFound), 5, 1),
+    (Go(0), Ok(None), 0, 0),
+    (Find(0x20004), Err(SessionFault::NotFound), 0, 0),
+    (Find(0x1ffff), Err(SessionFault::NotFound), 0, 0),
+    (Find(0x20003), Ok(Some(4)), 5, 1),
+];
 
 fn walk_a_race(rt: &impl Abort, alloc: Global, session: &mut Session) -> Result<(), Fail> {
-    assert_eq!(rt; session.place(), 0);
-    session.go(alloc, 4)?;
-    assert_eq!(rt; session.place(), 4);
-    has_bytes(rt, alloc, session, 0x20000, &[0, 0, 0, 0])?;
-    session.forward()?;
-    assert_eq!(rt; session.place(), 5);
-    has_bytes(rt, alloc, session, 0x20000, &[1, 0, 0, 0])?;
-    session.back(alloc)?;
-    assert_eq!(rt; session.place(), 4);
-    assert_eq!(rt; session.go(alloc, 9), Err(SessionFault::NoPlace));
-    assert_eq!(rt; session.place(), 4);
-    Ok(())
-}
-
-fn see_the_ends(rt: &impl Abort, alloc: Global, session: &mut Session) -> Result<(), Fail> {
-    session.go(alloc, 6)?;
-    assert_eq!(rt; session.forward(), Err(SessionFault::NoPlace));
-    assert_eq!(rt; session.find(alloc, 0x20000), Err(SessionFault::NotFound));
-    assert_eq!(rt; session.place(), 6);
-    session.go(alloc, 0)?;
-    assert_eq!(rt; session.back(alloc), Err(SessionFault::NoPlace));
-    assert_eq!(rt; session.place(), 0);
-    Ok(())
-}
-
-fn find_a_race(rt: &impl Abort, alloc: Global, session: &mut Session) -> Result<(), Fail> {
-    session.go(alloc, 4)?;
-    assert_eq!(rt; session.find(alloc, 0x20000), Ok(4));
-    assert_eq!(rt; session.place(), 5);
-    assert_eq!(rt; session.find(alloc, 0x20000), Err(SessionFault::NotFound));
-    assert_eq!(rt; session.place(), 5);
-    session.go(alloc, 0)?;
-    assert_eq!(rt; session.find(alloc, 0x20004), Err(SessionFault::NotFound));
-    assert_eq!(rt; session.find(alloc, 0x1ffff), Err(SessionFault::NotFound));
-    assert_eq!(rt; session.place(), 0);
-    assert_eq!(rt; session.find(alloc, 0x20003), Ok(4));
+    assert_is(rt, session.place(), 0, "the first place");
+    for (command, answer, place, stored) in &RACE {
+        assert_moves(rt, alloc, session, *command, *answer, *place);
+        has_bytes(rt, alloc, session, 0x20000, &[*stored, 0, 0, 0])?;
+    }
     Ok(())
 }
 
@@ -75,23 +97,24 @@ fn find_a_race(rt: &impl Abort, alloc: Global, session: &mut Session) -> Result<
 fn walks_a_race(rt: HostRuntime) -> Result<(), Fail> {
     let alloc = rt.alloc();
     let mut session = session_of(&rt, alloc, &P, &HIT)?;
-    walk_a_race(&rt, alloc, &mut session)?;
-    see_the_ends(&rt, alloc, &mut session)?;
-    find_a_race(&rt, alloc, &mut session)
+    walk_a_race(&rt, alloc, &mut session)
 }
 
 fn see_harts(rt: &impl Abort, alloc: Global, session: &mut Session) -> Result<(), Fail> {
     session.go(alloc, 6)?;
     let one = session.registers(0)?;
-    assert_eq!(rt; one.status, Status::Running);
-    assert_eq!(rt; (one.pc, one.reservation), (0x10004, None));
-    assert_eq!(rt; (one.registers[0], one.registers[2]), (0, 0xc001_0000));
-    assert_eq!(rt; (one.registers[6], one.registers[10]), (0x20000, 0));
-    assert_eq!(rt; (one.registers[11], one.registers[31]), (2, 0));
+    let x = one.registers;
+    assert_is(rt, one.status, Status::Running, "status");
+    assert_is(rt, (one.pc, one.reservation), (0x10004, None), "pc");
+    assert_is(rt, (x[0], x[2]), (0, 0xc001_0000), "x0 and x2");
+    assert_is(rt, (x[6], x[10]), (0x20000, 0), "x6 and x10");
+    assert_is(rt, (x[11], x[31]), (2, 0), "x11 and x31");
     let other = session.registers(1)?;
-    assert_eq!(rt; (other.pc, other.registers[10]), (0x10008, 1));
-    assert!(rt; matches!(session.registers(2), Err(SessionFault::NoHart)));
-    assert!(rt; matches!(session.registers(256), Err(SessionFault::NoHart)));
+    let found = (other.pc, other.registers[10]);
+    assert_is(rt, found, (0x10008, 1), "the other hart");
+    let none = Some(SessionFault::NoHart);
+    assert_is(rt, session.registers(2).err(), none, "hart 2");
+    assert_is(rt, session.registers(256).err(), none, "hart 256");
     Ok(())
 }
 
@@ -109,10 +132,12 @@ fn see_reservation_and_stop(
 ) -> Result<(), Fail> {
     session.go(alloc, 3)?;
     let view = session.registers(1)?;
-    assert_eq!(rt; view.status, Status::Stopped(Cause::Illegal));
-    assert_eq!(rt; view.reservation, Some(0x20000));
+    let stopped = Status::Stopped(Cause::Illegal);
+    assert_is(rt, view.status, stopped, "status");
+    assert_is(rt, view.reservation, Some(0x20000), "reservation");
     session.go(alloc, 0)?;
-    assert_eq!(rt; session.find(alloc, 0x20001), Ok(1));
+    let found = session.find(alloc, 0x20001);
+    assert_is(rt, found, Ok(1), "a byte of the word");
     Ok(())
 }
 
@@ -131,32 +156,32 @@ fn refuses_what_is_no_schedule(rt: HostRuntime) -> Result<(), Fail> {
     let alloc = rt.alloc();
     let image = image(&rt, alloc, &P)?;
     let entries = [Stepped(0), Resumed(0)].to_vec(alloc)?;
-    match Session::new(alloc, &image, ample(2)?, entries) {
-        Ok(_) => assert!(rt; false, "a session"),
-        Err(fault) => assert_eq!(rt;
-            fault,
-            ReplayFault::Entry {
-                place: 1,
-                why: Why::Refused(Refused::NotPaused),
-            }
-        ),
-    }
+    let fault = Session::new(alloc, &image, ample(2)?, entries).err();
+    let wanted = ReplayFault::Entry {
+        place: 1,
+        why: Why::Refused(Refused::NotPaused),
+    };
+    assert_is(&rt, fault, Some(wanted), "the fault");
     Ok(())
+}
+
+/// No bytes of so many, from 1 to 256, are shown from an address on.
+fn assert_no_bytes(rt: &impl Abort, alloc: Global, session: &Session, address: u32, len: u32) {
+    assert!(rt; 1 <= len && len <= 256);
+    let fault = session.bytes(alloc, address, len).err();
+    assert_is(rt, fault, Some(SessionFault::NoBytes), "no bytes");
 }
 
 fn see_edges(rt: &impl Abort, alloc: Global, session: &Session) -> Result<(), Fail> {
     has_bytes(rt, alloc, session, 0x1000c, &[0x73, 0, 0, 0])?;
-    let past = session.bytes(alloc, 0x1000c, 5);
-    assert!(rt; matches!(past, Err(SessionFault::NoBytes)));
-    let before = session.bytes(alloc, 0xffff, 2);
-    assert!(rt; matches!(before, Err(SessionFault::NoBytes)));
     has_bytes(rt, alloc, session, 0x20ffe, &[0, 0, 0, 0])?;
-    assert_eq!(rt; session.bytes(alloc, 0x20f10, 256)?.len(), 256);
-    let none = session.bytes(alloc, 0x21010, 1);
-    assert!(rt; matches!(none, Err(SessionFault::NoBytes)));
     has_bytes(rt, alloc, session, 0xffff_fffc, &[0, 0, 0, 0])?;
-    let wrapped = session.bytes(alloc, 0xffff_fffc, 5);
-    assert!(rt; matches!(wrapped, Err(SessionFault::NoBytes)));
+    let long = session.bytes(alloc, 0x20f10, 256)?.len();
+    assert_is(rt, long, 256, "the most bytes");
+    assert_no_bytes(rt, alloc, session, 0x1000c, 5);
+    assert_no_bytes(rt, alloc, session, 0xffff, 2);
+    assert_no_bytes(rt, alloc, session, 0x21010, 1);
+    assert_no_bytes(rt, alloc, session, 0xffff_fffc, 5);
     Ok(())
 }
 
@@ -186,46 +211,59 @@ fn text_of(alloc: Global, machine: &Machine<Flat>) -> Result<Vec<u8>, Fail> {
     Ok(writer.into_inner())
 }
 
+/// The state's text and the byte at 00020000.
+type Shown = (Vec<u8>, Option<u8>);
+
+/// The schedule's entries before a place, told again.
+fn replayed(rt: &impl Abort, alloc: Global, place: u32) -> Result<Collider<Flat>, Fail> {
+    let place = place as usize;
+    assert!(rt; place <= KINDS.len());
+    let plan = ample(2)?;
+    let image = image(rt, alloc, &P)?;
+    Ok(replay(alloc, &image, plan, &KINDS[..place])?)
+}
+
+/// What they lead to.
+fn told(rt: &impl Abort, alloc: Global, place: u32) -> Result<Shown, Fail> {
+    let fresh = replayed(rt, alloc, place)?;
+    let machine = fresh.machine();
+    Ok((text_of(alloc, machine)?, machine.byte(0x20000)))
+}
+
+/// What the session shows.
+fn shown(alloc: Global, session: &Session) -> Result<Shown, Fail> {
+    let stored = session.bytes(alloc, 0x20000, 1)?;
+    let byte = stored.as_slice().first().copied();
+    Ok((text_of(alloc, session.machine())?, byte))
+}
+
 /// The session shows what the schedule's entries before its place lead to.
 fn agrees(rt: &impl Abort, alloc: Global, session: &Session) -> Result<(), Fail> {
-    let place = session.place() as usize;
-    assert!(rt; place <= KINDS.len());
-    let image = image(rt, alloc, &P)?;
-    let fresh: Collider<Flat> = replay(alloc, &image, ample(2)?, &KINDS[..place])?;
-    let shown = text_of(alloc, session.machine())?;
-    let wanted = text_of(alloc, fresh.machine())?;
-    assert_eq!(rt; shown.as_slice(), wanted.as_slice());
-    let stored = session.bytes(alloc, 0x20000, 1)?;
-    assert_eq!(rt;
-        stored.as_slice().first().copied(),
-        fresh.machine().byte(0x20000)
-    );
+    let wanted = told(rt, alloc, session.place())?;
+    let found = shown(alloc, session)?;
+    assert_is(rt, found.0.as_slice(), wanted.0.as_slice(), "the state");
+    assert_is(rt, found.1, wanted.1, "the byte");
     Ok(())
 }
 
 fn walk_all_places(rt: &impl Abort, alloc: Global, session: &mut Session) -> Result<(), Fail> {
     agrees(rt, alloc, session)?;
-    for _ in 0..9u8 {
-        session.forward()?;
+    for place in 0..9u32 {
+        assert_moves(rt, alloc, session, Forward, Ok(None), place + 1);
         agrees(rt, alloc, session)?;
     }
-    assert_eq!(rt; session.place(), 9);
-    for _ in 0..9u8 {
-        session.back(alloc)?;
+    for back in 0..9u32 {
+        assert_moves(rt, alloc, session, Back, Ok(None), 8 - back);
         agrees(rt, alloc, session)?;
     }
-    assert_eq!(rt; session.place(), 0);
     for n in [9, 2, 7, 0, 5, 5] {
-        session.go(alloc, n)?;
-        assert_eq!(rt; session.place(), n);
+        assert_moves(rt, alloc, session, Go(n), Ok(None), n);
         agrees(rt, alloc, session)?;
     }
-    session.go(alloc, 0)?;
-    assert_eq!(rt; session.find(alloc, 0x20000), Ok(5));
-    assert_eq!(rt; session.find(alloc, 0x20000), Ok(8));
-    assert_eq!(rt; session.place(), 9);
-    agrees(rt, alloc, session)?;
-    Ok(())
+    assert_moves(rt, alloc, session, Go(0), Ok(None), 0);
+    assert_moves(rt, alloc, session, Find(0x20000), Ok(Some(5)), 6);
+    assert_moves(rt, alloc, session, Find(0x20000), Ok(Some(8)), 9);
+    agrees(rt, alloc, session)
 }
 
 #[test]
@@ -261,55 +299,46 @@ fn has_lines(
     address: u32,
     count: u32,
     wanted: &str,
-) -> Result<(), Fail>
-    requires some { 1 ≤ count }
-    requires few { count ≤ 64 }
-{
+) -> Result<(), Fail> {
+    assert!(rt; 1 <= count && count <= 64);
     let text = listed(alloc, session, address, count)?;
-    assert_eq!(rt; text.as_str(), wanted);
+    assert_is(rt, text.as_str(), wanted, "lines");
     Ok(())
 }
 
-fn list_words(rt: &impl Abort, alloc: Global, session: &Session) -> Result<(), Fail> {
-    has_lines(
-        rt,
-        alloc,
-        session,
-        0x10000,
-        1,
-        "00010000: 00020337 lui x6, 0x20\n",
-    )?;
-    has_lines(
-        rt,
-        alloc,
-        session,
+/// An address, how many words are listed from there, and their lines.
+const LISTED: [(u32, u32, &str); 4] = [
+    (0x10000, 1, "00010000: 00020337 lui x6, 0x20\n"),
+    (
         0x10004,
         3,
         "00010004: 00a32023 sw x10, 0(x6)\n00010008: 00032283 lw x5, 0(x6)\n0001000c: 00000073 ecall\n",
-    )?;
-    has_lines(
-        rt,
-        alloc,
-        session,
+    ),
+    (
         0x20ffc,
         2,
         "00020ffc: 00000000 .word 0x00000000\n00021000: 00000000 .word 0x00000000\n",
-    )?;
-    has_lines(
-        rt,
-        alloc,
-        session,
-        0xffff_fffc,
-        1,
-        "fffffffc: 00000000 .word 0x00000000\n",
-    )?;
-    assert_eq!(rt; session.list(alloc, 0x20000, 64)?.len(), 64);
-    for (address, count) in [(0xffff_fffc, 2), (0x1000c, 2), (0x10002, 1), (0x30000, 1)] {
-        assert_eq!(rt;
-            listed(alloc, session, address, count).err(),
-            Some(SessionFault::NoBytes)
-        );
+    ),
+    (0xffff_fffc, 1, "fffffffc: 00000000 .word 0x00000000\n"),
+];
+
+/// No words of so many, from 1 to 64, are listed from an address on.
+fn assert_no_lines(rt: &impl Abort, alloc: Global, session: &Session, address: u32, count: u32) {
+    assert!(rt; 1 <= count && count <= 64);
+    let fault = listed(alloc, session, address, count).err();
+    assert_is(rt, fault, Some(SessionFault::NoBytes), "no bytes");
+}
+
+fn list_words(rt: &impl Abort, alloc: Global, session: &Session) -> Result<(), Fail> {
+    for (address, count, lines) in &LISTED {
+        has_lines(rt, alloc, session, *address, *count, lines)?;
     }
+    let most = session.list(alloc, 0x20000, 64)?.len();
+    assert_is(rt, most, 64, "the most lines");
+    assert_no_lines(rt, alloc, session, 0xffff_fffc, 2);
+    assert_no_lines(rt, alloc, session, 0x1000c, 2);
+    assert_no_lines(rt, alloc, session, 0x10002, 1);
+    assert_no_lines(rt, alloc, session, 0x30000, 1);
     Ok(())
 }
 
@@ -325,19 +354,12 @@ fn list_overwritten_code(
     alloc: Global,
     session: &mut Session,
 ) -> Result<(), Fail> {
-    session.go(alloc, 1)?;
-    has_lines(rt, alloc, session, 0x1000c, 1, "0001000c: 00000073 ecall\n")?;
-    session.forward()?;
-    has_lines(
-        rt,
-        alloc,
-        session,
-        0x1000c,
-        1,
-        "0001000c: 00000001 .word 0x00000001\n",
-    )?;
-    session.back(alloc)?;
-    has_lines(rt, alloc, session, 0x1000c, 1, "0001000c: 00000073 ecall\n")?;
+    let word = "0001000c: 00000001 .word 0x00000001\n";
+    let call = "0001000c: 00000073 ecall\n";
+    for (command, place, line) in [(Go(1), 1, call), (Forward, 2, word), (Back, 1, call)] {
+        assert_moves(rt, alloc, session, command, Ok(None), place);
+        has_lines(rt, alloc, session, 0x1000c, 1, line)?;
+    }
     Ok(())
 }
 

@@ -1,7 +1,7 @@
 //! When a talk reads, and what it has shown by then.
 use crate::fault::TalkFault;
 use crate::talk::talk;
-use crate::tests::{HIT, P, session_of};
+use crate::tests::{HIT, P, assert_is, session_of};
 use rv_memory::buffered::Buffered;
 use rv_memory::flagged::Flagged;
 use std::alloc::Global;
@@ -127,14 +127,14 @@ fn shows_an_answer_before_it_reads_on(rt: HostRuntime) -> Result<(), Fail> {
         b"9\nf\nw 00020000",
         b"\nf\n",
     ];
-    assert_eq!(rt; ask(&rt, alloc, &lines, 0)?, (Ok(()), 7, 7));
+    let asked = ask(&rt, alloc, &lines, 0)?;
+    assert_is(&rt, asked, (Ok(()), 7, 7), "lines");
     // The end is read once, where the last line has no LF too.
-    assert_eq!(rt; ask(&rt, alloc, &[b"f\nf"], 0)?, (Ok(()), 2, 2));
+    let asked = ask(&rt, alloc, &[b"f\nf"], 0)?;
+    assert_is(&rt, asked, (Ok(()), 2, 2), "no LF");
     // What stands behind `q` is not read.
-    assert_eq!(rt;
-        ask(&rt, alloc, &[b"f\n", b"q\n", b"f\n"], 0)?,
-        (Ok(()), 2, 1)
-    );
+    let asked = ask(&rt, alloc, &[b"f\n", b"q\n", b"f\n"], 0)?;
+    assert_is(&rt, asked, (Ok(()), 2, 1), "q");
     Ok(())
 }
 
@@ -144,7 +144,8 @@ fn keeps_the_answers_before_a_read_that_fails(rt: HostRuntime) -> Result<(), Fai
     let lines = [b"f\n".as_slice(), b"f\n", b"f\n"];
     for (fails_at, shown) in [(1, 0), (2, 1), (3, 2), (4, 3)] {
         let asked = ask(&rt, alloc, &lines, fails_at)?;
-        assert_eq!(rt; asked, (Err(TalkFault::Read), fails_at, shown));
+        let wanted = (Err(TalkFault::Read), fails_at, shown);
+        assert_is(&rt, asked, wanted, "till the read that fails");
     }
     Ok(())
 }
