@@ -107,6 +107,7 @@ impl Breakpoints {
 
     /// Shows the claimed data breakpoints an access that a hart made at a place: each that watches for
     /// it, and has seen none yet, holds it.
+    #[inline(always)]
     pub fn see(&mut self, place: u32, hart: u8, access: Access)
         ensures { self.new ≡ record self.old {
           slots = spec.slots_after (record { place = place; hart = hart; access = access }) self.old.slots;

@@ -10,5 +10,6 @@ pub mod breakpoints;
 pub mod claim;
 pub mod laws;
 mod slots;
+mod stretch;
 #[cfg(test)]
 mod tests;

@@ -3,6 +3,7 @@ ghost use Rattle.std.specs.Prelude.{◌≡◌, ◌<◌, IfOk, IfSome, IfNone, Is
 ghost use Rattle.rv_break.specs.Slots as spec;
 
 use crate::claim::{Claim, SLOTS, Seen};
+use crate::stretch::{Stretch, stretch_of};
 use rv_hart::access::Access;
 use rv_memory::store::NoMemory;
 use std::alloc::Global;
@@ -12,18 +13,20 @@ use std::marker::Model;
 #[derive(Drop)]
 pub struct Slots {
     claims: Vec<Option<Claim>>,
+    watched: Stretch,
 }
 
 impl Model for Slots {
     ghost use Rattle.std.specs.Prelude.{◌≡◌, length};
     ghost use Rattle.rv_break.specs.declared.claim.TheConstants.{SLOTS};
     ghost use Rattle.rv_break.specs.Slots as spec;
+    ghost use Rattle.rv_break.specs.internal.Stretch.{AreIn};
 
     ghost Value = { spec.Slots };
 
     ghost view = { λ s. s.claims.items };
 
-    ghost invariant = { λ s. length s.claims.items ≡ SLOTS };
+    ghost invariant = { λ s. (length s.claims.items ≡ SLOTS) × AreIn s.watched s.claims.items };
 }
 
 impl Slots {
@@ -31,9 +34,9 @@ impl Slots {
     pub fn new(alloc: Global) -> Result<Slots, NoMemory>
         ensures { IfOk result (λ slots. slots ≡ replicate SLOTS None) }
     {
-        Ok(Slots {
-            claims: vec![in alloc; None; SLOTS as usize]?,
-        })
+        let claims = vec![in alloc; None; SLOTS as usize]?;
+        let watched = stretch_of(&claims);
+        Ok(Slots { claims, watched })
     }
 
     /// Claims the free one with the least number, if there is one.
@@ -50,11 +53,24 @@ impl Slots {
             access,
             seen: None,
         });
+        self.watched = stretch_of(&self.claims);
         Some(slot as u8)
     }
 
     /// Shows each claim an access.
+    #[inline(always)]
     pub fn see(&mut self, seen: Seen)
+        ensures { self.new ≡ spec.slots_after seen self.old }
+    {
+        if !self.watched.misses(&seen.access) {
+            self.see_apart(seen);
+        }
+    }
+
+    /// The same, where each claim is looked at.
+    #[inline(never)]
+    #[tactic(auto, using(crate::proofs::Outside::are_in_after))]
+    fn see_apart(&mut self, seen: Seen)
         ensures { self.new ≡ spec.slots_after seen self.old }
     {
         show(&mut self.claims, seen);
@@ -77,6 +93,7 @@ impl Slots {
         let slot = slot as usize;
         let seen = seen_by(self.claims[slot]);
         self.claims[slot] = None;
+        self.watched = stretch_of(&self.claims);
         seen
     }
 }

@@ -95,3 +95,51 @@ fn holds_the_first_conflicting_access_of_another_hart(rt: HostRuntime) -> Result
     assert_eq!(rt; breaks.release(0), None);
     Ok(())
 }
+
+/// Stores of a third hart beside claims of 0x20004 to 0x20007 and of the last four bytes of all: the first byte, how
+/// many, and which of the claims they are for.
+const BESIDE: [(u32, u8, bool, bool); 10] = [
+    (0, 4, false, false),
+    (0x20000, 4, false, false),
+    (0x20002, 4, true, false),
+    (0x20003, 1, false, false),
+    (0x20004, 1, true, false),
+    (0x20006, 2, true, false),
+    (0x20008, 4, false, false),
+    (0xfffffffb, 1, false, false),
+    (0xfffffffc, 1, false, true),
+    (0xfffffffe, 2, false, true),
+];
+
+#[test]
+fn shows_each_claim_its_bytes_alone(rt: HostRuntime) -> Result<(), Fail> {
+    let mut breaks = Breakpoints::new(rt.alloc())?;
+    for (first, size, one, other) in BESIDE {
+        assert_eq!(rt; breaks.claim(0, load(0x10004, 0x20004, 4)), Some(0));
+        assert_eq!(rt; breaks.claim(1, load(0x10004, 0xfffffffc, 4)), Some(1));
+        breaks.see(3, 2, store(0x10008, first, size));
+        assert!(rt; breaks.is_claimed(0) && breaks.is_claimed(1));
+        assert_eq!(rt; breaks.release(0).is_some(), one);
+        breaks.see(4, 2, store(0x10008, first, size));
+        assert!(rt; breaks.is_claimed(1));
+        assert_eq!(rt; breaks.release(1).is_some(), other);
+    }
+    Ok(())
+}
+
+#[test]
+fn shows_a_claim_of_two_words_both(rt: HostRuntime) -> Result<(), Fail> {
+    let mut breaks = Breakpoints::new(rt.alloc())?;
+    for (first, is_for) in [
+        (0x20000, false),
+        (0x20003, true),
+        (0x20006, true),
+        (0x20007, false),
+    ] {
+        assert_eq!(rt; breaks.claim(0, load(0x10004, 0x20003, 4)), Some(0));
+        breaks.see(3, 2, store(0x10008, first, 1));
+        assert!(rt; breaks.is_claimed(0));
+        assert_eq!(rt; breaks.release(0).is_some(), is_for);
+    }
+    Ok(())
+}

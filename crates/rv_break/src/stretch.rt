@@ -1,0 +1,55 @@
+//! The stretch of addresses that the claims watch, which tells most accesses at one look.
+ghost use Rattle.std.specs.Prelude.{◌≡◌, ◌≤◌, IfSome};
+ghost use Rattle.rv_break.specs.internal.Stretch.{AreIn, LiesIn, is_outside};
+
+use crate::claim::Claim;
+use rv_hart::access::Access;
+
+/// Addresses from `first` on, and before `end`.
+#[derive(Clone, Copy)]
+pub struct Stretch {
+    pub first: u64,
+    pub end: u64,
+}
+
+impl Stretch {
+    /// Whether no byte of the access is in the stretch.
+    #[inline(always)]
+    pub fn misses(&self, access: &Access) -> bool
+        ensures { result ≡ is_outside self.now access.now }
+    {
+        let first = u64::from(access.first);
+        first + u64::from(access.size) <= self.first || self.end <= first
+    }
+
+    /// The stretch with what a claim watches.
+    fn widened(self, held: Option<Claim>) -> Stretch
+        ensures held { IfSome held (λ claim. LiesIn result claim.access) }
+        ensures first { result.first ≤ self.first }
+        ensures end { self.end ≤ result.end }
+    {
+        match held {
+            None => self,
+            Some(claim) => {
+                let first = u64::from(claim.access.first);
+                Stretch {
+                    first: self.first.min(first),
+                    end: self.end.max(first + u64::from(claim.access.size)),
+                }
+            }
+        }
+    }
+}
+
+/// From the first byte that a claim watches to the last.
+pub fn stretch_of(claims: &[Option<Claim>]) -> Stretch
+    ensures { AreIn result claims.now }
+{
+    match claims {
+        [] => Stretch {
+            first: u64::MAX,
+            end: 0,
+        },
+        [held, rest @ ..] => stretch_of(rest).widened(*held),
+    }
+}
