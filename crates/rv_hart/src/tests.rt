@@ -9,6 +9,7 @@ use rv_memory::flat::Flat;
 use rv_memory::region::Region;
 use rv_memory::store::MemFault;
 use std::alloc::Global;
+use std::fmt::Debug;
 use std::process::Abort;
 use std::test::Fail;
 
@@ -16,6 +17,12 @@ mod atomics;
 mod causes;
 mod edges;
 mod operations;
+
+/// What was found is what is wanted. (Each assertion that a test writes out costs the check a second, and a call of
+/// this one next to nothing.)
+fn assert_is<T: PartialEq + Debug + Drop>(rt: &impl Abort, found: T, wanted: T, what: &str) {
+    assert_eq!(rt; found, wanted, "{what}");
+}
 
 /// Words as a region from an address on.
 fn region(

@@ -25,11 +25,8 @@ fn operations(rt: HostRuntime) -> Result<(), Fail> {
         ("amominu", 0xc054_23af, minus_one, 1, 1),
         ("amomaxu", 0xe054_23af, 1, minus_one, minus_one),
     ] {
-        assert_eq!(rt;
-            replaced(&rt, rt.alloc(), word, a, b)?,
-            (a, stored),
-            "{name}"
-        );
+        let both = replaced(&rt, rt.alloc(), word, a, b)?;
+        assert_is(&rt, both, (a, stored), name);
     }
     Ok(())
 }
@@ -57,10 +54,10 @@ fn reservations(rt: HostRuntime) -> Result<(), Fail> {
         let mut machine = machine(&rt, rt.alloc(), &PAIR, &[0], 2)?;
         run(&rt, &mut machine, steps);
         assert!(rt; machine.harts() == 2);
-        assert_eq!(rt; machine.register(0, 7), x7);
-        assert_eq!(rt; machine.reservation(0), held);
-        assert_eq!(rt; machine.reservation(1), None);
-        assert_eq!(rt; machine.byte(0x20000), Some(byte));
+        assert_is(&rt, machine.register(0, 7), x7, "x7");
+        assert_is(&rt, machine.reservation(0), held, "hart 0's");
+        assert_is(&rt, machine.reservation(1), None, "hart 1's");
+        assert_is(&rt, machine.byte(0x20000), Some(byte), "the byte");
     }
     Ok(())
 }
@@ -84,19 +81,23 @@ fn own_reservations(rt: HostRuntime) -> Result<(), Fail> {
     let mut machine = machine(&rt, rt.alloc(), &words, &[0], 1)?;
     assert!(rt; machine.harts() == 1);
     run(&rt, &mut machine, &[0, 0, 0]);
-    assert_eq!(rt; machine.next_plain(0).is_some(), true);
+    let plain = machine.next_plain(0).is_some();
+    assert_is(&rt, plain, true, "the store is plain");
     run(&rt, &mut machine, &[0]);
-    assert_eq!(rt; machine.reservation(0), Some(0x20000));
-    assert_eq!(rt; machine.next_access(0).is_some(), true);
-    assert_eq!(rt; machine.next_plain(0), None);
+    assert_is(&rt, machine.reservation(0), Some(0x20000), "stored");
+    let access = machine.next_access(0).is_some();
+    assert_is(&rt, access, true, "the LR is an access");
+    assert_is(&rt, machine.next_plain(0), None, "and not plain");
     run(&rt, &mut machine, &[0]);
-    assert_eq!(rt; machine.reservation(0), Some(0x20004));
-    assert_eq!(rt; machine.step(0), Ok(Event::Moved(None)));
-    assert_eq!(rt; machine.register(0, 7), 1);
-    assert_eq!(rt; machine.reservation(0), None);
+    assert_is(&rt, machine.reservation(0), Some(0x20004), "replaced");
+    let stepped = machine.step(0);
+    assert_is(&rt, stepped, Ok(Event::Moved(None)), "the SC");
+    assert_is(&rt, machine.register(0, 7), 1, "it fails");
+    assert_is(&rt, machine.reservation(0), None, "and ends it");
     run(&rt, &mut machine, &[0, 0]);
-    assert_eq!(rt; machine.status(0), Status::Stopped(Cause::Breakpoint));
-    assert_eq!(rt; machine.reservation(0), Some(0x20004));
+    let stopped = Status::Stopped(Cause::Breakpoint);
+    assert_is(&rt, machine.status(0), stopped, "the trap");
+    assert_is(&rt, machine.reservation(0), Some(0x20004), "leaves it");
     Ok(())
 }
 
@@ -116,7 +117,7 @@ fn amo_ends_a_reservation(rt: HostRuntime) -> Result<(), Fail> {
         let mut machine = machine(&rt, rt.alloc(), &words, &[7], 2)?;
         run(&rt, &mut machine, &[0, 0, 0, 0, 1, 1, 1, 1, 0]);
         assert!(rt; machine.harts() == 2);
-        assert_eq!(rt; machine.register(0, 7), x7);
+        assert_is(&rt, machine.register(0, 7), x7, "x7");
     }
     Ok(())
 }

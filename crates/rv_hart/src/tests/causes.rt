@@ -6,10 +6,11 @@ fn cause(rt: &impl Abort, alloc: Global, word: u32, a: u32) -> Result<Status, Fa
     let mut machine = machine(rt, alloc, &words, &[a], 1)?;
     run(rt, &mut machine, &[0, 0, 0]);
     assert!(rt; machine.harts() == 1);
-    assert_eq!(rt; machine.pc(0), 0x10008);
-    assert_eq!(rt; machine.register(0, 7), 0);
-    assert_eq!(rt; machine.next_access(0), None);
-    assert_eq!(rt; machine.step(0), Err(StepFault::NotRunning));
+    assert_is(rt, machine.pc(0), 0x10008, "pc");
+    assert_is(rt, machine.register(0, 7), 0, "x7");
+    assert_is(rt, machine.next_access(0), None, "the next access");
+    let stepped = machine.step(0);
+    assert_is(rt, stepped, Err(StepFault::NotRunning), "a step");
     Ok(machine.status(0))
 }
 
@@ -60,11 +61,8 @@ fn causes(rt: HostRuntime) -> Result<(), Fail> {
         ),
         ("ecall of no number", 0x0000_0073, 0, Cause::UnknownCall),
     ] {
-        assert_eq!(rt;
-            cause(&rt, rt.alloc(), word, a)?,
-            Status::Stopped(want),
-            "{name}"
-        );
+        let status = cause(&rt, rt.alloc(), word, a)?;
+        assert_is(&rt, status, Status::Stopped(want), name);
     }
     Ok(())
 }
@@ -76,34 +74,50 @@ fn fetches(rt: HostRuntime) -> Result<(), Fail> {
     let mut machine = machine(&rt, rt.alloc(), &[0x0000_1163], &[0], 2)?;
     assert!(rt; machine.harts() == 2);
     run(&rt, &mut machine, &[0]);
-    assert_eq!(rt; machine.status(0), Status::Running);
-    assert_eq!(rt; machine.step(0), Ok(Event::Stopped(Cause::FetchFault)));
-    assert_eq!(rt; machine.status(0), Status::Stopped(Cause::FetchFault));
-    assert_eq!(rt; machine.status(1), Status::Running);
-    assert_eq!(rt; machine.pc(1), 0x10000);
+    assert_is(&rt, machine.status(0), Status::Running, "before it");
+    let stepped = machine.step(0);
+    assert_is(
+        &rt,
+        stepped,
+        Ok(Event::Stopped(Cause::FetchFault)),
+        "the step",
+    );
+    let stopped = Status::Stopped(Cause::FetchFault);
+    assert_is(&rt, machine.status(0), stopped, "after it");
+    assert_is(&rt, machine.status(1), Status::Running, "the other hart");
+    assert_is(&rt, machine.pc(1), 0x10000, "the other hart's pc");
     Ok(())
+}
+
+/// Why there is no machine of so many harts with a word at this address beside its text.
+fn refusal(
+    rt: &impl Abort,
+    alloc: Global,
+    start: u32,
+    harts: u8,
+) -> Result<Option<MemFault>, Fail> {
+    let text = region(rt, alloc, 0x10000, &[0], false)?;
+    let other = region(rt, alloc, start, &[0], true)?;
+    let regions = two(alloc, text, other)?;
+    assert!(rt; 1 <= harts && harts <= 16);
+    Ok(Machine::<Flat>::new(alloc, &regions, 0x10000, harts, 0).err())
 }
 
 /// Regions that make no machine: one past 2^32, one that meets a stack.
 #[test]
 fn refused_regions(rt: HostRuntime) -> Result<(), Fail> {
-    for (start, harts, want) in [
-        (0xffff_fffc, 1, None),
-        (0xffff_fffd, 1, Some(MemFault::PastEnd)),
-        (0xc000_0000, 1, Some(MemFault::Overlap)),
-        (0xc001_0000, 1, None),
-        (0xc001_0000, 2, Some(MemFault::Overlap)),
-        (0xbfff_fffc, 16, None),
-        (0xbfff_fffd, 16, Some(MemFault::Overlap)),
+    let (past, met) = (Some(MemFault::PastEnd), Some(MemFault::Overlap));
+    for (name, start, harts, want) in [
+        ("the last word", 0xffff_fffc, 1, None),
+        ("past the last", 0xffff_fffd, 1, past),
+        ("at the first stack", 0xc000_0000, 1, met),
+        ("right after it", 0xc001_0000, 1, None),
+        ("at the second stack", 0xc001_0000, 2, met),
+        ("right before the stacks", 0xbfff_fffc, 16, None),
+        ("into the first stack", 0xbfff_fffd, 16, met),
     ] {
-        let text = region(&rt, rt.alloc(), 0x10000, &[0], false)?;
-        let other = region(&rt, rt.alloc(), start, &[0], true)?;
-        let regions = two(rt.alloc(), text, other)?;
-        assert!(rt; 1 <= harts && harts <= 16);
-        match Machine::<Flat>::new(rt.alloc(), &regions, 0x10000, harts, 0) {
-            Ok(_) => assert!(rt; want.is_none(), "{start:08x}"),
-            Err(fault) => assert_eq!(rt; Some(fault), want, "{start:08x}"),
-        }
+        let fault = refusal(&rt, rt.alloc(), start, harts)?;
+        assert_is(&rt, fault, want, name);
     }
     Ok(())
 }

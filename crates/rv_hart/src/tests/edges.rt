@@ -62,10 +62,10 @@ fn stores_at_the_edges_of_a_reserved_word(rt: HostRuntime) -> Result<(), Fail> {
     ] {
         // lui x6, 0x20; addi x8, x6, 4
         let word = left(&rt, rt.alloc(), 0x0002_0337, 0x0043_0413, store)?;
-        assert_eq!(rt; word, (!ends).then_some(0x20004), "{name}");
+        assert_is(&rt, word, (!ends).then_some(0x20004), name);
         // lui x6, 0; addi x8, x6, -4: after the last word comes address 0
         let word = left(&rt, rt.alloc(), 0x0000_0337, 0xffc3_0413, store)?;
-        assert_eq!(rt; word, (!ends).then_some(0xffff_fffc), "{name}");
+        assert_is(&rt, word, (!ends).then_some(0xffff_fffc), name);
     }
     Ok(())
 }
@@ -80,31 +80,36 @@ fn access(first: u32, size: u8, write: bool) -> Access {
     }
 }
 
+/// Whether a load conflicts with an access, which is asked of both.
+fn assert_conflicts(rt: &impl Abort, one: &Access, load: &Access, wanted: bool, name: &str) {
+    let both = (one.conflicts(load), load.conflicts(one));
+    assert_is(rt, both, (wanted, wanted), name);
+}
+
 /// Two accesses conflict where they share a byte and one of them writes.
 #[test]
-fn conflicts_at_the_edges(rt: HostRuntime) -> Result<(), Fail> {
-    for (first, size, shares) in [
-        (0x1fff, 1, false),
-        (0x2000, 1, true),
-        (0x2003, 1, true),
-        (0x2004, 1, false),
-        (0x1ffe, 2, false),
-        (0x2002, 2, true),
-        (0x1ffc, 4, false),
-        (0x2000, 4, true),
-        (0x2004, 4, false),
-        (0x2000, 0, false),
-        (0x2001, 0, false),
-        (0xffff_fffc, 4, false),
+fn conflicts_at_the_edges(rt: HostRuntime) {
+    for (name, first, size, shares) in [
+        ("the byte before", 0x1fff, 1, false),
+        ("the first byte", 0x2000, 1, true),
+        ("the last byte", 0x2003, 1, true),
+        ("the byte after", 0x2004, 1, false),
+        ("the halfword before", 0x1ffe, 2, false),
+        ("the last halfword", 0x2002, 2, true),
+        ("the word before", 0x1ffc, 4, false),
+        ("the word", 0x2000, 4, true),
+        ("the word after", 0x2004, 4, false),
+        ("no byte, at the first", 0x2000, 0, false),
+        ("no byte, within", 0x2001, 0, false),
+        ("the last word of all", 0xffff_fffc, 4, false),
     ] {
-        let word = access(0x2000, 4, true);
-        let other = access(first, size, false);
-        assert_eq!(rt; word.conflicts(&other), shares, "{first:x} {size}");
-        assert_eq!(rt; other.conflicts(&word), shares, "{first:x} {size}");
-        assert_eq!(rt; access(0x2000, 4, false).conflicts(&other), false);
+        let load = access(first, size, false);
+        assert_conflicts(&rt, &access(0x2000, 4, true), &load, shares, name);
+        assert_conflicts(&rt, &access(0x2000, 4, false), &load, false, name);
     }
     let last = access(0xffff_ffff, 1, true);
-    assert_eq!(rt; last.conflicts(&access(0xffff_fffc, 4, false)), true);
-    assert_eq!(rt; last.conflicts(&access(0, 4, false)), false);
-    Ok(())
+    let end = access(0xffff_fffc, 4, false);
+    assert_conflicts(&rt, &last, &end, true, "the last byte of all");
+    let start = access(0, 4, false);
+    assert_conflicts(&rt, &last, &start, false, "the first word of all");
 }

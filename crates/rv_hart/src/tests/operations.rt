@@ -6,7 +6,7 @@ fn result(rt: &impl Abort, alloc: Global, word: u32, a: u32, b: u32) -> Result<u
     let mut machine = machine(rt, alloc, &words, &[a, b, 0x8180_7f01], 1)?;
     run(rt, &mut machine, &[0, 0, 0, 0]);
     assert!(rt; machine.harts() == 1);
-    assert_eq!(rt; machine.pc(0), 0x10010);
+    assert_is(rt, machine.pc(0), 0x10010, "pc");
     Ok(machine.register(0, 7))
 }
 
@@ -37,7 +37,8 @@ fn registers(rt: HostRuntime) -> Result<(), Fail> {
         ("or", 0x0062_e3b3, 0xf000_000f, 0x0ff0_0000, 0xfff0_000f),
         ("and", 0x0062_f3b3, 0xf0f0_f0f0, 0xffff_0000, 0xf0f0_0000),
     ] {
-        assert_eq!(rt; result(&rt, rt.alloc(), word, a, b)?, want, "{name}");
+        let found = result(&rt, rt.alloc(), word, a, b)?;
+        assert_is(&rt, found, want, name);
     }
     Ok(())
 }
@@ -62,7 +63,8 @@ fn immediates(rt: HostRuntime) -> Result<(), Fail> {
         ("lui 0xfffff", 0xffff_f3b7, 0, 0xffff_f000),
         ("auipc 0x80000", 0x8000_0397, 0, 0x8001_000c),
     ] {
-        assert_eq!(rt; result(&rt, rt.alloc(), word, a, 0)?, want, "{name}");
+        let found = result(&rt, rt.alloc(), word, a, 0)?;
+        assert_is(&rt, found, want, name);
     }
     Ok(())
 }
@@ -81,7 +83,8 @@ fn loads(rt: HostRuntime) -> Result<(), Fail> {
         ("lhu 10", 0x00a4_5383, 0x0000_8180),
         ("lw 8", 0x0084_2383, 0x8180_7f01),
     ] {
-        assert_eq!(rt; result(&rt, rt.alloc(), word, 0, 0)?, want, "{name}");
+        let found = result(&rt, rt.alloc(), word, 0, 0)?;
+        assert_is(&rt, found, want, name);
     }
     Ok(())
 }
@@ -109,7 +112,7 @@ fn branches(rt: HostRuntime) -> Result<(), Fail> {
         run(&rt, &mut machine, &[0, 0, 0, 0]);
         assert!(rt; machine.harts() == 1);
         let want = if taken { 0x10014 } else { 0x10010 };
-        assert_eq!(rt; machine.pc(0), want, "{name}");
+        assert_is(&rt, machine.pc(0), want, name);
     }
     Ok(())
 }
@@ -122,9 +125,9 @@ fn jumps(rt: HostRuntime) -> Result<(), Fail> {
     let mut machine = machine(&rt, rt.alloc(), &words, &[0], 1)?;
     run(&rt, &mut machine, &[0, 0, 0, 0]);
     assert!(rt; machine.harts() == 1);
-    assert_eq!(rt; machine.register(0, 1), 0x10008);
-    assert_eq!(rt; machine.register(0, 0), 0);
-    assert_eq!(rt; machine.pc(0), 0x1000c);
+    assert_is(&rt, machine.register(0, 1), 0x10008, "x1");
+    assert_is(&rt, machine.register(0, 0), 0, "x0");
+    assert_is(&rt, machine.pc(0), 0x1000c, "pc");
     Ok(())
 }
 
@@ -149,9 +152,10 @@ fn stores(rt: HostRuntime) -> Result<(), Fail> {
         read: false,
         write: true,
     };
-    assert_eq!(rt; machine.next_access(0), Some(store));
-    assert_eq!(rt; machine.next_plain(0), Some(store));
-    assert_eq!(rt; machine.step(0), Ok(Event::Moved(Some(store))));
+    assert_is(&rt, machine.next_access(0), Some(store), "an access");
+    assert_is(&rt, machine.next_plain(0), Some(store), "a plain one");
+    let stepped = machine.step(0);
+    assert_is(&rt, stepped, Ok(Event::Moved(Some(store))), "the step");
     run(&rt, &mut machine, &[0, 0]);
     for (address, byte) in [
         (0x20008, 0x01),
@@ -167,7 +171,7 @@ fn stores(rt: HostRuntime) -> Result<(), Fail> {
     ] {
         assert_eq!(rt; machine.byte(address), Some(byte), "{address:08x}");
     }
-    assert_eq!(rt; machine.byte(0x21000), None);
+    assert_is(&rt, machine.byte(0x21000), None, "past the page");
     Ok(())
 }
 
@@ -181,9 +185,12 @@ fn environment_calls(rt: HostRuntime) -> Result<(), Fail> {
     for _ in 0..8 {
         run(&rt, &mut machine, &[0, 0]);
     }
-    assert_eq!(rt; machine.output(), b"AAAAAAAA".as_slice());
-    assert_eq!(rt; machine.step(0), Err(StepFault::OutputFull));
-    assert_eq!(rt; machine.step(1), Err(StepFault::NoHart));
-    assert_eq!(rt; machine.into_output().as_slice(), b"AAAAAAAA".as_slice());
+    let full = b"AAAAAAAA".as_slice();
+    assert_is(&rt, machine.output(), full, "the output");
+    let stepped = machine.step(0);
+    assert_is(&rt, stepped, Err(StepFault::OutputFull), "one more");
+    let stepped = machine.step(1);
+    assert_is(&rt, stepped, Err(StepFault::NoHart), "no hart");
+    assert_is(&rt, machine.into_output().as_slice(), full, "kept");
     Ok(())
 }
