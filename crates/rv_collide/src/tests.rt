@@ -11,6 +11,7 @@ use rv_memory::flagged::Flagged;
 use rv_memory::flat::Flat;
 use rv_memory::region::Region;
 use std::alloc::Global;
+use std::fmt::Debug;
 use std::process::Abort;
 use std::test::Fail;
 
@@ -23,31 +24,41 @@ const P: &[u32] = &[0x0002_0337, 0x00a3_2023, 0x0003_2283, 0x0000_0073];
 /// After the `lui`: `lw x5,2(x6)`.
 const TRAPS: &[u32] = &[0x0002_0337, 0x0023_2283];
 
-/// An image of words at 00010000, which may be written, and 4,096 zero bytes at 00020000.
-fn image(rt: &impl Abort, alloc: Global, words: &[u32]) -> Result<Image, Fail> {
+/// What was found is what is wanted. (Each assertion that a test writes out costs the check a second, and a call of
+/// this one next to nothing.)
+fn assert_is<T: PartialEq + Debug + Drop>(rt: &impl Abort, found: T, wanted: T, what: &str) {
+    assert_eq!(rt; found, wanted, "{what}");
+}
+
+fn code(rt: &impl Abort, alloc: Global, words: &[u32]) -> Result<Region, Fail> {
     let mut bytes = Vec::new(alloc);
     for word in words {
         bytes.extend_from_slice(&word.to_le_bytes())?;
     }
     let len = bytes.len();
     assert!(rt; 1 <= len && len <= 65_536);
-    let mut segments = Vec::new(alloc);
-    segments.push(Region {
+    Ok(Region {
         start: 0x10000,
         bytes,
         len: len as u32,
         r: true,
         w: true,
         x: true,
-    })?;
-    segments.push(Region {
+    })
+}
+
+/// An image of words at 00010000, which may be written, and 4,096 zero bytes at 00020000.
+fn image(rt: &impl Abort, alloc: Global, words: &[u32]) -> Result<Image, Fail> {
+    let code = code(rt, alloc, words)?;
+    let data = Region {
         start: 0x20000,
         bytes: Vec::new(alloc),
         len: 4096,
         r: true,
         w: true,
         x: false,
-    })?;
+    };
+    let segments = vec![in alloc; code, data]?;
     Ok(Image::new(0x10000, segments, Vec::new(alloc)).ok_or("an image")?)
 }
 

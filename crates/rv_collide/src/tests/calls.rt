@@ -6,29 +6,48 @@ fn begun(rt: &impl Abort, alloc: Global, arms: u32) -> Result<Collider<Flat>, Fa
     Ok(Collider::new(alloc, &image, plan(2, 100, arms)?)?)
 }
 
+fn assert_arms(rt: &impl Abort, c: &mut Collider<Flat>, address: u32, wanted: Result<(), Refused>) {
+    let answer = c.arm(address);
+    assert_is(rt, answer, wanted, "arm");
+}
+
+fn assert_disarms(
+    rt: &impl Abort,
+    c: &mut Collider<Flat>,
+    address: u32,
+    wanted: Result<(), Refused>,
+) {
+    let answer = c.disarm(address);
+    assert_is(rt, answer, wanted, "disarm");
+}
+
 /// Three arms are all that the plan allows, and 00010004 stays armed.
 fn arm_and_disarm(rt: &impl Abort, c: &mut Collider<Flat>) {
-    assert_eq!(rt; c.arm(0x10002), Err(Refused::Misaligned));
-    assert_eq!(rt; c.arm(0x10004), Ok(()));
-    assert_eq!(rt; c.arm(0x10004), Err(Refused::AlreadyArmed));
-    assert_eq!(rt; c.disarm(0x10008), Err(Refused::NotArmed));
-    assert_eq!(rt; c.disarm(0x10004), Ok(()));
-    assert_eq!(rt; c.arm(0x10004), Ok(()));
-    assert_eq!(rt; c.disarm(0x10004), Ok(()));
-    assert_eq!(rt; c.arm(0x10004), Ok(()));
-    assert_eq!(rt; c.arm(0x10002), Err(Refused::ArmsSpent));
+    assert_arms(rt, c, 0x10002, Err(Refused::Misaligned));
+    assert_arms(rt, c, 0x10004, Ok(()));
+    assert_arms(rt, c, 0x10004, Err(Refused::AlreadyArmed));
+    assert_disarms(rt, c, 0x10008, Err(Refused::NotArmed));
+    assert_disarms(rt, c, 0x10004, Ok(()));
+    assert_arms(rt, c, 0x10004, Ok(()));
+    assert_disarms(rt, c, 0x10004, Ok(()));
+    assert_arms(rt, c, 0x10004, Ok(()));
+    assert_arms(rt, c, 0x10002, Err(Refused::ArmsSpent));
 }
 
 fn pause_and_resume(rt: &impl Abort, c: &mut Collider<Flat>) {
-    assert_eq!(rt; c.resume(0).err(), Some(Refused::NotPaused));
-    assert_eq!(rt; c.turn(2).err(), Some(Refused::NoHart));
+    let early = c.resume(0).err();
+    assert_is(rt, early, Some(Refused::NotPaused), "no pause");
+    let turned = c.turn(2).err();
+    assert_is(rt, turned, Some(Refused::NoHart), "no hart");
     assert!(rt; matches!(&c.turn(0), Ok(Turned::Stepped(_))));
-    assert_eq!(rt; c.turn(0), Ok(Turned::Paused(Some(0))));
-    assert_eq!(rt; c.paused(0), Some(6));
+    let turned = c.turn(0);
+    assert_is(rt, turned, Ok(Turned::Paused(Some(0))), "the pause");
+    assert_is(rt, c.paused(0), Some(6), "since when");
     assert!(rt; !c.is_armed(0x10004));
-    assert_eq!(rt; c.turn(0), Err(Refused::Paused));
+    let turned = c.turn(0);
+    assert_is(rt, turned, Err(Refused::Paused), "while paused");
     assert!(rt; c.resume(0).is_ok());
-    assert_eq!(rt; c.paused(0), None);
+    assert_is(rt, c.paused(0), None, "no more");
 }
 
 const CALLED: [Entry; 8] = [
@@ -47,16 +66,17 @@ fn calls_are_refused_in_order(rt: HostRuntime) -> Result<(), Fail> {
     let mut c = begun(&rt, rt.alloc(), 3)?;
     arm_and_disarm(&rt, &mut c);
     pause_and_resume(&rt, &mut c);
-    assert_eq!(rt; c.finish().entries.as_slice(), CALLED.as_slice());
+    let finished = c.finish();
+    assert_is(&rt, finished.entries.as_slice(), &CALLED, "entries");
     Ok(())
 }
 
 fn arm_sixty_four(rt: &impl Abort, c: &mut Collider<Flat>) {
     for i in 0..64 {
-        assert_eq!(rt; c.arm(4 * i), Ok(()));
+        assert_arms(rt, c, 4 * i, Ok(()));
     }
-    assert_eq!(rt; c.arm(0x400), Err(Refused::ArmedFull));
-    assert_eq!(rt; c.entries(), 64);
+    assert_arms(rt, c, 0x400, Err(Refused::ArmedFull));
+    assert_is(rt, c.entries(), 64, "entries");
 }
 
 /// What the first arming of a plan answers.
@@ -68,7 +88,7 @@ fn first_arming(rt: &impl Abort, alloc: Global, arms: u32) -> Result<Result<(), 
 #[test]
 fn as_many_are_armed_as_may_be(rt: HostRuntime) -> Result<(), Fail> {
     let none = first_arming(&rt, rt.alloc(), 0)?;
-    assert_eq!(rt; none, Err(Refused::ArmsSpent));
+    assert_is(&rt, none, Err(Refused::ArmsSpent), "no arm");
     let mut c = begun(&rt, rt.alloc(), 100)?;
     arm_sixty_four(&rt, &mut c);
     Ok(())
@@ -78,7 +98,8 @@ fn as_many_are_armed_as_may_be(rt: HostRuntime) -> Result<(), Fail> {
 fn see_places(rt: &impl Abort, c: &Collider<Flat>) {
     assert_eq!(rt; c.endings(), 1);
     let ending = c.ending(0);
-    assert_eq!(rt; (ending.paused_at, ending.resumed_at), (3, 5));
+    let places = (ending.paused_at, ending.resumed_at);
+    assert_is(rt, places, (3, 5), "places");
 }
 
 /// An access that traps leaves its address armed.
@@ -101,12 +122,13 @@ fn tells_places_and_what_is_armed(rt: HostRuntime) -> Result<(), Fail> {
 }
 
 fn spend_steps(rt: &impl Abort, c: &mut Collider<Flat>) {
-    assert_eq!(rt; c.turn(1), Err(Refused::StepsSpent));
-    assert_eq!(rt; c.entries(), 5);
+    let turned = c.turn(1);
+    assert_is(rt, turned, Err(Refused::StepsSpent), "a turn");
+    assert_is(rt, c.entries(), 5, "entries before");
     let ending = c.resume(0).ok();
     assert!(rt; matches!(ending, Some(ending) if ending.verdict == Verdict::Quiet));
     assert_eq!(rt; c.entries(), 6);
-    assert_eq!(rt; c.entry(5), Resumed(0));
+    assert_is(rt, c.entry(5), Resumed(0), "the last entry");
 }
 
 #[test]
@@ -132,10 +154,11 @@ fn tells_the_first_entry_that_no_call_adds(rt: HostRuntime) -> Result<(), Fail> 
     let alloc = rt.alloc();
     let traps = [Armed(0x10004), Stepped(0), Paused(0, Some(0))];
     let fault = fault_of(&rt, alloc, TRAPS, plan(1, 1000, 200)?, &traps)?;
-    assert_eq!(rt; fault, at(2, Why::Differs));
+    assert_is(&rt, fault, at(2, Why::Differs), "an access that traps");
     let fault = fault_of(&rt, alloc, P, plan(2, 2, 2)?, &[Stepped(3)])?;
-    assert_eq!(rt; fault, at(0, Why::Refused(Refused::NoHart)));
+    let wanted = at(0, Why::Refused(Refused::NoHart));
+    assert_is(&rt, fault, wanted, "hart 3 of two");
     let fault = fault_of(&rt, alloc, P, plan(2, 100, 0)?, &[Paused(0, None)])?;
-    assert_eq!(rt; fault, at(0, Why::Differs));
+    assert_is(&rt, fault, at(0, Why::Differs), "no address is armed");
     Ok(())
 }

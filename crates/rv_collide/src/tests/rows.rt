@@ -529,34 +529,40 @@ fn text_of(alloc: Global, collider: &Collider<Flat>) -> Result<Vec<u8>, Fail> {
 
 /// Asserts what a row's schedule shows, and that its entries and endings are handed out.
 fn assert_shows(rt: &impl Abort, alloc: Global, row: &Row) -> Result<(), Fail> {
-    let collider = told(
-        rt,
-        alloc,
-        row.words,
-        plan(row.harts, 1000, 200)?,
-        row.entries,
-    )?;
+    let plan = plan(row.harts, 1000, 200)?;
+    let collider = told(rt, alloc, row.words, plan, row.entries)?;
     let text = text_of(alloc, &collider)?;
-    assert_eq!(rt; text.as_slice(), row.text, "{}", row.name);
+    assert_is(rt, text.as_slice(), row.text, row.name);
     let endings = collider.endings();
     let finished = collider.finish();
-    assert_eq!(rt; finished.entries.as_slice(), row.entries, "{}", row.name);
-    assert_eq!(rt; finished.endings.len(), endings as usize, "{}", row.name);
+    assert_is(rt, finished.entries.as_slice(), row.entries, row.name);
+    assert_is(rt, finished.endings.len(), endings as usize, row.name);
+    Ok(())
+}
+
+fn assert_all_show(rt: &impl Abort, alloc: Global, rows: &[Row]) -> Result<(), Fail> {
+    for row in rows {
+        assert_shows(rt, alloc, row)?;
+    }
     Ok(())
 }
 
 #[test]
-fn shows_endings_harts_and_output(rt: HostRuntime) -> Result<(), Fail> {
-    let alloc = rt.alloc();
-    for rows in [
-        STORES.as_slice(),
-        OVERLAPS.as_slice(),
-        CONFLICTS.as_slice(),
-        RESERVATIONS.as_slice(),
-    ] {
-        for row in rows {
-            assert_shows(&rt, alloc, row)?;
-        }
-    }
-    Ok(())
+fn shows_stores(rt: HostRuntime) -> Result<(), Fail> {
+    assert_all_show(&rt, rt.alloc(), &STORES)
+}
+
+#[test]
+fn shows_overlaps(rt: HostRuntime) -> Result<(), Fail> {
+    assert_all_show(&rt, rt.alloc(), &OVERLAPS)
+}
+
+#[test]
+fn shows_conflicts(rt: HostRuntime) -> Result<(), Fail> {
+    assert_all_show(&rt, rt.alloc(), &CONFLICTS)
+}
+
+#[test]
+fn shows_reservations(rt: HostRuntime) -> Result<(), Fail> {
+    assert_all_show(&rt, rt.alloc(), &RESERVATIONS)
 }
