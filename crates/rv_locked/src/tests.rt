@@ -8,6 +8,7 @@ use rv_collide::plan::Plan;
 use rv_elf::{Image, Symbol};
 use rv_memory::region::Region;
 use std::alloc::Global;
+use std::fmt::Debug;
 use std::process::Abort;
 use std::test::Fail;
 
@@ -30,22 +31,43 @@ const ONE_SITE: [Entry; 9] = [
     Stepped(0),
 ];
 
-/// An image of words at 00010000, and 4,096 zero bytes at 00020000 with a symbol.
-fn image(rt: &impl Abort, alloc: Global, words: &[u32]) -> Result<Image, Fail> {
+/// What was found is what is wanted. (Each assertion that a test writes out costs the check a second, and a call of
+/// this one next to nothing.)
+fn assert_is<T: PartialEq + Debug + Drop>(rt: &impl Abort, found: T, wanted: T, what: &str) {
+    assert_eq!(rt; found, wanted, "{what}");
+}
+
+fn code(rt: &impl Abort, alloc: Global, words: &[u32]) -> Result<Region, Fail> {
     let mut bytes = Vec::new(alloc);
     for word in words {
         bytes.extend_from_slice(&word.to_le_bytes())?;
     }
     let len = bytes.len();
     assert!(rt; 1 <= len && len <= 65_536);
-    let code = Region {
+    Ok(Region {
         start: 0x10000,
         bytes,
         len: len as u32,
         r: true,
         w: false,
         x: true,
+    })
+}
+
+/// The symbol of the word at 00020000.
+fn symbols(alloc: Global) -> Result<Vec<Symbol>, Fail> {
+    let symbol = Symbol {
+        name: String::from_str(alloc, "shared")?,
+        value: 0x20000,
+        size: 4,
+        kind: 1,
     };
+    Ok(vec![in alloc; symbol]?)
+}
+
+/// An image of words at 00010000, and 4,096 zero bytes at 00020000 with a symbol.
+fn image(rt: &impl Abort, alloc: Global, words: &[u32]) -> Result<Image, Fail> {
+    let code = code(rt, alloc, words)?;
     let zeros = Region {
         start: 0x20000,
         bytes: Vec::new(alloc),
@@ -54,19 +76,24 @@ fn image(rt: &impl Abort, alloc: Global, words: &[u32]) -> Result<Image, Fail> {
         w: true,
         x: false,
     };
-    let symbol = Symbol {
-        name: String::from_str(alloc, "shared")?,
-        value: 0x20000,
-        size: 4,
-        kind: 1,
-    };
     let segments = vec![in alloc; code, zeros]?;
-    let symbols = vec![in alloc; symbol]?;
+    let symbols = symbols(alloc)?;
     Ok(Image::new(0x10000, segments, symbols).ok_or("an image")?)
 }
 
 fn plan(harts: u8, steps: u32, arms: u32, pause: u32) -> Result<Plan, Fail> {
     Ok(Plan::new(harts, steps, arms, pause).ok_or("a plan")?)
+}
+
+fn begun(
+    rt: &impl Abort,
+    alloc: Global,
+    words: &[u32],
+    plan: Plan,
+    seed: u64,
+) -> Result<Watched, Fail> {
+    let image = image(rt, alloc, words)?;
+    Ok(Watched::new(alloc, &image, plan, seed)?)
 }
 
 /// A turn of a hart of the plan.
@@ -88,7 +115,7 @@ fn four_turns(rt: &impl Abort, watched: &mut Watched, h: u8) {
         assert!(rt; taken != Taken::Over && taken != Taken::Paused);
     }
     let over = turn(rt, watched, h);
-    assert_eq!(rt; over, Taken::Over);
+    assert_is(rt, over, Taken::Over, "the fifth turn");
 }
 
 /// P on two harts, after four turns of hart 0, then four of hart 1, finished with these lists.
@@ -128,23 +155,21 @@ fn places(alloc: Global, one: &[u32], other: &[u32]) -> Result<Vec<Vec<u32>>, Fa
     Ok(places)
 }
 
+const FOUR_AND_FOUR: [Entry; 8] = [
+    Stepped(0),
+    Stepped(0),
+    Stepped(0),
+    Stepped(0),
+    Stepped(1),
+    Stepped(1),
+    Stepped(1),
+    Stepped(1),
+];
+
 /// Four steps of hart 0, then four of hart 1, and no ending.
 fn assert_four_and_four(rt: &impl Abort, told: &Finished) {
-    assert_eq!(rt;
-        told.entries.as_slice(),
-        [
-            Stepped(0),
-            Stepped(0),
-            Stepped(0),
-            Stepped(0),
-            Stepped(1),
-            Stepped(1),
-            Stepped(1),
-            Stepped(1)
-        ]
-        .as_slice()
-    );
-    assert_eq!(rt; told.endings.len(), 0);
+    assert_is(rt, told.entries.as_slice(), &FOUR_AND_FOUR, "entries");
+    assert_is(rt, told.endings.len(), 0, "endings");
 }
 
 #[test]
@@ -152,7 +177,7 @@ fn finishes_with_each_harts_own_places(rt: HostRuntime) -> Result<(), Fail> {
     let alloc = rt.alloc();
     match &finished(&rt, alloc, 7, &[0, 1, 2, 3], &[4, 5, 6, 7])? {
         Ok(told) => assert_four_and_four(&rt, told),
-        Err(stray) => assert_eq!(rt; stray.hart, 16),
+        Err(stray) => assert_is(&rt, stray.hart, 16, "no stray"),
     }
     Ok(())
 }
@@ -165,13 +190,13 @@ fn strays(rt: HostRuntime) -> Result<(), Fail> {
     let without: [u32; 3] = [4, 5, 6];
     let twice: [u32; 5] = [4, 5, 6, 7, 7];
     let short = finished(&rt, alloc, 7, &own, &without)?;
-    assert_eq!(rt; short.err(), Some(Stray { hart: 1 }));
+    assert_is(&rt, short.err(), Some(Stray { hart: 1 }), "short");
     let long = finished(&rt, alloc, 7, &own, &twice)?;
-    assert_eq!(rt; long.err(), Some(Stray { hart: 1 }));
+    assert_is(&rt, long.err(), Some(Stray { hart: 1 }), "long");
     let exchanged = finished(&rt, alloc, 7, &others, &own)?;
-    assert_eq!(rt; exchanged.err(), Some(Stray { hart: 0 }));
+    assert_is(&rt, exchanged.err(), Some(Stray { hart: 0 }), "exchanged");
     let seed = finished(&rt, alloc, 8, &own, &others)?;
-    assert_eq!(rt; seed.err(), Some(Stray { hart: 0 }));
+    assert_is(&rt, seed.err(), Some(Stray { hart: 0 }), "another seed");
     Ok(())
 }
 
@@ -180,9 +205,9 @@ fn pause_and_end(rt: &impl Abort, watched: &mut Watched) {
     let early = ends(rt, watched, 0);
     assert!(rt; !early);
     let taken = turn(rt, watched, 0);
-    assert_eq!(rt; taken, Taken::Paused);
+    assert_is(rt, taken, Taken::Paused, "the turn");
     let over = turn(rt, watched, 0);
-    assert_eq!(rt; over, Taken::Over);
+    assert_is(rt, over, Taken::Over, "one while paused");
     let ended = ends(rt, watched, 0);
     assert!(rt; ended);
 }
@@ -234,7 +259,7 @@ fn one_site_and_one_hart(rt: HostRuntime) -> Result<(), Fail> {
 fn assert_due_after_two(rt: &impl Abort, watched: &mut Watched) {
     step(rt, watched, 0);
     let taken = turn(rt, watched, 0);
-    assert_eq!(rt; taken, Taken::Paused);
+    assert_is(rt, taken, Taken::Paused, "the turn");
     for _ in 0..2 {
         let early = ends(rt, watched, 0);
         assert!(rt; !early);
@@ -246,21 +271,22 @@ fn assert_due_after_two(rt: &impl Abort, watched: &mut Watched) {
 
 #[test]
 fn ends_a_pause_when_it_is_due(rt: HostRuntime) -> Result<(), Fail> {
-    let alloc = rt.alloc();
-    let image = image(&rt, alloc, &ONE_STORE)?;
     let plan = plan(2, 10, 1, 2)?;
-    let mut watched = Watched::new(alloc, &image, plan, 3)?;
+    let mut watched = begun(&rt, rt.alloc(), &ONE_STORE, plan, 3)?;
     assert_due_after_two(&rt, &mut watched);
     Ok(())
 }
 
-#[test]
-fn breaks_off(rt: HostRuntime) -> Result<(), Fail> {
-    let alloc = rt.alloc();
-    let image = image(&rt, alloc, &P)?;
-    let mut watched = Watched::new(alloc, &image, plan(1, 10, 0, 1)?, 0)?;
+fn assert_breaks_off(rt: &impl Abort, watched: &mut Watched) {
     assert!(rt; !watched.broken_off());
     watched.break_off();
     assert!(rt; watched.broken_off());
+}
+
+#[test]
+fn breaks_off(rt: HostRuntime) -> Result<(), Fail> {
+    let plan = plan(1, 10, 0, 1)?;
+    let mut watched = begun(&rt, rt.alloc(), &P, plan, 0)?;
+    assert_breaks_off(&rt, &mut watched);
     Ok(())
 }
