@@ -4,8 +4,15 @@ use crate::new_file::NewFile;
 use rv_memory::buffered::Buffered;
 use rv_memory::flagged::{Flagged, WriteFault};
 use std::alloc::Global;
+use std::fmt::Debug;
 use std::io::{self, ErrorKind, Read, Write};
 use std::process::Abort;
+
+/// What was found is what is wanted. (Each assertion that a test writes out costs the check a second, and a call of
+/// this one next to nothing.)
+pub fn assert_is<T: PartialEq + Debug + Drop>(rt: &impl Abort, found: T, wanted: T, what: &str) {
+    assert_eq!(rt; found, wanted, "{what}");
+}
 
 /// A reader of the text, a byte a read, whose read numbered `fails_at` from 1 on fails.
 #[derive(Drop)]
@@ -143,16 +150,19 @@ pub fn assert_tells_each_failing_call<F: Fn(&mut Buffered<Sink>) -> Result<(), F
     for fails_at in 1..100 {
         let mut writer = failing_at(alloc, fails_at, takes_none);
         let outcome = engine(&mut writer);
-        assert!(rt; writer.failed() == outcome.is_err(), "at call {fails_at}");
+        let failed = (fails_at, writer.failed());
+        assert_is(rt, failed, (fails_at, outcome.is_err()), "at a call");
         let device = writer.into_inner();
         if outcome.is_ok() {
-            assert!(rt; device.calls < fails_at, "each call was made to fail");
-            assert!(rt; fails_at > 3, "two writes and a flush");
-            assert!(rt; flush_failed, "the last call is a flush");
+            let each = device.calls < fails_at;
+            assert_is(rt, each, true, "each call was made to fail");
+            assert_is(rt, fails_at > 3, true, "two writes and a flush");
+            assert_is(rt, flush_failed, true, "the last call is a flush");
             return;
         }
-        assert_eq!(rt; outcome, Err(Fault::Write), "at call {fails_at}");
-        assert_eq!(rt; device.calls, fails_at, "the failed call was the last");
+        let told = (fails_at, outcome);
+        assert_is(rt, told, (fails_at, Err(Fault::Write)), "at a call");
+        assert_is(rt, device.calls, fails_at, "the failed call was the last");
         flush_failed = device.flush_failed;
     }
     assert!(rt; false, "some writer does not fail");
@@ -174,14 +184,17 @@ pub fn assert_tells_each_failing_read<F: Fn(&mut Flagged<Failing<'_>>) -> Result
             fails_at,
         });
         let outcome = engine(&mut reader);
-        assert!(rt; reader.failed() == outcome.is_err(), "at read {fails_at}");
+        let failed = (fails_at, reader.failed());
+        assert_is(rt, failed, (fails_at, outcome.is_err()), "at a read");
         let device = reader.into_inner();
         if outcome.is_ok() {
-            assert!(rt; device.reads < fails_at, "each read was made to fail");
+            let each = device.reads < fails_at;
+            assert_is(rt, each, true, "each read was made to fail");
             return;
         }
-        assert_eq!(rt; outcome, Err(Fault::Read), "at read {fails_at}");
-        assert_eq!(rt; device.reads, fails_at, "the failed read was the last");
+        let told = (fails_at, outcome);
+        assert_is(rt, told, (fails_at, Err(Fault::Read)), "at a read");
+        assert_is(rt, device.reads, fails_at, "the failed read was the last");
     }
     assert!(rt; false, "some reader does not fail");
 }

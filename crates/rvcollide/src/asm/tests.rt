@@ -1,5 +1,5 @@
 use super::*;
-use crate::devices::{Endless, Kept, assert_tells_each_failing_read};
+use crate::devices::{Endless, Kept, assert_is, assert_tells_each_failing_read};
 use crate::list::run_list;
 use rv_memory::buffered::Buffered;
 
@@ -44,12 +44,15 @@ fn makes_images(rt: HostRuntime) {
     ] {
         let mut file = Kept::new(alloc, false);
         let mut reader = Flagged::new(source.as_bytes());
-        assert_eq!(rt; run_asm(alloc, &mut reader, &mut file), Ok(()));
-        assert_eq!(rt; file.bytes.len(), length, "at {source:?}");
+        let outcome = run_asm(alloc, &mut reader, &mut file);
+        assert_is(&rt, outcome, Ok(()), source);
+        assert_is(&rt, file.bytes.len(), length, source);
         let mut writer = Buffered::new(alloc, Vec::new(alloc));
         let mut image = Flagged::new(file.bytes.as_slice());
-        assert_eq!(rt; run_list(alloc, &mut image, &mut writer), Ok(()));
-        assert_eq!(rt; writer.into_inner().as_slice(), listing.as_bytes());
+        let outcome = run_list(alloc, &mut image, &mut writer);
+        assert_is(&rt, outcome, Ok(()), source);
+        let written = writer.into_inner();
+        assert_is(&rt, written.as_slice(), listing.as_bytes(), source);
     }
 }
 
@@ -73,13 +76,14 @@ fn refuses_sources(rt: HostRuntime) {
         let mut file = Kept::new(alloc, false);
         let outcome = run_asm(alloc, &mut Flagged::new(source), &mut file);
         let fault = AsmFault { line, kind };
-        assert_eq!(rt; outcome, Err(Fault::Asm(fault)), "at {source:?}");
-        assert!(rt; !file.is_made);
+        let told = (line, outcome, file.is_made);
+        let wanted = (line, Err(Fault::Asm(fault)), false);
+        assert_is(&rt, told, wanted, "line, outcome, file");
     }
     let mut file = Kept::new(alloc, false);
     let outcome = run_asm(alloc, &mut Flagged::new(Endless), &mut file);
-    assert_eq!(rt; outcome, Err(Fault::TooLong));
-    assert!(rt; !file.is_made);
+    assert_is(&rt, outcome, Err(Fault::TooLong), "the fault");
+    assert_is(&rt, file.is_made, false, "the file");
 }
 
 #[test]
@@ -91,5 +95,5 @@ fn tells_failing_devices(rt: HostRuntime) {
     let mut file = Kept::new(alloc, true);
     let source = b"addi x1, x0, 5".as_slice();
     let outcome = run_asm(alloc, &mut Flagged::new(source), &mut file);
-    assert_eq!(rt; outcome, Err(Fault::Write));
+    assert_is(&rt, outcome, Err(Fault::Write), "the fault");
 }

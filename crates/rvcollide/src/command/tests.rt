@@ -1,4 +1,5 @@
 use super::*;
+use crate::devices::assert_is;
 use std::test::Fail;
 
 const ASM: Job = Job::Asm {
@@ -40,13 +41,16 @@ fn reads_each_command(rt: HostRuntime) {
         (["", "asm", "a.s", "a.elf", "--"].as_slice(), ASM),
         (["", "replay", "-", ""].as_slice(), odd),
     ] {
-        assert_eq!(rt; command_of(alloc, words), Ok(job), "at {words:?}");
+        let told = command_of(alloc, words);
+        assert_is(&rt, (words, told), (words, Ok(job)), "a line");
     }
     for path in ["--", "-h", "words", "é"] {
         let job = Job::List {
             image: ImagePath(path),
         };
-        assert_eq!(rt; command_of(alloc, &["", "list", "--", path]), Ok(job));
+        let words = ["", "list", "--", path];
+        let told = command_of(alloc, &words);
+        assert_is(&rt, told, Ok(job), path);
     }
 }
 
@@ -54,7 +58,8 @@ fn reads_each_command(rt: HostRuntime) {
 #[test]
 fn refuses_other_lines(rt: HostRuntime) {
     let alloc = rt.alloc();
-    assert_eq!(rt; command_of(alloc, &[]), Err(LineFault::Line));
+    let none = command_of(alloc, &[]);
+    assert_is(&rt, none, Err(LineFault::Line), "no word");
     for words in [
         ["words"].as_slice(),
         ["", ""].as_slice(),
@@ -82,8 +87,8 @@ fn refuses_other_lines(rt: HostRuntime) {
         ["", "--version"].as_slice(),
         ["", "asm", "a.s", "--help"].as_slice(),
     ] {
-        let job = command_of(alloc, words);
-        assert_eq!(rt; job, Err(LineFault::Line), "at {words:?}");
+        let told = (words, command_of(alloc, words));
+        assert_is(&rt, told, (words, Err(LineFault::Line)), "a line");
     }
 }
 
@@ -140,8 +145,9 @@ fn says_what_a_line_lacks(rt: HostRuntime) -> Result<(), Fail> {
     ] {
         let notice = notice_of(alloc, words);
         let (is_answer, text) = parts(notice.ok().ok_or("memory")?);
-        assert_eq!(rt; is_answer, answers, "at {words:?}");
-        assert!(rt; text.as_str().contains(part), "at {words:?}");
+        assert_is(&rt, (words, is_answer), (words, answers), "a line");
+        let has = text.as_str().contains(part);
+        assert_is(&rt, has, true, part);
     }
     Ok(())
 }

@@ -1,5 +1,7 @@
 use crate::debug::engine::run_debug;
-use crate::devices::{Endless, assert_tells_each_failing_call, assert_tells_each_failing_read};
+use crate::devices::{
+    Endless, assert_is, assert_tells_each_failing_call, assert_tells_each_failing_read,
+};
 use rv_elf::{Image, write};
 use rv_memory::buffered::Buffered;
 use rv_memory::flagged::Flagged;
@@ -35,9 +37,8 @@ fn image_file(alloc: Global) -> Result<Vec<u8>, Fail> {
     bytes.truncate(16);
     code.bytes = bytes;
     code.x = true;
-    let mut segments = Vec::new(alloc);
-    segments.push(code)?;
-    segments.push(zeros(alloc, 0x20000, 4096))?;
+    let data = zeros(alloc, 0x20000, 4096);
+    let segments = vec![in alloc; code, data]?;
     let image = Image::new(0x10000, segments, Vec::new(alloc)).ok_or("an image")?;
     Ok(write(alloc, &image)?)
 }
@@ -74,7 +75,7 @@ fn answers_commands(rt: HostRuntime) -> Result<(), Fail> {
         ),
     ] {
         let answered = answers_to(alloc, lines)?;
-        assert_eq!(rt; answered.as_slice(), answers, "at {lines:?}");
+        assert_is(&rt, answered.as_slice(), answers, "the answers");
     }
     Ok(())
 }
@@ -140,8 +141,9 @@ fn tells_a_file_that_is_refused(rt: HostRuntime) -> Result<(), Fail> {
         );
         let fault = outcome.err().ok_or(told)?;
         let text = format!(in alloc; "{fault}")?;
-        assert_eq!(rt; text.as_str(), told);
-        assert_eq!(rt; writer.into_inner().len(), 0, "{told}");
+        assert_is(&rt, text.as_str(), told, "what is told");
+        let written = writer.into_inner().len();
+        assert_is(&rt, written, 0, told);
     }
     Ok(())
 }

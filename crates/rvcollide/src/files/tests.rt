@@ -1,5 +1,6 @@
 use super::*;
 use crate::asm::run_asm;
+use crate::devices::assert_is;
 use crate::fault::Fault;
 use rv_asm::{AsmFault, AsmKind};
 
@@ -10,19 +11,19 @@ fn tells_files_that_are_missing(rt: HostRuntime) {
     let alloc = rt.alloc();
     let mut none = Flagged::new(InputFile::new(&rt, "no/such/source"));
     let mut file = OutputFile::new(&rt, "no/such/image");
-    assert_eq!(rt; run_asm(alloc, &mut none, &mut file), Err(Fault::Read));
-    assert!(rt; !file.is_made);
+    let outcome = run_asm(alloc, &mut none, &mut file);
+    assert_is(&rt, outcome, Err(Fault::Read), "no source");
+    assert_is(&rt, file.is_made, false, "the image, without a source");
     let mut empty = Flagged::new(InputFile::new(&rt, "/dev/null"));
     let fault = AsmFault {
         line: 0,
         kind: AsmKind::Empty,
     };
-    assert_eq!(rt;
-        run_asm(alloc, &mut empty, &mut file),
-        Err(Fault::Asm(fault))
-    );
-    assert!(rt; !file.is_made);
+    let outcome = run_asm(alloc, &mut empty, &mut file);
+    assert_is(&rt, outcome, Err(Fault::Asm(fault)), "an empty source");
+    assert_is(&rt, file.is_made, false, "the image of an empty source");
     let mut source = Flagged::new(b"nop".as_slice());
-    assert_eq!(rt; run_asm(alloc, &mut source, &mut file), Err(Fault::Write));
-    assert!(rt; file.is_made);
+    let outcome = run_asm(alloc, &mut source, &mut file);
+    assert_is(&rt, outcome, Err(Fault::Write), "no place for an image");
+    assert_is(&rt, file.is_made, true, "the image that was tried");
 }

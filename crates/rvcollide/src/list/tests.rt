@@ -1,5 +1,7 @@
 use super::*;
-use crate::devices::{Endless, assert_tells_each_failing_call, assert_tells_each_failing_read};
+use crate::devices::{
+    Endless, assert_is, assert_tells_each_failing_call, assert_tells_each_failing_read,
+};
 use rv_elf::LoadFault;
 use std::alloc::AllocError;
 use std::test::Fail;
@@ -24,6 +26,12 @@ fn file_of(alloc: Global, words: &[u32]) -> Result<Vec<u8>, AllocError> {
     Ok(file)
 }
 
+const LISTING: &[u8] = b"00010000: 00020337 lui x6, 0x20\n\
+    00010004: 00a32023 sw x10, 0(x6)\n\
+    00010008: 00032283 lw x5, 0(x6)\n\
+    0001000c: 00000073 ecall\n\
+    00010010: 00000000 .word 0x00000000\n";
+
 #[test]
 fn lists_an_image(rt: HostRuntime) -> Result<(), Fail> {
     let alloc = rt.alloc();
@@ -33,16 +41,10 @@ fn lists_an_image(rt: HostRuntime) -> Result<(), Fail> {
     )?;
     let mut reader = Flagged::new(file.as_slice());
     let mut writer = Buffered::new(alloc, Vec::new(alloc));
-    assert_eq!(rt; run_list(alloc, &mut reader, &mut writer), Ok(()));
-    assert_eq!(rt;
-        writer.into_inner().as_slice(),
-        b"00010000: 00020337 lui x6, 0x20\n\
-        00010004: 00a32023 sw x10, 0(x6)\n\
-        00010008: 00032283 lw x5, 0(x6)\n\
-        0001000c: 00000073 ecall\n\
-        00010010: 00000000 .word 0x00000000\n"
-            .as_slice()
-    );
+    let outcome = run_list(alloc, &mut reader, &mut writer);
+    assert_is(&rt, outcome, Ok(()), "the outcome");
+    let written = writer.into_inner();
+    assert_is(&rt, written.as_slice(), LISTING, "the listing");
     Ok(())
 }
 
@@ -57,13 +59,15 @@ fn refuses_what_is_no_image(rt: HostRuntime) -> Result<(), Fail> {
     ] {
         let mut writer = Buffered::new(alloc, Vec::new(alloc));
         let outcome = run_list(alloc, &mut Flagged::new(bytes), &mut writer);
-        assert_eq!(rt; outcome, Err(Fault::Load(fault)));
-        assert_eq!(rt; writer.into_inner().len(), 0);
+        assert_is(&rt, outcome, Err(Fault::Load(fault)), "the fault");
+        let written = writer.into_inner().len();
+        assert_is(&rt, written, 0, "bytes");
     }
     let mut writer = Buffered::new(alloc, Vec::new(alloc));
     let outcome = run_list(alloc, &mut Flagged::new(Endless), &mut writer);
-    assert_eq!(rt; outcome, Err(Fault::TooLong));
-    assert_eq!(rt; writer.into_inner().len(), 0);
+    assert_is(&rt, outcome, Err(Fault::TooLong), "the fault");
+    let written = writer.into_inner().len();
+    assert_is(&rt, written, 0, "bytes");
     Ok(())
 }
 

@@ -1,4 +1,6 @@
-use crate::devices::{Endless, assert_tells_each_failing_call, assert_tells_each_failing_read};
+use crate::devices::{
+    Endless, assert_is, assert_tells_each_failing_call, assert_tells_each_failing_read,
+};
 use crate::fault::Fault;
 use crate::replay::engine::run_replay;
 use rv_elf::{Image, write};
@@ -56,33 +58,42 @@ const FAILS: &[u32] = &[
 /// After the `lui`: `lw x5,2(x6)`.
 const TRAPS: &[u32] = &[0x0002_0337, 0x0023_2283];
 
-/// The file of an image: words at 00010000, R and X, and 4,096 zero bytes at 00020000, R and W.
-fn file_of(rt: &impl Abort, alloc: Global, words: &[u32]) -> Result<Vec<u8>, Fail> {
+/// Words at 00010000, R and X.
+fn code(rt: &impl Abort, alloc: Global, words: &[u32]) -> Result<Region, Fail> {
     let mut bytes = Vec::new(alloc);
     for word in words {
         bytes.extend_from_slice(&word.to_le_bytes())?;
     }
     let len = bytes.len();
     assert!(rt; 1 <= len && len <= 65_536);
-    let mut segments = Vec::new(alloc);
-    segments.push(Region {
+    Ok(Region {
         start: 0x10000,
         bytes,
         len: len as u32,
         r: true,
         w: false,
         x: true,
-    })?;
-    segments.push(Region {
+    })
+}
+
+/// An image of them and 4,096 zero bytes at 00020000, R and W.
+fn image(rt: &impl Abort, alloc: Global, words: &[u32]) -> Result<Image, Fail> {
+    let code = code(rt, alloc, words)?;
+    let data = Region {
         start: 0x20000,
         bytes: Vec::new(alloc),
         len: 4096,
         r: true,
         w: true,
         x: false,
-    })?;
-    let image = Image::new(0x10000, segments, Vec::new(alloc)).ok_or("an image")?;
-    Ok(write(alloc, &image)?)
+    };
+    let segments = vec![in alloc; code, data]?;
+    Ok(Image::new(0x10000, segments, Vec::new(alloc)).ok_or("an image")?)
+}
+
+/// The file of that image.
+fn file_of(rt: &impl Abort, alloc: Global, words: &[u32]) -> Result<Vec<u8>, Fail> {
+    Ok(write(alloc, &image(rt, alloc, words)?)?)
 }
 
 /// The text of a schedule: the plan's numbers, and the lines of its entries.
@@ -309,8 +320,9 @@ fn assert_writes(rt: &impl Abort, alloc: Global, row: &Row) -> Result<(), Fail> 
     let schedule = text_of(alloc, row.plan, row.entries)?;
     let mut writer = Buffered::new(alloc, Vec::new(alloc));
     let outcome = replayed(alloc, &image, schedule.as_str(), &mut writer);
-    assert_eq!(rt; outcome, Ok(()), "{}", row.name);
-    assert_eq!(rt; writer.into_inner().as_slice(), row.text, "{}", row.name);
+    assert_is(rt, outcome, Ok(()), row.name);
+    let written = writer.into_inner();
+    assert_is(rt, written.as_slice(), row.text, row.name);
     Ok(())
 }
 
@@ -360,11 +372,12 @@ fn assert_tells(
 ) -> Result<(), Fail> {
     let mut writer = Buffered::new(alloc, Vec::new(alloc));
     let outcome = replayed(alloc, image, schedule, &mut writer);
-    assert_eq!(rt; writer.into_inner().len(), 0, "{told}");
+    let written = writer.into_inner().len();
+    assert_is(rt, written, 0, told);
     let fault = outcome.err().ok_or(told)?;
-    assert_eq!(rt; fault.status(), 1, "{told}");
+    assert_is(rt, fault.status(), 1, told);
     let text = format!(in alloc; "{fault}")?;
-    assert_eq!(rt; text.as_str(), told);
+    assert_is(rt, text.as_str(), told, "what is told");
     Ok(())
 }
 
@@ -394,8 +407,9 @@ fn refuses_an_endless_image(rt: HostRuntime) {
         &mut Flagged::new(b"".as_slice()),
         &mut writer,
     );
-    assert_eq!(rt; outcome, Err(Fault::TooLong));
-    assert_eq!(rt; writer.into_inner().len(), 0);
+    assert_is(&rt, outcome, Err(Fault::TooLong), "the fault");
+    let written = writer.into_inner().len();
+    assert_is(&rt, written, 0, "bytes");
 }
 
 /// A schedule whose endings alone are more than a writer gathers.

@@ -1,6 +1,8 @@
 ghost use Rattle.std.specs.Prelude.{◌≤◌, length};
 
-use crate::devices::{Kept, assert_tells_each_failing_call, assert_tells_each_failing_read};
+use crate::devices::{
+    Kept, assert_is, assert_tells_each_failing_call, assert_tells_each_failing_read,
+};
 use crate::fault::Fault;
 use crate::run::engine::run_campaign;
 use crate::run::fault::RunFault;
@@ -61,30 +63,45 @@ fn segment(start: u32, bytes: Vec<u8>, len: u32, code: bool) -> Region
     }
 }
 
-/// The file of an image: words at 00010000, R and X, 4,096 zero bytes at 00020000, R and W, and the symbol `word` for
-/// four of them, `byte` for another.
-pub fn file_of(rt: &impl Abort, alloc: Global, words: &[u32]) -> Result<Vec<u8>, Fail> {
+/// Words at 00010000, R and X.
+fn code(rt: &impl Abort, alloc: Global, words: &[u32]) -> Result<Region, Fail> {
     let mut bytes = Vec::new(alloc);
     for word in words {
         bytes.extend_from_slice(&word.to_le_bytes())?;
     }
     let len = bytes.len();
     assert!(rt; 1 <= len && len <= 65_536);
-    let mut segments = Vec::new(alloc);
-    segments.push(segment(0x10000, bytes, len as u32, true))?;
-    segments.push(segment(0x20000, Vec::new(alloc), 4096, false))?;
-    let mut symbols = Vec::new(alloc);
-    for (name, value, size) in [("word", 0x20000, 4), ("byte", 0x20004, 0)] {
-        let name = String::from_str(alloc, name)?;
-        symbols.push(Symbol {
-            name,
-            value,
-            size,
-            kind: 1,
-        })?;
-    }
-    let image = Image::new(0x10000, segments, symbols).ok_or("an image")?;
-    Ok(write(alloc, &image)?)
+    Ok(segment(0x10000, bytes, len as u32, true))
+}
+
+fn symbol(alloc: Global, name: &str, value: u32, size: u32) -> Result<Symbol, Fail> {
+    Ok(Symbol {
+        name: String::from_str(alloc, name)?,
+        value,
+        size,
+        kind: 1,
+    })
+}
+
+/// The symbol `word` for four bytes at 00020000, and `byte` for another.
+fn symbols(alloc: Global) -> Result<Vec<Symbol>, Fail> {
+    let word = symbol(alloc, "word", 0x20000, 4)?;
+    let byte = symbol(alloc, "byte", 0x20004, 0)?;
+    Ok(vec![in alloc; word, byte]?)
+}
+
+/// An image of words, those symbols, and 4,096 zero bytes at 00020000, R and W.
+fn image(rt: &impl Abort, alloc: Global, words: &[u32]) -> Result<Image, Fail> {
+    let code = code(rt, alloc, words)?;
+    let data = segment(0x20000, Vec::new(alloc), 4096, false);
+    let segments = vec![in alloc; code, data]?;
+    let symbols = symbols(alloc)?;
+    Ok(Image::new(0x10000, segments, symbols).ok_or("an image")?)
+}
+
+/// The file of that image.
+pub fn file_of(rt: &impl Abort, alloc: Global, words: &[u32]) -> Result<Vec<u8>, Fail> {
+    Ok(write(alloc, &image(rt, alloc, words)?)?)
 }
 
 /// The options of a campaign that lists nothing: the harts, steps, arms and pause of each run, the seed, and how many
@@ -115,8 +132,9 @@ fn writes(
     let mut image = Flagged::new(file.as_slice());
     let mut save: Option<Kept> = None;
     let outcome = run_campaign(rt, alloc, options, &mut image, &mut save, &mut writer);
-    assert_eq!(rt; outcome, Ok(()));
-    assert_eq!(rt; writer.into_inner().as_slice(), table);
+    assert_is(rt, outcome, Ok(()), "the outcome");
+    let written = writer.into_inner();
+    assert_is(rt, written.as_slice(), table, "the table");
     Ok(())
 }
 
@@ -133,10 +151,11 @@ fn saves(
     let mut image = Flagged::new(file.as_slice());
     let mut save = Some(Kept::new(alloc, false));
     let outcome = run_campaign(rt, alloc, options, &mut image, &mut save, &mut writer);
-    assert_eq!(rt; outcome, Ok(()));
-    assert!(rt; !writer.into_inner().is_empty());
+    assert_is(rt, outcome, Ok(()), "the outcome");
+    let is_empty = writer.into_inner().is_empty();
+    assert_is(rt, is_empty, false, "no table");
     let kept = save.ok_or("a file")?;
-    assert_eq!(rt; kept.bytes.as_slice(), schedule);
+    assert_is(rt, kept.bytes.as_slice(), schedule, "the schedule");
     Ok(())
 }
 
@@ -153,11 +172,14 @@ fn refuses(
     let mut save = Some(Kept::new(alloc, false));
     let mut image = Flagged::new(file);
     let outcome = run_campaign(rt, alloc, options, &mut image, &mut save, &mut writer);
-    assert_eq!(rt; outcome, Err(fault));
-    assert_eq!(rt; fault.status(), 1);
-    assert_eq!(rt; format!(in alloc; "{fault}")?.as_str(), text);
-    assert!(rt; writer.into_inner().is_empty());
-    assert!(rt; !save.ok_or("a file")?.is_made);
+    assert_is(rt, outcome, Err(fault), text);
+    assert_is(rt, fault.status(), 1, text);
+    let is_empty = writer.into_inner().is_empty();
+    assert_is(rt, is_empty, true, text);
+    let is_made = save.map(|file| file.is_made);
+    assert_is(rt, is_made, Some(false), text);
+    let told = format!(in alloc; "{fault}")?;
+    assert_is(rt, told.as_str(), text, "what is told");
     Ok(())
 }
 
@@ -326,9 +348,11 @@ fn makes_the_file_first(rt: HostRuntime) -> Result<(), Fail> {
     let mut save = Some(Kept::new(alloc, true));
     let asked = options((1, 10, 2, 5), 0, 1)?;
     let outcome = run_campaign(&rt, alloc, &asked, &mut image, &mut save, &mut writer);
-    assert_eq!(rt; outcome, Err(RunFault::Plain(Fault::Write)));
-    assert!(rt; !writer.failed());
-    assert!(rt; writer.into_inner().is_empty());
+    let fault = RunFault::Plain(Fault::Write);
+    assert_is(&rt, outcome, Err(fault), "the fault");
+    assert_is(&rt, writer.failed(), false, "the writer failed");
+    let is_empty = writer.into_inner().is_empty();
+    assert_is(&rt, is_empty, true, "nothing is written");
     Ok(())
 }
 

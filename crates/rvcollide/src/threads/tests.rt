@@ -1,4 +1,6 @@
-use crate::devices::{Kept, assert_tells_each_failing_call, assert_tells_each_failing_read};
+use crate::devices::{
+    Kept, assert_is, assert_tells_each_failing_call, assert_tells_each_failing_read,
+};
 use crate::fault::{Fault, ThreadsFault};
 use crate::run::tests::{ONE_STORE, file_of};
 use crate::threads::engine::run_by_threads;
@@ -7,6 +9,14 @@ use rv_elf::LoadFault;
 use rv_memory::buffered::Buffered;
 use rv_memory::flagged::Flagged;
 use std::test::Fail;
+
+const ENDINGS: &[u8] =
+    b"ending 0 hart 0 pc 00010004 store 00020000 4 slot 0 quiet old 00000000 new 00000000\n\
+    ending 1 hart 0 pc 00010004 store 00020000 4 slot 0 quiet old 00000000 new 00000000\n\
+    turns 5\n";
+
+const SCHEDULE: &[u8] = b"rvcollide schedule 1\nharts 1 steps 10 arms 2 pause 5\n\
+    a 00010004\ns 0\np 0 0\nr 0\na 00010004\np 0 0\nr 0\ns 0\ns 0\nend\n";
 
 /// One hart meets no other, whatever the seed: its endings and turns, and the schedule of the same run.
 #[test]
@@ -19,20 +29,11 @@ fn one_hart(rt: HostRuntime) -> Result<(), Fail> {
         let mut image = Flagged::new(file.as_slice());
         let mut save = Some(Kept::new(alloc, false));
         let outcome = run_by_threads(&rt, alloc, plan, seed, &mut image, &mut save, &mut writer);
-        assert_eq!(rt; outcome, Ok(()), "at seed {seed}");
-        assert_eq!(rt;
-            writer.into_inner().as_slice(),
-            b"ending 0 hart 0 pc 00010004 store 00020000 4 slot 0 quiet old 00000000 new 00000000\n\
-            ending 1 hart 0 pc 00010004 store 00020000 4 slot 0 quiet old 00000000 new 00000000\n\
-            turns 5\n"
-                .as_slice()
-        );
-        assert_eq!(rt;
-            save.ok_or("a file")?.bytes.as_slice(),
-            b"rvcollide schedule 1\nharts 1 steps 10 arms 2 pause 5\n\
-            a 00010004\ns 0\np 0 0\nr 0\na 00010004\np 0 0\nr 0\ns 0\ns 0\nend\n"
-                .as_slice()
-        );
+        assert_is(&rt, (seed, outcome), (seed, Ok(())), "the outcome");
+        let written = writer.into_inner();
+        assert_is(&rt, written.as_slice(), ENDINGS, "the endings");
+        let saved = save.ok_or("a file")?;
+        assert_is(&rt, saved.bytes.as_slice(), SCHEDULE, "the schedule");
     }
     Ok(())
 }
@@ -51,9 +52,11 @@ fn refuses(rt: HostRuntime) -> Result<(), Fail> {
         let mut image = Flagged::new(file);
         let mut save = Some(Kept::new(alloc, true));
         let outcome = run_by_threads(&rt, alloc, plan, 7, &mut image, &mut save, &mut writer);
-        assert_eq!(rt; outcome, Err(fault));
-        assert!(rt; writer.into_inner().is_empty());
-        assert_eq!(rt; save.ok_or("a file")?.is_made, is_made);
+        assert_is(&rt, outcome, Err(fault), "the fault");
+        let is_empty = writer.into_inner().is_empty();
+        assert_is(&rt, is_empty, true, "nothing is written");
+        let made = save.map(|file| file.is_made);
+        assert_is(&rt, made, Some(is_made), "the file");
     }
     Ok(())
 }
@@ -67,8 +70,9 @@ fn names_its_faults(rt: HostRuntime) -> Result<(), Fail> {
         (ThreadsFault::Stray, "run Stray"),
     ] {
         let fault = Fault::Threads(fault);
-        assert_eq!(rt; fault.status(), 1);
-        assert_eq!(rt; format!(in alloc; "{fault}")?.as_str(), text);
+        assert_is(&rt, fault.status(), 1, text);
+        let told = format!(in alloc; "{fault}")?;
+        assert_is(&rt, told.as_str(), text, "what is told");
     }
     Ok(())
 }

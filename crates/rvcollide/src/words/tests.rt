@@ -1,4 +1,6 @@
-use crate::devices::{Endless, assert_tells_each_failing_call, assert_tells_each_failing_read};
+use crate::devices::{
+    Endless, assert_is, assert_tells_each_failing_call, assert_tells_each_failing_read,
+};
 use crate::fault::Fault;
 use crate::words::engine::run_words;
 use rv_hart::machine::StepFault;
@@ -13,17 +15,20 @@ fn assert_writes(rt: &impl Abort, alloc: Global, input: &[u8], text: &[u8]) {
     let mut reader = Flagged::new(input);
     let mut writer = Buffered::new(alloc, Vec::new(alloc));
     let outcome = run_words(alloc, &mut reader, &mut writer);
-    assert_eq!(rt; outcome, Ok(()));
-    assert!(rt; !reader.failed() && !writer.failed());
-    assert_eq!(rt; writer.into_inner().as_slice(), text);
+    assert_is(rt, outcome, Ok(()), "the outcome");
+    let failed = (reader.failed(), writer.failed());
+    assert_is(rt, failed, (false, false), "the devices");
+    let written = writer.into_inner();
+    assert_is(rt, written.as_slice(), text, "the text");
 }
 
 /// The fault of an input, of which nothing is written.
 fn fault_of(rt: &impl Abort, alloc: Global, input: &[u8]) -> Option<Fault> {
     let mut writer = Buffered::new(alloc, Vec::new(alloc));
     let fault = run_words(alloc, &mut Flagged::new(input), &mut writer).err();
-    assert!(rt; !writer.failed());
-    assert_eq!(rt; writer.into_inner().len(), 0);
+    assert_is(rt, writer.failed(), false, "the writer failed");
+    let written = writer.into_inner().len();
+    assert_is(rt, written, 0, "bytes");
     fault
 }
 
@@ -108,7 +113,8 @@ fn tells_what_is_refused(rt: HostRuntime) {
         (b"harts 1\nsteps 1\nx\n", Fault::Line(3)),
         (b"harts 1\nsteps 0\n00500093\r\n", Fault::Line(3)),
     ] {
-        assert_eq!(rt; fault_of(&rt, alloc, input), Some(fault), "at {input:?}");
+        let told = (input, fault_of(&rt, alloc, input));
+        assert_is(&rt, told, (input, Some(fault)), "an input");
     }
     for (input, number, fault) in [
         (
@@ -125,7 +131,8 @@ fn tells_what_is_refused(rt: HostRuntime) {
         ),
     ] {
         let told = Fault::Step { number, fault };
-        assert_eq!(rt; fault_of(&rt, alloc, input), Some(told), "at {input:?}");
+        let found = (input, fault_of(&rt, alloc, input));
+        assert_is(&rt, found, (input, Some(told)), "an input");
     }
 }
 
@@ -174,9 +181,10 @@ fn refuses_an_endless_input(rt: HostRuntime) {
     let mut reader = Flagged::new(Endless);
     let mut writer = Buffered::new(alloc, Vec::new(alloc));
     let outcome = run_words(alloc, &mut reader, &mut writer);
-    assert_eq!(rt; outcome, Err(Fault::TooLong));
-    assert!(rt; !reader.failed());
-    assert_eq!(rt; writer.into_inner().len(), 0);
+    assert_is(&rt, outcome, Err(Fault::TooLong), "the fault");
+    assert_is(&rt, reader.failed(), false, "the reader failed");
+    let written = writer.into_inner().len();
+    assert_is(&rt, written, 0, "bytes");
 }
 
 #[test]
@@ -196,8 +204,8 @@ fn tells_faults(rt: HostRuntime) -> Result<(), Fail> {
         (Fault::NoMemory, "memory", 4),
     ] {
         let told = format!(in rt.alloc(); "{fault}")?;
-        assert_eq!(rt; told.as_str(), text);
-        assert_eq!(rt; fault.status(), status, "at {text}");
+        assert_is(&rt, told.as_str(), text, "what is told");
+        assert_is(&rt, fault.status(), status, text);
     }
     Ok(())
 }

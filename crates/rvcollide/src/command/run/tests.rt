@@ -1,5 +1,6 @@
 use crate::arguments::{ImagePath, SavePath};
 use crate::command::{Job, LineFault, Notice, command_of, notice_of};
+use crate::devices::assert_is;
 use crate::run::options::Options;
 use rv_collide::plan::Plan;
 use std::alloc::Global;
@@ -39,22 +40,21 @@ pub fn assert_asks(
     job: Option<Job<'_>>,
 ) -> Result<(), Fail> {
     let words: Vec<&str> = line.split(' ').collect(alloc)?;
-    assert_eq!(rt; command_of(alloc, &words).ok(), job, "at {line}");
+    let told = command_of(alloc, &words).ok();
+    assert_is(rt, told, job, line);
     Ok(())
 }
 
 /// Asserts that a line is refused, and that this text is told.
 pub fn assert_refused(rt: &impl Abort, alloc: Global, line: &str, part: &str) -> Result<(), Fail> {
     let words: Vec<&str> = line.split(' ').collect(alloc)?;
-    assert_eq!(rt;
-        command_of(alloc, &words),
-        Err(LineFault::Line),
-        "at {line}"
-    );
+    let told = command_of(alloc, &words);
+    assert_is(rt, told, Err(LineFault::Line), line);
     let Ok(Notice::Refusal(text)) = notice_of(alloc, &words) else {
         return Err(Fail::from("no refusal"));
     };
-    assert!(rt; text.as_str().contains(part), "at {line}: {text}");
+    let has = text.as_str().contains(part);
+    assert_is(rt, (line, has), (line, true), part);
     Ok(())
 }
 
@@ -69,6 +69,16 @@ fn assert_change_refused(
     let line = LINE.replace(alloc, old, new)?;
     assert!(rt; line.as_str() != LINE);
     assert_refused(rt, alloc, &line, part)
+}
+
+/// A text of `LINE`, another in its place, and what is told then.
+type Change = (&'static str, &'static str, &'static str);
+
+fn assert_changes_refused(rt: &impl Abort, alloc: Global, changes: &[Change]) -> Result<(), Fail> {
+    for (old, new, part) in changes {
+        assert_change_refused(rt, alloc, old, new, part)?;
+    }
+    Ok(())
 }
 
 /// The options in any order, with and without `=`, before and after the image, and with leading zeros.
@@ -120,8 +130,7 @@ fn takes_the_ends_of_the_ranges(rt: HostRuntime) -> Result<(), Fail> {
 
 #[test]
 fn refuses_numbers_out_of_range(rt: HostRuntime) -> Result<(), Fail> {
-    let alloc = rt.alloc();
-    for (old, new, part) in [
+    let changes = [
         (
             "--harts 2",
             "--harts 0",
@@ -171,17 +180,14 @@ fn refuses_numbers_out_of_range(rt: HostRuntime) -> Result<(), Fail> {
             "--runs 1000 --keep 1000",
             "'1000' for '--keep': it is a decimal number from 0 to 999",
         ),
-    ] {
-        assert_change_refused(&rt, alloc, old, new, part)?;
-    }
-    Ok(())
+    ];
+    assert_changes_refused(&rt, rt.alloc(), &changes)
 }
 
 /// What is no decimal number, and a run to be saved that is none of the runs.
 #[test]
 fn refuses_other_values(rt: HostRuntime) -> Result<(), Fail> {
-    let alloc = rt.alloc();
-    for (old, new, part) in [
+    let changes = [
         ("--harts 2", "--harts=", "'' for '--harts'"),
         ("--harts 2", "--harts +2", "'+2' for '--harts'"),
         ("--harts 2", "--harts=-2", "'-2' for '--harts'"),
@@ -192,17 +198,14 @@ fn refuses_other_values(rt: HostRuntime) -> Result<(), Fail> {
             "'3' for '--keep': it is less than '--runs', which is 3",
         ),
         ("--seed 7", "--seed 7 --keep=", "'' for '--keep'"),
-    ] {
-        assert_change_refused(&rt, alloc, old, new, part)?;
-    }
-    Ok(())
+    ];
+    assert_changes_refused(&rt, rt.alloc(), &changes)
 }
 
 /// Each option that is required left out, and the image.
 #[test]
 fn wants_each_required_option(rt: HostRuntime) -> Result<(), Fail> {
-    let alloc = rt.alloc();
-    for (old, new, part) in [
+    let changes = [
         (" --harts 2", "", "--harts <N>"),
         (" --steps 20", "", "--steps <N>"),
         (" --arms 4", "", "--arms <N>"),
@@ -211,17 +214,14 @@ fn wants_each_required_option(rt: HostRuntime) -> Result<(), Fail> {
         (" --runs 3", "", "--runs <N>"),
         (" --workers 6", "", "--workers <N>"),
         (" a.elf", "", "<IMAGE>"),
-    ] {
-        assert_change_refused(&rt, alloc, old, new, part)?;
-    }
-    Ok(())
+    ];
+    assert_changes_refused(&rt, rt.alloc(), &changes)
 }
 
 /// Each option of the plan and of the runs twice.
 #[test]
 fn refuses_a_number_twice(rt: HostRuntime) -> Result<(), Fail> {
-    let alloc = rt.alloc();
-    for (old, new, part) in [
+    let changes = [
         (
             "--harts 2",
             "--harts 2 --harts 2",
@@ -257,17 +257,14 @@ fn refuses_a_number_twice(rt: HostRuntime) -> Result<(), Fail> {
             "--workers 6 --workers 6",
             "'--workers <N>' cannot be used multiple times",
         ),
-    ] {
-        assert_change_refused(&rt, alloc, old, new, part)?;
-    }
-    Ok(())
+    ];
+    assert_changes_refused(&rt, rt.alloc(), &changes)
 }
 
 /// Each option that may be left out twice.
 #[test]
 fn refuses_a_list_twice(rt: HostRuntime) -> Result<(), Fail> {
-    let alloc = rt.alloc();
-    for (old, new, part) in [
+    let changes = [
         (
             "a.elf",
             "a.elf --named a --named b",
@@ -288,26 +285,21 @@ fn refuses_a_list_twice(rt: HostRuntime) -> Result<(), Fail> {
             "a.elf --save a --save a",
             "'--save <FILE>' cannot be used multiple times",
         ),
-    ] {
-        assert_change_refused(&rt, alloc, old, new, part)?;
-    }
-    Ok(())
+    ];
+    assert_changes_refused(&rt, rt.alloc(), &changes)
 }
 
 /// One option without its value, unknown ones, and two images.
 #[test]
 fn refuses_other_options(rt: HostRuntime) -> Result<(), Fail> {
-    let alloc = rt.alloc();
-    for (old, new, part) in [
+    let changes = [
         (" a.elf", " a.elf b.elf", "'b.elf'"),
         ("--harts 2", "--harts", "--harts <N>"),
         ("--harts 2", "--hart 2", "'--hart'"),
         ("--harts 2", "-x2", "'-x'"),
         ("a.elf", "a.elf --named", "--named <LIST>"),
-    ] {
-        assert_change_refused(&rt, alloc, old, new, part)?;
-    }
-    Ok(())
+    ];
+    assert_changes_refused(&rt, rt.alloc(), &changes)
 }
 
 #[test]
