@@ -1,5 +1,5 @@
 use super::*;
-use crate::flagged::tests::Sink;
+use crate::flagged::tests::{Sink, assert_at, assert_is};
 use std::process::Abort;
 use std::test::Fail;
 
@@ -7,63 +7,90 @@ fn over(alloc: Global, most: usize, fails_at: u64) -> Buffered<Sink> {
     Buffered::new(alloc, Sink::new(alloc, most, fails_at))
 }
 
+fn assert_puts<O: Output>(rt: &impl Abort, writer: &mut O, piece: &[u8]) {
+    let put = writer.put(piece);
+    assert_is(rt, put, Ok(()), "a piece");
+}
+
+/// The writer finishes, and its device has not failed.
+fn assert_finishes(rt: &impl Abort, writer: &mut Buffered<Sink>) {
+    let finished = writer.finish();
+    assert_is(rt, finished, Ok(()), "the end");
+    assert!(rt; !writer.failed());
+}
+
 #[test]
 fn gathers_pieces_for_one_write(rt: HostRuntime) {
-    let alloc = rt.alloc();
-    let mut writer = over(alloc, 100, 0);
-    for piece in [[1, 2].as_slice(), &[], &[3]] {
-        let put = writer.put(piece);
-        assert_eq!(rt; put, Ok(()));
-    }
-    let finished = writer.finish();
-    assert_eq!(rt; finished, Ok(()));
-    assert!(rt; !writer.failed());
+    let mut writer = over(rt.alloc(), 100, 0);
+    assert_puts(&rt, &mut writer, &[1, 2]);
+    assert_puts(&rt, &mut writer, &[]);
+    assert_puts(&rt, &mut writer, &[3]);
+    assert_finishes(&rt, &mut writer);
     let device = writer.into_inner();
-    assert_eq!(rt; device.taken.as_slice(), [1, 2, 3].as_slice());
-    assert_eq!(rt; device.calls, 2, "one write and the flush");
+    assert_is(&rt, device.taken.as_slice(), &[1, 2, 3], "taken");
+    assert_is(&rt, device.calls, 2, "one write and the flush");
 }
 
 #[test]
 fn sends_nothing_before_it_has_to(rt: HostRuntime) {
-    let alloc = rt.alloc();
-    let mut writer = over(alloc, 100, 0);
-    assert_eq!(rt; writer.put(&[1, 2]), Ok(()));
-    let device = writer.into_inner();
-    assert_eq!(rt; device.calls, 0);
+    let mut writer = over(rt.alloc(), 100, 0);
+    assert_puts(&rt, &mut writer, &[1, 2]);
+    assert_is(&rt, writer.into_inner().calls, 0, "calls");
 }
 
-/// Puts pieces of these lengths, each of bytes of its own, and answers all that was put.
-fn put_all(rt: &impl Abort, alloc: Global, writer: &mut Buffered<Sink>) -> Result<Vec<u8>, Fail> {
-    let mut wanted = Vec::new(alloc);
-    for (byte, length) in [
-        (1, 4000),
-        (2, 96),
-        (3, 1),
-        (4, 5000),
-        (5, 4095),
-        (6, 2),
-        (7, 4097),
-    ] {
-        let piece = vec![in alloc; byte; length]?;
-        let put = writer.put(&piece);
-        assert_eq!(rt; put, Ok(()));
-        wanted.extend_from_slice(&piece)?;
+/// The byte that a piece is made of, and the piece's length.
+const PIECES: [(u8, usize); 7] = [
+    (1, 4000),
+    (2, 96),
+    (3, 1),
+    (4, 5000),
+    (5, 4095),
+    (6, 2),
+    (7, 4097),
+];
+
+/// Puts a piece, and notes its bytes among all that was put.
+fn put_one(
+    rt: &impl Abort,
+    writer: &mut Buffered<Sink>,
+    piece: &[u8],
+    wanted: &mut Vec<u8>,
+) -> Result<(), Fail> {
+    assert_puts(rt, writer, piece);
+    wanted.extend_from_slice(piece)?;
+    Ok(())
+}
+
+/// Puts all pieces, and notes what was put.
+fn put_all(
+    rt: &impl Abort,
+    alloc: Global,
+    writer: &mut Buffered<Sink>,
+    wanted: &mut Vec<u8>,
+) -> Result<(), Fail> {
+    for (byte, length) in &PIECES {
+        let piece = vec![in alloc; *byte; *length]?;
+        put_one(rt, writer, &piece, wanted)?;
     }
-    Ok(wanted)
+    Ok(())
+}
+
+fn assert_keeps_the_order(rt: &impl Abort, alloc: Global, most: usize) -> Result<(), Fail> {
+    let mut wanted = Vec::new(alloc);
+    let mut writer = over(alloc, most, 0);
+    put_all(rt, alloc, &mut writer, &mut wanted)?;
+    assert_finishes(rt, &mut writer);
+    let device = writer.into_inner();
+    assert_is(rt, device.taken.as_slice(), wanted.as_slice(), "taken");
+    Ok(())
 }
 
 /// The pieces reach the device in order, however many bytes it takes a call, and also where a piece is longer
 /// than what is gathered.
 #[test]
 fn keeps_the_order(rt: HostRuntime) -> Result<(), Fail> {
-    let alloc = rt.alloc();
     for most in [999, 4096, 100_000] {
-        let mut writer = over(alloc, most, 0);
-        let wanted = put_all(&rt, alloc, &mut writer)?;
-        let finished = writer.finish();
-        assert_eq!(rt; finished, Ok(()));
-        assert!(rt; !writer.failed());
-        assert_eq!(rt; writer.into_inner().taken.as_slice(), wanted.as_slice());
+        assert_keeps_the_order(&rt, rt.alloc(), most)?;
     }
     Ok(())
 }
@@ -78,7 +105,13 @@ fn outcome_of(rt: &impl Abort, alloc: Global, fails_at: u64) -> Result<(), Write
         outcome = outcome.and_then(|()| writer.put(&piece));
     }
     outcome = outcome.and_then(|()| writer.finish());
-    assert!(rt; writer.failed() == outcome.is_err(), "at call {fails_at}");
+    assert_at(
+        rt,
+        writer.failed(),
+        outcome.is_err(),
+        "failed at call",
+        fails_at,
+    );
     outcome
 }
 
@@ -88,20 +121,18 @@ fn tells_each_failure(rt: HostRuntime) {
     let alloc = rt.alloc();
     for fails_at in 1..5 {
         let outcome = outcome_of(&rt, alloc, fails_at);
-        assert_eq!(rt; outcome, Err(WriteFault), "at call {fails_at}");
+        assert_at(&rt, outcome, Err(WriteFault), "at call", fails_at);
     }
-    assert_eq!(rt; outcome_of(&rt, alloc, 5), Ok(()), "four calls are all");
+    let outcome = outcome_of(&rt, alloc, 5);
+    assert_is(&rt, outcome, Ok(()), "four calls are all");
 }
 
 #[test]
 fn takes_pieces_unbuffered_too(rt: HostRuntime) {
-    let alloc = rt.alloc();
-    let mut writer = Flagged::new(Sink::new(alloc, 2, 0));
-    assert_eq!(rt; writer.put(&[1, 2, 3]), Ok(()));
-    assert_eq!(rt; writer.put(&[4]), Ok(()));
+    let mut writer = Flagged::new(Sink::new(rt.alloc(), 2, 0));
+    assert_puts(&rt, &mut writer, &[1, 2, 3]);
+    assert_puts(&rt, &mut writer, &[4]);
     assert!(rt; !writer.failed());
-    assert_eq!(rt;
-        writer.into_inner().taken.as_slice(),
-        [1, 2, 3, 4].as_slice()
-    );
+    let device = writer.into_inner();
+    assert_is(&rt, device.taken.as_slice(), &[1, 2, 3, 4], "taken");
 }

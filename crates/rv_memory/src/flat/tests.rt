@@ -2,6 +2,7 @@ ghost use Rattle.std.specs.Prelude.{◌≡◌, ◌≤◌, ◌<◌, ◌^◌, All,
 ghost use Rattle.rv_memory.specs.Extent.{IsExtent};
 
 use super::*;
+use crate::flagged::tests::{assert_at, assert_is};
 use std::process::Abort;
 use std::test::Fail;
 
@@ -67,10 +68,13 @@ fn store<S: Steady>(store: &mut S, address: u32, size: u8, value: u32) -> bool {
 /// Asserts what is loaded at addresses in so many bytes.
 fn assert_loads(rt: &impl Abort, flat: &Flat, rows: &[(u32, u8, Option<u32>)]) {
     for (address, size, wanted) in rows {
-        assert_eq!(rt;
-            load(flat, *address, *size),
-            *wanted,
-            "{size} bytes at {address}"
+        let found = (*size, load(flat, *address, *size));
+        assert_at(
+            rt,
+            found,
+            (*size, *wanted),
+            "a size at",
+            u64::from(*address),
         );
     }
 }
@@ -102,19 +106,24 @@ const STORES: [Stored; 4] = [
     (0x1005, 4, 0, false, [0x01CD_FFEE, 0xEE04_0302]),
 ];
 
+fn assert_stores(rt: &impl Abort, flat: &mut Flat, rows: &[Stored]) {
+    for (address, size, value, made, words) in rows {
+        let stored = store(flat, *address, *size, *value);
+        let found = (stored, load(flat, 0x1000, 4), load(flat, 0x1004, 4));
+        let wanted = (*made, Some(words[0]), Some(words[1]));
+        assert_at(rt, found, wanted, "after", u64::from(*address));
+    }
+}
+
 #[test]
 fn stores_the_low_bytes_alone(rt: HostRuntime) -> Result<(), Fail> {
     let mut flat = flat(&rt, rt.alloc(), &[(0x1000, &[0xEE; 8], 8)])?;
-    for (address, size, value, made, [low, high]) in STORES {
-        assert!(rt; store(&mut flat, address, size, value) == made);
-        assert_eq!(rt; load(&flat, 0x1000, 4), Some(low), "after {address}");
-        assert_eq!(rt; load(&flat, 0x1004, 4), Some(high), "after {address}");
-    }
+    assert_stores(&rt, &mut flat, &STORES);
     Ok(())
 }
 
 /// Regions of four bytes at 1000, without W and X, at 1004, without R, and at the last word.
-fn guarded(rt: &impl Abort, alloc: Global) -> Result<Flat, Fail> {
+fn guarded(alloc: Global) -> Result<Flat, Fail> {
     let mut low = region(alloc, 0x1000, &[], 4)?;
     low.w = false;
     low.x = false;
@@ -143,20 +152,21 @@ const PERMITTED: [(u32, u8, Need, bool); 14] = [
     (0xFFFF_FFFD, 4, Need::Nothing, false),
 ];
 
+fn assert_permits(rt: &impl Abort, flat: &Flat, rows: &[(u32, u8, Need, bool)]) {
+    for (address, size, need, wanted) in rows {
+        let found = (*size, *need, flat.permits(*address, *size, *need));
+        let wanted = (*size, *need, *wanted);
+        assert_at(rt, found, wanted, "a size and need at", u64::from(*address));
+    }
+}
+
+const LAST_WORD: [(u32, u8, Option<u32>); 2] = [(0xFFFF_FFFC, 4, Some(9)), (0xFFFF_FFFF, 2, None)];
+
 #[test]
 fn permits_within_one_region(rt: HostRuntime) -> Result<(), Fail> {
-    let flat = guarded(&rt, rt.alloc())?;
-    for (address, size, need, wanted) in PERMITTED {
-        assert!(rt;
-            flat.permits(address, size, need) == wanted,
-            "{size} bytes at {address}"
-        );
-    }
-    assert_loads(
-        &rt,
-        &flat,
-        &[(0xFFFF_FFFC, 4, Some(9)), (0xFFFF_FFFF, 2, None)],
-    );
+    let flat = guarded(rt.alloc())?;
+    assert_permits(&rt, &flat, &PERMITTED);
+    assert_loads(&rt, &flat, &LAST_WORD);
     Ok(())
 }
 
@@ -188,16 +198,22 @@ const FAULTS: [((u32, u32), (u32, u32), Option<MemFault>); 9] = [
     ((0, 17_825_791), (0x2000_0000, 1), None),
 ];
 
+/// The fault of two regions, or none.
+fn fault(
+    rt: &impl Abort,
+    alloc: Global,
+    a: (u32, u32),
+    b: (u32, u32),
+) -> Result<Option<MemFault>, Fail> {
+    let regions = regions(rt, alloc, &[(a.0, &[], a.1), (b.0, &[], b.1)])?;
+    Ok(Flat::make(alloc, &regions).err())
+}
+
 #[test]
 fn tells_the_first_fault(rt: HostRuntime) -> Result<(), Fail> {
-    let alloc = rt.alloc();
-    for (a, b, wanted) in FAULTS {
-        let regions = regions(&rt, alloc, &[(a.0, &[], a.1), (b.0, &[], b.1)])?;
-        assert_eq!(rt;
-            Flat::make(alloc, &regions).err(),
-            wanted,
-            "{a:?} and {b:?}"
-        );
+    for (a, b, wanted) in &FAULTS {
+        let found = (*a, *b, fault(&rt, rt.alloc(), *a, *b)?);
+        assert_is(&rt, found, (*a, *b, *wanted), "two regions and their fault");
     }
     Ok(())
 }
@@ -209,18 +225,37 @@ fn code(alloc: Global) -> Result<Flat, Fail> {
     Ok(Flat::make(alloc, &[code])?)
 }
 
+/// A load where it is permitted is what is wanted.
+fn assert_gives(rt: &impl Abort, flat: &Flat, place: (u32, u8), need: Need, wanted: Option<u32>) {
+    let (address, size) = place;
+    assert!(rt; matches!(size, 1 | 2 | 4));
+    let found = (size, need, flat.load_permitted(address, size, need));
+    let wanted = (size, need, wanted);
+    assert_at(rt, found, wanted, "a size and need at", u64::from(address));
+}
+
+/// What the code gives to each need that it permits.
+const GIVEN: [((u32, u8), Option<u32>); 4] = [
+    ((0x1000, 4), Some(0x9234_5678)),
+    ((0x1002, 2), Some(0x9234)),
+    ((0x1003, 1), Some(0x92)),
+    ((0x1003, 4), None),
+];
+
+fn assert_all_given(rt: &impl Abort, flat: &Flat, need: Need) {
+    for (place, wanted) in &GIVEN {
+        assert_gives(rt, flat, *place, need, *wanted);
+    }
+}
+
 #[test]
 fn loads_where_permitted(rt: HostRuntime) -> Result<(), Fail> {
     let flat = code(rt.alloc())?;
-    for need in [Need::Nothing, Need::Read, Need::Execute] {
-        assert_eq!(rt; flat.load_permitted(0x1000, 4, need), Some(0x9234_5678));
-        assert_eq!(rt; flat.load_permitted(0x1002, 2, need), Some(0x9234));
-        assert_eq!(rt; flat.load_permitted(0x1003, 1, need), Some(0x92));
-        assert_eq!(rt; flat.load_permitted(0x1003, 4, need), None);
-    }
-    for need in [Need::Write, Need::ReadWrite] {
-        assert_eq!(rt; flat.load_permitted(0x1000, 4, need), None);
-    }
+    assert_all_given(&rt, &flat, Need::Nothing);
+    assert_all_given(&rt, &flat, Need::Read);
+    assert_all_given(&rt, &flat, Need::Execute);
+    assert_gives(&rt, &flat, (0x1000, 4), Need::Write, None);
+    assert_gives(&rt, &flat, (0x1000, 4), Need::ReadWrite, None);
     Ok(())
 }
 
@@ -266,7 +301,7 @@ fn finds_the_region_among_many(rt: HostRuntime) -> Result<(), Fail> {
     let mut flat = flat(&rt, rt.alloc(), &MANY)?;
     assert_loads(&rt, &flat, &AMONG_MANY);
     assert!(rt; store(&mut flat, 0x301_0000, 4, 0x1234_5678));
-    assert_eq!(rt; load(&flat, 0x301_0000, 4), Some(0x1234_5678));
+    assert_loads(&rt, &flat, &[(0x301_0000, 4, Some(0x1234_5678))]);
     Ok(())
 }
 
@@ -313,18 +348,30 @@ fn data_and_code(alloc: Global) -> Result<Flat, Fail> {
     Ok(Flat::make(alloc, &regions)?)
 }
 
+const FETCHED: [(u32, Option<u32>); 5] = [
+    (0x2000, Some(0x02A0_0513)),
+    (0x2004, Some(0)),
+    (0x2005, None),
+    (0x1000, None),
+    (0x3000, None),
+];
+
+fn assert_fetches(rt: &impl Abort, flat: &Flat, rows: &[(u32, Option<u32>)]) {
+    for (address, word) in rows {
+        assert_at(
+            rt,
+            flat.fetch_at_once(*address),
+            *word,
+            "at",
+            u64::from(*address),
+        );
+    }
+}
+
 /// A word is found at once in the first executable region alone.
 #[test]
 fn fetches_at_once(rt: HostRuntime) -> Result<(), Fail> {
     let flat = data_and_code(rt.alloc())?;
-    for (address, word) in [
-        (0x2000, Some(0x02A0_0513)),
-        (0x2004, Some(0)),
-        (0x2005, None),
-        (0x1000, None),
-        (0x3000, None),
-    ] {
-        assert_eq!(rt; flat.fetch_at_once(address), word, "at {address}");
-    }
+    assert_fetches(&rt, &flat, &FETCHED);
     Ok(())
 }
