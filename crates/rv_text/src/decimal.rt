@@ -64,39 +64,54 @@ pub fn read_decimal(text: &[u8], limit: u32) -> Option<u32>
 #[cfg(test)]
 mod tests {
     use super::*;
+    use crate::numeral::tests::assert_is;
+
+    const WRITTEN: [(u64, &str); 5] = [
+        (0, "0"),
+        (9, "9"),
+        (10, "10"),
+        (4_294_967_295, "4294967295"),
+        (u64::MAX, "18446744073709551615"),
+    ];
 
     #[test]
     fn writes_numbers(rt: HostRuntime) {
-        assert_eq!(rt; Decimal::new(0).as_bytes(), b"0".as_slice());
-        assert_eq!(rt; Decimal::new(9).as_bytes(), b"9".as_slice());
-        assert_eq!(rt; Decimal::new(10).as_bytes(), b"10".as_slice());
-        assert_eq!(rt;
-            Decimal::new(4_294_967_295).as_bytes(),
-            b"4294967295".as_slice()
-        );
-        assert_eq!(rt;
-            Decimal::new(u64::MAX).as_bytes(),
-            b"18446744073709551615".as_slice()
-        );
+        for (number, text) in &WRITTEN {
+            let decimal = Decimal::new(*number);
+            assert_is(&rt, decimal.as_bytes(), text.as_bytes(), text);
+        }
     }
+
+    /// A text, the limit, and the number that is read.
+    const READ: [(&str, u32, Option<u32>); 3] = [
+        ("0", 0, Some(0)),
+        ("15", 15, Some(15)),
+        ("4294967295", u32::MAX, Some(u32::MAX)),
+    ];
 
     #[test]
     fn reads_numbers(rt: HostRuntime) {
-        assert_eq!(rt; read_decimal(b"0", 0), Some(0));
-        assert_eq!(rt; read_decimal(b"15", 15), Some(15));
-        assert_eq!(rt; read_decimal(b"4294967295", u32::MAX), Some(u32::MAX));
+        for (text, limit, number) in &READ {
+            assert_is(&rt, read_decimal(text.as_bytes(), *limit), *number, text);
+        }
     }
+
+    const REFUSED: [(&str, u32); 9] = [
+        ("", 15),
+        ("00", 15),
+        ("01", 15),
+        ("16", 15),
+        ("4294967296", u32::MAX),
+        ("99999999999999999999999999", u32::MAX),
+        ("+1", 15),
+        ("1 ", 15),
+        ("a", 15),
+    ];
 
     #[test]
     fn refuses_other_texts(rt: HostRuntime) {
-        assert_eq!(rt; read_decimal(b"", 15), None);
-        assert_eq!(rt; read_decimal(b"00", 15), None);
-        assert_eq!(rt; read_decimal(b"01", 15), None);
-        assert_eq!(rt; read_decimal(b"16", 15), None);
-        assert_eq!(rt; read_decimal(b"4294967296", u32::MAX), None);
-        assert_eq!(rt; read_decimal(b"99999999999999999999999999", u32::MAX), None);
-        assert_eq!(rt; read_decimal(b"+1", 15), None);
-        assert_eq!(rt; read_decimal(b"1 ", 15), None);
-        assert_eq!(rt; read_decimal(b"a", 15), None);
+        for (text, limit) in &REFUSED {
+            assert_is(&rt, read_decimal(text.as_bytes(), *limit), None, text);
+        }
     }
 }

@@ -59,33 +59,51 @@ pub fn read_word(text: &[u8]) -> Option<u32>
 #[cfg(test)]
 mod tests {
     use super::*;
+    use crate::numeral::tests::assert_is;
+
+    const WORDS: [(u32, &str); 4] = [
+        (0, "00000000"),
+        (10_690_595, "00a32023"),
+        (3_735_928_559, "deadbeef"),
+        (u32::MAX, "ffffffff"),
+    ];
 
     #[test]
     fn writes_words(rt: HostRuntime) {
-        for (word, text) in [
-            (0, *b"00000000"),
-            (10_690_595, *b"00a32023"),
-            (3_735_928_559, *b"deadbeef"),
-            (u32::MAX, *b"ffffffff"),
-        ] {
-            assert!(rt; word_digits(word) == text, "at {word}");
-            assert_eq!(rt; read_word(&text), Some(word));
+        for (word, text) in &WORDS {
+            let digits = word_digits(*word);
+            assert_is(&rt, digits.as_slice(), text.as_bytes(), text);
+            let number = read_word(text.as_bytes());
+            assert_is(&rt, number, Some(*word), text);
         }
-        assert!(rt; byte_digits(0) == *b"00");
-        assert!(rt; byte_digits(65) == *b"41");
-        assert!(rt; byte_digits(175) == *b"af");
     }
+
+    const BYTES: [(u8, &str); 3] = [(0, "00"), (65, "41"), (175, "af")];
+
+    #[test]
+    fn writes_bytes(rt: HostRuntime) {
+        for (byte, text) in &BYTES {
+            let digits = byte_digits(*byte);
+            assert_is(&rt, digits.as_slice(), text.as_bytes(), text);
+        }
+    }
+
+    const READ: [(&str, Option<u32>); 9] = [
+        ("00A32023", Some(10_690_595)),
+        ("DeadBeef", Some(3_735_928_559)),
+        ("", None),
+        ("0a32023", None),
+        ("000a32023", None),
+        ("00a3202g", None),
+        (" 0a32023", None),
+        ("+0a32023", None),
+        ("0a32023\r", None),
+    ];
 
     #[test]
     fn reads_words_in_either_case(rt: HostRuntime) {
-        assert_eq!(rt; read_word(b"00A32023"), Some(10_690_595));
-        assert_eq!(rt; read_word(b"DeadBeef"), Some(3_735_928_559));
-        assert_eq!(rt; read_word(b""), None);
-        assert_eq!(rt; read_word(b"0a32023"), None);
-        assert_eq!(rt; read_word(b"000a32023"), None);
-        assert_eq!(rt; read_word(b"00a3202g"), None);
-        assert_eq!(rt; read_word(b" 0a32023"), None);
-        assert_eq!(rt; read_word(b"+0a32023"), None);
-        assert_eq!(rt; read_word(b"0a32023\r"), None);
+        for (text, word) in &READ {
+            assert_is(&rt, read_word(text.as_bytes()), *word, text);
+        }
     }
 }

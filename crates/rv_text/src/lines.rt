@@ -53,25 +53,37 @@ impl<'a> Lines<'a> {
 #[cfg(test)]
 mod tests {
     use super::*;
+    use crate::numeral::tests::assert_is;
+    use std::process::Abort;
+
+    fn assert_next(rt: &impl Abort, lines: &mut Lines, wanted: Option<&str>) {
+        let line = lines.next_line();
+        assert_is(
+            rt,
+            line,
+            wanted.map(str::as_bytes),
+            wanted.unwrap_or("no more"),
+        );
+    }
 
     #[test]
     fn takes_lines(rt: HostRuntime) {
         let mut lines = Lines::of(b"ab\n\nc");
-        assert_eq!(rt; lines.next_line(), Some(b"ab".as_slice()));
-        assert_eq!(rt; lines.next_line(), Some(b"".as_slice()));
-        assert_eq!(rt; lines.next_line(), Some(b"c".as_slice()));
-        assert!(rt; lines.next_line().is_none());
-        assert!(rt; lines.next_line().is_none());
+        assert_next(&rt, &mut lines, Some("ab"));
+        assert_next(&rt, &mut lines, Some(""));
+        assert_next(&rt, &mut lines, Some("c"));
+        assert_next(&rt, &mut lines, None);
+        assert_next(&rt, &mut lines, None);
     }
 
     #[test]
     fn last_line_feed_opens_no_line(rt: HostRuntime) {
         let mut lines = Lines::of(b"a\r\n");
-        assert_eq!(rt; lines.next_line(), Some(b"a\r".as_slice()));
-        assert!(rt; lines.next_line().is_none());
+        assert_next(&rt, &mut lines, Some("a\r"));
+        assert_next(&rt, &mut lines, None);
         let mut empty_line = Lines::of(b"\n");
-        assert_eq!(rt; empty_line.next_line(), Some(b"".as_slice()));
-        assert!(rt; empty_line.next_line().is_none());
-        assert!(rt; Lines::of(b"").next_line().is_none());
+        assert_next(&rt, &mut empty_line, Some(""));
+        assert_next(&rt, &mut empty_line, None);
+        assert_next(&rt, &mut Lines::of(b""), None);
     }
 }

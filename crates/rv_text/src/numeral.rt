@@ -25,16 +25,38 @@ pub fn read_number(text: &[u8], radix: u32, limit: u32) -> Option<u32>
 }
 
 #[cfg(test)]
-mod tests {
+pub mod tests {
     use super::*;
+    use std::fmt::Debug;
+    use std::process::Abort;
+
+    /// What was found is what is wanted. (Each assertion that a test writes out costs the check a second, and a
+    /// call of this one next to nothing.)
+    pub fn assert_is<T: PartialEq + Debug + Drop>(
+        rt: &impl Abort,
+        found: T,
+        wanted: T,
+        what: &str,
+    ) {
+        assert_eq!(rt; found, wanted, "{what}");
+    }
+
+    /// A text, its radix, the limit, and the number that is read.
+    const NUMBERS: [(&str, u32, u32, Option<u32>); 6] = [
+        ("007", 10, 7, Some(7)),
+        ("FfFf", 16, u32::MAX, Some(65_535)),
+        ("101", 2, 5, Some(5)),
+        ("101", 2, 4, None),
+        ("102", 2, 9, None),
+        ("", 10, 9, None),
+    ];
 
     #[test]
     fn reads_numbers(rt: HostRuntime) {
-        assert_eq!(rt; read_number(b"007", 10, 7), Some(7));
-        assert_eq!(rt; read_number(b"FfFf", 16, u32::MAX), Some(65_535));
-        assert_eq!(rt; read_number(b"101", 2, 5), Some(5));
-        assert_eq!(rt; read_number(b"101", 2, 4), None);
-        assert_eq!(rt; read_number(b"102", 2, 9), None);
-        assert_eq!(rt; read_number(b"", 10, 9), None);
+        for (text, radix, limit, wanted) in &NUMBERS {
+            assert!(rt; 2 <= *radix && *radix <= 36);
+            let number = read_number(text.as_bytes(), *radix, *limit);
+            assert_is(&rt, number, *wanted, text);
+        }
     }
 }

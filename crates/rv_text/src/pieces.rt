@@ -62,22 +62,34 @@ pub(crate) fn cut(text: &[u8], separator: u8) -> Option<(&[u8], &[u8])>
 #[cfg(test)]
 mod tests {
     use super::*;
+    use crate::numeral::tests::assert_is;
+    use std::process::Abort;
+
+    fn assert_next(rt: &impl Abort, pieces: &mut Pieces, wanted: Option<&str>) {
+        let piece = pieces.next_piece();
+        assert_is(
+            rt,
+            piece,
+            wanted.map(str::as_bytes),
+            wanted.unwrap_or("no more"),
+        );
+    }
 
     #[test]
     fn takes_pieces(rt: HostRuntime) {
         let mut pieces = Pieces::of(b"a  bc ", b' ');
-        assert_eq!(rt; pieces.next_piece(), Some(b"a".as_slice()));
-        assert_eq!(rt; pieces.next_piece(), Some(b"".as_slice()));
-        assert_eq!(rt; pieces.next_piece(), Some(b"bc".as_slice()));
-        assert_eq!(rt; pieces.next_piece(), Some(b"".as_slice()));
-        assert!(rt; pieces.next_piece().is_none());
-        assert!(rt; pieces.next_piece().is_none());
+        assert_next(&rt, &mut pieces, Some("a"));
+        assert_next(&rt, &mut pieces, Some(""));
+        assert_next(&rt, &mut pieces, Some("bc"));
+        assert_next(&rt, &mut pieces, Some(""));
+        assert_next(&rt, &mut pieces, None);
+        assert_next(&rt, &mut pieces, None);
     }
 
     #[test]
     fn empty_text_is_one_piece(rt: HostRuntime) {
         let mut pieces = Pieces::of(b"", b',');
-        assert_eq!(rt; pieces.next_piece(), Some(b"".as_slice()));
-        assert!(rt; pieces.next_piece().is_none());
+        assert_next(&rt, &mut pieces, Some(""));
+        assert_next(&rt, &mut pieces, None);
     }
 }
