@@ -7,12 +7,19 @@ use rv_elf::{Image, Symbol};
 use rv_hart::access::Access;
 use rv_memory::region::Region;
 use std::alloc::Global;
+use std::fmt::Debug;
 use std::process::Abort;
 use std::test::Fail;
 
 mod boundaries;
 mod named;
 mod rows;
+
+/// What was found is what is wanted. (Each assertion that a test writes out costs the check a second, and a call of
+/// this one next to nothing.)
+fn assert_is<T: PartialEq + Debug + Drop>(rt: &impl Abort, found: T, wanted: T, what: &str) {
+    assert_eq!(rt; found, wanted, "{what}");
+}
 
 /// A segment of these words.
 fn segment(rt: &impl Abort, alloc: Global, start: u32, words: &[u32]) -> Result<Region, Fail> {
@@ -34,37 +41,29 @@ fn segment(rt: &impl Abort, alloc: Global, start: u32, words: &[u32]) -> Result<
 
 /// An image of words at 00010000, and 4,096 zero bytes at 00020000.
 fn image(rt: &impl Abort, alloc: Global, words: &[u32]) -> Result<Image, Fail> {
-    let mut segments = Vec::new(alloc);
-    segments.push(segment(rt, alloc, 0x10000, words)?)?;
-    segments.push(Region {
+    let text = segment(rt, alloc, 0x10000, words)?;
+    let data = Region {
         start: 0x20000,
         bytes: Vec::new(alloc),
         len: 4096,
         r: true,
         w: true,
         x: false,
-    })?;
+    };
+    let segments = vec![in alloc; text, data]?;
     Ok(Image::new(0x10000, segments, Vec::new(alloc)).ok_or("an image")?)
 }
 
-/// An image of such a text with symbols in its data.
-fn with_symbols(
+/// The class of an ending in an image of words at 00010000.
+fn class_in(
     rt: &impl Abort,
     alloc: Global,
-    symbols: &[(&str, u32, u32)],
-) -> Result<Image, Fail> {
-    let mut segments = Vec::new(alloc);
-    segments.push(segment(rt, alloc, 0x10000, &[0x73])?)?;
-    let mut named = Vec::new(alloc);
-    for (name, value, size) in symbols {
-        named.push(Symbol {
-            name: String::from_str(alloc, name)?,
-            value: *value,
-            size: *size,
-            kind: 1,
-        })?;
-    }
-    Ok(Image::new(0x10000, segments, named).ok_or("an image")?)
+    words: &[u32],
+    ending: &Ending,
+    ranges: &[(u32, u32)],
+) -> Result<Class, Fail> {
+    let image = image(rt, alloc, words)?;
+    Ok(classify(&image, ending, ranges))
 }
 
 /// An access to bytes from 00020000 on.

@@ -6,12 +6,21 @@ use rv_collide::plan::Plan;
 use rv_collide::replay::replay;
 use rv_memory::flat::Flat;
 
-/// The ending of the schedule, told again for two harts.
-fn told(alloc: Global, image: &Image, entries: &[Entry]) -> Result<Ending, Fail> {
+/// The ending of the schedule, told again for two harts that run the words.
+fn told(rt: &impl Abort, alloc: Global, words: &[u32], entries: &[Entry]) -> Result<Ending, Fail> {
     let plan = Plan::new(2, 1000, 200, 10).ok_or("a plan")?;
-    let collider: Collider<Flat> = replay(alloc, image, plan, entries)?;
+    let image = image(rt, alloc, words)?;
+    let collider: Collider<Flat> = replay(alloc, &image, plan, entries)?;
     let finished = collider.finish();
     Ok(*finished.endings.first().ok_or("an ending")?)
+}
+
+/// Of a hit, the place of the access that was met, and its address.
+fn met(ending: &Ending) -> Option<(u32, u32)> {
+    match ending.verdict {
+        Verdict::Hit(seen) => Some((seen.place, seen.access.pc)),
+        _ => None,
+    }
 }
 
 /// `lui x6,0x20`, `lw x5,0(x6)`, `addi x5,x5,1`, `sw x5,0(x6)`, `ecall`.
@@ -36,15 +45,13 @@ const COUNTED: [Entry; 8] = [
 
 #[test]
 fn two_harts_count(rt: HostRuntime) -> Result<(), Fail> {
-    let image = image(&rt, rt.alloc(), &COUNTER)?;
-    let ending = told(rt.alloc(), &image, &COUNTED)?;
-    assert_eq!(rt; ending.access.pc, 0x1000c);
-    match ending.verdict {
-        Verdict::Hit(seen) => assert_eq!(rt; (seen.place, seen.access.pc), (6, 0x10004)),
-        _ => assert!(rt; false, "a hit"),
-    }
-    assert_eq!(rt; classify(&image, &ending, &[]), Class::Counter);
-    assert_eq!(rt; classify(&image, &ending, &[(0x20000, 4)]), Class::Named);
+    let ending = told(&rt, rt.alloc(), &COUNTER, &COUNTED)?;
+    assert_is(&rt, ending.access.pc, 0x1000c, "the address");
+    assert_is(&rt, met(&ending), Some((6, 0x10004)), "what it met");
+    let class = class_in(&rt, rt.alloc(), &COUNTER, &ending, &[])?;
+    assert_is(&rt, class, Class::Counter, "with no ranges");
+    let class = class_in(&rt, rt.alloc(), &COUNTER, &ending, &[(0x20000, 4)])?;
+    assert_is(&rt, class, Class::Named, "with its bytes listed");
     Ok(())
 }
 
@@ -75,17 +82,18 @@ const POLLED: [Entry; 9] = [
     Resumed(0),
 ];
 
+fn assert_polled(rt: &impl Abort, alloc: Global, mask: u32, want: Class) -> Result<(), Fail> {
+    let words = flag_words(mask);
+    let ending = told(rt, alloc, &words, &POLLED)?;
+    assert_is(rt, (ending.old, ending.new), (0, 2), "its values");
+    assert_is(rt, met(&ending), Some((7, 0x1000c)), "what it met");
+    let class = class_in(rt, alloc, &words, &ending, &[])?;
+    assert_is(rt, (mask, class), (mask, want), "the mask's class");
+    Ok(())
+}
+
 #[test]
 fn a_flag_is_polled_through_a_mask(rt: HostRuntime) -> Result<(), Fail> {
-    for (mask, want) in [(0x0012_f393, Class::Flag), (0x0022_f393, Class::Kept)] {
-        let image = image(&rt, rt.alloc(), &flag_words(mask))?;
-        let ending = told(rt.alloc(), &image, &POLLED)?;
-        assert_eq!(rt; (ending.old, ending.new), (0, 2));
-        match ending.verdict {
-            Verdict::Hit(seen) => assert_eq!(rt; (seen.place, seen.access.pc), (7, 0x1000c)),
-            _ => assert!(rt; false, "a hit"),
-        }
-        assert_eq!(rt; classify(&image, &ending, &[]), want);
-    }
-    Ok(())
+    assert_polled(&rt, rt.alloc(), 0x0012_f393, Class::Flag)?;
+    assert_polled(&rt, rt.alloc(), 0x0022_f393, Class::Kept)
 }
