@@ -7,6 +7,7 @@ use rv_elf::Image;
 use rv_memory::flat::Flat;
 use rv_memory::region::Region;
 use std::alloc::Global;
+use std::fmt::Debug;
 use std::process::Abort;
 use std::test::Fail;
 
@@ -16,22 +17,32 @@ const P: [u32; 4] = [0x0002_0337, 0x00a3_2023, 0x0003_2283, 0x0000_0073];
 /// `lui x6,0x20`, `sw x10,0(x6)`, `ecall`.
 const ONE_STORE: [u32; 3] = [0x0002_0337, 0x00a3_2023, 0x0000_0073];
 
-/// An image of words at 00010000, and 4,096 zero bytes at 00020000.
-fn image(rt: &impl Abort, alloc: Global, words: &[u32]) -> Result<Image, Fail> {
+/// What was found is what is wanted. (Each assertion that a test writes out costs the check a second, and a call of
+/// this one next to nothing.)
+fn assert_is<T: PartialEq + Debug + Drop>(rt: &impl Abort, found: T, wanted: T, what: &str) {
+    assert_eq!(rt; found, wanted, "{what}");
+}
+
+fn code(rt: &impl Abort, alloc: Global, words: &[u32]) -> Result<Region, Fail> {
     let mut bytes = Vec::new(alloc);
     for word in words {
         bytes.extend_from_slice(&word.to_le_bytes())?;
     }
     let len = bytes.len();
     assert!(rt; 1 <= len && len <= 65_536);
-    let code = Region {
+    Ok(Region {
         start: 0x10000,
         bytes,
         len: len as u32,
         r: true,
         w: false,
         x: true,
-    };
+    })
+}
+
+/// An image of words at 00010000, and 4,096 zero bytes at 00020000.
+fn image(rt: &impl Abort, alloc: Global, words: &[u32]) -> Result<Image, Fail> {
+    let code = code(rt, alloc, words)?;
     let zeros = Region {
         start: 0x20000,
         bytes: Vec::new(alloc),
@@ -58,43 +69,52 @@ fn is_told_again(
 ) -> Result<(), Fail> {
     let again: Collider<Flat> = replay(alloc, image, plan, &told.entries)?;
     let again = again.finish();
-    assert_eq!(rt; again.entries.as_slice(), told.entries.as_slice());
-    assert_eq!(rt; again.endings.as_slice(), told.endings.as_slice());
-    assert_eq!(rt; again.output.as_slice(), told.output.as_slice());
+    assert_is(rt, again.entries.as_slice(), &told.entries, "entries");
+    assert_is(rt, again.endings.as_slice(), &told.endings, "endings");
+    assert_is(rt, again.output.as_slice(), &told.output, "output");
     Ok(())
 }
 
+/// The run of a number of an image of the words, which is told again.
+fn ran(
+    rt: &impl Abort,
+    alloc: Global,
+    words: &[u32],
+    plan: Plan,
+    (seed, run): (u64, u32),
+) -> Result<Finished, Fail> {
+    let image = image(rt, alloc, words)?;
+    let told = run_one(alloc, &image, plan, seed, run, &[])?;
+    is_told_again(rt, alloc, &image, plan, &told)?;
+    Ok(told)
+}
+
+const BY_ITSELF: [Entry; 9] = [
+    Armed(0x10004),
+    Stepped(0),
+    Paused(0, Some(0)),
+    Resumed(0),
+    Armed(0x10004),
+    Paused(0, Some(0)),
+    Resumed(0),
+    Stepped(0),
+    Stepped(0),
+];
+
 #[test]
 fn one_site_and_one_hart(rt: HostRuntime) -> Result<(), Fail> {
-    let alloc = rt.alloc();
-    let image = image(&rt, alloc, &ONE_STORE)?;
     let plan = plan(1, 10, 2, 5)?;
     for seed in [0, 1, 4_294_967_295] {
-        let told = run_one(alloc, &image, plan, seed, 0, &[])?;
-        assert_eq!(rt;
-            told.entries.as_slice(),
-            [
-                Armed(0x10004),
-                Stepped(0),
-                Paused(0, Some(0)),
-                Resumed(0),
-                Armed(0x10004),
-                Paused(0, Some(0)),
-                Resumed(0),
-                Stepped(0),
-                Stepped(0)
-            ]
-            .as_slice()
-        );
-        assert_eq!(rt; told.endings.len(), 2);
-        is_told_again(&rt, alloc, &image, plan, &told)?;
+        let told = ran(&rt, rt.alloc(), &ONE_STORE, plan, (seed, 0))?;
+        assert_is(&rt, told.entries.as_slice(), &BY_ITSELF, "entries");
+        assert_is(&rt, told.endings.len(), 2, "endings");
     }
     Ok(())
 }
 
 /// The schedules of three harts as another implementation of the rules has them. In the first, hart 0 is
 /// resumed since no other hart is able; in the second, two pauses are due at once.
-const BY_OTHERS: [(u64, u32, u32, &[Entry]); 4] = [
+static BY_OTHERS: [(u64, u32, u32, &[Entry]); 4] = [
     (
         0,
         0,
@@ -233,25 +253,52 @@ const BY_OTHERS: [(u64, u32, u32, &[Entry]); 4] = [
 
 #[test]
 fn as_another_implementation_has_them(rt: HostRuntime) -> Result<(), Fail> {
-    let alloc = rt.alloc();
-    let image = image(&rt, alloc, &P)?;
-    for (seed, run, pause, entries) in BY_OTHERS {
-        let plan = plan(3, 100, 5, pause)?;
-        let told = run_one(alloc, &image, plan, seed, run, &[])?;
-        assert_eq!(rt; told.entries.as_slice(), entries, "seed {seed} run {run}");
-        is_told_again(&rt, alloc, &image, plan, &told)?;
+    for (seed, run, pause, entries) in &BY_OTHERS {
+        let plan = plan(3, 100, 5, *pause)?;
+        let told = ran(&rt, rt.alloc(), &P, plan, (*seed, *run))?;
+        let found = (seed, run, told.entries.as_slice());
+        assert_is(&rt, found, (seed, run, *entries), "entries");
     }
     Ok(())
 }
 
+fn without_sites(rt: &impl Abort, alloc: Global) -> Result<Vec<Finished>, Fail> {
+    let plan = plan(2, 100, 100, 5)?;
+    let image = image(rt, alloc, &[0x0002_0337, 0x0000_0073])?;
+    Ok(campaign(alloc, &image, plan, 9, 5, 3, &[])?)
+}
+
 #[test]
 fn no_sites(rt: HostRuntime) -> Result<(), Fail> {
-    let alloc = rt.alloc();
-    let image = image(&rt, alloc, &[0x0002_0337, 0x0000_0073])?;
-    let plan = plan(2, 100, 100, 5)?;
-    for told in campaign(alloc, &image, plan, 9, 5, 3, &[])? {
-        assert_eq!(rt; told.entries.len(), 4);
-        assert_eq!(rt; told.endings.len(), 0);
+    let told = without_sites(&rt, rt.alloc())?;
+    for one in told.iter() {
+        assert_is(&rt, one.entries.len(), 4, "entries");
+        assert_is(&rt, one.endings.len(), 0, "endings");
+    }
+    Ok(())
+}
+
+fn assert_is_run(
+    rt: &impl Abort,
+    alloc: Global,
+    image: &Image,
+    plan: Plan,
+    run: usize,
+    one: &Finished,
+) -> Result<(), Fail> {
+    let run = u32::try_from(run)?;
+    let alone = run_one(alloc, image, plan, 0, run, &[0x10008])?;
+    assert_is(rt, one.entries.as_slice(), &alone.entries, "entries");
+    is_told_again(rt, alloc, image, plan, one)
+}
+
+fn assert_runs_by_number(rt: &impl Abort, alloc: Global, workers: u32) -> Result<(), Fail> {
+    let plan = plan(3, 100, 5, 1)?;
+    let image = image(rt, alloc, &P)?;
+    let told = campaign(alloc, &image, plan, 0, 3, workers, &[0x10008])?;
+    assert_is(rt, told.len(), 3, "runs");
+    for (run, one) in told.iter().enumerate() {
+        assert_is_run(rt, alloc, &image, plan, run, one)?;
     }
     Ok(())
 }
@@ -259,36 +306,39 @@ fn no_sites(rt: HostRuntime) -> Result<(), Fail> {
 /// A campaign's runs are those of its numbers, whatever the number of workers.
 #[test]
 fn runs_by_number(rt: HostRuntime) -> Result<(), Fail> {
-    let alloc = rt.alloc();
-    let image = image(&rt, alloc, &P)?;
-    let plan = plan(3, 100, 5, 1)?;
-    for workers in [1, 16] {
-        let told = campaign(alloc, &image, plan, 0, 3, workers, &[0x10008])?;
-        assert_eq!(rt; told.len(), 3);
-        for (run, one) in told.iter().enumerate() {
-            let alone = run_one(alloc, &image, plan, 0, u32::try_from(run)?, &[0x10008])?;
-            assert_eq!(rt; one.entries.as_slice(), alone.entries.as_slice());
-            is_told_again(&rt, alloc, &image, plan, one)?;
-        }
-    }
-    Ok(())
+    assert_runs_by_number(&rt, rt.alloc(), 1)?;
+    assert_runs_by_number(&rt, rt.alloc(), 16)
+}
+
+/// How many steps, runs and workers, and why that is refused.
+const REFUSALS: [(u32, u32, u32, Option<CampaignFault>); 7] = [
+    (16_778, 1000, 1, Some(CampaignFault::TooLarge)),
+    (16_777, 1000, 1, None),
+    (16_778, 1000, 17, Some(CampaignFault::Workers)),
+    (16_778, 1000, 0, Some(CampaignFault::Workers)),
+    (16_778, 0, 0, Some(CampaignFault::Runs)),
+    (10, 1001, 17, Some(CampaignFault::Runs)),
+    (10, 1, 17, Some(CampaignFault::Workers)),
+];
+
+fn fault_of(
+    rt: &impl Abort,
+    alloc: Global,
+    steps: u32,
+    runs: u32,
+    workers: u32,
+) -> Result<Option<CampaignFault>, Fail> {
+    let plan = plan(1, steps, 0, 1)?;
+    let image = image(rt, alloc, &ONE_STORE)?;
+    Ok(campaign(alloc, &image, plan, 0, runs, workers, &[]).err())
 }
 
 #[test]
 fn refusals(rt: HostRuntime) -> Result<(), Fail> {
-    let alloc = rt.alloc();
-    let image = image(&rt, alloc, &ONE_STORE)?;
-    for (steps, runs, workers, fault) in [
-        (16_778, 1000, 1, Some(CampaignFault::TooLarge)),
-        (16_777, 1000, 1, None),
-        (16_778, 1000, 17, Some(CampaignFault::Workers)),
-        (16_778, 1000, 0, Some(CampaignFault::Workers)),
-        (16_778, 0, 0, Some(CampaignFault::Runs)),
-        (10, 1001, 17, Some(CampaignFault::Runs)),
-        (10, 1, 17, Some(CampaignFault::Workers)),
-    ] {
-        let answer = campaign(alloc, &image, plan(1, steps, 0, 1)?, 0, runs, workers, &[]);
-        assert_eq!(rt; answer.err(), fault, "steps {steps} runs {runs}");
+    for (steps, runs, workers, want) in &REFUSALS {
+        let fault = fault_of(&rt, rt.alloc(), *steps, *runs, *workers)?;
+        let found = (steps, runs, workers, fault);
+        assert_is(&rt, found, (steps, runs, workers, *want), "refusal");
     }
     Ok(())
 }
