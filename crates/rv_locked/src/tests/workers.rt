@@ -1,6 +1,6 @@
 //! Runs by threads: that the workers run side by side, that they end, and what is told of them.
 use super::gates::{Counts, Holds, Meets, Shut};
-use super::{ONE_SITE, ONE_STORE, P, image, plan};
+use super::{FOUR_AND_FOUR, ONE_SITE, ONE_STORE, P, assert_is, image, plan};
 use crate::gate::FreeGate;
 use crate::threads::{RunFault, run_threads};
 use rv_collide::collider::{Collider, Finished};
@@ -12,13 +12,33 @@ use rv_hart::hart::Status;
 use rv_memory::flat::Flat;
 use std::alloc::Global;
 use std::process::Abort;
+use std::sync::Wait;
 use std::test::Fail;
+use std::thread::Threads;
 
-/// A run told again has the same entries, endings and output.
-fn assert_same(rt: &impl Abort, told: &Finished, again: &Finished) {
-    assert_eq!(rt; again.entries.as_slice(), told.entries.as_slice());
-    assert_eq!(rt; again.endings.as_slice(), told.endings.as_slice());
-    assert_eq!(rt; again.output.as_slice(), told.output.as_slice());
+/// A run told again has stopped each hart by an environment call, and has the same entries, endings and output.
+fn assert_same(rt: &impl Abort, told: &Finished, again: Collider<Flat>) {
+    let stopped = all_stopped(&again);
+    let again = again.finish();
+    assert_is(rt, stopped, true, "each hart has stopped");
+    assert_is(
+        rt,
+        again.entries.as_slice(),
+        told.entries.as_slice(),
+        "entries",
+    );
+    assert_is(
+        rt,
+        again.endings.as_slice(),
+        told.endings.as_slice(),
+        "endings",
+    );
+    assert_is(
+        rt,
+        again.output.as_slice(),
+        told.output.as_slice(),
+        "output",
+    );
 }
 
 /// Replays a run's schedule, to where an environment call has stopped each hart and to the same endings and
@@ -31,9 +51,7 @@ fn assert_told_again(
     told: &Finished,
 ) -> Result<(), Fail> {
     let again: Collider<Flat> = replay(alloc, image, plan, &told.entries)?;
-    let stopped = all_stopped(&again);
-    assert!(rt; stopped);
-    assert_same(rt, told, &again.finish());
+    assert_same(rt, told, again);
     Ok(())
 }
 
@@ -61,43 +79,79 @@ fn all_stopped(collider: &Collider<Flat>) -> bool {
     true
 }
 
+/// A run of workers that meet before each turn.
+fn run_meeting<R: Threads + Wait + Sync>(
+    rt: &R,
+    alloc: Global,
+    image: &Image,
+    plan: Plan,
+) -> Result<Finished, Fail> {
+    let gate = Meets::new(alloc, plan.harts)?;
+    Ok(run_threads(rt, alloc, image, plan, 7, &gate)?)
+}
+
+/// Each of so many harts makes its four turns.
+fn assert_meets<R: Threads + Wait + Sync + Abort>(
+    rt: &R,
+    alloc: Global,
+    image: &Image,
+    harts: u8,
+    steps: u32,
+) -> Result<(), Fail> {
+    let plan = plan(harts, steps, 0, 5)?;
+    let told = run_meeting(rt, alloc, image, plan)?;
+    assert_is(rt, turns(&told.entries), 4 * usize::from(harts), "turns");
+    assert_told_again(rt, alloc, image, plan, &told)
+}
+
 /// Workers that meet before each turn: as many threads as harts, since fewer would wait for one another.
 #[test]
-fn each_hart_has_a_thread_of_its_own(rt: HostRuntime) -> Result<(), Fail> {
-    let alloc = rt.alloc();
-    let image = image(&rt, alloc, &P)?;
-    for (harts, steps) in [(2, 20), (16, 64)] {
-        let plan = plan(harts, steps, 0, 5)?;
-        let gate = Meets::new(alloc, harts)?;
-        let told = run_threads(&rt, alloc, &image, plan, 7, &gate)?;
-        assert_eq!(rt; turns(&told.entries), 4 * usize::from(harts));
-        assert_told_again(&rt, alloc, &image, plan, &told)?;
-    }
+fn each_of_two_harts_has_a_thread_of_its_own(rt: HostRuntime) -> Result<(), Fail> {
+    let image = image(&rt, rt.alloc(), &P)?;
+    assert_meets(&rt, rt.alloc(), &image, 2, 20)
+}
+
+#[test]
+fn each_of_sixteen_harts_has_a_thread_of_its_own(rt: HostRuntime) -> Result<(), Fail> {
+    let image = image(&rt, rt.alloc(), &P)?;
+    assert_meets(&rt, rt.alloc(), &image, 16, 64)
+}
+
+/// Four steps of hart 1, then four of hart 0.
+const THE_OTHER_FIRST: [Entry; 8] = [
+    Stepped(1),
+    Stepped(1),
+    Stepped(1),
+    Stepped(1),
+    Stepped(0),
+    Stepped(0),
+    Stepped(0),
+    Stepped(0),
+];
+
+/// A gate that keeps one of two harts till the other has left four times.
+fn assert_holds<R: Threads + Wait + Sync + Abort>(
+    rt: &R,
+    alloc: Global,
+    image: &Image,
+    plan: Plan,
+    held: u8,
+    entries: &[Entry],
+) -> Result<(), Fail> {
+    let gate = Holds::new(held, 4, 4);
+    let told = run_threads(rt, alloc, image, plan, 7, &gate)?;
+    assert_is(rt, told.entries.as_slice(), entries, "entries");
+    assert_is(rt, gate.counts(), (4, 4), "counts");
     Ok(())
 }
 
-/// Four steps of one hart, then four of the other.
-fn assert_order(rt: &impl Abort, told: &Finished, first: u8, held: u8) {
-    assert_eq!(rt; told.entries.len(), 8);
-    for place in 0..8 {
-        let hart = if place < 4 { first } else { held };
-        assert_eq!(rt; told.entries.get(place).copied(), Some(Stepped(hart)));
-    }
-}
-
-/// A gate that keeps one of two harts till the other has left four times.
 #[test]
 fn a_gate_orders_the_turns(rt: HostRuntime) -> Result<(), Fail> {
     let alloc = rt.alloc();
     let image = image(&rt, alloc, &P)?;
     let plan = plan(2, 20, 0, 5)?;
-    for (held, first) in [(0, 1), (1, 0)] {
-        let gate = Holds::new(held, 4, 4);
-        let told = run_threads(&rt, alloc, &image, plan, 7, &gate)?;
-        assert_order(&rt, &told, first, held);
-        assert_eq!(rt; gate.counts(), (4, 4));
-    }
-    Ok(())
+    assert_holds(&rt, alloc, &image, plan, 0, &THE_OTHER_FIRST)?;
+    assert_holds(&rt, alloc, &image, plan, 1, &FOUR_AND_FOUR)
 }
 
 /// What a gate leaves that lets so many calls in: from eight on the whole run, or else the hart that was
@@ -105,31 +159,51 @@ fn a_gate_orders_the_turns(rt: HostRuntime) -> Result<(), Fail> {
 fn assert_shut_after(rt: &impl Abort, most: u64, answer: &Result<Finished, RunFault<Shut>>) {
     match answer {
         Ok(told) => {
-            assert!(rt; most >= 8);
-            assert_eq!(rt; turns(&told.entries), 8);
+            assert_is(rt, most >= 8, true, "open for the whole run");
+            assert_is(rt, turns(&told.entries), 8, "turns");
         }
         Err(RunFault::GateClosed(hart, shut)) => {
-            assert!(rt; most < 8);
-            assert_eq!(rt; *hart, shut.hart);
-            assert!(rt; shut.number > most && shut.number <= most + 2);
+            assert_is(rt, most < 8, true, "shut before the end");
+            assert_is(rt, *hart, shut.hart, "the hart that was refused");
+            let late = shut.number.saturating_sub(most);
+            assert_is(rt, late == 1 || late == 2, true, "the refused call");
         }
-        Err(_) => assert!(rt; false),
+        Err(_) => assert_is(rt, "another fault", "a run or a shut gate", "the answer"),
     }
 }
 
-/// Gates that shut at each of the eight calls in turn, and one that stays open. Whoever was let in has left.
+/// A gate that shuts after so many calls, or stays open. Whoever was let in has left.
+fn assert_shuts<R: Threads + Wait + Sync + Abort>(
+    rt: &R,
+    alloc: Global,
+    image: &Image,
+    plan: Plan,
+    most: u64,
+) {
+    let gate = Counts::new(most);
+    let answer = run_threads(rt, alloc, image, plan, most, &gate);
+    assert_shut_after(rt, most, &answer);
+    assert_is(rt, gate.within(), 0, "calls that are not left");
+}
+
+/// Gates that shut at each of the eight calls in turn, and one that stays open.
 #[test]
 fn a_gate_shuts_at_each_call(rt: HostRuntime) -> Result<(), Fail> {
     let alloc = rt.alloc();
     let image = image(&rt, alloc, &P)?;
     let plan = plan(2, 20, 0, 5)?;
     for most in 0..10u64 {
-        let gate = Counts::new(most);
-        let answer = run_threads(&rt, alloc, &image, plan, most, &gate);
-        assert_shut_after(&rt, most, &answer);
-        assert_eq!(rt; gate.within(), 0);
+        assert_shuts(&rt, alloc, &image, plan, most);
     }
     Ok(())
+}
+
+/// Which hart a gate refused, and with what.
+fn closed(answer: Result<Finished, RunFault<Shut>>) -> Option<(u8, Shut)> {
+    match answer {
+        Err(RunFault::GateClosed(hart, shut)) => Some((hart, shut)),
+        Err(_) | Ok(_) => None,
+    }
 }
 
 /// Hart 0 is paused at the store, and hart 1 has made one step, when hart 1's gate shuts. Hart 0 is woken.
@@ -139,12 +213,23 @@ fn a_gate_shuts_while_a_hart_is_paused(rt: HostRuntime) -> Result<(), Fail> {
     let image = image(&rt, alloc, &ONE_STORE)?;
     let plan = plan(2, 20, 1, 5)?;
     let gate = Holds::new(1, 2, 1);
-    let closed = match run_threads(&rt, alloc, &image, plan, 3, &gate) {
-        Err(RunFault::GateClosed(hart, shut)) => Some((hart, shut)),
-        Err(_) | Ok(_) => None,
-    };
-    assert_eq!(rt; closed, Some((1, Shut { hart: 1, number: 2 })));
-    assert_eq!(rt; gate.counts(), (2, 2));
+    let closed = closed(run_threads(&rt, alloc, &image, plan, 3, &gate));
+    let wanted = Shut { hart: 1, number: 2 };
+    assert_is(&rt, closed, Some((1, wanted)), "what the gate refused");
+    assert_is(&rt, gate.counts(), (2, 2), "counts");
+    Ok(())
+}
+
+fn assert_one_site<R: Threads + Wait + Sync + Abort>(
+    rt: &R,
+    alloc: Global,
+    image: &Image,
+    plan: Plan,
+    seed: u64,
+) -> Result<(), Fail> {
+    let told = run_threads(rt, alloc, image, plan, seed, &FreeGate)?;
+    assert_is(rt, told.entries.as_slice(), &ONE_SITE, "entries");
+    assert_is(rt, told.endings.len(), 2, "endings");
     Ok(())
 }
 
@@ -154,11 +239,20 @@ fn one_site_and_one_thread(rt: HostRuntime) -> Result<(), Fail> {
     let image = image(&rt, alloc, &ONE_STORE)?;
     let plan = plan(1, 10, 2, 5)?;
     for seed in [0, 1, 4_294_967_295] {
-        let told = run_threads(&rt, alloc, &image, plan, seed, &FreeGate)?;
-        assert_eq!(rt; told.entries.as_slice(), ONE_SITE.as_slice());
-        assert_eq!(rt; told.endings.len(), 2);
+        assert_one_site(&rt, alloc, &image, plan, seed)?;
     }
     Ok(())
+}
+
+fn assert_race<R: Threads + Wait + Sync + Abort>(
+    rt: &R,
+    alloc: Global,
+    image: &Image,
+    plan: Plan,
+    seed: u64,
+) -> Result<(), Fail> {
+    let told = run_threads(rt, alloc, image, plan, seed, &FreeGate)?;
+    assert_told_again(rt, alloc, image, plan, &told)
 }
 
 /// Two harts that race, whose pauses end as the threads come: each schedule is replayed to the same endings
@@ -169,8 +263,7 @@ fn schedules_of_races_are_told_again(rt: HostRuntime) -> Result<(), Fail> {
     let image = image(&rt, alloc, &P)?;
     let plan = plan(2, 20, 4, 2)?;
     for seed in 0..200 {
-        let told = run_threads(&rt, alloc, &image, plan, seed, &FreeGate)?;
-        assert_told_again(&rt, alloc, &image, plan, &told)?;
+        assert_race(&rt, alloc, &image, plan, seed)?;
     }
     Ok(())
 }
