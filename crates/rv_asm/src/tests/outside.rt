@@ -1,4 +1,5 @@
 //! Words and their lines as another assembler has them.
+use super::assert_is;
 use crate::{line_of, word_at};
 use rv_text::hexadecimal::read_word;
 use std::alloc::Global;
@@ -156,8 +157,8 @@ fn assert_agrees(rt: &impl Abort, alloc: Global, line: &str) -> Result<(), Fail>
     let address = read_word(place.as_bytes()).ok_or("address")?;
     let word = read_word(digits.as_bytes()).ok_or("word")?;
     let listed = line_of(alloc, word, address)?;
-    assert!(rt; listed.as_bytes() == text.as_bytes());
-    assert!(rt; word_at(text, address) == Ok(word));
+    assert_is(rt, listed.as_str(), text, "the line");
+    assert_is(rt, word_at(text, address), Ok(word), text);
     Ok(())
 }
 
@@ -168,6 +169,6 @@ fn agrees_with_another_assembler(rt: HostRuntime) -> Result<(), Fail> {
         assert_agrees(&rt, rt.alloc(), line)?;
         seen = seen.wrapping_add(1);
     }
-    assert_eq!(rt; seen, 140);
+    assert_is(&rt, seen, 140, "how many lines");
     Ok(())
 }
