@@ -37,11 +37,16 @@ fn assert_is<T: PartialEq + Debug + Drop>(rt: &impl Abort, found: T, wanted: T, 
     assert_eq!(rt; found, wanted, "{what}");
 }
 
-fn code(rt: &impl Abort, alloc: Global, words: &[u32]) -> Result<Region, Fail> {
+fn bytes_of(alloc: Global, words: &[u32]) -> Result<Vec<u8>, Fail> {
     let mut bytes = Vec::new(alloc);
     for word in words {
         bytes.extend_from_slice(&word.to_le_bytes())?;
     }
+    Ok(bytes)
+}
+
+fn code(rt: &impl Abort, alloc: Global, words: &[u32]) -> Result<Region, Fail> {
+    let bytes = bytes_of(alloc, words)?;
     let len = bytes.len();
     assert!(rt; 1 <= len && len <= 65_536);
     Ok(Region {
@@ -65,19 +70,26 @@ fn symbols(alloc: Global) -> Result<Vec<Symbol>, Fail> {
     Ok(vec![in alloc; symbol]?)
 }
 
-/// An image of words at 00010000, and 4,096 zero bytes at 00020000 with a symbol.
-fn image(rt: &impl Abort, alloc: Global, words: &[u32]) -> Result<Image, Fail> {
-    let code = code(rt, alloc, words)?;
-    let zeros = Region {
+fn zeros(alloc: Global) -> Region {
+    Region {
         start: 0x20000,
         bytes: Vec::new(alloc),
         len: 4096,
         r: true,
         w: true,
         x: false,
-    };
-    let segments = vec![in alloc; code, zeros]?;
+    }
+}
+
+fn segments(rt: &impl Abort, alloc: Global, words: &[u32]) -> Result<Vec<Region>, Fail> {
+    let code = code(rt, alloc, words)?;
+    Ok(vec![in alloc; code, zeros(alloc)]?)
+}
+
+/// An image of words at 00010000, and 4,096 zero bytes at 00020000 with a symbol.
+fn image(rt: &impl Abort, alloc: Global, words: &[u32]) -> Result<Image, Fail> {
     let symbols = symbols(alloc)?;
+    let segments = segments(rt, alloc, words)?;
     Ok(Image::new(0x10000, segments, symbols).ok_or("an image")?)
 }
 
@@ -111,8 +123,7 @@ fn ends(rt: &impl Abort, watched: &mut Watched, h: u8) -> bool {
 /// Four turns of a hart of P, the last of which stops it.
 fn four_turns(rt: &impl Abort, watched: &mut Watched, h: u8) {
     for _ in 0..4 {
-        let taken = turn(rt, watched, h);
-        assert!(rt; taken != Taken::Over && taken != Taken::Paused);
+        step(rt, watched, h);
     }
     let over = turn(rt, watched, h);
     assert_is(rt, over, Taken::Over, "the fifth turn");
@@ -203,19 +214,20 @@ fn strays(rt: HostRuntime) -> Result<(), Fail> {
 /// A turn that pauses hart 0, and the end of that pause, which is due since no other hart is able.
 fn pause_and_end(rt: &impl Abort, watched: &mut Watched) {
     let early = ends(rt, watched, 0);
-    assert!(rt; !early);
+    assert_is(rt, early, false, "an end before the pause");
     let taken = turn(rt, watched, 0);
     assert_is(rt, taken, Taken::Paused, "the turn");
     let over = turn(rt, watched, 0);
     assert_is(rt, over, Taken::Over, "one while paused");
     let ended = ends(rt, watched, 0);
-    assert!(rt; ended);
+    assert_is(rt, ended, true, "the end of the pause");
 }
 
 /// A turn that makes a step.
 fn step(rt: &impl Abort, watched: &mut Watched, h: u8) {
     let taken = turn(rt, watched, h);
-    assert!(rt; taken != Taken::Over && taken != Taken::Paused);
+    let is_step = taken != Taken::Over && taken != Taken::Paused;
+    assert_is(rt, is_step, true, "a step");
 }
 
 /// Whether the core has these entries.
@@ -240,7 +252,20 @@ fn assert_one_site(rt: &impl Abort, watched: &mut Watched) {
     pause_and_end(rt, watched);
     step(rt, watched, 0);
     step(rt, watched, 0);
-    assert!(rt; has_entries(watched, &ONE_SITE));
+    assert_is(rt, has_entries(watched, &ONE_SITE), true, "entries");
+}
+
+/// The same, begun with this seed.
+fn assert_one_site_of(
+    rt: &impl Abort,
+    alloc: Global,
+    image: &Image,
+    plan: Plan,
+    seed: u64,
+) -> Result<(), Fail> {
+    let mut watched = Watched::new(alloc, image, plan, seed)?;
+    assert_one_site(rt, &mut watched);
+    Ok(())
 }
 
 #[test]
@@ -249,8 +274,7 @@ fn one_site_and_one_hart(rt: HostRuntime) -> Result<(), Fail> {
     let image = image(&rt, alloc, &ONE_STORE)?;
     let plan = plan(1, 10, 2, 5)?;
     for seed in [0, 1, 4_294_967_295] {
-        let mut watched = Watched::new(alloc, &image, plan, seed)?;
-        assert_one_site(&rt, &mut watched);
+        assert_one_site_of(&rt, alloc, &image, plan, seed)?;
     }
     Ok(())
 }
@@ -262,11 +286,11 @@ fn assert_due_after_two(rt: &impl Abort, watched: &mut Watched) {
     assert_is(rt, taken, Taken::Paused, "the turn");
     for _ in 0..2 {
         let early = ends(rt, watched, 0);
-        assert!(rt; !early);
+        assert_is(rt, early, false, "an end before it is due");
         step(rt, watched, 1);
     }
     let ended = ends(rt, watched, 0);
-    assert!(rt; ended);
+    assert_is(rt, ended, true, "the end when it is due");
 }
 
 #[test]
@@ -278,9 +302,9 @@ fn ends_a_pause_when_it_is_due(rt: HostRuntime) -> Result<(), Fail> {
 }
 
 fn assert_breaks_off(rt: &impl Abort, watched: &mut Watched) {
-    assert!(rt; !watched.broken_off());
+    assert_is(rt, watched.broken_off(), false, "broken off at first");
     watched.break_off();
-    assert!(rt; watched.broken_off());
+    assert_is(rt, watched.broken_off(), true, "broken off");
 }
 
 #[test]
