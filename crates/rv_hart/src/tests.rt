@@ -24,6 +24,14 @@ fn assert_is<T: PartialEq + Debug + Drop>(rt: &impl Abort, found: T, wanted: T, 
     assert_eq!(rt; found, wanted, "{what}");
 }
 
+fn bytes_of(alloc: Global, words: &[u32]) -> Result<Vec<u8>, Fail> {
+    let mut bytes = Vec::new(alloc);
+    for word in words {
+        bytes.extend_from_slice(&word.to_le_bytes())?;
+    }
+    Ok(bytes)
+}
+
 /// Words as a region from an address on.
 fn region(
     rt: &impl Abort,
@@ -34,10 +42,7 @@ fn region(
 ) -> Result<Region, Fail>
     ensures { IfOk result IsExtent }
 {
-    let mut bytes = Vec::new(alloc);
-    for word in words {
-        bytes.extend_from_slice(&word.to_le_bytes())?;
-    }
+    let bytes = bytes_of(alloc, words)?;
     let len = bytes.len();
     assert!(rt; 1 <= len && len <= 65_536);
     Ok(Region {

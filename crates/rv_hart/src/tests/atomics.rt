@@ -43,6 +43,18 @@ const PAIR: [u32; 7] = [
     0x0000_0073,
 ];
 
+/// What two harts that ran PAIR in these steps leave: hart 0's x7 and reservation, hart 1's, and the first byte.
+type Left = (u32, Option<u32>, Option<u32>, Option<u8>);
+
+fn left(rt: &impl Abort, alloc: Global, steps: &[u8]) -> Result<Left, Fail> {
+    let mut machine = machine(rt, alloc, &PAIR, &[0], 2)?;
+    run(rt, &mut machine, steps);
+    assert!(rt; machine.harts() == 2);
+    let x7 = machine.register(0, 7);
+    let (own, others) = (machine.reservation(0), machine.reservation(1));
+    Ok((x7, own, others, machine.byte(0x20000)))
+}
+
 #[test]
 fn reservations(rt: HostRuntime) -> Result<(), Fail> {
     for (steps, x7, held, byte) in [
@@ -51,13 +63,8 @@ fn reservations(rt: HostRuntime) -> Result<(), Fail> {
         ([0, 0, 1, 1, 0, 1].as_slice(), 0, None, 1),
         ([0, 0, 1, 1, 0, 1, 0].as_slice(), 1, None, 1),
     ] {
-        let mut machine = machine(&rt, rt.alloc(), &PAIR, &[0], 2)?;
-        run(&rt, &mut machine, steps);
-        assert!(rt; machine.harts() == 2);
-        assert_is(&rt, machine.register(0, 7), x7, "x7");
-        assert_is(&rt, machine.reservation(0), held, "hart 0's");
-        assert_is(&rt, machine.reservation(1), None, "hart 1's");
-        assert_is(&rt, machine.byte(0x20000), Some(byte), "the byte");
+        let found = left(&rt, rt.alloc(), steps)?;
+        assert_is(&rt, found, (x7, held, None, Some(byte)), "what is left");
     }
     Ok(())
 }
@@ -101,23 +108,29 @@ fn own_reservations(rt: HostRuntime) -> Result<(), Fail> {
     Ok(())
 }
 
+/// x7 of hart 0, which reserves and stores, with an AMO of hart 1 between.
+fn x7_after(rt: &impl Abort, alloc: Global, word: u32) -> Result<u32, Fail> {
+    // lui x6, 0x20; addi x8, x6, 4; beq x10, x0, +8; the AMO with rs2 = x0; lr.w; sc.w
+    let words = [
+        0x0002_0337,
+        0x0043_0413,
+        0x0005_0463,
+        word,
+        0x1003_22af,
+        0x1853_23af,
+    ];
+    let mut machine = machine(rt, alloc, &words, &[7], 2)?;
+    run(rt, &mut machine, &[0, 0, 0, 0, 1, 1, 1, 1, 0]);
+    assert!(rt; machine.harts() == 2);
+    Ok(machine.register(0, 7))
+}
+
 /// Another hart's AMO on the word ends the reservation, one on the next word doesn't.
 #[test]
 fn amo_ends_a_reservation(rt: HostRuntime) -> Result<(), Fail> {
-    for (word, x7) in [(0x0003_22af, 1), (0x0004_22af, 0)] {
-        // lui x6, 0x20; addi x8, x6, 4; beq x10, x0, +8; the AMO with rs2 = x0; lr.w; sc.w
-        let words = [
-            0x0002_0337,
-            0x0043_0413,
-            0x0005_0463,
-            word,
-            0x1003_22af,
-            0x1853_23af,
-        ];
-        let mut machine = machine(&rt, rt.alloc(), &words, &[7], 2)?;
-        run(&rt, &mut machine, &[0, 0, 0, 0, 1, 1, 1, 1, 0]);
-        assert!(rt; machine.harts() == 2);
-        assert_is(&rt, machine.register(0, 7), x7, "x7");
-    }
+    let on_the_word = x7_after(&rt, rt.alloc(), 0x0003_22af)?;
+    assert_is(&rt, on_the_word, 1, "x7, on the word");
+    let on_the_next = x7_after(&rt, rt.alloc(), 0x0004_22af)?;
+    assert_is(&rt, on_the_next, 0, "x7, on the next word");
     Ok(())
 }

@@ -89,6 +89,15 @@ fn loads(rt: HostRuntime) -> Result<(), Fail> {
     Ok(())
 }
 
+/// pc after `lui x8, 0x20`, `lw x5, 0(x8)`, `lw x6, 4(x8)` and the word.
+fn pc_after(rt: &impl Abort, alloc: Global, word: u32, a: u32, b: u32) -> Result<u32, Fail> {
+    let words = [0x0002_0437, 0x0004_2283, 0x0044_2303, word];
+    let mut machine = machine(rt, alloc, &words, &[a, b], 1)?;
+    run(rt, &mut machine, &[0, 0, 0, 0]);
+    assert!(rt; machine.harts() == 1);
+    Ok(machine.pc(0))
+}
+
 /// A branch over the following word, from 0001000c.
 #[test]
 fn branches(rt: HostRuntime) -> Result<(), Fail> {
@@ -107,12 +116,9 @@ fn branches(rt: HostRuntime) -> Result<(), Fail> {
         ("bgeu", 0x0062_f463, 0x8000_0000, 0, true),
         ("bgeu", 0x0062_f463, 0, 0x8000_0000, false),
     ] {
-        let words = [0x0002_0437, 0x0004_2283, 0x0044_2303, word];
-        let mut machine = machine(&rt, rt.alloc(), &words, &[a, b], 1)?;
-        run(&rt, &mut machine, &[0, 0, 0, 0]);
-        assert!(rt; machine.harts() == 1);
         let want = if taken { 0x10014 } else { 0x10010 };
-        assert_is(&rt, machine.pc(0), want, name);
+        let pc = pc_after(&rt, rt.alloc(), word, a, b)?;
+        assert_is(&rt, pc, want, name);
     }
     Ok(())
 }
@@ -129,6 +135,32 @@ fn jumps(rt: HostRuntime) -> Result<(), Fail> {
     assert_is(&rt, machine.register(0, 0), 0, "x0");
     assert_is(&rt, machine.pc(0), 0x1000c, "pc");
     Ok(())
+}
+
+/// Bytes from the first store on, each of which is 0 or of the word 0x81807f01.
+const STORED: [(u32, u8); 10] = [
+    (0x20008, 0x01),
+    (0x20009, 0x7f),
+    (0x2000a, 0x80),
+    (0x2000b, 0x81),
+    (0x2000c, 0),
+    (0x2000e, 0x01),
+    (0x2000f, 0x7f),
+    (0x20010, 0),
+    (0x20013, 0x01),
+    (0x20014, 0),
+];
+
+fn assert_stored(rt: &impl Abort, machine: &Machine<Flat>) {
+    for (address, byte) in &STORED {
+        let found = (*address, machine.byte(*address));
+        assert_is(
+            rt,
+            found,
+            (*address, Some(*byte)),
+            "an address and its byte",
+        );
+    }
 }
 
 /// Stores of each size, little-endian, seen byte by byte and by a later fetch's hart.
@@ -157,20 +189,7 @@ fn stores(rt: HostRuntime) -> Result<(), Fail> {
     let stepped = machine.step(0);
     assert_is(&rt, stepped, Ok(Event::Moved(Some(store))), "the step");
     run(&rt, &mut machine, &[0, 0]);
-    for (address, byte) in [
-        (0x20008, 0x01),
-        (0x20009, 0x7f),
-        (0x2000a, 0x80),
-        (0x2000b, 0x81),
-        (0x2000c, 0),
-        (0x2000e, 0x01),
-        (0x2000f, 0x7f),
-        (0x20010, 0),
-        (0x20013, 0x01),
-        (0x20014, 0),
-    ] {
-        assert_eq!(rt; machine.byte(address), Some(byte), "{address:08x}");
-    }
+    assert_stored(&rt, &machine);
     assert_is(&rt, machine.byte(0x21000), None, "past the page");
     Ok(())
 }
