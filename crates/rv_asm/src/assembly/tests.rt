@@ -118,19 +118,19 @@ fn no_fault(rt: HostRuntime) {
     assert_is(&rt, fault, None, "a last line");
 }
 
-/// The values, sizes and kinds of five symbols.
-const SYMBOLS: [(u32, u32, u8); 5] = [
-    (0x1_0000, 4, 2),
-    (0x1_0000, 4, 2),
-    (0x1_0004, 8, 2),
-    (0x2_0000, 2, 1),
-    (0x1_000c, 0, 2),
+/// The value, size and kind of each symbol, by its label.
+const SYMBOLS: [(&str, (u32, u32, u8)); 5] = [
+    ("a", (0x1_0000, 4, 2)),
+    ("b", (0x1_0000, 4, 2)),
+    ("_start", (0x1_0004, 8, 2)),
+    ("d", (0x2_0000, 2, 1)),
+    ("c", (0x1_000c, 0, 2)),
 ];
 
 fn assert_symbols(rt: &impl Abort, image: &Image) {
     assert_is(rt, image.symbols().len(), 5, "how many symbols");
-    for (place, symbol) in SYMBOLS.iter().enumerate() {
-        assert_is(rt, symbol_of(image, place), Some(*symbol), "a symbol");
+    for (place, (label, symbol)) in SYMBOLS.iter().enumerate() {
+        assert_is(rt, symbol_of(image, place), Some(*symbol), label);
     }
 }
 
