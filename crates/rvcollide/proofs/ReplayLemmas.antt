@@ -1,6 +1,6 @@
 -- What two files say, and what is written of it.
 use Rattle.std.proofs.Common.{◌≡◌, ℕ, ◌+◌, Bool, true, false, List, [], ◌∷◌, ◌++◌, Option, Some, None, Result, Ok, Err, take, refl, sym, ap, subst, ◌∙◌}
-use Rattle.std.specs.Prelude.{◌||◌, IfSome, IsOkAnd, if◌then◌else◌, slice_get, length}
+use Rattle.std.specs.Prelude.{◌||◌, IfSome, IsOkAnd, OnOk, if◌then◌else◌, slice_get, length}
 use Rattle.std.specs.Io.KnownBytes.{Appends, Keeps}
 use Rattle.std.proofs.KnownBytes.{Appends-kept}
 use Rattle.std.proofs.lemmas.Option.{slice_get_within, get_or_from_slice_get}
@@ -119,11 +119,17 @@ endings_next es n e a b c is before next =
     lines_next es n e a b c (slice_get_within es n e is) before
     (subst (λ (x : Ending). Appends b c (ending_line n x ++ 10 ∷ [])) (sym (get_or_from_slice_get es n e e is)) next)
 
-shown : (run : Stored) (a b d : Option (List ℕ)) → IsShown run (Appends a b) → Keeps b d → IsShown run (Appends a d)
+pub shown : (run : Stored) (a b d : Option (List ℕ)) → IsShown run (Appends a b) → Keeps b d → IsShown run (Appends a d)
 shown run a b d is kept = record { legal = is.legal; end = is.end; reached = is.reached; written = Appends-kept a b d _ is.written kept }
 
-pub replay_written : (image schedule : Option (List ℕ)) (run : Stored) (a b d : Option (List ℕ)) → IfKnown image schedule (λ i s. run_of i s ≡ Ok run) → IsShown run (Appends a b) → Keeps b d
-    → IfKnown image schedule (λ i s. IsOkAnd (run_of i s) (λ run. IsShown run (Appends a d)))
-replay_written None schedule run a b d is told kept = tt
-replay_written (Some i) None run a b d is told kept = tt
-replay_written (Some i) (Some s) run a b d is told kept = rw is (shown run a b d told kept)
+known_shown : (image schedule : Option (List ℕ)) (run : Stored) (Writes : List ℕ → Type 0) → IfKnown image schedule (λ i s. run_of i s ≡ Ok run) → IsShown run Writes
+    → IfKnown image schedule (λ i s. IsOkAnd (run_of i s) (λ run. IsShown run Writes))
+known_shown None schedule run Writes is told = tt
+known_shown (Some i) None run Writes is told = tt
+known_shown (Some i) (Some s) run Writes is told = rw is told
+
+-- what was written of the run is of the one that the files say
+pub replay_written : (image schedule : Option (List ℕ)) (run : Stored) (Writes : List ℕ → Type 0) (outcome : Result (Unit {0}) Fault) → IfKnown image schedule (λ i s. run_of i s ≡ Ok run) → OnOk outcome (IsShown run Writes)
+    → OnOk outcome (IfKnown image schedule (λ i s. IsOkAnd (run_of i s) (λ run. IsShown run Writes)))
+replay_written image schedule run Writes (Ok done) is told = known_shown image schedule run Writes is told
+replay_written image schedule run Writes (Err fault) is told = tt

@@ -5,14 +5,29 @@ ghost use Rattle.rv_memory.specs.Buffered as buffer;
 ghost use Rattle.rv_memory.specs.Flagged as flag;
 ghost use Rattle.rvcollide.specs.Fault.{fails_by, is_read, is_write};
 ghost use Rattle.rvcollide.specs.Replay as spec;
+ghost use Rattle.rvcollide.specs.declared.fault.Fault.TheVariants as fault;
 
 use crate::fault::Fault;
 use crate::replay::input::read_run;
 use crate::replay::report::write_run;
+use rv_collide::collider::Collider;
 use rv_memory::buffered::Buffered;
 use rv_memory::flagged::Flagged;
+use rv_memory::flat::Flat;
 use std::alloc::Global;
 use std::io::{Read, Write};
+
+/// Writes the endings of a run, its harts and its output, to the last byte.
+fn show_run<W: Write>(writer: &mut Buffered<W>, run: &Collider<Flat>) -> Result<(), Fault>
+    ensures text { OnOk result (spec.IsShown run.now
+        (Appends (buffer.written W.contents writer.old) (buffer.sent W.contents writer.new))) }
+    ensures refused { IfErr result (λ told. told ≡ fault.Write) }
+    ensures writer { buffer.has_failed writer.new ≡ (buffer.has_failed writer.old || fails_by is_write result) }
+{
+    write_run(writer, run)?;
+    writer.finish()?;
+    Ok(())
+}
 
 /// Reads an image and then a schedule, makes the schedule's calls, and writes the endings of its pauses, the
 /// harts and the output. Where one of the files is refused, or an entry is not what its call adds, nothing is
@@ -38,7 +53,5 @@ pub fn run_replay<R: Read, Q: Read, W: Write>(
     ensures writer { buffer.has_failed writer.new ≡ (buffer.has_failed writer.old || fails_by is_write result) }
 {
     let run = read_run(alloc, image, schedule)?;
-    write_run(writer, &run)?;
-    writer.finish()?;
-    Ok(())
+    show_run(writer, &run)
 }

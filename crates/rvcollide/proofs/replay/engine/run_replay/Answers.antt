@@ -4,4 +4,4 @@ use Rattle.rvcollide.proofs.replay.engine.run_replay.Goals as goal
 
 pub returns-clause-text : goal.returns-clause-text
 returns-clause-text g c =
-    replay_written (g.R.Read.remaining (flag.device c.args.image.now)) (g.Q.Read.remaining (flag.device c.args.schedule.now)) c.in_ok-run.run' _ _ _ c.in_ok-run.ensures.ok c.in_ok-write_run.ensures.ok c.in_ok-finish.ensures.sent
+    replay_written (g.R.Read.remaining (flag.device c.args.image.now)) (g.Q.Read.remaining (flag.device c.args.schedule.now)) c.in_ok-run.run' _ c.show_run.result c.in_ok-run.ensures.ok c.show_run.ensures.text
