@@ -11,7 +11,7 @@ use rv_isa::op::Op;
 use std::marker::Model;
 
 /// Why a source, or a line of it, is refused. Of several faults in a line the first by `rank` is told.
-#[derive(Clone, Copy, Debug, PartialEq, Eq, Hash)]
+#[derive(Clone, Copy, Debug, PartialEq, Eq)]
 pub enum AsmKind {
     /// A malformed line, an unknown mnemonic, operands of another shape or count.
     Word = 1,
@@ -53,7 +53,7 @@ impl AsmKind {
 }
 
 /// The sections of a source.
-#[derive(Clone, Copy, Debug, PartialEq, Eq, Hash)]
+#[derive(Clone, Copy, Debug, PartialEq, Eq)]
 pub enum Section {
     Text,
     Data,

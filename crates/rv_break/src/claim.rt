@@ -7,7 +7,7 @@ pub const SLOTS: u8 = 4;
 pub const ARMED_LIMIT: u32 = 64;
 
 /// An access that a hart made at a place of a schedule.
-#[derive(Clone, Copy, Debug, PartialEq, Eq, Hash)]
+#[derive(Clone, Copy, Debug, PartialEq, Eq)]
 pub struct Seen {
     pub place: u32,
     pub hart: u8,
@@ -16,7 +16,7 @@ pub struct Seen {
 
 /// A claimed data breakpoint: the hart that claimed it, the access that it watches, and the first
 /// conflicting access that another hart has made since.
-#[derive(Clone, Copy, Debug, PartialEq, Eq, Hash)]
+#[derive(Clone, Copy, Debug, PartialEq, Eq)]
 pub struct Claim {
     pub hart: u8,
     pub access: Access,

@@ -13,7 +13,7 @@ use std::alloc::{AllocFailed, Global};
 
 /// Why a campaign is refused. `Runs` (not 1 to 1000), `Workers` (not 1 to 16) and `TooLarge` (its runs could
 /// have more than 16,777,216 entries together) are tested in this order; then growth was refused.
-#[derive(Clone, Copy, Debug, PartialEq, Eq, Hash)]
+#[derive(Clone, Copy, Debug, PartialEq, Eq)]
 pub enum CampaignFault {
     NoMemory,
     TooLarge,

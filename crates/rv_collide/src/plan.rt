@@ -62,23 +62,41 @@ impl Plan {
 #[cfg(test)]
 mod tests {
     use super::*;
+    use crate::tests::assert_is;
+
+    /// The numbers of the plan of these, and the most entries of its schedules.
+    fn numbers_of(
+        harts: u8,
+        steps: u32,
+        arms: u32,
+        pause: u32,
+    ) -> Option<(u8, u32, u32, u32, u32)> {
+        let plan = Plan::new(harts, steps, arms, pause)?;
+        Some((
+            plan.harts,
+            plan.steps,
+            plan.arms,
+            plan.pause,
+            plan.most_entries(),
+        ))
+    }
 
     #[test]
     fn takes_numbers_in_range(rt: HostRuntime) {
-        let least = Plan::new(1, 1, 0, 1);
-        assert!(rt; least.is_some());
-        let most = Plan::new(16, 1_000_000, 4096, 65_535);
-        assert!(rt; most.is_some());
-        if let Some(plan) = most {
-            assert_eq!(rt; (plan.harts, plan.steps), (16, 1_000_000));
-            assert_eq!(rt; (plan.arms, plan.pause), (4096, 65_535));
-            assert_eq!(rt; plan.most_entries(), 1_016_384);
-        }
+        let least = numbers_of(1, 1, 0, 1);
+        assert_is(&rt, least, Some((1, 1, 0, 1, 1)), "the least");
+        let most = numbers_of(16, 1_000_000, 4096, 65_535);
+        assert_is(
+            &rt,
+            most,
+            Some((16, 1_000_000, 4096, 65_535, 1_016_384)),
+            "the most",
+        );
     }
 
     #[test]
     fn refuses_numbers_out_of_range(rt: HostRuntime) {
-        for (harts, steps, arms, pause) in [
+        for (harts, steps, arms, pause) in &[
             (0, 1, 0, 1),
             (17, 1, 0, 1),
             (1, 0, 0, 1),
@@ -87,7 +105,12 @@ mod tests {
             (1, 1, 0, 0),
             (1, 1, 0, 65_536),
         ] {
-            assert!(rt; Plan::new(harts, steps, arms, pause).is_none());
+            assert_is(
+                &rt,
+                numbers_of(*harts, *steps, *arms, *pause),
+                None,
+                "out of range",
+            );
         }
     }
 }

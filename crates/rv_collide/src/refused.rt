@@ -4,7 +4,7 @@ use thiserror::Error;
 /// Why a call of the core is refused. A turn is refused by NoHart, NotRunning, Paused, StepsSpent, NoMemory,
 /// tested in this order; a resumption by NoHart, NotPaused; an arming by ArmsSpent, Misaligned,
 /// AlreadyArmed, ArmedFull; a disarming by NotArmed. Each is told by its name.
-#[derive(Clone, Copy, Debug, PartialEq, Eq, Hash, Error)]
+#[derive(Clone, Copy, Debug, PartialEq, Eq, Error)]
 pub enum Refused {
     /// There is no hart of the number.
     #[error("NoHart")]

@@ -4,7 +4,7 @@ use crate::hart::Cause;
 
 /// An access to memory that an instruction makes: the instruction's address, the first of `size` bytes
 /// (1, 2 or 4), and whether it reads and writes them.
-#[derive(Clone, Copy, Debug, PartialEq, Eq, Hash)]
+#[derive(Clone, Copy, Debug, PartialEq, Eq)]
 pub struct Access {
     pub pc: u32,
     pub first: u32,
@@ -15,7 +15,7 @@ pub struct Access {
 
 /// What a step of a hart was: an instruction, with the access that it made if it made one; its exit with
 /// a code; or its stop.
-#[derive(Clone, Copy, Debug, PartialEq, Eq, Hash)]
+#[derive(Clone, Copy, Debug, PartialEq, Eq)]
 pub enum Event {
     Moved(Option<Access>),
     Exited(u32),

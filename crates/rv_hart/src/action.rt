@@ -1,7 +1,7 @@
 use crate::hart::Cause;
 
 /// The operation of an atomic memory operation (RISC-V Unprivileged ISA, "A" extension).
-#[derive(Clone, Copy, Debug, PartialEq, Eq, Hash)]
+#[derive(Clone, Copy)]
 pub enum Combine {
     Swap,
     Add,
@@ -16,7 +16,7 @@ pub enum Combine {
 
 /// What an instruction does, in nine kinds. A register is written where it is not x0; after all but a trap
 /// and an exit the hart goes on, at the following word where no `next` is named.
-#[derive(Clone, Copy, Debug, PartialEq, Eq)]
+#[derive(Clone, Copy)]
 pub enum Action {
     /// The hart stops and changes nothing else.
     Trap(Cause),

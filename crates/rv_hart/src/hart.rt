@@ -6,7 +6,7 @@ use crate::registers::Registers;
 
 /// Why a hart stopped. The numbers, in this order from 0, are this project's own; what a hart does to be
 /// stopped so is the RISC-V Unprivileged ISA's "exception" of the chapters RV32I and A.
-#[derive(Clone, Copy, Debug, PartialEq, Eq, Hash)]
+#[derive(Clone, Copy, Debug, PartialEq, Eq)]
 pub enum Cause {
     /// A taken branch or a jump to an address that is no multiple of 4.
     TargetMisaligned,
@@ -39,7 +39,7 @@ impl Cause {
 }
 
 /// Whether a hart runs, and else how it ended.
-#[derive(Clone, Copy, Debug, PartialEq, Eq, Hash)]
+#[derive(Clone, Copy, Debug, PartialEq, Eq)]
 pub enum Status {
     Running,
     Exited(u32),
@@ -58,7 +58,7 @@ pub(crate) fn is_running(status: Status) -> bool
 
 /// One hart: its 32 registers, the address of its next instruction, its status, and the address of the word
 /// that its last LR reserved, if it still holds it.
-#[derive(Clone, Copy, Debug)]
+#[derive(Clone, Copy)]
 pub struct Hart {
     pub registers: Registers,
     pub pc: u32,

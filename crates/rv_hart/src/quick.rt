@@ -18,7 +18,7 @@ use rv_memory::store::{ByteStore, Need};
 
 /// What trying a step came to: nothing, and nothing has changed; a register was set; or the noted access was
 /// made. The access is noted apart and not carried here, so that both stay in registers.
-#[derive(Clone, Copy, Debug, PartialEq, Eq)]
+#[derive(Clone, Copy)]
 pub enum Attempt {
     Nothing,
     Set,

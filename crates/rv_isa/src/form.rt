@@ -4,7 +4,7 @@ ghost use Rattle.rv_isa.specs.Form as spec;
 /// The operand formats: which fields a word of an operation has beside its fixed bits. Beyond the six
 /// base formats (RISC-V Unprivileged ISA, "Base Instruction Formats") there are shifts by an immediate,
 /// FENCE, ECALL and EBREAK, LR, and the other atomics.
-#[derive(Clone, Copy, Debug, PartialEq, Eq, Hash)]
+#[derive(Clone, Copy, Debug, PartialEq, Eq)]
 pub enum Form {
     R,
     I,

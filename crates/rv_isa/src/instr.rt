@@ -10,7 +10,7 @@ use crate::shape::Shape;
 /// format's range: sign-extended, but 0 to 0xfffff in LUI and AUIPC (the 20 bits), 0 to 31 in a shift,
 /// and 0 to 4095 in FENCE (fm, pred and succ); it is even in a branch and in JAL. A field that the format
 /// has not is 0 or false.
-#[derive(Clone, Copy, Debug, PartialEq, Eq, Hash)]
+#[derive(Clone, Copy, Debug, PartialEq, Eq)]
 pub struct Instr {
     pub op: Op,
     pub rd: u8,

@@ -5,7 +5,7 @@ use crate::form::Form;
 
 /// The operations of RV32I and of the extension A (RISC-V Unprivileged ISA, "RV32/64G Instruction Set
 /// Listings"), but for FENCE.I, which is none of them.
-#[derive(Clone, Copy, Debug, PartialEq, Eq, Hash)]
+#[derive(Clone, Copy, Debug, PartialEq, Eq)]
 pub enum Op {
     Lui,
     Auipc,

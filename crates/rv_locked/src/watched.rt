@@ -32,7 +32,7 @@ pub enum Taken {
 
 /// The hart whose list of places is not the schedule's, or hart 0 where the image, the plan or the seed is
 /// another.
-#[derive(Clone, Copy, Debug, PartialEq, Eq, Hash)]
+#[derive(Clone, Copy, Debug, PartialEq, Eq)]
 pub struct Stray {
     pub hart: u8,
 }

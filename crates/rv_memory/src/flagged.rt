@@ -96,7 +96,7 @@ impl<W: Write> Write for Flagged<W> {
 
 /// Why an input was not read whole: its reader failed, it has more bytes than the limit, or growth
 /// was refused.
-#[derive(Clone, Copy, Debug, PartialEq, Eq, Hash)]
+#[derive(Clone, Copy, Debug, PartialEq, Eq)]
 pub enum ReadFault {
     Read,
     TooLong,
@@ -104,7 +104,7 @@ pub enum ReadFault {
 }
 
 /// The writer failed.
-#[derive(Clone, Copy, Debug, PartialEq, Eq, Hash)]
+#[derive(Clone, Copy, Debug, PartialEq, Eq)]
 pub struct WriteFault;
 
 /// Reads to the end, up to `limit` bytes. A reader that never ends is refused as too long. No error

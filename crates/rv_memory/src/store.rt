@@ -12,7 +12,7 @@ use std::fmt;
 pub const LIMIT: u64 = 17_825_792;
 
 /// What an access needs of the region that it lies in.
-#[derive(Clone, Copy, Debug, PartialEq, Eq, Hash)]
+#[derive(Clone, Copy, Debug, PartialEq, Eq)]
 pub enum Need {
     Nothing,
     Read,
@@ -22,12 +22,12 @@ pub enum Need {
 }
 
 /// A growth was refused.
-#[derive(Clone, Copy, Debug, PartialEq, Eq, Hash)]
+#[derive(Clone, Copy, Debug, PartialEq, Eq)]
 pub struct NoMemory;
 
 /// Why a list of regions makes no store. A region ends past 2^32, two share an address, or their
 /// lengths sum to more than `LIMIT`, tested in this order; then growth was refused.
-#[derive(Clone, Copy, Debug, PartialEq, Eq, Hash)]
+#[derive(Clone, Copy, Debug, PartialEq, Eq)]
 pub enum MemFault {
     NoMemory,
     Overlap,

@@ -1,5 +1,5 @@
 /// What an ending counts as. All but `Kept` are counted apart from the races.
-#[derive(Clone, Copy, Debug, PartialEq, Eq, Hash)]
+#[derive(Clone, Copy, Debug, PartialEq, Eq)]
 pub enum Class {
     /// Its bytes were listed.
     Named,

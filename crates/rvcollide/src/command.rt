@@ -83,7 +83,7 @@ pub enum LineFault {
 }
 
 /// What the program writes where a line gives no job.
-#[derive(Debug, Drop)]
+#[derive(Drop)]
 pub enum Notice {
     /// The help or the version, which the line asks for. It goes to the standard output.
     Answer(String),

@@ -9,7 +9,7 @@ use std::alloc::AllocError;
 use std::{fmt, io};
 
 /// Why the program ends with another status than 0.
-#[derive(Clone, Copy, Debug, PartialEq, Eq)]
+#[derive(Clone, Copy)]
 pub enum Failure<'a> {
     /// The command line is refused. What is wrong with it was told.
     Line,

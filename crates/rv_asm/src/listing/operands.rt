@@ -56,34 +56,76 @@ fn jump_text(alloc: Global, instr: &Instr, address: u32) -> Result<String, NoMem
     Ok(format!(in alloc; "{rd}, 0x{target}")?)
 }
 
+/// `x1, x2, x3`.
+fn registers_text(alloc: Global, instr: &Instr) -> Result<String, NoMemory>
+    ensures { IfOk result (λ text. string_bytes text ≡ spec.operands_text form.R instr.now 0) }
+{
+    let (rd, rs1, rs2) = (
+        number_name(instr.rd),
+        number_name(instr.rs1),
+        number_name(instr.rs2),
+    );
+    Ok(format!(in alloc; "{rd}, {rs1}, {rs2}")?)
+}
+
+/// `x1, 0x12345`.
+fn upper_text(alloc: Global, instr: &Instr) -> Result<String, NoMemory>
+    ensures { IfOk result (λ text. string_bytes text ≡ spec.operands_text form.U instr.now 0) }
+{
+    let rd = number_name(instr.rd);
+    Ok(format!(in alloc; "{rd}, 0x{:x}", instr.imm.unsigned_abs())?)
+}
+
+/// `15, 15`: what a FENCE orders before and after it.
+fn fence_text(alloc: Global, instr: &Instr) -> Result<String, NoMemory>
+    ensures { IfOk result (λ text. string_bytes text ≡ spec.operands_text form.Fence instr.now 0) }
+{
+    let order = instr.imm.unsigned_abs();
+    Ok(format!(in alloc; "{}, {}", order / 16, order % 16)?)
+}
+
+/// `x1, (x2)`.
+fn reserve_text(alloc: Global, instr: &Instr) -> Result<String, NoMemory>
+    ensures { IfOk result (λ text. string_bytes text ≡ spec.operands_text form.Lr instr.now 0) }
+{
+    let (rd, rs1) = (number_name(instr.rd), number_name(instr.rs1));
+    Ok(format!(in alloc; "{rd}, ({rs1})")?)
+}
+
+/// `x1, x3, (x2)`.
+fn atomic_text(alloc: Global, instr: &Instr) -> Result<String, NoMemory>
+    ensures { IfOk result (λ text. string_bytes text ≡ spec.operands_text form.Amo instr.now 0) }
+{
+    let (rd, rs1, rs2) = (
+        number_name(instr.rd),
+        number_name(instr.rs1),
+        number_name(instr.rs2),
+    );
+    Ok(format!(in alloc; "{rd}, {rs2}, ({rs1})")?)
+}
+
 /// The operands of an instruction at an address.
 pub(crate) fn operands_text(alloc: Global, instr: &Instr, address: u32) -> Result<String, NoMemory>
     ensures { IfOk result (λ text. string_bytes text ≡ spec.operands_text (form_of instr.now.op) instr.now address) }
 {
-    let rd = number_name(instr.rd);
-    let rs1 = number_name(instr.rs1);
-    let rs2 = number_name(instr.rs2);
-    let imm = instr.imm;
+    let (rd, rs1, rs2, imm) = (instr.rd, instr.rs1, instr.rs2, instr.imm);
     match instr.op.form() {
-        Form::R => Ok(format!(in alloc; "{rd}, {rs1}, {rs2}")?),
+        Form::R => registers_text(alloc, instr),
         Form::Shift => immediate_text(alloc, instr),
         Form::I => {
             if is_indexed(instr.op) {
-                indexed_text(alloc, instr.rd, imm, instr.rs1)
+                indexed_text(alloc, rd, imm, rs1)
             } else {
                 immediate_text(alloc, instr)
             }
         }
-        Form::S => indexed_text(alloc, instr.rs2, imm, instr.rs1),
+        Form::S => indexed_text(alloc, rs2, imm, rs1),
         Form::B => branch_text(alloc, instr, address),
         Form::J => jump_text(alloc, instr, address),
-        Form::U => Ok(format!(in alloc; "{rd}, 0x{:x}", imm.unsigned_abs())?),
-        Form::Fence => {
-            let order = imm.unsigned_abs();
-            Ok(format!(in alloc; "{}, {}", order / 16, order % 16)?)
-        }
+        Form::U => upper_text(alloc, instr),
+        Form::Fence => fence_text(alloc, instr),
         Form::Plain => Ok(String::new(alloc)),
-        Form::Lr => Ok(format!(in alloc; "{rd}, ({rs1})")?),
-        Form::Amo => Ok(format!(in alloc; "{rd}, {rs2}, ({rs1})")?),
+        Form::Lr => reserve_text(alloc, instr),
+        Form::Amo => atomic_text(alloc, instr),
     }
 }

@@ -4,6 +4,7 @@ ghost use Rattle.rv_collide.specs.Numbers.{numbers};
 use super::{ScheduleFault, ScheduleKind, read_schedule, write_schedule};
 use crate::entry::Entry;
 use crate::plan::Plan;
+use crate::tests::assert_is;
 use rv_memory::flagged::Flagged;
 use std::alloc::Global;
 use std::io::{self, ErrorKind, Read, Write};
@@ -36,13 +37,23 @@ fn fault_of(alloc: Global, text: &[u8]) -> Option<(u32, ScheduleKind)> {
     Some((fault.line, fault.kind))
 }
 
+/// Asserts that this is told of a text.
+fn assert_told(
+    rt: &impl Abort,
+    text: &[u8],
+    told: Option<(u32, ScheduleKind)>,
+    wanted: Option<(u32, ScheduleKind)>,
+) {
+    assert_is(rt, (text, told), (text, wanted), "a text");
+}
+
 /// Asserts that a text is read to these entries; the plan that it is read to.
 fn read_to(rt: &impl Abort, alloc: Global, text: &[u8], entries: &[Entry]) -> Result<Plan, Fail> {
     let mut reader = Flagged::new(text);
     let read = read_schedule(alloc, &mut reader);
-    assert!(rt; !reader.failed());
+    assert_is(rt, reader.failed(), false, "the reader");
     let (plan, read) = read.ok().ok_or("refused")?;
-    assert_eq!(rt; read.as_slice(), entries);
+    assert_is(rt, read.as_slice(), entries, "entries");
     Ok(plan)
 }
 
@@ -51,9 +62,15 @@ fn assert_written(rt: &impl Abort, alloc: Global, plan: &Plan, entries: &[Entry]
     requires { spec.IsWritable (numbers plan.now) entries.now }
 {
     let mut writer = Flagged::new(Vec::new(alloc));
-    assert_eq!(rt; write_schedule(plan, entries, &mut writer), Ok(()));
-    assert!(rt; !writer.failed());
-    assert_eq!(rt; writer.into_inner().as_slice(), text);
+    let is_written = write_schedule(plan, entries, &mut writer).is_ok();
+    let failed = writer.failed();
+    let written = writer.into_inner();
+    assert_is(
+        rt,
+        (is_written, failed, written.as_slice()),
+        (true, false, text),
+        "a schedule",
+    );
 }
 
 /// The greatest numbers, a line of 64 bytes not being one of them.
@@ -77,10 +94,10 @@ const NONE: &[u8] = b"rvcollide schedule 1\nharts 1 steps 1 arms 0 pause 1\nend\
 fn reads_schedules(rt: HostRuntime) -> Result<(), Fail> {
     let alloc = rt.alloc();
     let plan = read_to(&rt, alloc, TEXT, &ENTRIES)?;
-    assert_eq!(rt; (plan.harts, plan.steps), (2, 100));
-    assert_eq!(rt; (plan.arms, plan.pause), (4, 10));
+    let numbers = (plan.harts, plan.steps, plan.arms, plan.pause);
+    assert_is(&rt, numbers, (2, 100, 4, 10), "a plan");
     let most = read_to(&rt, alloc, LIMITS, &GREATEST)?;
-    assert_eq!(rt; most.most_entries(), 1_016_384);
+    assert_is(&rt, most.most_entries(), 1_016_384, "the most entries");
     Ok(())
 }
 
@@ -100,10 +117,12 @@ fn tells_a_text_that_is_cut(rt: HostRuntime) {
     let mut line = 1;
     for (at, byte) in TEXT.iter().enumerate() {
         if at < TEXT.len() {
-            assert_eq!(rt;
-                fault_of(rt.alloc(), &TEXT[..at]),
+            let cut = &TEXT[..at];
+            assert_told(
+                &rt,
+                cut,
+                fault_of(rt.alloc(), cut),
                 Some((line, ScheduleKind::NoEnd)),
-                "cut at {at}"
             );
         }
         if *byte == b'\n' && line < 100 {
@@ -143,8 +162,8 @@ const FIRST_LINES: [(&[u8], ScheduleKind); 12] = [
 #[test]
 fn tells_the_fault_of_the_first_line(rt: HostRuntime) {
     let alloc = rt.alloc();
-    for (text, kind) in FIRST_LINES {
-        assert_eq!(rt; fault_of(alloc, text), Some((1, kind)), "at {text:?}");
+    for (text, kind) in &FIRST_LINES {
+        assert_told(&rt, text, fault_of(alloc, text), Some((1, *kind)));
     }
 }
 
@@ -179,19 +198,20 @@ const SHAPES: [&[u8]; 15] = [
 #[test]
 fn tells_the_shape_of_the_plan(rt: HostRuntime) {
     let alloc = rt.alloc();
-    for line in SHAPES {
-        assert_eq!(rt;
+    for line in &SHAPES {
+        assert_told(
+            &rt,
+            line,
             with_plan(alloc, line),
             Some((2, ScheduleKind::PlanLine)),
-            "at {line:?}"
         );
     }
-    assert_eq!(rt;
-        with_plan(
-            alloc,
-            b"harts 2 steps 1 arms 0 pause 000000000000000000000000000000000000"
-        ),
-        Some((2, ScheduleKind::TooLong))
+    let long = b"harts 2 steps 1 arms 0 pause 000000000000000000000000000000000000";
+    assert_told(
+        &rt,
+        long,
+        with_plan(alloc, long),
+        Some((2, ScheduleKind::TooLong)),
     );
 }
 
@@ -213,14 +233,16 @@ const RANGES: [&[u8]; 11] = [
 #[test]
 fn tells_the_range_of_the_plan(rt: HostRuntime) {
     let alloc = rt.alloc();
-    for line in RANGES {
-        assert_eq!(rt;
+    for line in &RANGES {
+        assert_told(
+            &rt,
+            line,
             with_plan(alloc, line),
             Some((2, ScheduleKind::PlanRange)),
-            "at {line:?}"
         );
     }
-    assert_eq!(rt; with_plan(alloc, b"harts 1 steps 1 arms 0 pause 1"), None);
+    let least = b"harts 1 steps 1 arms 0 pause 1";
+    assert_told(&rt, least, with_plan(alloc, least), None);
 }
 
 /// The text with these lines after the plan.
@@ -272,68 +294,44 @@ const NO_ENTRIES: [&[u8]; 33] = [
 #[test]
 fn tells_a_line_that_is_no_entry(rt: HostRuntime) {
     let alloc = rt.alloc();
-    for lines in NO_ENTRIES {
-        assert_eq!(rt;
+    for lines in &NO_ENTRIES {
+        assert_told(
+            &rt,
+            lines,
             with_lines(alloc, lines),
             Some((3, ScheduleKind::Entry)),
-            "at {lines:?}"
         );
     }
 }
 
-#[test]
-fn tells_entries_past_the_last(rt: HostRuntime) {
-    let alloc = rt.alloc();
-    assert_eq!(rt; with_lines(alloc, b"s 0\nend\n"), None);
-    assert_eq!(rt;
-        with_lines(alloc, b"s 0\ns 0\nend\n"),
-        Some((4, ScheduleKind::TooMany))
-    );
-    assert_eq!(rt;
-        with_lines(alloc, b"s 0\ns 16\nend\n"),
-        Some((4, ScheduleKind::Entry)),
-        "the shape comes first"
-    );
-    assert_eq!(rt;
-        with_lines(alloc, b"s 0\ns 0"),
-        Some((4, ScheduleKind::NoEnd))
-    );
-}
-
-/// What stands after the line `end`, and its line.
-const AFTER_END: [(&[u8], u32); 5] = [
-    (b"end\n\n", 4),
-    (b"end\ns 0\n", 4),
-    (b"end\n ", 4),
-    (b"s 0\nend\nend\n", 5),
+/// Lines of a plan of one step, and what is told of them: the shape of an entry comes before its being one too many.
+const LAST_LINES: [(&[u8], Option<(u32, ScheduleKind)>); 12] = [
+    (b"s 0\nend\n", None),
+    (b"s 0\ns 0\nend\n", Some((4, ScheduleKind::TooMany))),
+    (b"s 0\ns 16\nend\n", Some((4, ScheduleKind::Entry))),
+    (b"s 0\ns 0", Some((4, ScheduleKind::NoEnd))),
+    (b"end\n\n", Some((4, ScheduleKind::AfterEnd))),
+    (b"end\ns 0\n", Some((4, ScheduleKind::AfterEnd))),
+    (b"end\n ", Some((4, ScheduleKind::AfterEnd))),
+    (b"s 0\nend\nend\n", Some((5, ScheduleKind::AfterEnd))),
     (
         b"end\naaaaaaaaaaaaaaaaaaaaaaaaaaaaaaaaaaaaaaaaaaaaaaaaaaaaaaaaaaaaaaaaaaaaaa\n",
-        4,
+        Some((4, ScheduleKind::AfterEnd)),
+    ),
+    (b"s 0\nend", Some((4, ScheduleKind::NoEnd))),
+    (b"s 0\n", Some((4, ScheduleKind::NoEnd))),
+    (
+        b"s 000000000000000000000000000000000000000000000000000000000000000\nend\n",
+        Some((3, ScheduleKind::TooLong)),
     ),
 ];
 
 #[test]
-fn tells_what_stands_after_the_end(rt: HostRuntime) {
+fn tells_what_stands_at_the_end(rt: HostRuntime) {
     let alloc = rt.alloc();
-    for (lines, line) in AFTER_END {
-        assert_eq!(rt;
-            with_lines(alloc, lines),
-            Some((line, ScheduleKind::AfterEnd)),
-            "at {lines:?}"
-        );
+    for (lines, told) in &LAST_LINES {
+        assert_told(&rt, lines, with_lines(alloc, lines), *told);
     }
-    assert_eq!(rt;
-        with_lines(alloc, b"s 0\nend"),
-        Some((4, ScheduleKind::NoEnd))
-    );
-    assert_eq!(rt; with_lines(alloc, b"s 0\n"), Some((4, ScheduleKind::NoEnd)));
-    assert_eq!(rt;
-        with_lines(
-            alloc,
-            b"s 000000000000000000000000000000000000000000000000000000000000000\nend\n"
-        ),
-        Some((3, ScheduleKind::TooLong))
-    );
 }
 
 /// Names as the program prints them.
@@ -352,9 +350,9 @@ const NAMES: [(ScheduleKind, &str); 10] = [
 
 #[test]
 fn names_kinds(rt: HostRuntime) -> Result<(), Fail> {
-    for (kind, name) in NAMES {
+    for (kind, name) in &NAMES {
         let text = format!(in rt.alloc(); "{kind}")?;
-        assert_eq!(rt; text.as_str(), name);
+        assert_is(&rt, text.as_str(), *name, "a name");
     }
     Ok(())
 }
@@ -393,34 +391,31 @@ fn lines_in(count: usize) -> u32 {
     lines
 }
 
+/// Asserts that this is told of a reader whose read of the number fails, and that the reader has failed where
+/// something is told.
+fn assert_read_fails(rt: &impl Abort, alloc: Global, fails_at: u64, wanted: Option<ScheduleFault>) {
+    let mut reader = Flagged::new(Failing {
+        read: 0,
+        calls: 0,
+        fails_at,
+    });
+    let fault = read_schedule(alloc, &mut reader).err();
+    let told = (fails_at, fault, reader.failed());
+    assert_is(rt, told, (fails_at, wanted, wanted.is_some()), "a reader");
+}
+
 #[test]
 fn tells_a_reader_that_fails(rt: HostRuntime) {
     let alloc = rt.alloc();
     let calls = TEXT.len() as u64 + 1;
     for fails_at in 1..calls + 1 {
-        let mut reader = Flagged::new(Failing {
-            read: 0,
-            calls: 0,
-            fails_at,
-        });
-        let fault = read_schedule(alloc, &mut reader).err();
-        assert_eq!(rt;
-            fault,
-            Some(ScheduleFault {
-                line: lines_in(fails_at as usize - 1).saturating_add(1),
-                kind: ScheduleKind::Read,
-            }),
-            "at read {fails_at}"
-        );
-        assert!(rt; reader.failed());
+        let fault = ScheduleFault {
+            line: lines_in(fails_at as usize - 1).saturating_add(1),
+            kind: ScheduleKind::Read,
+        };
+        assert_read_fails(&rt, alloc, fails_at, Some(fault));
     }
-    let mut reader = Flagged::new(Failing {
-        read: 0,
-        calls: 0,
-        fails_at: calls + 1,
-    });
-    assert!(rt; read_schedule(alloc, &mut reader).is_ok());
-    assert!(rt; !reader.failed());
+    assert_read_fails(&rt, alloc, calls + 1, None);
 }
 
 /// A reader that never ends.
@@ -439,16 +434,18 @@ impl Read for Endless {
 #[test]
 fn refuses_a_reader_that_never_ends(rt: HostRuntime) {
     let mut reader = Flagged::new(Endless { bytes: 0 });
-    let fault = read_schedule(rt.alloc(), &mut reader).err();
-    assert_eq!(rt;
-        fault,
-        Some(ScheduleFault {
-            line: 1,
-            kind: ScheduleKind::TooLong,
-        })
+    let told = read_schedule(rt.alloc(), &mut reader).err();
+    let long = ScheduleFault {
+        line: 1,
+        kind: ScheduleKind::TooLong,
+    };
+    assert_is(
+        &rt,
+        (told, reader.failed()),
+        (Some(long), false),
+        "a reader",
     );
-    assert!(rt; !reader.failed());
-    assert_eq!(rt; reader.into_inner().bytes, 67_108_864);
+    assert_is(&rt, reader.into_inner().bytes, 67_108_864, "its bytes");
 }
 
 /// A writer that takes one byte a write, and whose write numbered `fails_at` from 1 on fails.
@@ -487,19 +484,32 @@ fn failing_at(alloc: Global, fails_at: u64) -> Flagged<Sink> {
     })
 }
 
+/// Asserts that a writer whose write of the number fails has got the first bytes, and whether its failure is told.
+fn assert_write_fails(
+    rt: &impl Abort,
+    alloc: Global,
+    plan: &Plan,
+    entries: &[Entry],
+    fails_at: u64,
+    wanted: bool,
+)
+    requires { spec.IsWritable (numbers plan.now) entries.now }
+{
+    let mut writer = failing_at(alloc, fails_at);
+    let is_refused = write_schedule(plan, entries, &mut writer).is_err();
+    let failed = writer.failed();
+    let taken = writer.into_inner().taken;
+    let told = (fails_at, is_refused, failed, TEXT.starts_with(&taken));
+    assert_is(rt, told, (fails_at, wanted, wanted, true), "a writer");
+}
+
 #[test]
 fn tells_a_writer_that_fails(rt: HostRuntime) -> Result<(), Fail> {
     let plan = Plan::new(2, 100, 4, 10).ok_or("no plan")?;
     let calls = TEXT.len() as u64;
     for fails_at in 1..calls + 1 {
-        let mut writer = failing_at(rt.alloc(), fails_at);
-        assert!(rt; write_schedule(&plan, &ENTRIES, &mut writer).is_err());
-        assert!(rt; writer.failed(), "at write {fails_at}");
-        let taken = writer.into_inner().taken;
-        assert!(rt; TEXT.starts_with(&taken));
+        assert_write_fails(&rt, rt.alloc(), &plan, &ENTRIES, fails_at, true);
     }
-    let mut writer = failing_at(rt.alloc(), calls + 1);
-    assert_eq!(rt; write_schedule(&plan, &ENTRIES, &mut writer), Ok(()));
-    assert!(rt; !writer.failed());
+    assert_write_fails(&rt, rt.alloc(), &plan, &ENTRIES, calls + 1, false);
     Ok(())
 }

@@ -1,5 +1,6 @@
 use super::*;
 use crate::plan::Plan;
+use crate::tests::assert_is;
 use rv_hart::access::Access;
 use rv_memory::flagged::Flagged;
 use std::test::Fail;
@@ -39,14 +40,17 @@ fn writes_endings(rt: HostRuntime) -> Result<(), Fail> {
         ending(5, None, Verdict::Changed, 0xdead_beef),
         ending(15, Some(3), Verdict::Quiet, 0),
     ];
-    assert_eq!(rt; write_endings(&mut writer, &endings), Ok(()));
-    assert_eq!(rt;
-        writer.into_inner().as_slice(),
-        b"ending 0 hart 0 pc 00010004 store 00020000 4 slot 0 \
+    let is_written = write_endings(&mut writer, &endings).is_ok();
+    let text = b"ending 0 hart 0 pc 00010004 store 00020000 4 slot 0 \
         hit 4 hart 1 pc 00010004 store 00020000 4 old 00000000 new 00000001\n\
         ending 1 hart 5 pc 00010004 store 00020000 4 slot - changed old 00000000 new deadbeef\n\
-        ending 2 hart 15 pc 00010004 store 00020000 4 slot 3 quiet old 00000000 new 00000000\n"
-            .as_slice()
+        ending 2 hart 15 pc 00010004 store 00020000 4 slot 3 quiet old 00000000 new 00000000\n";
+    let written = writer.into_inner();
+    assert_is(
+        &rt,
+        (is_written, written.as_slice()),
+        (true, text.as_slice()),
+        "three endings",
     );
     Ok(())
 }
@@ -73,7 +77,13 @@ fn counts_turns(rt: HostRuntime) -> Result<(), Fail> {
         output: Vec::new(alloc),
     };
     let mut writer = Flagged::new(Vec::new(alloc));
-    assert_eq!(rt; write_finished(&mut writer, &told), Ok(()));
-    assert_eq!(rt; writer.into_inner().as_slice(), b"turns 3\n".as_slice());
+    let is_written = write_finished(&mut writer, &told).is_ok();
+    let written = writer.into_inner();
+    assert_is(
+        &rt,
+        (is_written, written.as_slice()),
+        (true, b"turns 3\n".as_slice()),
+        "a run",
+    );
     Ok(())
 }

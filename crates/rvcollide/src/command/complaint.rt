@@ -3,7 +3,7 @@ ghost use Rattle.rvcollide.specs.Notice as notice;
 use std::fmt;
 
 /// An option whose value is a decimal number, and its range.
-#[derive(Clone, Copy, Debug, PartialEq, Eq)]
+#[derive(Clone, Copy)]
 pub struct NumberOption {
     pub name: &'static str,
     pub least: u32,
@@ -11,7 +11,7 @@ pub struct NumberOption {
 }
 
 /// Why a line is refused in which `clap` finds no fault.
-#[derive(Clone, Copy, Debug, PartialEq, Eq)]
+#[derive(Clone, Copy)]
 pub enum Complaint<'a> {
     /// The value of an option is no number in its range.
     Number {
