@@ -2,7 +2,9 @@ pub mod Act
 pub mod Cause
 pub mod Conflict
 pub mod FetchLaws
+pub mod HartsLine
 pub mod Next
+pub mod Prefix
 pub mod Registers
 pub mod ReservationLaws
 pub mod Run
@@ -10,6 +12,11 @@ pub mod SomeHart
 pub mod State
 pub mod Step
 pub mod StepLaws
+pub mod StepsLaw
+pub mod StepsLine
 pub mod Texts
 pub mod Words
+pub mod WordsGuest
+pub mod WordsInput
+pub mod WordsText
 pub mod internal

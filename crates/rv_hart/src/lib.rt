@@ -21,4 +21,5 @@ mod start;
 #[cfg(test)]
 mod tests;
 pub mod texts;
+pub mod words;
 pub mod write;

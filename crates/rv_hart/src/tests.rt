@@ -20,7 +20,12 @@ mod operations;
 
 /// What was found is what is wanted. (Each assertion that a test writes out costs the check a second, and a call of
 /// this one next to nothing.)
-fn assert_is<T: PartialEq + Debug + Drop>(rt: &impl Abort, found: T, wanted: T, what: &str) {
+pub(crate) fn assert_is<T: PartialEq + Debug + Drop>(
+    rt: &impl Abort,
+    found: T,
+    wanted: T,
+    what: &str,
+) {
     assert_eq!(rt; found, wanted, "{what}");
 }
 

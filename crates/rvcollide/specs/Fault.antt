@@ -14,6 +14,8 @@ use Rattle.rv_debug.specs.declared.fault.TalkFault.{TalkFault}
 use Rattle.rv_debug.specs.declared.fault.TalkFault.TheVariants as talk
 use Rattle.rv_elf.specs.declared.fault.LoadFault.{LoadFault}
 use Rattle.rv_elf.specs.declared.fault.LoadFault.TheVariants as load
+use Rattle.rv_hart.specs.declared.words.WordsFault.{WordsFault}
+use Rattle.rv_hart.specs.declared.words.WordsFault.TheVariants as words
 use Rattle.rv_locked.specs.declared.threads.RunFault.{RunFault}
 use Rattle.rv_locked.specs.declared.threads.RunFault.TheVariants as threaded
 use Rattle.rv_memory.specs.declared.flagged.ReadFault.{ReadFault}
@@ -21,12 +23,11 @@ use Rattle.rv_memory.specs.declared.flagged.ReadFault.TheVariants as read
 use Rattle.rvcollide.specs.declared.fault.Fault.{Fault}
 use Rattle.rvcollide.specs.declared.fault.Fault.TheVariants.{Line, Step, Asm, Load, Schedule, Entry, Threads, TooLong, Read, Write, NoMemory}
 use Rattle.rvcollide.specs.declared.fault.ThreadsFault.TheVariants.{NoThread, Stray}
-use Rattle.rvcollide.specs.declared.words.input.InputFault.{InputFault}
-use Rattle.rvcollide.specs.declared.words.input.InputFault.TheVariants as input
 
-abbrev pub fault_of_input : InputFault → Fault
-fault_of_input (input.Line number) = Line number
-fault_of_input input.NoMemory = NoMemory
+abbrev pub fault_of_words : WordsFault → Fault
+fault_of_words (words.Line number) = Line number
+fault_of_words (words.Step number fault) = Step number fault
+fault_of_words words.NoMemory = NoMemory
 
 -- that memory is out is no fault of the source
 abbrev pub fault_of_kind : AsmFault → AsmKind → Fault

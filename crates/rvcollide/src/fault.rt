@@ -1,15 +1,15 @@
 ghost use Rattle.std.specs.Prelude.{◌≡◌};
 ghost use Rattle.rvcollide.specs.FaultText as spec;
-ghost use Rattle.rvcollide.specs.Fault.{fault_of_asm, fault_of_input, fault_of_list, fault_of_load, fault_of_read, fault_of_replay, fault_of_schedule, fault_of_talk, fault_of_threads};
+ghost use Rattle.rvcollide.specs.Fault.{fault_of_asm, fault_of_list, fault_of_load, fault_of_read, fault_of_replay, fault_of_schedule, fault_of_talk, fault_of_threads, fault_of_words};
 ghost use Rattle.rvcollide.specs.declared.fault.Fault.TheVariants as fault;
 
-use crate::words::input::InputFault;
 use rv_asm::{AsmFault, AsmKind, ListFault};
 use rv_collide::replay::{ReplayFault, Why};
 use rv_collide::schedule::{ScheduleFault, ScheduleKind};
 use rv_debug::fault::TalkFault;
 use rv_elf::LoadFault;
 use rv_hart::machine::StepFault;
+use rv_hart::words::WordsFault;
 use rv_locked::threads::RunFault;
 use rv_memory::flagged::{ReadFault, WriteFault};
 use rv_memory::store::NoMemory;
@@ -70,13 +70,14 @@ impl Fault {
     }
 }
 
-impl From<InputFault> for Fault {
-    ghost from_gives = { λ given made. made ≡ fault_of_input given };
+impl From<WordsFault> for Fault {
+    ghost from_gives = { λ given made. made ≡ fault_of_words given };
 
-    fn from(given: InputFault) -> Fault {
+    fn from(given: WordsFault) -> Fault {
         match given {
-            InputFault::Line(number) => Fault::Line(number),
-            InputFault::NoMemory => Fault::NoMemory,
+            WordsFault::Line(number) => Fault::Line(number),
+            WordsFault::Step { number, fault } => Fault::Step { number, fault },
+            WordsFault::NoMemory => Fault::NoMemory,
         }
     }
 }
