@@ -72,21 +72,21 @@ fn causes(rt: HostRuntime) -> Result<(), Fail> {
 fn fetches(rt: HostRuntime) -> Result<(), Fail> {
     // bne x0, x0, +2
     let mut machine = machine(&rt, rt.alloc(), &[0x0000_1163], &[0], 2)?;
-    assert!(rt; machine.harts() == 2);
-    run(&rt, &mut machine, &[0]);
-    assert_is(&rt, machine.status(0), Status::Running, "before it");
-    let stepped = machine.step(0);
-    assert_is(
-        &rt,
-        stepped,
-        Ok(Event::Stopped(Cause::FetchFault)),
-        "the step",
-    );
-    let stopped = Status::Stopped(Cause::FetchFault);
-    assert_is(&rt, machine.status(0), stopped, "after it");
-    assert_is(&rt, machine.status(1), Status::Running, "the other hart");
-    assert_is(&rt, machine.pc(1), 0x10000, "the other hart's pc");
+    assert_faults(&rt, &mut machine);
     Ok(())
+}
+
+fn assert_faults(rt: &impl Abort, machine: &mut Machine<Flat>) {
+    assert!(rt; machine.harts() == 2);
+    run(rt, machine, &[0]);
+    assert_is(rt, machine.status(0), Status::Running, "before it");
+    let stepped = machine.step(0);
+    let fault = Event::Stopped(Cause::FetchFault);
+    assert_is(rt, stepped, Ok(fault), "the step");
+    let stopped = Status::Stopped(Cause::FetchFault);
+    assert_is(rt, machine.status(0), stopped, "after it");
+    assert_is(rt, machine.status(1), Status::Running, "the other hart");
+    assert_is(rt, machine.pc(1), 0x10000, "the other hart's pc");
 }
 
 /// Why there is no machine of so many harts with a word at this address beside its text.

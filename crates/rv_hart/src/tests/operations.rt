@@ -200,16 +200,22 @@ fn environment_calls(rt: HostRuntime) -> Result<(), Fail> {
     // addi x17, x0, 1; addi x10, x0, 65; ecall; jal x0, -4; then with x17 = 93
     let words = [0x0010_0893, 0x0410_0513, 0x0000_0073, 0xffdf_f06f];
     let mut machine = machine(&rt, rt.alloc(), &words, &[0], 1)?;
-    run(&rt, &mut machine, &[0, 0]);
-    for _ in 0..8 {
-        run(&rt, &mut machine, &[0, 0]);
-    }
-    let full = b"AAAAAAAA".as_slice();
-    assert_is(&rt, machine.output(), full, "the output");
-    let stepped = machine.step(0);
-    assert_is(&rt, stepped, Err(StepFault::OutputFull), "one more");
-    let stepped = machine.step(1);
-    assert_is(&rt, stepped, Err(StepFault::NoHart), "no hart");
-    assert_is(&rt, machine.into_output().as_slice(), full, "kept");
+    assert_prints(&rt, &mut machine);
+    assert_is(&rt, machine.into_output().as_slice(), FULL, "kept");
     Ok(())
+}
+
+/// As much as the output has room for.
+const FULL: &[u8] = b"AAAAAAAA";
+
+fn assert_prints(rt: &impl Abort, machine: &mut Machine<Flat>) {
+    let two = [0, 0].as_slice();
+    for steps in &[two, two, two, two, two, two, two, two, two] {
+        run(rt, machine, steps);
+    }
+    assert_is(rt, machine.output(), FULL, "the output");
+    let stepped = machine.step(0);
+    assert_is(rt, stepped, Err(StepFault::OutputFull), "one more");
+    let stepped = machine.step(1);
+    assert_is(rt, stepped, Err(StepFault::NoHart), "no hart");
 }
