@@ -197,7 +197,7 @@ mod tests {
     #[test]
     fn tells_a_malformed_first_line(rt: HostRuntime) {
         let alloc = rt.alloc();
-        for text in [
+        for text in &[
             b"".as_slice(),
             b"\n",
             b"\nharts 1\nsteps\n",
@@ -220,7 +220,7 @@ mod tests {
     #[test]
     fn tells_a_malformed_second_line(rt: HostRuntime) {
         let alloc = rt.alloc();
-        for text in [
+        for text in &[
             b"harts 1".as_slice(),
             b"harts 1\n",
             b"harts 1\n\n",
@@ -244,7 +244,7 @@ mod tests {
     #[test]
     fn tells_a_malformed_word(rt: HostRuntime) {
         let alloc = rt.alloc();
-        for (text, line) in [
+        for &(text, line) in &[
             (b"harts 1\nsteps\n\n".as_slice(), 3),
             (b"harts 1\nsteps\n0050009\n", 3),
             (b"harts 1\nsteps\n005000930\n", 3),
@@ -288,7 +288,7 @@ mod tests {
     #[test]
     fn limits_steps(rt: HostRuntime) -> Result<(), Fail> {
         let alloc = rt.alloc();
-        for (count, fault) in [(100_000, None), (100_001, Some(WordsFault::Line(2)))] {
+        for &(count, fault) in &[(100_000, None), (100_001, Some(WordsFault::Line(2)))] {
             let told = fault_of_repeated(alloc, b"harts 1\nsteps", b" 0", count)?;
             assert_is(&rt, told, fault, "so many steps");
         }
@@ -298,7 +298,7 @@ mod tests {
     #[test]
     fn limits_words(rt: HostRuntime) -> Result<(), Fail> {
         let alloc = rt.alloc();
-        for (count, fault) in [(16_384, None), (16_385, Some(WordsFault::Line(16_387)))] {
+        for &(count, fault) in &[(16_384, None), (16_385, Some(WordsFault::Line(16_387)))] {
             let told = fault_of_repeated(alloc, b"harts 1\nsteps\n", b"00000073\n", count)?;
             assert_is(&rt, told, fault, "so many words");
         }
