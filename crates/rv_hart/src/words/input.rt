@@ -27,7 +27,7 @@ pub const MOST_WORDS: usize = 16_384;
 
 /// What an input of `words` says: how many harts there are (1 to 16), the hart of each step (0 to 15,
 /// which may be no hart of the machine), and the instruction words.
-#[derive(Debug, Drop)]
+#[derive(Drop)]
 pub struct Input {
     pub harts: u8,
     pub steps: Vec<u8>,
