@@ -14,6 +14,7 @@ pub fn make_steps(machine: &mut Machine<Flat>, steps: &[u8]) -> Result<(), Words
     requires room { length machine.old.state.output + length steps.now ≤ machine.old.limit }
     ensures ok { OnOk result (spec.stepped 0 machine.old.state steps.now ≡ Ok machine.new.state) }
     ensures err { IfErr result (spec.IsTold (spec.stepped 0 machine.old.state steps.now)) }
+    ensures limit { machine.new.limit ≡ machine.old.limit }
 {
     for (number, h) in steps.iter().enumerate() {
         if let Err(fault) = step(machine, *h) {

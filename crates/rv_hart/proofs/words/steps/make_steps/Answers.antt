@@ -17,4 +17,5 @@ loop-number-preserved c =
     record {
       left = c.loop-number.invariant.left ∙ stepped_next before.state steps number event after.state (omega arith) c.in_default.ensures.step;
       room = omega (arith, c.in_default.ensures.printed);
+      limit = c.in_default.ensures.limit ∙ c.loop-number.invariant.limit;
     }

@@ -8,4 +8,5 @@ invariant-loop-number l =
     record {
       left : stepped 0 l.initial.machine.state l.steps ≡ stepped l.number l.machine.state (drop l.number l.steps);
       room : length l.machine.state.output + (length l.steps - l.number) ≤ l.machine.limit;
+      limit : l.machine.limit ≡ l.initial.machine.limit;
     }
