@@ -56,6 +56,8 @@ fn jump_text(alloc: Global, instr: &Instr, address: u32) -> Result<String, NoMem
     Ok(format!(in alloc; "{rd}, 0x{target}")?)
 }
 
+// The texts below are the same at each address, so their contracts name the address 0.
+
 /// `x1, x2, x3`.
 fn registers_text(alloc: Global, instr: &Instr) -> Result<String, NoMemory>
     ensures { IfOk result (λ text. string_bytes text ≡ spec.operands_text form.R instr.now 0) }

@@ -1,53 +1,19 @@
 use super::*;
 use crate::tests::assert_is;
-use rv_memory::flagged::Flagged;
+use rv_memory::flagged::{Flagged, WriteFault};
 use rv_memory::flat::Flat;
-use std::alloc::Global;
 use std::process::Abort;
 use std::test::Fail;
 
-fn assert_state(rt: &impl Abort, alloc: Global, machine: &Machine<Flat>, text: &[u8]) {
-    let mut writer = Flagged::new(Vec::new(alloc));
-    let is_written = write_state(&mut writer, machine).is_ok();
+/// Asserts that a text was written, and nothing else.
+fn assert_written(
+    rt: &impl Abort,
+    outcome: Result<(), WriteFault>,
+    writer: Flagged<Vec<u8>>,
+    text: &[u8],
+) {
     let written = writer.into_inner();
-    assert_is(
-        rt,
-        (is_written, written.as_slice()),
-        (true, text),
-        "a state",
-    );
-}
-
-fn assert_hart(rt: &impl Abort, alloc: Global, machine: &Machine<Flat>, h: u8, text: &[u8]) {
-    assert!(rt; h < machine.harts());
-    let mut writer = Flagged::new(Vec::new(alloc));
-    let is_written = write_hart(&mut writer, machine, h).is_ok();
-    let written = writer.into_inner();
-    assert_is(rt, (is_written, written.as_slice()), (true, text), "a hart");
-}
-
-fn assert_output(rt: &impl Abort, alloc: Global, output: &[u8], text: &[u8]) {
-    let mut writer = Flagged::new(Vec::new(alloc));
-    let is_written = write_output(&mut writer, output).is_ok();
-    let written = writer.into_inner();
-    assert_is(
-        rt,
-        (is_written, written.as_slice()),
-        (true, text),
-        "an output",
-    );
-}
-
-fn assert_access(rt: &impl Abort, alloc: Global, access: &Access, text: &[u8]) {
-    let mut writer = Flagged::new(Vec::new(alloc));
-    let is_written = write_access(&mut writer, access).is_ok();
-    let written = writer.into_inner();
-    assert_is(
-        rt,
-        (is_written, written.as_slice()),
-        (true, text),
-        "an access",
-    );
+    assert_is(rt, (outcome, written.as_slice()), (Ok(()), text), "a text");
 }
 
 /// Two harts without a region at the entry, the second of which has stopped. (Cause 1.)
@@ -58,10 +24,17 @@ fn shows_harts_and_output(rt: HostRuntime) -> Result<(), Fail> {
     assert_is(&rt, machine.step(1).is_ok(), true, "a step");
     let state = b"hart 0 running pc 00010000 x2 c0010000 x11 00000002\n\
         hart 1 stopped 1 pc 00010000 x2 c0020000 x10 00000001 x11 00000002\nout\n";
-    assert_state(&rt, alloc, &machine, state);
+    let mut writer = Flagged::new(Vec::new(alloc));
+    let outcome = write_state(&mut writer, &machine);
+    assert_written(&rt, outcome, writer, state);
+    assert!(rt; machine.harts() == 2);
+    let mut writer = Flagged::new(Vec::new(alloc));
+    let outcome = write_hart(&mut writer, &machine, 1);
     let hart = b"hart 1 stopped 1 pc 00010000 x2 c0020000 x10 00000001 x11 00000002\n";
-    assert_hart(&rt, alloc, &machine, 1, hart);
-    assert_output(&rt, alloc, &[0x41, 0, 255], b"out 41 00 ff\n");
+    assert_written(&rt, outcome, writer, hart);
+    let mut writer = Flagged::new(Vec::new(alloc));
+    let outcome = write_output(&mut writer, &[0x41, 0, 255]);
+    assert_written(&rt, outcome, writer, b"out 41 00 ff\n");
     Ok(())
 }
 
@@ -79,6 +52,8 @@ fn shows_an_access(rt: HostRuntime) {
             read: *read,
             write: *write,
         };
-        assert_access(&rt, rt.alloc(), &access, text);
+        let mut writer = Flagged::new(Vec::new(rt.alloc()));
+        let outcome = write_access(&mut writer, &access);
+        assert_written(&rt, outcome, writer, text);
     }
 }

@@ -1,3 +1,4 @@
+//! What the text of a list of instruction words says.
 ghost use Rattle.std.specs.Prelude.{◌≡◌, ◌≤◌, IfSome, IfOk, IfErr, vec_len};
 ghost use Rattle.std.specs.Option.{option_copied};
 ghost use Rattle.rv_hart.specs.Prefix as spec;
