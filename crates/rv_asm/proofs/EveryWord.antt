@@ -6,28 +6,27 @@ use Rattle.std.specs.Int.{cast_unsigned, w32}
 use Rattle.rv_isa.specs.Fields.{signed}
 use Rattle.rv_asm.specs.Laws.{EveryWordIsReadBack}
 use Rattle.std.specs.Fmt.{signed_decimal}
-use Rattle.std.proofs.lemmas.Bool.{and_parts}
+use Rattle.std.proofs.lemmas.Bool.{and_parts, not-true}
 use Rattle.std.proofs.lemmas.Bool.Decides.{nat_tests}
 use Rattle.std.proofs.lemmas.Int.{ints}
 use Rattle.rv_isa.specs.Decoded.{decoded}
+use Rattle.rv_isa.specs.Encoded.{encoded}
 use Rattle.rv_isa.specs.Instr.{operands}
-use Rattle.rv_isa.specs.Operands.{are_operands, is_within}
+use Rattle.rv_isa.specs.Operands.{InRange, is_within}
 use Rattle.rv_isa.specs.Table.{form_of}
+use Rattle.rv_isa.specs.TableLaws.{FunctionsOfTheTable, RangesByField}
 use Rattle.rv_isa.specs.declared.form.Form.{Form}
 use Rattle.rv_isa.specs.declared.form.Form.TheVariants as form
 use Rattle.rv_isa.specs.declared.instr.Instr.{Instr}
-use Rattle.rv_isa.proofs.EncodeLemmas.{facts, no_bit, same_operands}
-use Rattle.rv_isa.proofs.EncodedRow.{encoded_only}
-use Rattle.rv_isa.proofs.RowLemmas.{decoded_row}
 use Rattle.rv_text.specs.Hexadecimal.{word_digits, WordIsReadBack}
 use Rattle.rv_memory.specs.Chain.{◌>>=◌}
 use Rattle.rv_asm.specs.Alone.{alone, keyword_word, one_word, unlabelled_word, word_said, word_in}
-use Rattle.rv_asm.specs.Instruction.{distance, fields, instruction, word_of}
+use Rattle.rv_asm.specs.Instruction.{distance, fields, instruction}
 use Rattle.rv_asm.specs.Keyword.{keyword_of}
 use Rattle.rv_asm.specs.Line.{instr_line, is_written, line, line_or_word, operands_text, target_of, with_operands, word_line}
 use Rattle.rv_asm.specs.Mnemonics.{is_indexed, mnemonic}
 use Rattle.rv_asm.specs.Operand.{operands_of}
-use Rattle.rv_asm.specs.Reading.{after_colon, first_word, instr_of, one_instr, operand_text, statement_of, uncommented}
+use Rattle.rv_asm.specs.SourceLine.{after_colon, first_word, instr_of, one_instr, operand_text, statement_of, uncommented}
 use Rattle.rv_asm.specs.Registers.{number_name}
 use Rattle.rv_asm.specs.Text.{is_name_byte, since}
 use Rattle.rv_asm.specs.declared.reading.keyword.Directive.TheVariants.{Word}
@@ -107,18 +106,18 @@ one_said i = rw (instruction_is i) refl
 
 -- the word of an instruction that is read from its operands
 pub plain_word : (i : Instr) (ops : List ℕ) (address : ℕ) → instr_of (form_of i.op) (mnemonic i.op i.aq i.rl) (operands_of ops) ≡ one_instr i.op (operands i)
-    → keyword_word (keyword.Instr (mnemonic i.op i.aq i.rl)) ops address ≡ Ok (word_of i)
+    → keyword_word (keyword.Instr (mnemonic i.op i.aq i.rl)) ops address ≡ Ok (encoded i)
 plain_word i ops address said = instr_word (mnemonic i.op i.aq i.rl) ops (statement.Instr i) address (said ∙ one_said i)
 
 jump_back : (i : Instr) (address : ℕ) → i.aq ≡ false → i.rl ≡ false → distance address (target_of address i.imm) ≡ i.imm → fields i.rd i.rs1 i.rs2 (distance address (target_of address i.imm)) ≡ operands i
-jump_back i address is_aq is_rl is_imm = sym (same_operands (operands i) i.rd i.rs1 i.rs2 _ false false refl refl refl (sym is_imm) is_aq is_rl)
+jump_back i address is_aq is_rl is_imm = rw (is_imm, is_aq, is_rl) refl
 
 pub jump_word_is : (i : Instr) (ops : List ℕ) (address : ℕ) → i.aq ≡ false → i.rl ≡ false → distance address (target_of address i.imm) ≡ i.imm
-    → instr_of (form_of i.op) (mnemonic i.op i.aq i.rl) (operands_of ops) ≡ forms.jump_of i (target_of address i.imm) → keyword_word (keyword.Instr (mnemonic i.op i.aq i.rl)) ops address ≡ Ok (word_of i)
+    → instr_of (form_of i.op) (mnemonic i.op i.aq i.rl) (operands_of ops) ≡ forms.jump_of i (target_of address i.imm) → keyword_word (keyword.Instr (mnemonic i.op i.aq i.rl)) ops address ≡ Ok (encoded i)
 jump_word_is i ops address is_aq is_rl is_imm said =
     instr_word (mnemonic i.op i.aq i.rl) ops _ address said
-    ∙ ap (λ o. instruction i.op o >>= λ i. Ok (word_of i)) (jump_back i address is_aq is_rl is_imm)
-    ∙ ap (λ r. r >>= λ i. Ok (word_of i)) (instruction_is i)
+    ∙ ap (λ o. instruction i.op o >>= λ i. Ok (encoded i)) (jump_back i address is_aq is_rl is_imm)
+    ∙ ap (λ r. r >>= λ i. Ok (encoded i)) (instruction_is i)
 
 -- ---- distances
 
@@ -164,26 +163,27 @@ number_clean text z reads = clean_all text reads.plain
 
 -- ---- instructions
 
-named_of : (i : Instr) → keyword_of (spelled i.op i.aq i.rl) ≡ Ok (keyword.Instr (mnemonic i.op i.aq i.rl))
-named_of i = let f = facts (form_of i.op) (operands i) i.in_range in mnemonic_back i.op i.aq i.rl f.aq f.rl
+-- the instruction's mnemonic is read as its operation and ordering bits
+abbrev Named : Instr → Type 0
+Named i = keyword_of (spelled i.op i.aq i.rl) ≡ Ok (keyword.Instr (mnemonic i.op i.aq i.rl))
 
 -- the line of an instruction whose operands are read as its own
-said : (i : Instr) (f : Form) (ops : List ℕ) (address : ℕ) → form_of i.op ≡ f → Clean ops → instr_of f (mnemonic i.op i.aq i.rl) (operands_of ops) ≡ one_instr i.op (operands i)
-    → word_said (spelled i.op i.aq i.rl ++ (32 ∷ ops)) address ≡ Ok (word_of i)
-said i f ops address is c reads =
-    spoken (spelled i.op i.aq i.rl) ops _ address (spelled_bytes i.op i.aq i.rl) c.clean c.filled (named_of i)
+said : (i : Instr) (f : Form) (ops : List ℕ) (address : ℕ) → Named i → form_of i.op ≡ f → Clean ops → instr_of f (mnemonic i.op i.aq i.rl) (operands_of ops) ≡ one_instr i.op (operands i)
+    → word_said (spelled i.op i.aq i.rl ++ (32 ∷ ops)) address ≡ Ok (encoded i)
+said i f ops address named is c reads =
+    spoken (spelled i.op i.aq i.rl) ops _ address (spelled_bytes i.op i.aq i.rl) c.clean c.filled named
     ∙ plain_word i ops address (ap (λ f. instr_of f (mnemonic i.op i.aq i.rl) (operands_of ops)) is ∙ reads)
 
-jump_said : (i : Instr) (f : Form) (ops : List ℕ) (address : ℕ) → form_of i.op ≡ f → Clean ops → i.aq ≡ false → i.rl ≡ false → distance address (target_of address i.imm) ≡ i.imm
-    → instr_of f (mnemonic i.op i.aq i.rl) (operands_of ops) ≡ forms.jump_of i (target_of address i.imm) → word_said (spelled i.op i.aq i.rl ++ (32 ∷ ops)) address ≡ Ok (word_of i)
-jump_said i f ops address is c is_aq is_rl is_imm reads =
-    spoken (spelled i.op i.aq i.rl) ops _ address (spelled_bytes i.op i.aq i.rl) c.clean c.filled (named_of i)
+jump_said : (i : Instr) (f : Form) (ops : List ℕ) (address : ℕ) → Named i → form_of i.op ≡ f → Clean ops → i.aq ≡ false → i.rl ≡ false → distance address (target_of address i.imm) ≡ i.imm
+    → instr_of f (mnemonic i.op i.aq i.rl) (operands_of ops) ≡ forms.jump_of i (target_of address i.imm) → word_said (spelled i.op i.aq i.rl ++ (32 ∷ ops)) address ≡ Ok (encoded i)
+jump_said i f ops address named is c is_aq is_rl is_imm reads =
+    spoken (spelled i.op i.aq i.rl) ops _ address (spelled_bytes i.op i.aq i.rl) c.clean c.filled named
     ∙ jump_word_is i ops address is_aq is_rl is_imm (ap (λ f. instr_of f (mnemonic i.op i.aq i.rl) (operands_of ops)) is ∙ reads)
 
-plain_said : (i : Instr) (address : ℕ) → form_of i.op ≡ form.Plain → are_operands form.Plain (operands i) ≡ true → word_said (spelled i.op i.aq i.rl) address ≡ Ok (word_of i)
-plain_said i address is fits =
-    spoken_alone (spelled i.op i.aq i.rl) _ address (spelled_bytes i.op i.aq i.rl) (named_of i)
-    ∙ plain_word i [] address (ap (λ f. instr_of f (mnemonic i.op i.aq i.rl) (operands_of [])) is ∙ forms.plains_read i fits)
+plain_said : (i : Instr) (address : ℕ) → form_of i.op ≡ form.Plain → InRange form.Plain (operands i) → Named i → word_said (spelled i.op i.aq i.rl) address ≡ Ok (encoded i)
+plain_said i address is f named =
+    spoken_alone (spelled i.op i.aq i.rl) _ address (spelled_bytes i.op i.aq i.rl) named
+    ∙ plain_word i [] address (ap (λ f. instr_of f (mnemonic i.op i.aq i.rl) (operands_of [])) is ∙ forms.plains_read i f)
 
 fence_parts : (i : Instr) → is_written form.Fence i ≡ true → (i.rd ≡ 0) × (i.rs1 ≡ 0) × (unsigned_abs i.imm < 256)
 fence_parts i written =
@@ -195,46 +195,37 @@ indexed_clean : (i : Instr) (address : ℕ) (b : Bool) → is_indexed i.op ≡ b
 indexed_clean i address true indexed rd rs1 imm = rw indexed (by_register i.rd _ rd (in_parentheses (signed_decimal i.imm) i.rs1 (number_clean _ _ imm) rs1))
 indexed_clean i address false indexed rd rs1 imm = rw indexed (by_register i.rd _ rd (after_register i.rs1 _ rs1 (number_clean _ _ imm)))
 
-by_form : WordIsReadBack → (i : Instr) (address : ℕ) (f : Form) → address < 2 ^ 32 → form_of i.op ≡ f → are_operands f (operands i) ≡ true → is_written f i ≡ true
-    → word_said (with_operands f (spelled i.op i.aq i.rl) (operands_text f i address)) address ≡ Ok (word_of i)
-by_form back i address form.R small is fits written =
-    let f = facts form.R (operands i) fits in
-    said i form.R _ address is (by_register i.rd _ (forms.below_32 i.rd f.rd) (after_register i.rs1 _ (forms.below_32 i.rs1 f.rs1) (register_clean i.rs2 (forms.below_32 i.rs2 f.rs2)))) (forms.registers_read i address fits)
-by_form back i address form.I small is fits written =
-    let f = facts form.I (operands i) fits in
-    said i form.I _ address is (indexed_clean i address (is_indexed i.op) refl (forms.below_32 i.rd f.rd) (forms.below_32 i.rs1 f.rs1) (forms.signed_small i.imm f.imm)) (forms.immediates_read i address fits)
-by_form back i address form.S small is fits written =
-    let f = facts form.S (operands i) fits in
-    said i form.S _ address is (by_register i.rs2 _ (forms.below_32 i.rs2 f.rs2) (in_parentheses (signed_decimal i.imm) i.rs1 (number_clean _ _ (forms.signed_small i.imm f.imm)) (forms.below_32 i.rs1 f.rs1))) (forms.stores_read i address fits)
-by_form back i address form.B small is fits written =
-    let f = facts form.B (operands i) fits in
+by_form : WordIsReadBack → (i : Instr) (address : ℕ) (f : Form) → address < 2 ^ 32 → form_of i.op ≡ f → InRange f (operands i) → Named i → is_written f i ≡ true
+    → word_said (with_operands f (spelled i.op i.aq i.rl) (operands_text f i address)) address ≡ Ok (encoded i)
+by_form back i address form.R small is f named written =
+    said i form.R _ address named is (by_register i.rd _ (forms.below_32 i.rd f.rd) (after_register i.rs1 _ (forms.below_32 i.rs1 f.rs1) (register_clean i.rs2 (forms.below_32 i.rs2 f.rs2)))) (forms.registers_read i address f)
+by_form back i address form.I small is f named written =
+    said i form.I _ address named is (indexed_clean i address (is_indexed i.op) refl (forms.below_32 i.rd f.rd) (forms.below_32 i.rs1 f.rs1) (forms.signed_small i.imm f.imm)) (forms.immediates_read i address f)
+by_form back i address form.S small is f named written =
+    said i form.S _ address named is (by_register i.rs2 _ (forms.below_32 i.rs2 f.rs2) (in_parentheses (signed_decimal i.imm) i.rs1 (number_clean _ _ (forms.signed_small i.imm f.imm)) (forms.below_32 i.rs1 f.rs1))) (forms.stores_read i address f)
+by_form back i address form.B small is f named written =
     let imm = wide i.imm (and_parts (is_within (negsuc 4095) (pos 4094) i.imm) _ f.imm).0 in
-    jump_said i form.B _ address is
+    jump_said i form.B _ address named is
     (by_register i.rs1 _ (forms.below_32 i.rs1 f.rs1) (after_register i.rs2 _ (forms.below_32 i.rs2 f.rs2) (number_clean _ _ (word_text back (target_of address i.imm) (forms.target_small address i.imm)))))
-    (no_bit i.aq f.aq) (no_bit i.rl f.rl) (distance_back address i.imm small imm) (forms.branches_read back i address fits)
-by_form back i address form.U small is fits written =
-    let f = facts form.U (operands i) fits in
-    said i form.U _ address is (by_register i.rd _ (forms.below_32 i.rd f.rd) (number_clean _ _ (forms.upper_small i.imm f.imm))) (forms.uppers_read i address fits)
-by_form back i address form.J small is fits written =
-    let f = facts form.J (operands i) fits in
+    (not-true i.aq f.aq) (not-true i.rl f.rl) (distance_back address i.imm small imm) (forms.branches_read back i address f)
+by_form back i address form.U small is f named written =
+    said i form.U _ address named is (by_register i.rd _ (forms.below_32 i.rd f.rd) (number_clean _ _ (forms.upper_small i.imm f.imm))) (forms.uppers_read i address f)
+by_form back i address form.J small is f named written =
     let imm = (and_parts (is_within (negsuc 1048575) (pos 1048574) i.imm) _ f.imm).0 in
-    jump_said i form.J _ address is (by_register i.rd _ (forms.below_32 i.rd f.rd) (number_clean _ _ (word_text back (target_of address i.imm) (forms.target_small address i.imm))))
-    (no_bit i.aq f.aq) (no_bit i.rl f.rl) (distance_back address i.imm small imm) (forms.jumps_read back i address fits)
-by_form back i address form.Shift small is fits written =
-    let f = facts form.Shift (operands i) fits in
-    said i form.Shift _ address is (by_register i.rd _ (forms.below_32 i.rd f.rd) (after_register i.rs1 _ (forms.below_32 i.rs1 f.rs1) (number_clean _ _ (forms.shift_small i.imm f.imm)))) (forms.shifts_read i address fits)
-by_form back i address form.Fence small is fits written =
+    jump_said i form.J _ address named is (by_register i.rd _ (forms.below_32 i.rd f.rd) (number_clean _ _ (word_text back (target_of address i.imm) (forms.target_small address i.imm))))
+    (not-true i.aq f.aq) (not-true i.rl f.rl) (distance_back address i.imm small imm) (forms.jumps_read back i address f)
+by_form back i address form.Shift small is f named written =
+    said i form.Shift _ address named is (by_register i.rd _ (forms.below_32 i.rd f.rd) (after_register i.rs1 _ (forms.below_32 i.rs1 f.rs1) (number_clean _ _ (forms.shift_small i.imm f.imm)))) (forms.shifts_read i address f)
+by_form back i address form.Fence small is f named written =
     let parts = fence_parts i written in
     let before = decimal_text (unsigned_abs i.imm / 16) (omega (arith, parts.2)) in
     let after = decimal_text (unsigned_abs i.imm % 16) (omega arith) in
-    said i form.Fence _ address is (begun _ _ before.some before.plain (number_clean _ _ after)) (forms.fences_read i address fits parts.0 parts.1 parts.2)
-by_form back i address form.Plain small is fits written = plain_said i address is fits
-by_form back i address form.Lr small is fits written =
-    let f = facts form.Lr (operands i) fits in
-    said i form.Lr _ address is (by_register i.rd _ (forms.below_32 i.rd f.rd) (in_parentheses [] i.rs1 refl (forms.below_32 i.rs1 f.rs1))) (forms.reserves_read i address fits)
-by_form back i address form.Amo small is fits written =
-    let f = facts form.Amo (operands i) fits in
-    said i form.Amo _ address is (by_register i.rd _ (forms.below_32 i.rd f.rd) (after_register i.rs2 _ (forms.below_32 i.rs2 f.rs2) (in_parentheses [] i.rs1 refl (forms.below_32 i.rs1 f.rs1)))) (forms.atomics_read i address fits)
+    said i form.Fence _ address named is (begun _ _ before.some before.plain (number_clean _ _ after)) (forms.fences_read i address f parts.0 parts.1 parts.2)
+by_form back i address form.Plain small is f named written = plain_said i address is f named
+by_form back i address form.Lr small is f named written =
+    said i form.Lr _ address named is (by_register i.rd _ (forms.below_32 i.rd f.rd) (in_parentheses [] i.rs1 refl (forms.below_32 i.rs1 f.rs1))) (forms.reserves_read i address f)
+by_form back i address form.Amo small is f named written =
+    said i form.Amo _ address named is (by_register i.rd _ (forms.below_32 i.rd f.rd) (after_register i.rs2 _ (forms.below_32 i.rs2 f.rs2) (in_parentheses [] i.rs1 refl (forms.below_32 i.rs1 f.rs1)))) (forms.atomics_read i address f)
 
 -- ---- words without an instruction's line
 
@@ -257,14 +248,17 @@ word_line_back back word address small =
     let reads = word_text back word small in
     spoken (codes ".word") (48 ∷ 120 ∷ word_digits word) _ address refl (clean_all (48 ∷ 120 ∷ word_digits word) reads.plain) refl word_named ∙ number_word _ word address small reads
 
-by_instr : WordIsReadBack → (word address : ℕ) (d : Option Instr) → word < 2 ^ 32 → address < 2 ^ 32 → decoded word ≡ d → word_said (line_or_word word address d) address ≡ Ok word
-by_instr back word address None small aligned is = word_line_back back word address small
-by_instr back word address (Some i) small aligned is =
+by_instr : WordIsReadBack → FunctionsOfTheTable → RangesByField → (word address : ℕ) (d : Option Instr) → word < 2 ^ 32 → address < 2 ^ 32 → decoded word ≡ d → word_said (line_or_word word address d) address ≡ Ok word
+by_instr back table ranges word address None small aligned is = word_line_back back word address small
+by_instr back table ranges word address (Some i) small aligned is =
+    let f = (ranges (form_of i.op) (operands i)).0 i.in_range in
+    let named = mnemonic_back i.op i.aq i.rl f.aq f.rl in
+    let same : encoded i ≡ word = (table.2 word i).1 (small, (table.1 word i).0 is) in
     elim (is_written (form_of i.op) i) as (λ b. is_written (form_of i.op) i ≡ b → word_said (if b then instr_line i address else word_line word) address ≡ Ok word) [
-      | true ↦ λ written. by_form back i address (form_of i.op) aligned refl i.in_range written ∙ ap Ok (encoded_only i word small ((decoded_row word i).0 is))
+      | true ↦ λ written. by_form back i address (form_of i.op) aligned refl f named written ∙ ap Ok same
       | false ↦ λ _. word_line_back back word address small
     ] refl
 
-pub every_word : WordIsReadBack → EveryWordIsReadBack
+pub every_word : WordIsReadBack → FunctionsOfTheTable → RangesByField → EveryWordIsReadBack
 unfolding line
-every_word back word address small inside = by_instr back word address (decoded word) small inside refl
+every_word back table ranges word address small inside = by_instr back table ranges word address (decoded word) small inside refl

@@ -3,20 +3,20 @@ use Rattle.std.proofs.Common.{◌≡◌, ℕ, ℤ, pos, negsuc, ◌+◌, ◌/◌
 use Rattle.std.specs.Prelude.{Result, ◌==◌, nat_lt, not, option_map, ◌≤ℤ◌, ◌+ℤ◌, ◌*ℤ◌, unsigned_abs}
 use Rattle.std.specs.List.{list_all}
 use Rattle.std.specs.Fmt.{radix_digits, signed_decimal}
+use Rattle.std.proofs.lemmas.Bool.{not-true}
 use Rattle.std.proofs.lemmas.Bool.Decides.{nat_tests}
 use Rattle.std.proofs.lemmas.Int.{ints}
 use Rattle.rv_isa.specs.Instr.{operands}
-use Rattle.rv_isa.specs.Operands.{are_operands, is_within}
+use Rattle.rv_isa.specs.Operands.{InRange, is_within}
 use Rattle.rv_isa.specs.declared.form.Form.TheVariants as form
 use Rattle.rv_isa.specs.declared.instr.Instr.{Instr}
-use Rattle.rv_isa.proofs.EncodeLemmas.{facts, no_bit, no_immediate, same_operands}
 use Rattle.rv_text.specs.Hexadecimal.{WordIsReadBack}
 use Rattle.rv_asm.specs.Instruction.{fields}
 use Rattle.rv_asm.specs.Line.{operands_text, target_of}
 use Rattle.rv_asm.specs.Mnemonics.{mnemonic, is_indexed}
 use Rattle.rv_asm.specs.Number.{number}
 use Rattle.rv_asm.specs.Operand.{counted, name_or_number, operand, operands_of}
-use Rattle.rv_asm.specs.Reading.{expression_at, immediate_instr, indexed_instr, instr_of, one_instr, store_instr, within}
+use Rattle.rv_asm.specs.SourceLine.{expression_at, immediate_instr, indexed_instr, instr_of, one_instr, store_instr, within}
 use Rattle.rv_asm.specs.Registers.{number_name}
 use Rattle.rv_asm.specs.Text.{is_name}
 use Rattle.rv_asm.specs.declared.reading.operand.Operand.{Operand}
@@ -28,7 +28,7 @@ use Rattle.rv_asm.specs.declared.statement.Statement.{Statement}
 use Rattle.rv_asm.specs.declared.statement.Statement.TheVariants as statement
 use Rattle.rv_asm.proofs.NumberTexts.{Reads, decimal_text, signed_text, upper_text, word_text}
 use Rattle.rv_asm.proofs.PlainLemmas.{after_comma, all_append, base_operand, is_plain, last_operand, memory_operand, no_commas, plain_operand}
-use Rattle.rv_asm.proofs.ReadingLemmas.{operands_some}
+use Rattle.rv_asm.proofs.SourceLineLemmas.{operands_some}
 use Rattle.rv_asm.proofs.RegisterTable.{named}
 
 -- a text of one operand
@@ -108,6 +108,10 @@ below_256 n is = grind (arith, nat_tests)
 pub is_none : (r : ℕ) → (r == 0) ≡ true → r ≡ 0
 is_none r is = grind (arith, nat_tests)
 
+no_immediate : (z : ℤ) → (unsigned_abs z == 0) ≡ true → z ≡ pos 0
+no_immediate (pos n) is = ap pos (is_none n is)
+no_immediate (negsuc n) is = grind (arith, nat_tests)
+
 -- ---- the formats
 
 -- what a jump is read as
@@ -115,11 +119,10 @@ abbrev pub jump_of : Instr → ℕ → Result Statement AsmKind
 jump_of i target = Ok (statement.Jump i.op i.rd i.rs1 i.rs2 (expression.Number target))
 
 same_fields : (i : Instr) (rd rs1 rs2 : ℕ) (imm : ℤ) → i.rd ≡ rd → i.rs1 ≡ rs1 → i.rs2 ≡ rs2 → i.imm ≡ imm → i.aq ≡ false → i.rl ≡ false → one_instr i.op (fields rd rs1 rs2 imm) ≡ one_instr i.op (operands i)
-same_fields i rd rs1 rs2 imm is_rd is_rs1 is_rs2 is_imm is_aq is_rl = ap (λ o. one_instr i.op o) (sym (same_operands (operands i) rd rs1 rs2 imm false false is_rd is_rs1 is_rs2 is_imm is_aq is_rl))
+same_fields i rd rs1 rs2 imm is_rd is_rs1 is_rs2 is_imm is_aq is_rl = rw (← is_rd, ← is_rs1, ← is_rs2, ← is_imm, is_aq, is_rl) refl
 
-pub registers_read : (i : Instr) (address : ℕ) → are_operands form.R (operands i) ≡ true → instr_of form.R (mnemonic i.op i.aq i.rl) (operands_of (operands_text form.R i address)) ≡ one_instr i.op (operands i)
-registers_read i address fits =
-    let f = facts form.R (operands i) fits in
+pub registers_read : (i : Instr) (address : ℕ) → InRange form.R (operands i) → instr_of form.R (mnemonic i.op i.aq i.rl) (operands_of (operands_text form.R i address)) ≡ one_instr i.op (operands i)
+registers_read i address f =
     let rd = below_32 i.rd f.rd in
     let rs1 = below_32 i.rs1 f.rs1 in
     let rs2 = below_32 i.rs2 f.rs2 in
@@ -127,7 +130,7 @@ registers_read i address fits =
     let n1 = (named i.rd rd).register in
     let n2 = (named i.rs1 rs1).register in
     let n3 = (named i.rs2 rs2).register in
-    ap (λ o. instr_of form.R (mnemonic i.op i.aq i.rl) o) text ∙ rw (n1, n2, n3) (same_fields i i.rd i.rs1 i.rs2 (pos 0) refl refl refl (no_immediate i.imm f.imm) (no_bit i.aq f.aq) (no_bit i.rl f.rl))
+    ap (λ o. instr_of form.R (mnemonic i.op i.aq i.rl) o) text ∙ rw (n1, n2, n3) (same_fields i i.rd i.rs1 i.rs2 (pos 0) refl refl refl (no_immediate i.imm f.imm) (not-true i.aq f.aq) (not-true i.rl f.rl))
 
 pub signed_small : (z : ℤ) → is_within (negsuc 2047) (pos 2047) z ≡ true → Reads (signed_decimal z) z
 signed_small z is =
@@ -165,33 +168,29 @@ store_read i rs2 rs1 imm =
     let n2 = (named i.rs1 rs1).register in
     ap (λ o. store_instr i.op o) text ∙ rw (n1, n2) refl
 
-pub shifts_read : (i : Instr) (address : ℕ) → are_operands form.Shift (operands i) ≡ true → instr_of form.Shift (mnemonic i.op i.aq i.rl) (operands_of (operands_text form.Shift i address)) ≡ one_instr i.op (operands i)
-shifts_read i address fits =
-    let f = facts form.Shift (operands i) fits in
+pub shifts_read : (i : Instr) (address : ℕ) → InRange form.Shift (operands i) → instr_of form.Shift (mnemonic i.op i.aq i.rl) (operands_of (operands_text form.Shift i address)) ≡ one_instr i.op (operands i)
+shifts_read i address f =
     immediate_read i (below_32 i.rd f.rd) (below_32 i.rs1 f.rs1) (shift_small i.imm f.imm)
-    ∙ same_fields i i.rd i.rs1 0 i.imm refl refl (is_none i.rs2 f.rs2) refl (no_bit i.aq f.aq) (no_bit i.rl f.rl)
+    ∙ same_fields i i.rd i.rs1 0 i.imm refl refl (is_none i.rs2 f.rs2) refl (not-true i.aq f.aq) (not-true i.rl f.rl)
 
-immediates_by : (i : Instr) (address : ℕ) (b : Bool) → is_indexed i.op ≡ b → are_operands form.I (operands i) ≡ true
+immediates_by : (i : Instr) (address : ℕ) (b : Bool) → is_indexed i.op ≡ b → InRange form.I (operands i)
     → instr_of form.I (mnemonic i.op i.aq i.rl) (operands_of (operands_text form.I i address)) ≡ one_instr i.op (operands i)
-immediates_by i address true indexed fits =
-    let f = facts form.I (operands i) fits in
+immediates_by i address true indexed f =
     rw indexed
     (indexed_read i (below_32 i.rd f.rd) (below_32 i.rs1 f.rs1) (signed_small i.imm f.imm)
-    ∙ same_fields i i.rd i.rs1 0 i.imm refl refl (is_none i.rs2 f.rs2) refl (no_bit i.aq f.aq) (no_bit i.rl f.rl))
-immediates_by i address false indexed fits =
-    let f = facts form.I (operands i) fits in
+    ∙ same_fields i i.rd i.rs1 0 i.imm refl refl (is_none i.rs2 f.rs2) refl (not-true i.aq f.aq) (not-true i.rl f.rl))
+immediates_by i address false indexed f =
     rw indexed
     (immediate_read i (below_32 i.rd f.rd) (below_32 i.rs1 f.rs1) (signed_small i.imm f.imm)
-    ∙ same_fields i i.rd i.rs1 0 i.imm refl refl (is_none i.rs2 f.rs2) refl (no_bit i.aq f.aq) (no_bit i.rl f.rl))
+    ∙ same_fields i i.rd i.rs1 0 i.imm refl refl (is_none i.rs2 f.rs2) refl (not-true i.aq f.aq) (not-true i.rl f.rl))
 
-pub immediates_read : (i : Instr) (address : ℕ) → are_operands form.I (operands i) ≡ true → instr_of form.I (mnemonic i.op i.aq i.rl) (operands_of (operands_text form.I i address)) ≡ one_instr i.op (operands i)
-immediates_read i address fits = immediates_by i address (is_indexed i.op) refl fits
+pub immediates_read : (i : Instr) (address : ℕ) → InRange form.I (operands i) → instr_of form.I (mnemonic i.op i.aq i.rl) (operands_of (operands_text form.I i address)) ≡ one_instr i.op (operands i)
+immediates_read i address f = immediates_by i address (is_indexed i.op) refl f
 
-pub stores_read : (i : Instr) (address : ℕ) → are_operands form.S (operands i) ≡ true → instr_of form.S (mnemonic i.op i.aq i.rl) (operands_of (operands_text form.S i address)) ≡ one_instr i.op (operands i)
-stores_read i address fits =
-    let f = facts form.S (operands i) fits in
+pub stores_read : (i : Instr) (address : ℕ) → InRange form.S (operands i) → instr_of form.S (mnemonic i.op i.aq i.rl) (operands_of (operands_text form.S i address)) ≡ one_instr i.op (operands i)
+stores_read i address f =
     store_read i (below_32 i.rs2 f.rs2) (below_32 i.rs1 f.rs1) (signed_small i.imm f.imm)
-    ∙ same_fields i 0 i.rs1 i.rs2 i.imm (is_none i.rd f.rd) refl refl refl (no_bit i.aq f.aq) (no_bit i.rl f.rl)
+    ∙ same_fields i 0 i.rs1 i.rs2 i.imm (is_none i.rd f.rd) refl refl refl (not-true i.aq f.aq) (not-true i.rl f.rl)
 
 -- ---- targets
 
@@ -202,9 +201,8 @@ expression_number n small = let bits : n % 2 ^ 32 ≡ n = omega arith in rw bits
 pub target_small : (address : ℕ) (z : ℤ) → target_of address z < 2 ^ 32
 target_small address z = omega arith
 
-pub branches_read : WordIsReadBack → (i : Instr) (address : ℕ) → are_operands form.B (operands i) ≡ true → instr_of form.B (mnemonic i.op i.aq i.rl) (operands_of (operands_text form.B i address)) ≡ jump_of i (target_of address i.imm)
-branches_read back i address fits =
-    let f = facts form.B (operands i) fits in
+pub branches_read : WordIsReadBack → (i : Instr) (address : ℕ) → InRange form.B (operands i) → instr_of form.B (mnemonic i.op i.aq i.rl) (operands_of (operands_text form.B i address)) ≡ jump_of i (target_of address i.imm)
+branches_read back i address f =
     let rs1 = below_32 i.rs1 f.rs1 in
     let rs2 = below_32 i.rs2 f.rs2 in
     let target : ℕ = target_of address i.imm in
@@ -216,9 +214,8 @@ branches_read back i address fits =
     let rd = is_none i.rd f.rd in
     ap (λ o. instr_of form.B (mnemonic i.op i.aq i.rl) o) text ∙ rw (n1, n2, number, rd) refl
 
-pub jumps_read : WordIsReadBack → (i : Instr) (address : ℕ) → are_operands form.J (operands i) ≡ true → instr_of form.J (mnemonic i.op i.aq i.rl) (operands_of (operands_text form.J i address)) ≡ jump_of i (target_of address i.imm)
-jumps_read back i address fits =
-    let f = facts form.J (operands i) fits in
+pub jumps_read : WordIsReadBack → (i : Instr) (address : ℕ) → InRange form.J (operands i) → instr_of form.J (mnemonic i.op i.aq i.rl) (operands_of (operands_text form.J i address)) ≡ jump_of i (target_of address i.imm)
+jumps_read back i address f =
     let rd = below_32 i.rd f.rd in
     let target : ℕ = target_of address i.imm in
     let small : target < 2 ^ 32 = target_small address i.imm in
@@ -237,16 +234,15 @@ magnitude_is limit z is = (grind (arith, ints, nat_tests), grind (arith, ints, n
 pub upper_small : (z : ℤ) → is_within (pos 0) (pos 0xfffff) z ≡ true → Reads (48 ∷ 120 ∷ radix_digits 16 false (unsigned_abs z)) (pos (unsigned_abs z))
 upper_small z is = let imm = magnitude_is 0xfffff z is in let small : unsigned_abs z < 2 ^ 32 = omega (arith, imm.1) in upper_text (unsigned_abs z) small
 
-pub uppers_read : (i : Instr) (address : ℕ) → are_operands form.U (operands i) ≡ true → instr_of form.U (mnemonic i.op i.aq i.rl) (operands_of (operands_text form.U i address)) ≡ one_instr i.op (operands i)
-uppers_read i address fits =
-    let f = facts form.U (operands i) fits in
+pub uppers_read : (i : Instr) (address : ℕ) → InRange form.U (operands i) → instr_of form.U (mnemonic i.op i.aq i.rl) (operands_of (operands_text form.U i address)) ≡ one_instr i.op (operands i)
+uppers_read i address f =
     let rd = below_32 i.rd f.rd in
     let imm = magnitude_is 0xfffff i.imm f.imm in
     let small : unsigned_abs i.imm < 2 ^ 32 = omega (arith, imm.1) in
     let text = two_operands _ _ _ _ (register_atom i.rd rd) (number_atom _ _ (upper_text (unsigned_abs i.imm) small)) in
     let n1 = (named i.rd rd).register in
     ap (λ o. instr_of form.U (mnemonic i.op i.aq i.rl) o) text
-    ∙ rw n1 (same_fields i i.rd 0 0 (pos (unsigned_abs i.imm)) refl (is_none i.rs1 f.rs1) (is_none i.rs2 f.rs2) (sym imm.0) (no_bit i.aq f.aq) (no_bit i.rl f.rl))
+    ∙ rw n1 (same_fields i i.rd 0 0 (pos (unsigned_abs i.imm)) refl (is_none i.rs1 f.rs1) (is_none i.rs2 f.rs2) (sym imm.0) (not-true i.aq f.aq) (not-true i.rl f.rl))
 
 within_order : (n : ℕ) → n < 16 → within (pos 0) (pos 15) (pos n) ≡ Ok (pos n)
 unfolding within
@@ -255,10 +251,9 @@ within_order n small = let test : is_within (pos 0) (pos 15) (pos n) ≡ true = 
 order_bits : (n : ℕ) → pos (n / 16) *ℤ pos 16 +ℤ pos (n % 16) ≡ pos n
 order_bits n = grind (arith, ints)
 
-pub fences_read : (i : Instr) (address : ℕ) → are_operands form.Fence (operands i) ≡ true → i.rd ≡ 0 → i.rs1 ≡ 0 → unsigned_abs i.imm < 256
+pub fences_read : (i : Instr) (address : ℕ) → InRange form.Fence (operands i) → i.rd ≡ 0 → i.rs1 ≡ 0 → unsigned_abs i.imm < 256
     → instr_of form.Fence (mnemonic i.op i.aq i.rl) (operands_of (operands_text form.Fence i address)) ≡ one_instr i.op (operands i)
-fences_read i address fits rd rs1 small =
-    let f = facts form.Fence (operands i) fits in
+fences_read i address f rd rs1 small =
     let n : ℕ = unsigned_abs i.imm in
     let imm = magnitude_is 4095 i.imm f.imm in
     let before : n / 16 < 16 = omega arith in
@@ -267,23 +262,21 @@ fences_read i address fits rd rs1 small =
     let first = within_order (n / 16) before in
     let second = within_order (n % 16) after in
     ap (λ o. instr_of form.Fence (mnemonic i.op i.aq i.rl) o) text
-    ∙ rw (first, second) (same_fields i 0 0 0 _ rd rs1 (is_none i.rs2 f.rs2) (sym (order_bits n ∙ imm.0)) (no_bit i.aq f.aq) (no_bit i.rl f.rl))
+    ∙ rw (first, second) (same_fields i 0 0 0 _ rd rs1 (is_none i.rs2 f.rs2) (sym (order_bits n ∙ imm.0)) (not-true i.aq f.aq) (not-true i.rl f.rl))
 
 -- ---- no operands
 
-pub plains_read : (i : Instr) → are_operands form.Plain (operands i) ≡ true → instr_of form.Plain (mnemonic i.op i.aq i.rl) (operands_of []) ≡ one_instr i.op (operands i)
-plains_read i fits =
-    let f = facts form.Plain (operands i) fits in
-    same_fields i 0 0 0 (pos 0) (is_none i.rd f.rd) (is_none i.rs1 f.rs1) (is_none i.rs2 f.rs2) (no_immediate i.imm f.imm) (no_bit i.aq f.aq) (no_bit i.rl f.rl)
+pub plains_read : (i : Instr) → InRange form.Plain (operands i) → instr_of form.Plain (mnemonic i.op i.aq i.rl) (operands_of []) ≡ one_instr i.op (operands i)
+plains_read i f =
+    same_fields i 0 0 0 (pos 0) (is_none i.rd f.rd) (is_none i.rs1 f.rs1) (is_none i.rs2 f.rs2) (no_immediate i.imm f.imm) (not-true i.aq f.aq) (not-true i.rl f.rl)
 
 -- ---- atomics
 
 same_atomic : (i : Instr) (rs2 : ℕ) → i.rs2 ≡ rs2 → i.imm ≡ pos 0 → one_instr i.op (record (fields i.rd i.rs1 rs2 (pos 0)) { aq = i.aq; rl = i.rl }) ≡ one_instr i.op (operands i)
-same_atomic i rs2 is_rs2 is_imm = ap (λ o. one_instr i.op o) (sym (same_operands (operands i) i.rd i.rs1 rs2 (pos 0) i.aq i.rl refl refl is_rs2 is_imm refl refl))
+same_atomic i rs2 is_rs2 is_imm = rw (← is_rs2, is_imm) refl
 
-pub reserves_read : (i : Instr) (address : ℕ) → are_operands form.Lr (operands i) ≡ true → instr_of form.Lr (mnemonic i.op i.aq i.rl) (operands_of (operands_text form.Lr i address)) ≡ one_instr i.op (operands i)
-reserves_read i address fits =
-    let f = facts form.Lr (operands i) fits in
+pub reserves_read : (i : Instr) (address : ℕ) → InRange form.Lr (operands i) → instr_of form.Lr (mnemonic i.op i.aq i.rl) (operands_of (operands_text form.Lr i address)) ≡ one_instr i.op (operands i)
+reserves_read i address f =
     let rd = below_32 i.rd f.rd in
     let rs1 = below_32 i.rs1 f.rs1 in
     let text = two_operands _ _ _ _ (register_atom i.rd rd) (base_atom i.rs1 rs1) in
@@ -291,9 +284,8 @@ reserves_read i address fits =
     let n2 = (named i.rs1 rs1).register in
     ap (λ o. instr_of form.Lr (mnemonic i.op i.aq i.rl) o) text ∙ rw (n1, n2) (same_atomic i 0 (is_none i.rs2 f.rs2) (no_immediate i.imm f.imm))
 
-pub atomics_read : (i : Instr) (address : ℕ) → are_operands form.Amo (operands i) ≡ true → instr_of form.Amo (mnemonic i.op i.aq i.rl) (operands_of (operands_text form.Amo i address)) ≡ one_instr i.op (operands i)
-atomics_read i address fits =
-    let f = facts form.Amo (operands i) fits in
+pub atomics_read : (i : Instr) (address : ℕ) → InRange form.Amo (operands i) → instr_of form.Amo (mnemonic i.op i.aq i.rl) (operands_of (operands_text form.Amo i address)) ≡ one_instr i.op (operands i)
+atomics_read i address f =
     let rd = below_32 i.rd f.rd in
     let rs1 = below_32 i.rs1 f.rs1 in
     let rs2 = below_32 i.rs2 f.rs2 in

@@ -14,11 +14,11 @@ pub mod NameLemmas
 pub mod NumberTexts
 pub mod PlacedLemmas
 pub mod PlainLemmas
-pub mod ReadingLemmas
 pub mod RegisterTable
 pub mod SectionLemmas
 pub mod SizeLemmas
 pub mod SoundLemmas
+pub mod SourceLineLemmas
 pub mod SourceLemmas
 pub mod SpellingLemmas
 pub mod SpotLemmas

@@ -1,6 +1,6 @@
 -- The placed lines of what is left of a source.
 use Rattle.std.proofs.Common.{◌≡◌, ℕ, ◌%◌, List, [], ◌∷◌, Some, Ok, refl, ap, sym, ◌∙◌}
-use Rattle.rv_asm.specs.Reading.{line_said}
+use Rattle.rv_asm.specs.SourceLine.{line_said}
 use Rattle.rv_asm.proofs.AlignedLemmas.{said_whole}
 use Rattle.rv_asm.specs.Size.{size_of}
 use Rattle.rv_asm.specs.declared.statement.Section.TheVariants.{Text}

@@ -5,10 +5,11 @@ use Rattle.rv_isa.specs.declared.op.Op.{Op}
 use Rattle.rv_text.specs.Lines.{has_line_feed}
 use Rattle.rv_asm.specs.Faults.{both}
 use Rattle.rv_memory.specs.Chain.{◌>>=◌}
-use Rattle.rv_asm.specs.Instruction.{distance, fields, instruction, word_of}
+use Rattle.rv_isa.specs.Encoded.{encoded}
+use Rattle.rv_asm.specs.Instruction.{distance, fields, instruction}
 use Rattle.rv_asm.specs.Keyword.{keyword_of}
 use Rattle.rv_asm.specs.Operand.{operands_of}
-use Rattle.rv_asm.specs.Reading.{after_colon, first_word, is_short, operand_text, statement_of, uncommented}
+use Rattle.rv_asm.specs.SourceLine.{after_colon, first_word, is_short, operand_text, statement_of, uncommented}
 use Rattle.rv_asm.specs.Text.{since}
 use Rattle.rv_asm.specs.declared.reading.keyword.Directive.{Directive}
 use Rattle.rv_asm.specs.declared.reading.keyword.Directive.TheVariants as directive
@@ -64,7 +65,7 @@ alone (keyword.Directive d) text = directive_alone d (operands_of text)
 abbrev pub jump_word : Op → ℕ → ℕ → ℕ → Expression → ℕ → Result ℕ AsmKind
 jump_word op rd rs1 rs2 (expression.Label name) address = Err kind.LabelUnknown
 jump_word op rd rs1 rs2 (expression.Number target) address =
-    instruction op (fields rd rs1 rs2 (distance address target)) >>= λ i. Ok (word_of i)
+    instruction op (fields rd rs1 rs2 (distance address target)) >>= λ i. Ok (encoded i)
 
 abbrev pub first_number : List Expression → Result ℕ AsmKind
 first_number (expression.Number n ∷ rest) = Ok n
@@ -72,7 +73,7 @@ first_number _ = Err kind.Directive
 
 -- the word of a statement that stands for one
 abbrev pub one_word : Statement → ℕ → Result ℕ AsmKind
-one_word (statement.Instr i) address = Ok (word_of i)
+one_word (statement.Instr i) address = Ok (encoded i)
 one_word (statement.Jump op rd rs1 rs2 target) address = jump_word op rd rs1 rs2 target address
 one_word (statement.Words values) address = first_number values
 one_word _ address = Err kind.Word

@@ -5,7 +5,8 @@ use Rattle.std.specs.Option.{ok_or}
 use Rattle.rv_isa.specs.declared.instr.Instr.{Instr}
 use Rattle.rv_isa.specs.declared.op.Op.{Op}
 use Rattle.rv_memory.specs.Chain.{◌>>=◌}
-use Rattle.rv_asm.specs.Instruction.{fields, instruction, load_pair, distance, word_of}
+use Rattle.rv_isa.specs.Encoded.{encoded}
+use Rattle.rv_asm.specs.Instruction.{fields, instruction, load_pair, distance}
 use Rattle.rv_asm.specs.Layout.{spot_of}
 use Rattle.rv_asm.specs.declared.passes.place.Label.{Label}
 use Rattle.rv_asm.specs.declared.statement.AsmKind.{AsmKind}
@@ -26,7 +27,7 @@ value_of labels (Number n) = Ok n
 
 -- an instruction's word, the least significant byte first
 abbrev pub instr_bytes : Instr → List ℕ
-instr_bytes instr = to_le_bytes w32 (word_of instr)
+instr_bytes instr = to_le_bytes w32 (encoded instr)
 
 abbrev pub pair_bytes : Instr × Instr → List ℕ
 pair_bytes pair = instr_bytes pair.0 ++ instr_bytes pair.1

@@ -1,9 +1,7 @@
 use Rattle.std.specs.Prelude.{◌≡◌, ℕ, ℤ, pos, ◌+◌, ◌-◌, ◌/◌, ◌%◌, ◌^◌, Bool, true, false, Result, Ok, Err, refl}
 use Rattle.rv_isa.specs.Fields.{signed}
-use Rattle.rv_isa.specs.internal.Encoded.{assembled}
-use Rattle.rv_isa.specs.Instr.{operands}
 use Rattle.rv_isa.specs.Operands.{are_operands}
-use Rattle.rv_isa.specs.Table.{form_of, match_of}
+use Rattle.rv_isa.specs.Table.{form_of}
 use Rattle.rv_isa.specs.declared.instr.Instr.{Instr}
 use Rattle.rv_isa.specs.declared.op.Op.{Op}
 use Rattle.rv_isa.specs.declared.op.Op.TheVariants.{Lui, Addi}
@@ -26,10 +24,6 @@ when_in_range op o false fits = Err Range
 -- the instruction with these operands, where they are in the range of its format
 unfoldable pub instruction : Op → Operands → Result Instr AsmKind
 instruction op o = when_in_range op o (are_operands (form_of op) o) refl
-
--- the word of an instruction
-abbrev pub word_of : Instr → ℕ
-word_of i = assembled (form_of i.op) (match_of i.op) (operands i)
 
 -- how far a target is from an address, modulo 2^32 and read as signed
 abbrev pub distance : ℕ → ℕ → ℤ

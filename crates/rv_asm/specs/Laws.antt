@@ -1,10 +1,10 @@
 use Rattle.std.specs.Prelude.{◌≡◌, ℕ, ◌^◌, ◌<◌, None, Some, Ok, List, map, length, take, drop}
 use Rattle.std.specs.List.{AllByRecursion}
 use Rattle.rv_isa.specs.Decoded.{decoded}
+use Rattle.rv_isa.specs.Encoded.{encoded}
 use Rattle.rv_isa.specs.declared.instr.Instr.{Instr}
 use Rattle.rv_asm.specs.Alone.{word_said}
 use Rattle.rv_asm.specs.Assembled.{ends_of, first_fault, line_bytes, section_bytes, symbol_of, symbols_of}
-use Rattle.rv_asm.specs.Instruction.{word_of}
 use Rattle.rv_asm.specs.Layout.{bytes_before, labels_of, lines_placed}
 use Rattle.rv_asm.specs.Line.{line}
 use Rattle.rv_asm.specs.declared.passes.place.Label.{Label}
@@ -40,4 +40,4 @@ EachSymbolEnds = (source : List ℕ) → first_fault (labels_of (lines_placed so
 
 -- the word of each instruction is decoded as that instruction
 abbrev pub EachWordIsDecoded : Type 0
-EachWordIsDecoded = (i : Instr) → decoded (word_of i) ≡ Some i
+EachWordIsDecoded = (i : Instr) → decoded (encoded i) ≡ Some i

@@ -10,7 +10,7 @@ use Rattle.rv_asm.specs.declared.passes.place.Place.{Place}
 use Rattle.rv_asm.specs.declared.passes.place.PlacedLine.{PlacedLine}
 use Rattle.rv_asm.specs.declared.passes.place.Spot.{Spot}
 use Rattle.rv_asm.specs.declared.passes.place.Label.{Label}
-use Rattle.rv_asm.specs.Reading.{line_said}
+use Rattle.rv_asm.specs.SourceLine.{line_said}
 use Rattle.rv_asm.specs.Size.{size_of, section_after}
 
 -- the lines of a source: an LF (10) ends each of them, together with the CR (13) directly before it, and

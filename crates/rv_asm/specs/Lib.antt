@@ -13,8 +13,8 @@ pub mod Mnemonics
 pub mod Number
 pub mod Operand
 pub mod OrderSet
-pub mod Reading
 pub mod Registers
 pub mod Size
+pub mod SourceLine
 pub mod Text
 pub mod internal

@@ -1,7 +1,7 @@
 //! The assembler and the listing of RV32IA.
 //!
 //! To the layers above, the image that a source describes, or its first fault, is `specs/Assembled.antt`, a
-//! word's line in a listing is `specs/Line.antt`, and what a line of source says is `specs/Reading.antt`; each
+//! word's line in a listing is `specs/Line.antt`, and what a line of source says is `specs/SourceLine.antt`; each
 //! word's line is read back as that word.
 #![tactic(auto)]
 
@@ -18,10 +18,7 @@ pub use fault::AsmFault;
 pub use listing::line::line_of;
 pub use listing::list::{ListFault, list, listed};
 pub use reading::alone::word_at;
-pub use reading::expressions::Expressions;
-pub use reading::instruction::{aimed, load_pair, word_of};
-pub use reading::line::read_line;
-pub use statement::{AsmKind, Expression, Line, Name, Section, Statement};
+pub use statement::AsmKind;
 
 #[cfg(test)]
 mod tests;

@@ -1,11 +1,13 @@
 //! Lines as they are read and listed.
 mod outside;
 
-use crate::{
-    AsmKind, Expression, Expressions, Line, ListFault, Section, Statement, line_of, list,
-    load_pair, read_line, word_at, word_of,
-};
+use crate::reading::expressions::Expressions;
+use crate::reading::instruction::load_pair;
+use crate::reading::line::read_line;
+use crate::statement::{Expression, Line, Section, Statement};
+use crate::{AsmKind, ListFault, line_of, list, word_at};
 use rv_elf::Image;
+use rv_isa::codec::encode;
 use rv_isa::instr::Instr;
 use rv_memory::flagged::Flagged;
 use rv_memory::region::Region;
@@ -345,7 +347,7 @@ fn reads_words_in_turn(rt: HostRuntime) -> Result<(), Fail> {
 
 /// The words of two instructions.
 fn words_of_pair(pair: &(Instr, Instr)) -> (u32, u32) {
-    (word_of(&pair.0), word_of(&pair.1))
+    (encode(&pair.0), encode(&pair.1))
 }
 
 /// The two instructions that the line stands for.

@@ -1,14 +1,15 @@
-use Rattle.std.proofs.Common.{◌≡◌, ℕ, ◌+◌, ◌*◌, ◌/◌, ◌%◌, ◌^◌, ◌<◌, Bool, true, false, ℤ, pos, negsuc, refl, ap, ◌∙◌, arith}
-use Rattle.std.specs.Prelude.{bit_and, ◌&&◌, ◌==◌, not, unsigned_abs}
+use Rattle.std.proofs.Common.{◌≡◌, ℕ, ◌+◌, ◌*◌, ◌/◌, ◌%◌, ◌^◌, ◌<◌, Bool, true, ℤ, pos, negsuc, refl, ap, ◌∙◌, arith}
+use Rattle.std.specs.Prelude.{bit_and, ◌&&◌, ◌==◌, unsigned_abs}
 use Rattle.std.specs.Int.{cast_unsigned, w32}
 use Rattle.std.proofs.Math.Nat.{div-add-mod}
+use Rattle.std.proofs.lemmas.Bool.{and_parts as both_true}
 use Rattle.std.proofs.lemmas.Nat.{and_block, and_mask}
 use Rattle.std.proofs.lemmas.Int.{ints}
 use Rattle.std.proofs.lemmas.Bool.Decides.{nat_tests}
 use Rattle.rv_isa.specs.Fields.{signed}
-use Rattle.rv_isa.specs.Form.{has_rd, has_rs1, has_rs2, has_ordering}
 use Rattle.rv_isa.specs.declared.operands.Operands.{Operands}
-use Rattle.rv_isa.specs.Operands.{are_operands, is_register, is_immediate, is_ordering, is_within, is_even}
+use Rattle.rv_isa.specs.Operands.{are_operands, InRange, is_within, is_even}
+use Rattle.rv_isa.specs.TableLaws.{RangesByField}
 use Rattle.rv_isa.specs.declared.form.Form.{Form}
 
 -- ---- what a mask keeps of a word
@@ -88,10 +89,6 @@ pub no_immediate : (z : ℤ) → (unsigned_abs z == 0) ≡ true → z ≡ pos 0
 no_immediate (pos n) h = let none : n ≡ 0 = grind (arith, nat_tests) in ap pos none
 no_immediate (negsuc n) h = grind (arith, nat_tests)
 
-pub no_bit : (b : Bool) → not b ≡ true → b ≡ false
-no_bit true h = cc
-no_bit false h = refl
-
 -- ---- the operands of an instruction, one by one
 
 abbrev pub made : ℕ → ℕ → ℕ → ℤ → Bool → Bool → Operands
@@ -100,23 +97,14 @@ made rd rs1 rs2 imm aq rl = record { rd = rd; rs1 = rs1; rs2 = rs2; imm = imm; a
 pub same_operands : (o : Operands) (rd rs1 rs2 : ℕ) (imm : ℤ) (aq rl : Bool) → o.rd ≡ rd → o.rs1 ≡ rs1 → o.rs2 ≡ rs2 → o.imm ≡ imm → o.aq ≡ aq → o.rl ≡ rl → o ≡ made rd rs1 rs2 imm aq rl
 same_operands o rd rs1 rs2 imm aq rl a b c d e f = rw (← a, ← b, ← c, ← d, ← e, ← f)
 
-both : (a b : Bool) → a && b ≡ true → (a ≡ true) × (b ≡ true)
-both true b h = (refl, h)
-both false b h = cc
-
-pub record Facts (f : Form) (o : Operands) : Type 0 where
-  pub rd : is_register (has_rd f) o.rd ≡ true
-  pub rs1 : is_register (has_rs1 f) o.rs1 ≡ true
-  pub rs2 : is_register (has_rs2 f) o.rs2 ≡ true
-  pub imm : is_immediate f o.imm ≡ true
-  pub aq : is_ordering (has_ordering f) o.aq ≡ true
-  pub rl : is_ordering (has_ordering f) o.rl ≡ true
-
-pub facts : (f : Form) (o : Operands) → are_operands f o ≡ true → Facts f o
-facts f o h =
-    let h1 = both _ _ h in
-    let h2 = both _ _ h1.0 in
-    let h3 = both _ _ h2.0 in
-    let h4 = both _ _ h3.0 in
-    let h5 = both _ _ h4.0 in
+pub in_range : (f : Form) (o : Operands) → are_operands f o ≡ true → InRange f o
+in_range f o h =
+    let h1 = both_true _ _ h in
+    let h2 = both_true _ _ h1.0 in
+    let h3 = both_true _ _ h2.0 in
+    let h4 = both_true _ _ h3.0 in
+    let h5 = both_true _ _ h4.0 in
     record { rd = h5.0; rs1 = h5.1; rs2 = h4.1; imm = h3.1; aq = h2.1; rl = h1.1 }
+
+pub ranges_by_field : RangesByField
+ranges_by_field f o = (in_range f o, λ r. rw (r.rd, r.rs1, r.rs2, r.imm, r.aq, r.rl) refl)

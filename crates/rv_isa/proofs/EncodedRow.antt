@@ -1,7 +1,7 @@
-use Rattle.std.proofs.Common.{◌≡◌, ℕ, ◌+◌, ◌*◌, ◌^◌, ◌<◌, refl, sym, ap, ◌∙◌, cond, arith}
+use Rattle.std.proofs.Common.{◌≡◌, ℕ, ◌+◌, ◌*◌, ◌^◌, ◌<◌, ◌↔◌, refl, sym, subst, ap, ◌∙◌, cond, arith}
 use Rattle.std.specs.Prelude.{bit_and, ◌==◌}
 use Rattle.std.proofs.lemmas.Bool.Decides.{nat_tests}
-use Rattle.rv_isa.specs.internal.Encoded.{assembled}
+use Rattle.rv_isa.specs.Encoded.{assembled, encoded}
 use Rattle.rv_isa.specs.Fields.{field}
 use Rattle.rv_isa.specs.Form.{mask_of}
 use Rattle.rv_isa.specs.Instr.{Row, operands}
@@ -91,16 +91,23 @@ fixed_within AmomaxW = refl
 fixed_within AmominuW = refl
 fixed_within AmomaxuW = refl
 
-abbrev word_of : Instr → ℕ
-word_of i = assembled (form_of i.op) (match_of i.op) (operands i)
-
 -- An instruction's word has its row.
-pub encoded_row : (i : Instr) → Row (word_of i) i
+pub encoded_row : (i : Instr) → Row (encoded i) i
+unfolding encoded
 encoded_row i =
     let back = reads_back (form_of i.op) (match_of i.op) (operands i) (fixed_within i.op) i.in_range in
     record { matches = back.fixed; operands = sym back.operands }
 
 -- A word with the instruction's row is the instruction's word.
-pub encoded_only : (i : Instr) (w : ℕ) → w < 2 ^ 32 → Row w i → word_of i ≡ w
+pub encoded_only : (i : Instr) (w : ℕ) → w < 2 ^ 32 → Row w i → encoded i ≡ w
+unfolding encoded
 encoded_only i w h r =
     ap (λ m. assembled (form_of i.op) m (operands i)) (sym r.matches) ∙ ap (assembled (form_of i.op) (bit_and w (mask_of (form_of i.op)))) r.operands ∙ whole_word (form_of i.op) w h
+
+encoded_below : (i : Instr) → encoded i < 2 ^ 32
+unfolding encoded
+encoded_below i = omega arith
+
+-- The instruction's word is the one word with its row.
+pub encoded_is : (w : ℕ) (i : Instr) → (encoded i ≡ w) ↔ ((w < 2 ^ 32) × Row w i)
+encoded_is w i = (λ is. subst (λ (v : ℕ). (v < 2 ^ 32) × Row v i) is (encoded_below i, encoded_row i), λ r. encoded_only i w r.0 r.1)

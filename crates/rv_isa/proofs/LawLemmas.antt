@@ -1,7 +1,7 @@
 use Rattle.std.proofs.Common.{◌≡◌, Some, sym, ◌∙◌}
 use Rattle.rv_isa.specs.Decoded.{decoded}
 use Rattle.rv_isa.specs.TableLaws.{OneRowPerWord, OneInstructionPerWord, OneWordPerInstruction, FunctionsOfTheTable}
-use Rattle.rv_isa.proofs.EncodedRow.{encoded_only}
+use Rattle.rv_isa.proofs.EncodedRow.{encoded_is, encoded_only}
 use Rattle.rv_isa.proofs.RowLemmas.{decoded_row, op_at-matches, op_at-some}
 use Rattle.rv_isa.proofs.TableLemmas.{candidate_is}
 
@@ -18,4 +18,4 @@ pub one_word : OneWordPerInstruction
 one_word v w i hv hw rv rw' = sym (encoded_only i v hv rv) ∙ encoded_only i w hw rw'
 
 pub functions_of_table : FunctionsOfTheTable
-functions_of_table = (λ w op. (op_at-some w op, op_at-matches w op), decoded_row)
+functions_of_table = (λ w op. (op_at-some w op, op_at-matches w op), decoded_row, encoded_is)

@@ -1,15 +1,16 @@
 use Rattle.std.proofs.Common.{◌≡◌, ℕ, ◌+◌, ◌*◌, ◌/◌, ◌%◌, ◌^◌, ◌<◌, Bool, true, false, ℤ, pos, refl, ap, ◌∙◌, cond, arith}
 use Rattle.std.specs.Prelude.{bit_and, ◌==◌, nat_lt}
 use Rattle.std.specs.Int.{cast_unsigned, w32}
+use Rattle.std.proofs.lemmas.Bool.{not-true}
 use Rattle.std.proofs.lemmas.Bool.Decides.{nat_tests}
-use Rattle.rv_isa.specs.internal.Encoded.{assembled}
+use Rattle.rv_isa.specs.Encoded.{assembled}
 use Rattle.rv_isa.specs.Fields.{field, signed}
 use Rattle.rv_isa.specs.Form.{mask_of}
 use Rattle.rv_isa.specs.declared.operands.Operands.{Operands}
-use Rattle.rv_isa.specs.Operands.{operands_of, are_operands, is_immediate}
+use Rattle.rv_isa.specs.Operands.{operands_of, are_operands, InRange, is_immediate}
 use Rattle.rv_isa.specs.declared.form.Form.{Form}
 use Rattle.rv_isa.specs.declared.form.Form.TheVariants as form
-use Rattle.rv_isa.proofs.EncodeLemmas.{and_opcode, and_funct3, and_funct5, and_funct7, and_lr, and_all, bits_signed_12, bits_signed_13, bits_signed_21, bits_number, no_immediate, no_bit, made, same_operands, Facts, facts}
+use Rattle.rv_isa.proofs.EncodeLemmas.{and_opcode, and_funct3, and_funct5, and_funct7, and_lr, and_all, bits_signed_12, bits_signed_13, bits_signed_21, bits_number, no_immediate, made, same_operands, in_range}
 
 -- An instruction's word, read again, has the fixed bits and the operands.
 pub record ReadsBack (f : Form) (m : ℕ) (o : Operands) : Type 0 where
@@ -32,9 +33,9 @@ core_R m rd rs1 rs2 h a b c =
       operands = same_operands (operands_of form.R w) rd rs1 rs2 (pos 0) false false (omega (arith, in_m, h)) (omega (arith, in_m, h)) (omega (arith, in_m, h)) refl refl refl;
     }
 
-back_R : (m : ℕ) (o : Operands) → bit_and m (mask_of form.R) ≡ m → Facts form.R o → ReadsBack form.R m o
+back_R : (m : ℕ) (o : Operands) → bit_and m (mask_of form.R) ≡ m → InRange form.R o → ReadsBack form.R m o
 back_R m o h f =
-    let same : o ≡ made o.rd o.rs1 o.rs2 (pos 0) false false = same_operands o o.rd o.rs1 o.rs2 (pos 0) false false refl refl refl (no_immediate o.imm f.imm) (no_bit o.aq f.aq) (no_bit o.rl f.rl) in
+    let same : o ≡ made o.rd o.rs1 o.rs2 (pos 0) false false = same_operands o o.rd o.rs1 o.rs2 (pos 0) false false refl refl refl (no_immediate o.imm f.imm) (not-true o.aq f.aq) (not-true o.rl f.rl) in
     rw same (core_R m o.rd o.rs1 o.rs2 h (register_below o.rd f.rd) (register_below o.rs1 f.rs1) (register_below o.rs2 f.rs2))
 
 core_I : (m rd rs1 : ℕ) (imm : ℤ) → bit_and m (mask_of form.I) ≡ m → rd < 32 → rs1 < 32 → is_immediate form.I imm ≡ true → ReadsBack form.I m (made rd rs1 0 imm false false)
@@ -48,9 +49,9 @@ core_I m rd rs1 imm h a b i =
       operands = same_operands (operands_of form.I w) rd rs1 0 imm false false (omega (arith, in_m, h)) (omega (arith, in_m, h)) refl (ap (signed 12) bits ∙ bits_signed_12 imm i) refl refl;
     }
 
-back_I : (m : ℕ) (o : Operands) → bit_and m (mask_of form.I) ≡ m → Facts form.I o → ReadsBack form.I m o
+back_I : (m : ℕ) (o : Operands) → bit_and m (mask_of form.I) ≡ m → InRange form.I o → ReadsBack form.I m o
 back_I m o h f =
-    let same : o ≡ made o.rd o.rs1 0 o.imm false false = same_operands o o.rd o.rs1 0 o.imm false false refl refl (no_register o.rs2 f.rs2) refl (no_bit o.aq f.aq) (no_bit o.rl f.rl) in
+    let same : o ≡ made o.rd o.rs1 0 o.imm false false = same_operands o o.rd o.rs1 0 o.imm false false refl refl (no_register o.rs2 f.rs2) refl (not-true o.aq f.aq) (not-true o.rl f.rl) in
     rw same (core_I m o.rd o.rs1 o.imm h (register_below o.rd f.rd) (register_below o.rs1 f.rs1) f.imm)
 
 core_S : (m rs1 rs2 : ℕ) (imm : ℤ) → bit_and m (mask_of form.S) ≡ m → rs1 < 32 → rs2 < 32 → is_immediate form.S imm ≡ true → ReadsBack form.S m (made 0 rs1 rs2 imm false false)
@@ -66,9 +67,9 @@ core_S m rs1 rs2 imm h a b i =
       operands = same_operands (operands_of form.S w) 0 rs1 rs2 imm false false refl (omega (arith, in_m, h)) (omega (arith, in_m, h)) (ap (signed 12) bits ∙ bits_signed_12 imm i) refl refl;
     }
 
-back_S : (m : ℕ) (o : Operands) → bit_and m (mask_of form.S) ≡ m → Facts form.S o → ReadsBack form.S m o
+back_S : (m : ℕ) (o : Operands) → bit_and m (mask_of form.S) ≡ m → InRange form.S o → ReadsBack form.S m o
 back_S m o h f =
-    let same : o ≡ made 0 o.rs1 o.rs2 o.imm false false = same_operands o 0 o.rs1 o.rs2 o.imm false false (no_register o.rd f.rd) refl refl refl (no_bit o.aq f.aq) (no_bit o.rl f.rl) in
+    let same : o ≡ made 0 o.rs1 o.rs2 o.imm false false = same_operands o 0 o.rs1 o.rs2 o.imm false false (no_register o.rd f.rd) refl refl refl (not-true o.aq f.aq) (not-true o.rl f.rl) in
     rw same (core_S m o.rs1 o.rs2 o.imm h (register_below o.rs1 f.rs1) (register_below o.rs2 f.rs2) f.imm)
 
 core_B : (m rs1 rs2 : ℕ) (imm : ℤ) → bit_and m (mask_of form.B) ≡ m → rs1 < 32 → rs2 < 32 → is_immediate form.B imm ≡ true → ReadsBack form.B m (made 0 rs1 rs2 imm false false)
@@ -87,9 +88,9 @@ core_B m rs1 rs2 imm h a b i =
       operands = same_operands (operands_of form.B w) 0 rs1 rs2 imm false false refl (omega (arith, in_m, h)) (omega (arith, in_m, h)) (ap (signed 13) bits ∙ range.0) refl refl;
     }
 
-back_B : (m : ℕ) (o : Operands) → bit_and m (mask_of form.B) ≡ m → Facts form.B o → ReadsBack form.B m o
+back_B : (m : ℕ) (o : Operands) → bit_and m (mask_of form.B) ≡ m → InRange form.B o → ReadsBack form.B m o
 back_B m o h f =
-    let same : o ≡ made 0 o.rs1 o.rs2 o.imm false false = same_operands o 0 o.rs1 o.rs2 o.imm false false (no_register o.rd f.rd) refl refl refl (no_bit o.aq f.aq) (no_bit o.rl f.rl) in
+    let same : o ≡ made 0 o.rs1 o.rs2 o.imm false false = same_operands o 0 o.rs1 o.rs2 o.imm false false (no_register o.rd f.rd) refl refl refl (not-true o.aq f.aq) (not-true o.rl f.rl) in
     rw same (core_B m o.rs1 o.rs2 o.imm h (register_below o.rs1 f.rs1) (register_below o.rs2 f.rs2) f.imm)
 
 core_U : (m rd : ℕ) (imm : ℤ) → bit_and m (mask_of form.U) ≡ m → rd < 32 → is_immediate form.U imm ≡ true → ReadsBack form.U m (made rd 0 0 imm false false)
@@ -104,9 +105,9 @@ core_U m rd imm h a i =
       operands = same_operands (operands_of form.U w) rd 0 0 imm false false (omega (arith, in_m, h)) refl refl (ap pos bits ∙ range.0) refl refl;
     }
 
-back_U : (m : ℕ) (o : Operands) → bit_and m (mask_of form.U) ≡ m → Facts form.U o → ReadsBack form.U m o
+back_U : (m : ℕ) (o : Operands) → bit_and m (mask_of form.U) ≡ m → InRange form.U o → ReadsBack form.U m o
 back_U m o h f =
-    let same : o ≡ made o.rd 0 0 o.imm false false = same_operands o o.rd 0 0 o.imm false false refl (no_register o.rs1 f.rs1) (no_register o.rs2 f.rs2) refl (no_bit o.aq f.aq) (no_bit o.rl f.rl) in
+    let same : o ≡ made o.rd 0 0 o.imm false false = same_operands o o.rd 0 0 o.imm false false refl (no_register o.rs1 f.rs1) (no_register o.rs2 f.rs2) refl (not-true o.aq f.aq) (not-true o.rl f.rl) in
     rw same (core_U m o.rd o.imm h (register_below o.rd f.rd) f.imm)
 
 core_J : (m rd : ℕ) (imm : ℤ) → bit_and m (mask_of form.J) ≡ m → rd < 32 → is_immediate form.J imm ≡ true → ReadsBack form.J m (made rd 0 0 imm false false)
@@ -125,9 +126,9 @@ core_J m rd imm h a i =
       operands = same_operands (operands_of form.J w) rd 0 0 imm false false (omega (arith, in_m, h)) refl refl (ap (signed 21) bits ∙ range.0) refl refl;
     }
 
-back_J : (m : ℕ) (o : Operands) → bit_and m (mask_of form.J) ≡ m → Facts form.J o → ReadsBack form.J m o
+back_J : (m : ℕ) (o : Operands) → bit_and m (mask_of form.J) ≡ m → InRange form.J o → ReadsBack form.J m o
 back_J m o h f =
-    let same : o ≡ made o.rd 0 0 o.imm false false = same_operands o o.rd 0 0 o.imm false false refl (no_register o.rs1 f.rs1) (no_register o.rs2 f.rs2) refl (no_bit o.aq f.aq) (no_bit o.rl f.rl) in
+    let same : o ≡ made o.rd 0 0 o.imm false false = same_operands o o.rd 0 0 o.imm false false refl (no_register o.rs1 f.rs1) (no_register o.rs2 f.rs2) refl (not-true o.aq f.aq) (not-true o.rl f.rl) in
     rw same (core_J m o.rd o.imm h (register_below o.rd f.rd) f.imm)
 
 core_Shift : (m rd rs1 : ℕ) (imm : ℤ) → bit_and m (mask_of form.Shift) ≡ m → rd < 32 → rs1 < 32 → is_immediate form.Shift imm ≡ true → ReadsBack form.Shift m (made rd rs1 0 imm false false)
@@ -142,9 +143,9 @@ core_Shift m rd rs1 imm h a b i =
       operands = same_operands (operands_of form.Shift w) rd rs1 0 imm false false (omega (arith, in_m, h)) (omega (arith, in_m, h)) refl (ap pos bits ∙ range.0) refl refl;
     }
 
-back_Shift : (m : ℕ) (o : Operands) → bit_and m (mask_of form.Shift) ≡ m → Facts form.Shift o → ReadsBack form.Shift m o
+back_Shift : (m : ℕ) (o : Operands) → bit_and m (mask_of form.Shift) ≡ m → InRange form.Shift o → ReadsBack form.Shift m o
 back_Shift m o h f =
-    let same : o ≡ made o.rd o.rs1 0 o.imm false false = same_operands o o.rd o.rs1 0 o.imm false false refl refl (no_register o.rs2 f.rs2) refl (no_bit o.aq f.aq) (no_bit o.rl f.rl) in
+    let same : o ≡ made o.rd o.rs1 0 o.imm false false = same_operands o o.rd o.rs1 0 o.imm false false refl refl (no_register o.rs2 f.rs2) refl (not-true o.aq f.aq) (not-true o.rl f.rl) in
     rw same (core_Shift m o.rd o.rs1 o.imm h (register_below o.rd f.rd) (register_below o.rs1 f.rs1) f.imm)
 
 core_Fence : (m rd rs1 : ℕ) (imm : ℤ) → bit_and m (mask_of form.Fence) ≡ m → rd < 32 → rs1 < 32 → is_immediate form.Fence imm ≡ true → ReadsBack form.Fence m (made rd rs1 0 imm false false)
@@ -159,9 +160,9 @@ core_Fence m rd rs1 imm h a b i =
       operands = same_operands (operands_of form.Fence w) rd rs1 0 imm false false (omega (arith, in_m, h)) (omega (arith, in_m, h)) refl (ap pos bits ∙ range.0) refl refl;
     }
 
-back_Fence : (m : ℕ) (o : Operands) → bit_and m (mask_of form.Fence) ≡ m → Facts form.Fence o → ReadsBack form.Fence m o
+back_Fence : (m : ℕ) (o : Operands) → bit_and m (mask_of form.Fence) ≡ m → InRange form.Fence o → ReadsBack form.Fence m o
 back_Fence m o h f =
-    let same : o ≡ made o.rd o.rs1 0 o.imm false false = same_operands o o.rd o.rs1 0 o.imm false false refl refl (no_register o.rs2 f.rs2) refl (no_bit o.aq f.aq) (no_bit o.rl f.rl) in
+    let same : o ≡ made o.rd o.rs1 0 o.imm false false = same_operands o o.rd o.rs1 0 o.imm false false refl refl (no_register o.rs2 f.rs2) refl (not-true o.aq f.aq) (not-true o.rl f.rl) in
     rw same (core_Fence m o.rd o.rs1 o.imm h (register_below o.rd f.rd) (register_below o.rs1 f.rs1) f.imm)
 
 core_Plain : (m : ℕ) → bit_and m (mask_of form.Plain) ≡ m → ReadsBack form.Plain m (made 0 0 0 (pos 0) false false)
@@ -171,9 +172,9 @@ core_Plain m h =
     let in_w = and_all w in
     record { fixed = omega (arith, in_m, in_w, h); operands = refl }
 
-back_Plain : (m : ℕ) (o : Operands) → bit_and m (mask_of form.Plain) ≡ m → Facts form.Plain o → ReadsBack form.Plain m o
+back_Plain : (m : ℕ) (o : Operands) → bit_and m (mask_of form.Plain) ≡ m → InRange form.Plain o → ReadsBack form.Plain m o
 back_Plain m o h f =
-    let same : o ≡ made 0 0 0 (pos 0) false false = same_operands o 0 0 0 (pos 0) false false (no_register o.rd f.rd) (no_register o.rs1 f.rs1) (no_register o.rs2 f.rs2) (no_immediate o.imm f.imm) (no_bit o.aq f.aq) (no_bit o.rl f.rl) in
+    let same : o ≡ made 0 0 0 (pos 0) false false = same_operands o 0 0 0 (pos 0) false false (no_register o.rd f.rd) (no_register o.rs1 f.rs1) (no_register o.rs2 f.rs2) (no_immediate o.imm f.imm) (not-true o.aq f.aq) (not-true o.rl f.rl) in
     rw same (core_Plain m h)
 
 -- an ordering bit as a number
@@ -194,7 +195,7 @@ core_Lr m rd rs1 aq rl h a b =
       operands = same_operands (operands_of form.Lr w) rd rs1 0 (pos 0) aq rl (grind (arith, in_m, h)) (grind (arith, in_m, h)) refl refl (flag_is aq _ (grind (arith, in_m, h))) (flag_is rl _ (grind (arith, in_m, h)));
     }
 
-back_Lr : (m : ℕ) (o : Operands) → bit_and m (mask_of form.Lr) ≡ m → Facts form.Lr o → ReadsBack form.Lr m o
+back_Lr : (m : ℕ) (o : Operands) → bit_and m (mask_of form.Lr) ≡ m → InRange form.Lr o → ReadsBack form.Lr m o
 back_Lr m o h f =
     let same : o ≡ made o.rd o.rs1 0 (pos 0) o.aq o.rl = same_operands o o.rd o.rs1 0 (pos 0) o.aq o.rl refl refl (no_register o.rs2 f.rs2) (no_immediate o.imm f.imm) refl refl in
     rw same (core_Lr m o.rd o.rs1 o.aq o.rl h (register_below o.rd f.rd) (register_below o.rs1 f.rs1))
@@ -209,21 +210,21 @@ core_Amo m rd rs1 rs2 aq rl h a b c =
       operands = same_operands (operands_of form.Amo w) rd rs1 rs2 (pos 0) aq rl (grind (arith, in_m, h)) (grind (arith, in_m, h)) (grind (arith, in_m, h)) refl (flag_is aq _ (grind (arith, in_m, h))) (flag_is rl _ (grind (arith, in_m, h)));
     }
 
-back_Amo : (m : ℕ) (o : Operands) → bit_and m (mask_of form.Amo) ≡ m → Facts form.Amo o → ReadsBack form.Amo m o
+back_Amo : (m : ℕ) (o : Operands) → bit_and m (mask_of form.Amo) ≡ m → InRange form.Amo o → ReadsBack form.Amo m o
 back_Amo m o h f =
     let same : o ≡ made o.rd o.rs1 o.rs2 (pos 0) o.aq o.rl = same_operands o o.rd o.rs1 o.rs2 (pos 0) o.aq o.rl refl refl refl (no_immediate o.imm f.imm) refl refl in
     rw same (core_Amo m o.rd o.rs1 o.rs2 o.aq o.rl h (register_below o.rd f.rd) (register_below o.rs1 f.rs1) (register_below o.rs2 f.rs2))
 
 -- What is assembled of a row's fixed bits and operands in range has both again.
 pub reads_back : (f : Form) (m : ℕ) (o : Operands) → bit_and m (mask_of f) ≡ m → are_operands f o ≡ true → ReadsBack f m o
-reads_back form.R m o h fits = back_R m o h (facts form.R o fits)
-reads_back form.I m o h fits = back_I m o h (facts form.I o fits)
-reads_back form.S m o h fits = back_S m o h (facts form.S o fits)
-reads_back form.B m o h fits = back_B m o h (facts form.B o fits)
-reads_back form.U m o h fits = back_U m o h (facts form.U o fits)
-reads_back form.J m o h fits = back_J m o h (facts form.J o fits)
-reads_back form.Shift m o h fits = back_Shift m o h (facts form.Shift o fits)
-reads_back form.Fence m o h fits = back_Fence m o h (facts form.Fence o fits)
-reads_back form.Plain m o h fits = back_Plain m o h (facts form.Plain o fits)
-reads_back form.Lr m o h fits = back_Lr m o h (facts form.Lr o fits)
-reads_back form.Amo m o h fits = back_Amo m o h (facts form.Amo o fits)
+reads_back form.R m o h fits = back_R m o h (in_range form.R o fits)
+reads_back form.I m o h fits = back_I m o h (in_range form.I o fits)
+reads_back form.S m o h fits = back_S m o h (in_range form.S o fits)
+reads_back form.B m o h fits = back_B m o h (in_range form.B o fits)
+reads_back form.U m o h fits = back_U m o h (in_range form.U o fits)
+reads_back form.J m o h fits = back_J m o h (in_range form.J o fits)
+reads_back form.Shift m o h fits = back_Shift m o h (in_range form.Shift o fits)
+reads_back form.Fence m o h fits = back_Fence m o h (in_range form.Fence o fits)
+reads_back form.Plain m o h fits = back_Plain m o h (in_range form.Plain o fits)
+reads_back form.Lr m o h fits = back_Lr m o h (in_range form.Lr o fits)
+reads_back form.Amo m o h fits = back_Amo m o h (in_range form.Amo o fits)

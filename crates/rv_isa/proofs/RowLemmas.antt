@@ -1,13 +1,13 @@
-use Rattle.std.proofs.Common.{◌≡◌, ℕ, true, false, Option, Some, None, refl, sym, ap, subst, ◌↔◌, eqb, arith, eq-eqb}
-use Rattle.std.specs.Prelude.{bit_and, option_map, IfSome, IsSome}
+use Rattle.std.proofs.Common.{◌≡◌, ℕ, true, false, Option, Some, None, refl, sym, ap, subst, ◌↔◌, ◌∙◌, arith, eq-eqb}
+use Rattle.std.specs.Prelude.{option_map, IfSome, IsSome}
 use Rattle.std.proofs.Math.Bool.{Bool-set}
 use Rattle.std.proofs.lemmas.Bool.Decides.{nat_tests}
 use Rattle.rv_isa.specs.Decoded.{op_at, with_operands, decoded}
 use Rattle.rv_isa.specs.Instr.{Row, operands}
 use Rattle.rv_isa.specs.declared.operands.Operands.{Operands}
 use Rattle.rv_isa.specs.Operands.{are_operands}
-use Rattle.rv_isa.specs.Table.{Matches, form_of, match_of}
-use Rattle.rv_isa.specs.Form.{mask_of}
+use Rattle.rv_isa.specs.Table.{Matches, form_of, is_match, operations}
+use Rattle.rv_isa.proofs.ListedLemmas.{each_listed, found_passes, only_is_found}
 use Rattle.rv_isa.proofs.TableLemmas.{candidate_is}
 use Rattle.rv_isa.specs.declared.instr.Instr.{Instr}
 use Rattle.rv_isa.specs.declared.op.Op.{Op}
@@ -25,15 +25,22 @@ made_same op op' e o o' f h =
 pub same_instr : (i j : Instr) → i.op ≡ j.op → operands i ≡ operands j → i ≡ j
 same_instr i j e f = made_same i.op j.op e (operands i) (operands j) f i.in_range j.in_range
 
+match_passed : (w : ℕ) (op : Op) → is_match w op ≡ true → Matches w op
+match_passed w op h = grind (arith, nat_tests)
+
+only_match : (w : ℕ) (op : Op) → Matches w op → (other : Op) → is_match w other ≡ true → other ≡ op
+only_match w op h other passed = sym (candidate_is w other (match_passed w other passed)) ∙ candidate_is w op h
+
 pub op_at-matches : (w : ℕ) (op : Op) → Matches w op → op_at w ≡ Some op
 unfolding op_at
 op_at-matches w op h =
-    let same : eqb (bit_and w (mask_of (form_of op))) (match_of op) ≡ true = eq-eqb _ _ h in
-    rw (candidate_is w op h, same)
+    let there = each_listed op in
+    let passed : is_match w op ≡ true = eq-eqb _ _ h in
+    only_is_found (is_match w) operations there.0 op there.1 there.2 passed (only_match w op h)
 
 pub op_at-some : (w : ℕ) (op : Op) → op_at w ≡ Some op → Matches w op
 unfolding op_at
-op_at-some w op h = grind (arith, nat_tests)
+op_at-some w op h = match_passed w op (found_passes (is_match w) operations op h)
 
 row_from_map : (o : Option Op) (w : ℕ) (i : Instr) → option_map (λ op. with_operands op w) o ≡ Some i → op_at w ≡ o → Row w i
 row_from_map None w i found e = cc

@@ -1,16 +1,14 @@
-use Rattle.std.specs.Prelude.{ℕ, ◌==◌, bit_and, if◌then◌else◌, Option, Some, None, option_map}
-use Rattle.rv_isa.specs.internal.Candidate.{candidate}
-use Rattle.rv_isa.specs.Form.{mask_of}
+use Rattle.std.specs.Prelude.{ℕ, Option, option_map}
+use Rattle.std.specs.List.{find}
 use Rattle.rv_isa.specs.Operands.{operands_of}
-use Rattle.rv_isa.specs.Table.{form_of, match_of}
-use Rattle.rv_isa.specs.internal.OperandsFit.{operands_fit}
+use Rattle.rv_isa.specs.OperandsFit.{operands_fit}
+use Rattle.rv_isa.specs.Table.{form_of, is_match, operations}
 use Rattle.rv_isa.specs.declared.instr.Instr.{Instr}
 use Rattle.rv_isa.specs.declared.op.Op.{Op}
 
--- the operation whose row the word matches, if there is one
+-- the operation whose row the word matches, the first in the table's order and by its laws the only one
 unfoldable pub op_at : ℕ → Option Op
-op_at word =
-    if bit_and word (mask_of (form_of (candidate word))) == match_of (candidate word) then Some (candidate word) else None
+op_at word = find (is_match word) operations
 
 -- the operation with a word's operands in its format
 abbrev pub with_operands : Op → ℕ → Instr

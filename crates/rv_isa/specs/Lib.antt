@@ -1,8 +1,10 @@
 pub mod Decoded
+pub mod Encoded
 pub mod Fields
 pub mod Form
 pub mod Instr
 pub mod Operands
+pub mod OperandsFit
 pub mod Shape
 pub mod Table
 pub mod TableLaws

@@ -1,4 +1,4 @@
-use Rattle.std.specs.Prelude.{ℕ, ℤ, pos, negsuc, unsigned_abs, int_le, ◌%◌, Bool, true, not, ◌&&◌, ◌==◌, nat_lt, if◌then◌else◌}
+use Rattle.std.specs.Prelude.{ℕ, ℤ, pos, negsuc, unsigned_abs, int_le, ◌%◌, Bool, true, not, ◌&&◌, ◌==◌, nat_lt, if◌then◌else◌, IsTrue}
 use Rattle.rv_isa.specs.Fields as fields
 use Rattle.rv_isa.specs.Form.{has_rd, has_rs1, has_rs2, has_ordering}
 use Rattle.rv_isa.specs.declared.form.Form.{Form}
@@ -61,3 +61,12 @@ is_ordering has b = if has then true else not b
 abbrev pub are_operands : Form → Operands → Bool
 are_operands form o =
     is_register (has_rd form) o.rd && is_register (has_rs1 form) o.rs1 && is_register (has_rs2 form) o.rs2 && is_immediate form o.imm && is_ordering (has_ordering form) o.aq && is_ordering (has_ordering form) o.rl
+
+-- the same, field by field
+pub record InRange (form : Form) (o : Operands) : Type 0 where
+  pub rd : IsTrue (is_register (has_rd form) o.rd)
+  pub rs1 : IsTrue (is_register (has_rs1 form) o.rs1)
+  pub rs2 : IsTrue (is_register (has_rs2 form) o.rs2)
+  pub imm : IsTrue (is_immediate form o.imm)
+  pub aq : IsTrue (is_ordering (has_ordering form) o.aq)
+  pub rl : IsTrue (is_ordering (has_ordering form) o.rl)

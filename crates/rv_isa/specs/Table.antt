@@ -1,4 +1,4 @@
-use Rattle.std.specs.Prelude.{◌≡◌, ℕ, bit_and}
+use Rattle.std.specs.Prelude.{◌≡◌, ℕ, Bool, ◌==◌, List, [], ◌∷◌, bit_and}
 use Rattle.rv_isa.specs.Form.{mask_of}
 use Rattle.rv_isa.specs.declared.form.Form.{Form}
 use Rattle.rv_isa.specs.declared.form.Form.TheVariants as form
@@ -67,6 +67,21 @@ row_of AmomaxW = row form.Amo 0xa000202f
 row_of AmominuW = row form.Amo 0xc000202f
 row_of AmomaxuW = row form.Amo 0xe000202f
 
+-- the operations, in the table's order
+abbrev pub operations : List Op
+operations =
+    Lui ∷ Auipc ∷
+    Jal ∷
+    Jalr ∷
+    Beq ∷ Bne ∷ Blt ∷ Bge ∷ Bltu ∷ Bgeu ∷
+    Lb ∷ Lh ∷ Lw ∷ Lbu ∷ Lhu ∷
+    Sb ∷ Sh ∷ Sw ∷
+    Addi ∷ Slti ∷ Sltiu ∷ Xori ∷ Ori ∷ Andi ∷
+    Slli ∷ Srli ∷ Srai ∷
+    Add ∷ Sub ∷ Sll ∷ Slt ∷ Sltu ∷ Xor ∷ Srl ∷ Sra ∷ Or ∷ And ∷
+    Fence ∷ Ecall ∷ Ebreak ∷
+    LrW ∷ ScW ∷ AmoswapW ∷ AmoaddW ∷ AmoxorW ∷ AmoandW ∷ AmoorW ∷ AmominW ∷ AmomaxW ∷ AmominuW ∷ AmomaxuW ∷ []
+
 abbrev pub form_of : Op → Form
 form_of op = (row_of op).form
 
@@ -76,3 +91,7 @@ match_of op = (row_of op).fixed
 -- the word has the operation's fixed bits
 abbrev pub Matches : ℕ → Op → Type 0
 Matches word op = bit_and word (mask_of (form_of op)) ≡ match_of op
+
+-- the same as a test
+abbrev pub is_match : ℕ → Op → Bool
+is_match word op = bit_and word (mask_of (form_of op)) == match_of op

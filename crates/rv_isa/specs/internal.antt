@@ -1,4 +1,2 @@
 -- What only the contracts of private functions cite: no reader has to believe it.
 pub mod Candidate
-pub mod Encoded
-pub mod OperandsFit

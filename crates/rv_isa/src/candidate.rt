@@ -7,7 +7,7 @@ use crate::op::Op;
 
 /// The one operation whose row the word may have: whether it has it is for the table's mask to say.
 #[inline(always)]
-pub fn candidate(word: u32) -> Op
+pub(crate) fn candidate(word: u32) -> Op
     ensures { (op : Op) → Matches word op → result ≡ op }
 {
     by_fields(word)

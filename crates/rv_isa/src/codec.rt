@@ -1,6 +1,6 @@
 ghost use Rattle.std.specs.Prelude.{◌≡◌, ◌↔◌, ◌<◌, ◌^◌, ℕ, Some, IfSome, IsSome};
 ghost use Rattle.rv_isa.specs.Decoded.{with_operands, decoded};
-ghost use Rattle.rv_isa.specs.internal.Encoded.{assembled, scattered};
+ghost use Rattle.rv_isa.specs.Encoded.{assembled, encoded, scattered};
 ghost use Rattle.rv_isa.specs.Instr.{Row, operands};
 ghost use Rattle.rv_isa.specs.Table.{Matches, form_of, match_of};
 ghost use Rattle.rv_isa.specs.declared.instr.Instr.{Instr};
@@ -53,7 +53,9 @@ fn with_operands(op: Op, word: u32) -> Instr
 }
 
 /// The word of an instruction, the one that `decode` reads as it.
+#[tactic(auto, unfolding(crate::specs::Encoded::encoded))]
 pub fn encode(instr: &Instr) -> u32
+    ensures value { result ≡ encoded instr.now }
     ensures row { Row result instr.now }
     ensures only { (w : ℕ) → w < 2 ^ 32 → Row w instr.now → result ≡ w }
 {

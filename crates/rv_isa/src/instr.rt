@@ -34,6 +34,8 @@ impl Instr {
         ensures operation { IfSome result (λ i. i.op ≡ op) }
         ensures operands { IfSome result (λ i. operands i
             ≡ record { rd = rd; rs1 = rs1; rs2 = rs2; imm = imm; aq = aq; rl = rl }) }
+        ensures only { (i : Instr) → i.op ≡ op → operands i
+            ≡ record { rd = rd; rs1 = rs1; rs2 = rs2; imm = imm; aq = aq; rl = rl } → result ≡ Some i }
     {
         let form = op.form();
         let registers = is_register(form.has_rd(), rd)

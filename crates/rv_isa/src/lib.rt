@@ -4,7 +4,7 @@
 //! Unprivileged ISA. To the layer above, `decode` and `encode` are that table.
 #![tactic(auto)]
 
-pub mod candidate;
+mod candidate;
 pub mod codec;
 pub mod form;
 pub mod instr;

@@ -28,7 +28,7 @@ const NONE: Operands = Operands {
 
 /// The operands of a word in a format.
 #[inline(always)]
-#[tactic(auto, using(crate::specs::internal::OperandsFit::operands_fit))]
+#[tactic(auto, using(crate::specs::OperandsFit::operands_fit))]
 pub(crate) fn operands_of(form: Form, word: u32) -> Operands
     ensures value { result ≡ spec.operands_of form word }
     ensures fit { IsTrue (spec.are_operands form result) }

@@ -48,6 +48,8 @@ fn word_line(alloc: Global, word: u32) -> Result<String, NoMemory>
 /// The line of a word at an address, a multiple of 4, in a listing: the statement that is assembled to the
 /// word there. It is the instruction that the word is, and `.word` where it is none, or is a FENCE that the
 /// assembly language cannot write.
+///
+/// `listed` has it with its address and digits. It is public for itself since it is what `word_at` reads back.
 #[tactic(auto, unfolding(crate::specs::Line::line))]
 pub fn line_of(alloc: Global, word: u32, address: u32) -> Result<String, NoMemory>
     ensures { IfOk result (λ text. string_bytes text ≡ spec.line word address) }

@@ -6,8 +6,9 @@ ghost use Rattle.rv_asm.specs.internal.Listed.{listed};
 
 use crate::passes::labels::Labels;
 use crate::reading::expressions::Expressions;
-use crate::reading::instruction::{aimed, load_pair, word_of};
+use crate::reading::instruction::{aimed, load_pair};
 use crate::statement::{AsmKind, Expression, Name, Statement};
+use rv_isa::codec::encode;
 use rv_isa::instr::Instr;
 use rv_isa::op::Op;
 use rv_memory::store::NoMemory;
@@ -40,14 +41,14 @@ fn value_of(labels: &Labels, expression: &Expression) -> Result<u32, AsmKind>
 fn instr_bytes(alloc: Global, instr: &Instr) -> Result<Vec<u8>, NoMemory>
     ensures { IfOk result (λ bytes. bytes.items ≡ spec.instr_bytes instr.now) }
 {
-    Ok(Vec::from_slice(alloc, &word_of(instr).to_le_bytes())?)
+    Ok(Vec::from_slice(alloc, &encode(instr).to_le_bytes())?)
 }
 
 fn pair_bytes(alloc: Global, first: &Instr, second: &Instr) -> Result<Vec<u8>, NoMemory>
     ensures { IfOk result (λ bytes. bytes.items ≡ spec.pair_bytes (first.now, second.now)) }
 {
     let mut bytes = instr_bytes(alloc, first)?;
-    bytes.extend_from_slice(&word_of(second).to_le_bytes())?;
+    bytes.extend_from_slice(&encode(second).to_le_bytes())?;
     Ok(bytes)
 }
 

@@ -4,7 +4,7 @@ ghost use Rattle.std.specs.List.{list_any};
 ghost use Rattle.rv_asm.specs.Alone as spec;
 
 use crate::reading::expressions::Expressions;
-use crate::reading::instruction::{aimed, word_of};
+use crate::reading::instruction::aimed;
 use crate::reading::keyword::{Directive, Keyword, Pseudo, keyword_of};
 use crate::reading::line::{after_colon, is_ascii, uncommented};
 use crate::reading::operand::{Operand, Operands, read_operands};
@@ -12,6 +12,7 @@ use crate::reading::shapes::both;
 use crate::reading::statements::{is_short, statement_of};
 use crate::reading::text::{Stop, cut, trimmed};
 use crate::statement::{AsmKind, Expression, Section, Statement};
+use rv_isa::codec::encode;
 use rv_isa::op::Op;
 
 fn short_alone(operand: Option<Operand<'_>>) -> Result<(), AsmKind>
@@ -93,7 +94,7 @@ fn jump_word(
         Expression::Label(_) => Err(AsmKind::LabelUnknown),
         Expression::Number(target) => {
             let instr = aimed(op, rd, rs1, rs2, address, target)?;
-            Ok(word_of(&instr))
+            Ok(encode(&instr))
         }
     }
 }
@@ -112,7 +113,7 @@ fn one_word(statement: Statement<'_>, address: u32) -> Result<u32, AsmKind>
     ensures { result ≡ spec.one_word statement.entry address }
 {
     match statement {
-        Statement::Instr(instr) => Ok(word_of(&instr)),
+        Statement::Instr(instr) => Ok(encode(&instr)),
         Statement::Jump {
             op,
             rd,
@@ -175,6 +176,8 @@ fn has_line_feed(text: &[u8]) -> bool
 /// What has no word of its own is `Word`: text with an LF, a label, a line without a statement, `la`, and
 /// `li` of a number that takes two. A label as a target is `LabelUnknown`, and any directive other than
 /// `.word` with one number is `Directive`, unless its operands are malformed.
+///
+/// No program calls it: it is public as the inverse of `line_of`, one line at a time (`laws::every_word_is_read_back`).
 #[tactic(auto, unfolding(crate::specs::Alone::word_said))]
 pub fn word_at(line: &str, address: u32) -> Result<u32, AsmKind>
     ensures { result ≡ spec.word_said line.now address }

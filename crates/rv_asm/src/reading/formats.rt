@@ -3,7 +3,7 @@ ghost use Rattle.std.specs.Prelude.{◌≡◌, pos, ◌≤ℤ◌, ◌+ℤ◌, �
 ghost use Rattle.rv_isa.specs.Table.{form_of};
 ghost use Rattle.rv_asm.specs.Faults.{both};
 ghost use Rattle.rv_asm.specs.Instruction as instructions;
-ghost use Rattle.rv_asm.specs.Reading as spec;
+ghost use Rattle.rv_asm.specs.SourceLine as spec;
 
 use crate::reading::instruction::{fields, instruction, with_number};
 use crate::reading::mnemonic::{Mnemonic, is_indexed};

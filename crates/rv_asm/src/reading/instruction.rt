@@ -3,7 +3,6 @@ ghost use Rattle.std.specs.Prelude.{◌≡◌};
 ghost use Rattle.rv_asm.specs.Instruction as spec;
 
 use crate::statement::AsmKind;
-use rv_isa::codec::encode;
 use rv_isa::instr::Instr;
 use rv_isa::op::Op;
 use rv_isa::operands::Operands;
@@ -57,13 +56,6 @@ pub(crate) fn with_number(op: Op, operands: Operands, imm: i64) -> Result<Instr,
     instruction(op, Operands { imm, ..operands })
 }
 
-/// The word of an instruction.
-pub fn word_of(instr: &Instr) -> u32
-    ensures { result ≡ spec.word_of instr.now }
-{
-    encode(instr)
-}
-
 /// How far a target is from an address, modulo 2^32 and read as signed.
 fn distance(address: u32, target: u32) -> i32
     ensures { result ≡ spec.distance address target }
@@ -72,7 +64,14 @@ fn distance(address: u32, target: u32) -> i32
 }
 
 /// The branch or jump at an address to a target, where that is in its reach.
-pub fn aimed(op: Op, rd: u8, rs1: u8, rs2: u8, address: u32, target: u32) -> Result<Instr, AsmKind>
+pub(crate) fn aimed(
+    op: Op,
+    rd: u8,
+    rs1: u8,
+    rs2: u8,
+    address: u32,
+    target: u32,
+) -> Result<Instr, AsmKind>
     ensures { result ≡ spec.instruction op (spec.fields rd rs1 rs2 (spec.distance address target)) }
 {
     instruction(op, fields(rd, rs1, rs2, distance(address, target)))
@@ -94,7 +93,7 @@ fn lower_part(bits: u32) -> i32
 }
 
 /// The two instructions that load 32 bits.
-pub fn load_pair(rd: u8, bits: u32) -> Result<(Instr, Instr), AsmKind>
+pub(crate) fn load_pair(rd: u8, bits: u32) -> Result<(Instr, Instr), AsmKind>
     ensures { result ≡ spec.load_pair rd bits }
 {
     let upper = instruction(Op::Lui, fields(rd, 0, 0, upper_part(bits)))?;

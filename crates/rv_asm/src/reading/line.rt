@@ -3,7 +3,7 @@ ghost use Rattle.std.specs.Prelude.{◌≡◌};
 ghost use Rattle.std.specs.List.{list_all};
 ghost use Rattle.std.specs.Option.{option_copied};
 ghost use Rattle.std.specs.Char.{is_ascii};
-ghost use Rattle.rv_asm.specs.Reading as spec;
+ghost use Rattle.rv_asm.specs.SourceLine as spec;
 
 use crate::reading::keyword::keyword_of;
 use crate::reading::statements::statement_of;
@@ -76,7 +76,7 @@ fn line_in(section: Section, text: &[u8]) -> Line<'_>
 }
 
 /// What a line says in a section. The line has no LF.
-pub fn read_line(section: Section, text: &[u8]) -> Line<'_>
+pub(crate) fn read_line(section: Section, text: &[u8]) -> Line<'_>
     ensures { result ≡ spec.line_said section text.now }
 {
     line_in(section, uncommented(text))

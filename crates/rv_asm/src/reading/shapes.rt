@@ -2,7 +2,7 @@
 ghost use Rattle.std.specs.Prelude.{◌≡◌, ◌≤ℤ◌, IfOk};
 ghost use Rattle.rv_asm.specs.Expressions.{bits_of};
 ghost use Rattle.rv_asm.specs.Faults as faults;
-ghost use Rattle.rv_asm.specs.Reading as spec;
+ghost use Rattle.rv_asm.specs.SourceLine as spec;
 ghost use Rattle.rv_asm.specs.Registers.{register_named};
 ghost use Rattle.rv_asm.specs.declared.statement.AsmKind.TheVariants as kind;
 
@@ -78,7 +78,7 @@ pub(crate) fn bits_of(number: i64) -> u32
 }
 
 /// A label or a number.
-#[tactic(auto, unfolding(crate::specs::Reading::expression_at))]
+#[tactic(auto, unfolding(crate::specs::SourceLine::expression_at))]
 pub(crate) fn expression_at<'s>(operand: Option<Operand<'s>>) -> Result<Expression<'s>, AsmKind>
     ensures { result ≡ spec.expression_at operand.entry }
 {
@@ -112,7 +112,7 @@ pub(crate) fn both<A: Drop, B: Drop>(
 }
 
 /// A number of these.
-#[tactic(auto, unfolding(crate::specs::Reading::within))]
+#[tactic(auto, unfolding(crate::specs::SourceLine::within))]
 pub(crate) fn within(low: i64, high: i64, number: i64) -> Result<i64, AsmKind>
     ensures value { result ≡ spec.within low high number }
     ensures low { IfOk result (λ n. low ≤ℤ n) }

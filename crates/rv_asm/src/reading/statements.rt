@@ -1,6 +1,6 @@
 //! Pseudo-instructions and directives.
 ghost use Rattle.std.specs.Prelude.{◌≡◌};
-ghost use Rattle.rv_asm.specs.Reading as spec;
+ghost use Rattle.rv_asm.specs.SourceLine as spec;
 
 use crate::reading::formats::{instr_of, numbered};
 use crate::reading::instruction::load_pair;
@@ -182,7 +182,7 @@ fn directive_of(
 }
 
 /// The statement of a keyword with the text of its operands, in a section.
-#[tactic(auto, unfolding(crate::specs::Reading::statement_of))]
+#[tactic(auto, unfolding(crate::specs::SourceLine::statement_of))]
 pub(crate) fn statement_of(
     keyword: Keyword,
     section: Section,

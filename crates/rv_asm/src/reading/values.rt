@@ -3,7 +3,7 @@ ghost use Rattle.std.specs.Prelude.{◌≡◌};
 ghost use Rattle.std.specs.List.{list_all};
 ghost use Rattle.rv_text.specs.Pieces.{pieces_of};
 ghost use Rattle.rv_asm.specs.Operand.{operand};
-ghost use Rattle.rv_asm.specs.Reading as spec;
+ghost use Rattle.rv_asm.specs.SourceLine as spec;
 
 use crate::reading::expressions::{Expressions, expression_of};
 use crate::reading::operand::{Operand, read_operand};

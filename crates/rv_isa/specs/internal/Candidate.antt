@@ -3,8 +3,8 @@ use Rattle.rv_isa.specs.Fields.{field, opcode, funct3, funct7, rs2}
 use Rattle.rv_isa.specs.declared.op.Op.{Op}
 use Rattle.rv_isa.specs.declared.op.Op.TheVariants.{Lui, Auipc, Jal, Jalr, Beq, Bne, Blt, Bge, Bltu, Bgeu, Lb, Lh, Lw, Lbu, Lhu, Sb, Sh, Sw, Addi, Slti, Sltiu, Xori, Ori, Andi, Slli, Srli, Srai, Add, Sub, Sll, Slt, Sltu, Xor, Srl, Sra, Or, And, Fence, Ecall, Ebreak, LrW, ScW, AmoswapW, AmoaddW, AmoxorW, AmoandW, AmoorW, AmominW, AmomaxW, AmominuW, AmomaxuW}
 
--- The one operation whose row a word may have, found by opcode, funct3, funct7, funct5 and rs2. That it
--- is the one, whenever there is a row, is a law of the table.
+-- The one operation whose row a word may have, found by opcode, funct3, funct7, funct5 and rs2. That no
+-- other row matches is the contract of the code's `candidate`.
 
 abbrev pub branch : ℕ → Op
 branch f3 =

@@ -1,6 +1,6 @@
 use Rattle.std.proofs.Common.{◌∙◌, ap}
 use Rattle.rv_asm.specs.Faults.{both}
-use Rattle.rv_asm.specs.Reading.{register_in}
+use Rattle.rv_asm.specs.SourceLine.{register_in}
 use Rattle.rv_asm.proofs.reading.formats.compared_and_target.Goals as goal
 
 pub returns : goal.returns

@@ -1,6 +1,6 @@
 use Rattle.std.proofs.Common.{◌<◌, length, arith}
 use Rattle.std.proofs.lemmas.Bool.Decides.{nat_tests}
-use Rattle.rv_asm.proofs.ReadingLemmas.{three_operands}
+use Rattle.rv_asm.proofs.SourceLineLemmas.{three_operands}
 use Rattle.rv_asm.proofs.reading.operand.read_operands.Goals as goal
 
 pub returns-in-None : goal.returns-in-None

@@ -2,7 +2,7 @@ use Rattle.std.proofs.Common.{◌≡◌, length}
 use Rattle.std.specs.List.{list_all}
 use Rattle.rv_text.specs.Pieces.{pieces_of}
 use Rattle.rv_asm.specs.Operand.{operand}
-use Rattle.rv_asm.specs.Reading.{is_in_range}
+use Rattle.rv_asm.specs.SourceLine.{is_in_range}
 use Rattle.rv_asm.proofs.reading.values.are_in_range.Given as goal
 
 abbrev pub invariant-loop-piece : goal.invariant-loop-piece

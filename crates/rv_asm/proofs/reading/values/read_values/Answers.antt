@@ -1,6 +1,6 @@
 use Rattle.std.proofs.Common.{sym, ◌∙◌}
 use Rattle.rv_text.specs.Pieces.{pieces_of}
-use Rattle.rv_asm.proofs.ReadingLemmas.{are_values}
+use Rattle.rv_asm.proofs.SourceLineLemmas.{are_values}
 use Rattle.rv_asm.proofs.reading.values.read_values.Goals as goal
 
 pub of-requires : goal.of-requires

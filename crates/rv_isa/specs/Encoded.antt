@@ -1,10 +1,14 @@
 use Rattle.std.specs.Prelude.{ℕ, ◌+◌, ◌*◌, ◌/◌, ◌%◌, ◌^◌, if◌then◌else◌}
 use Rattle.std.specs.Int.{cast_unsigned, w32}
+use Rattle.rv_isa.specs.Instr.{operands}
+use Rattle.rv_isa.specs.Table.{form_of, match_of}
+use Rattle.rv_isa.specs.declared.instr.Instr.{Instr}
 use Rattle.rv_isa.specs.declared.operands.Operands.{Operands}
 use Rattle.rv_isa.specs.declared.form.Form.{Form}
 use Rattle.rv_isa.specs.declared.form.Form.TheVariants.{R, I, S, B, U, J, Shift, Fence, Plain, Lr, Amo}
 
--- Each field in its place, which is how a word is written.
+-- How the word of an instruction is written: each field in its place. (RISC-V Unprivileged ISA, "Base Instruction
+-- Formats".) That it is the one word with the instruction's row is a law of the table.
 abbrev pub register_bits : Operands → ℕ
 register_bits o = o.rd * 2 ^ 7 + o.rs1 * 2 ^ 15 + o.rs2 * 2 ^ 20
 
@@ -30,3 +34,7 @@ scattered Amo bits = 0
 -- the fixed bits with the operands in their places
 abbrev pub assembled : Form → ℕ → Operands → ℕ
 assembled form fixed o = (fixed + (register_bits o + ordering_bits o) + scattered form (cast_unsigned w32 o.imm)) % 2 ^ 32
+
+-- the word of an instruction
+unfoldable pub encoded : Instr → ℕ
+encoded instr = assembled (form_of instr.op) (match_of instr.op) (operands instr)

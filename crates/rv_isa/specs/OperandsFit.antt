@@ -7,6 +7,9 @@ use Rattle.rv_isa.specs.Operands.{is_immediate, is_within, is_even, immediate_of
 use Rattle.rv_isa.specs.declared.form.Form.{Form}
 use Rattle.rv_isa.specs.declared.form.Form.TheVariants.{R, I, S, B, U, J, Shift, Fence, Plain, Lr, Amo}
 
+-- What an instruction made of a word has to have by its type: that its operands are in range. The lemmas lead to
+-- the last one, and each is proved where it stands.
+
 register_fits : (low w : ℕ) → nat_lt (fields.field low 5 w) 32 ≡ true
 register_fits low w = grind (arith, nat_tests)
 

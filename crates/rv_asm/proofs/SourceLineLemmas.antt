@@ -6,7 +6,7 @@ use Rattle.std.proofs.lemmas.Bool.{and_parts, and_from}
 use Rattle.rv_text.specs.Pieces.{pieces_of}
 use Rattle.rv_asm.specs.Expressions.{expression_of, are_expressions}
 use Rattle.rv_asm.specs.Operand.{operand, operands_of, counted}
-use Rattle.rv_asm.specs.Reading.{is_in_range}
+use Rattle.rv_asm.specs.SourceLine.{is_in_range}
 use Rattle.rv_asm.specs.declared.reading.operand.Operand.{Operand}
 use Rattle.rv_asm.specs.declared.reading.operand.Operand.TheVariants.{Name, Number, Memory, Base}
 use Rattle.rv_asm.specs.declared.reading.operand.Operands.TheVariants.{Three}
