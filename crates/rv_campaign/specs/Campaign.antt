@@ -3,6 +3,7 @@ use Rattle.std.specs.Prelude.{◌≡◌, ℕ, ◌*◌, ◌&&◌, nat_le, Option,
 use Rattle.rv_campaign.specs.Run.{Hunt, IsRun}
 use Rattle.rv_campaign.specs.declared.runs.CampaignFault.{CampaignFault}
 use Rattle.rv_campaign.specs.declared.runs.CampaignFault.TheVariants.{Runs, Workers, TooLarge}
+use Rattle.rv_campaign.specs.declared.runs.TheConstants.{MOST_RUNS, MOST_WORKERS}
 use Rattle.rv_collide.specs.Plan.{Numbers, most_entries}
 use Rattle.rv_collide.specs.declared.collider.Finished.{Finished}
 
@@ -13,8 +14,8 @@ most_of_all = 16_777_216
 -- the first test that the numbers of a campaign fail
 abbrev pub fault_of : Numbers → ℕ → ℕ → Option CampaignFault
 fault_of plan runs workers =
-    if not (nat_le 1 runs && nat_le runs 1000) then Some Runs
-    else (if not (nat_le 1 workers && nat_le workers 16) then Some Workers
+    if not (nat_le 1 runs && nat_le runs MOST_RUNS) then Some Runs
+    else (if not (nat_le 1 workers && nat_le workers MOST_WORKERS) then Some Workers
     else (if not (nat_le (runs * most_entries plan) most_of_all) then Some TooLarge else None))
 
 -- for each run's number, in order, its one run

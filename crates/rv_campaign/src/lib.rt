@@ -10,4 +10,4 @@ mod runs;
 mod tests;
 
 pub use run::run_one;
-pub use runs::{CampaignFault, campaign};
+pub use runs::{CampaignFault, MOST_RUNS, MOST_WORKERS, campaign};

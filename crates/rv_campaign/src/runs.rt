@@ -40,6 +40,12 @@ impl<T: Drop> From<AllocFailed<T>> for CampaignFault {
 /// The most entries that the runs of a campaign may have together.
 const MOST_ENTRIES: u64 = 16_777_216;
 
+/// The most runs of a campaign.
+pub const MOST_RUNS: u32 = 1000;
+
+/// The most workers of a campaign.
+pub const MOST_WORKERS: u32 = 16;
+
 /// The runs of a campaign, numbered from 0 on: of each number the one run. The runs are made one after the
 /// other, whatever the number of workers.
 pub fn campaign(
@@ -77,10 +83,10 @@ pub fn campaign(
 fn fault_of(plan: Plan, runs: u32, workers: u32) -> Option<CampaignFault>
     ensures { result ≡ fault_of (numbers plan) runs workers }
 {
-    if !(1 <= runs && runs <= 1000) {
+    if !(1 <= runs && runs <= MOST_RUNS) {
         return Some(CampaignFault::Runs);
     }
-    if !(1 <= workers && workers <= 16) {
+    if !(1 <= workers && workers <= MOST_WORKERS) {
         return Some(CampaignFault::Workers);
     }
     if u64::from(runs) * u64::from(plan.most_entries()) > MOST_ENTRIES {
