@@ -12,8 +12,8 @@ use Rattle.clap.proofs.OnLiterals.{clap_on_literals}
 use Rattle.std.proofs.lemmas.Slice.Eq.{bytes_eq-Decides}
 use Rattle.rvcollide.proofs.WordLemmas.{IsRequestOr, Requests, first_stays, held, stand, turn_is}
 use Rattle.rvcollide.specs.Command.{Asked, Words, arguments, asm_of, is_option, debug_of, list_of, replay_of, words_of}
-use Rattle.rvcollide.specs.Reading.{program}
-use Rattle.rvcollide.specs.internal.Reading.{asm_in, debug_in, list_in, replay_in}
+use Rattle.rvcollide.specs.ClapProgram.{program}
+use Rattle.rvcollide.specs.internal.FoundJob.{asm_in, debug_in, list_in, replay_in}
 
 -- the commands as `clap` builds them
 abbrev pub leaf : ℕ → Shape

@@ -17,8 +17,8 @@ use Rattle.clap.proofs.OnLiterals.{clap_on_literals}
 use Rattle.clap.proofs.WalkLemmas.{first_value-rows}
 use Rattle.rvcollide.specs.Command.{job_of}
 use Rattle.rvcollide.specs.Notice.{is_request}
-use Rattle.rvcollide.specs.Reading.{program}
-use Rattle.rvcollide.specs.internal.Reading.{job_in, job_read}
+use Rattle.rvcollide.specs.ClapProgram.{program}
+use Rattle.rvcollide.specs.internal.FoundJob.{job_in, job_read}
 use Rattle.rvcollide.proofs.LeafLemmas.{if_false}
 use Rattle.rvcollide.proofs.ReadsLine.{reads_line}
 

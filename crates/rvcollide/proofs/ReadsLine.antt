@@ -12,8 +12,8 @@ use Rattle.clap.proofs.WalkLemmas.{walk_stopped}
 use Rattle.rvcollide.proofs.WordLemmas.{Requests, first_stays, turn_is}
 use Rattle.rvcollide.proofs.LeafLemmas.{asm_leaf, asm_outcome, debug_leaf, debug_outcome, if_false, is_dashes, leaf, list_leaf, list_outcome, outcome, replay_leaf, replay_outcome, request_or, words_at, words_job, words_leaf, words_outcome}
 use Rattle.rvcollide.specs.Command.{command_job, job_of, options_job, run_of, threads_of}
-use Rattle.rvcollide.specs.Reading.{program}
-use Rattle.rvcollide.specs.internal.Reading.{asm_in, debug_in, job_in, job_read, list_in, replay_in}
+use Rattle.rvcollide.specs.ClapProgram.{program}
+use Rattle.rvcollide.specs.internal.FoundJob.{asm_in, debug_in, job_in, job_read, list_in, replay_in}
 
 abbrev Built : App
 Built = built program

@@ -12,8 +12,11 @@ use Rattle.rvcollide.proofs.LeafLemmas.{leaf}
 use Rattle.rvcollide.proofs.OptionLemmas.{Each, RowsStand, Told, image_stands, rows_stand, value_stands}
 use Rattle.rvcollide.proofs.ReadsLine.{run_rows, threads_rows}
 use Rattle.rvcollide.specs.Command.{Asked, IsGiven, options_job, run_of, threads_of}
-use Rattle.rvcollide.specs.Reading.{is_accepted, program}
+use Rattle.rvcollide.specs.ClapProgram.{is_accepted, program}
 use Rattle.rvcollide.specs.Request.{Request}
+use Rattle.rv_campaign.specs.declared.runs.TheConstants.{MOST_RUNS, MOST_WORKERS}
+use Rattle.rv_collide.specs.declared.plan.TheConstants.{MOST_ARMS, MOST_HARTS, MOST_PAUSE, MOST_STEPS}
+use Rattle.rvcollide.specs.declared.command.run.TheConstants.{MOST_KEEP, MOST_SEED}
 use Rattle.rvcollide.specs.RunLine.{Gives, GivesNumber, IsPlanGiven, IsRunGiven, request_at, keep_at, number_at, number_in, number_or, plan_at}
 
 -- ---- the arguments of `run`
@@ -131,23 +134,23 @@ module _ (words : List Text) (rows : List Row) (stand : RowsStand words rows) wh
 
   plan_given : IfSome (plan_at rows) PlanGiven
   plan_given =
-      then_holds _ PlanGiven _ (number_at (codes "harts") 1 16 rows) (number (codes "harts") 1 16 refl) (λ harts h.
-      then_holds _ PlanGiven _ (number_at (codes "steps") 1 1_000_000 rows) (number (codes "steps") 1 1_000_000 refl) (λ steps s.
-      then_holds _ PlanGiven _ (number_at (codes "arms") 0 4096 rows) (number (codes "arms") 0 4096 refl) (λ arms a.
-      map_holds _ PlanGiven _ (number_at (codes "pause") 1 65_535 rows) (number (codes "pause") 1 65_535 refl) (λ pause p.
+      then_holds _ PlanGiven _ (number_at (codes "harts") 1 MOST_HARTS rows) (number (codes "harts") 1 MOST_HARTS refl) (λ harts h.
+      then_holds _ PlanGiven _ (number_at (codes "steps") 1 MOST_STEPS rows) (number (codes "steps") 1 MOST_STEPS refl) (λ steps s.
+      then_holds _ PlanGiven _ (number_at (codes "arms") 0 MOST_ARMS rows) (number (codes "arms") 0 MOST_ARMS refl) (λ arms a.
+      map_holds _ PlanGiven _ (number_at (codes "pause") 1 MOST_PAUSE rows) (number (codes "pause") 1 MOST_PAUSE refl) (λ pause p.
       record { harts = h; steps = s; arms = a; pause = p }))))
 
   abbrev KeepGiven : ℕ → Type 0
-  KeepGiven keep = (keep ≡ 0) ⊎ GivesNumber words (codes "keep") 0 999 keep
+  KeepGiven keep = (keep ≡ 0) ⊎ GivesNumber words (codes "keep") 0 MOST_KEEP keep
 
   keep_given : (runs : ℕ) → IfSome (keep_at runs rows) (λ keep. KeepGiven keep × (keep < runs))
-  keep_given runs = then_holds KeepGiven (λ keep. KeepGiven keep × (keep < runs)) (λ keep. cond (nat_lt keep runs) (Some keep) None) (number_or 0 (codes "keep") 0 999 rows)
+  keep_given runs = then_holds KeepGiven (λ keep. KeepGiven keep × (keep < runs)) (λ keep. cond (nat_lt keep runs) (Some keep) None) (number_or 0 (codes "keep") 0 MOST_KEEP rows)
       (which (is_some (first_of (codes "keep") rows))) (λ keep given. below keep given (nat_lt keep runs) refl)
     where
-      which : (b : Bool) → IfSome (cond b (number_at (codes "keep") 0 999 rows) (Some 0)) KeepGiven
-      which true = or_zero (number_at (codes "keep") 0 999 rows) (number (codes "keep") 0 999 refl)
+      which : (b : Bool) → IfSome (cond b (number_at (codes "keep") 0 MOST_KEEP rows) (Some 0)) KeepGiven
+      which true = or_zero (number_at (codes "keep") 0 MOST_KEEP rows) (number (codes "keep") 0 MOST_KEEP refl)
         where
-          or_zero : (o : Option ℕ) → IfSome o (GivesNumber words (codes "keep") 0 999) → IfSome o KeepGiven
+          or_zero : (o : Option ℕ) → IfSome o (GivesNumber words (codes "keep") 0 MOST_KEEP) → IfSome o KeepGiven
           or_zero None is = tt
           or_zero (Some n) is = inr is
       which false = inl refl
@@ -163,9 +166,9 @@ module _ (words : List Text) (rows : List Row) (stand : RowsStand words rows) wh
   request_given : (path : Text) → Contains words path → IfSome (request_at rows) (RequestGiven path)
   request_given path stands =
       then_holds _ (RequestGiven path) _ (plan_at rows) plan_given (λ plan p.
-      then_holds _ (RequestGiven path) _ (number_at (codes "seed") 0 4_294_967_295 rows) (number (codes "seed") 0 4_294_967_295 refl) (λ seed s.
-      then_holds _ (RequestGiven path) _ (number_at (codes "runs") 1 1000 rows) (number (codes "runs") 1 1000 refl) (λ runs r.
-      then_holds _ (RequestGiven path) _ (number_at (codes "workers") 1 16 rows) (number (codes "workers") 1 16 refl) (λ workers w.
+      then_holds _ (RequestGiven path) _ (number_at (codes "seed") 0 MOST_SEED rows) (number (codes "seed") 0 MOST_SEED refl) (λ seed s.
+      then_holds _ (RequestGiven path) _ (number_at (codes "runs") 1 MOST_RUNS rows) (number (codes "runs") 1 MOST_RUNS refl) (λ runs r.
+      then_holds _ (RequestGiven path) _ (number_at (codes "workers") 1 MOST_WORKERS rows) (number (codes "workers") 1 MOST_WORKERS refl) (λ workers w.
       map_holds _ (RequestGiven path) _ (keep_at runs rows) (keep_given runs) (λ keep k.
       record {
         image = stands;
@@ -187,7 +190,7 @@ module _ (words : List Text) (rows : List Row) (stand : RowsStand words rows) wh
   threads_rows_given : (n : Text) → IfSome (threads_of rows) (IsGiven (n ∷ codes "threads" ∷ words))
   threads_rows_given n = then_holds (Contains words) Given _ (first_of (codes "IMAGE") rows) (image_stands words rows stand) (λ path image.
       then_holds PlanGiven Given _ (plan_at rows) plan_given (λ plan p.
-      map_holds _ Given _ (number_at (codes "seed") 0 4_294_967_295 rows) (number (codes "seed") 0 4_294_967_295 refl) (λ seed s.
+      map_holds _ Given _ (number_at (codes "seed") 0 MOST_SEED rows) (number (codes "seed") 0 MOST_SEED refl) (λ seed s.
       (refl, record { image = image; plan = p; seed = s; save = value (codes "save") refl }))))
     where
       Given : Asked → Type 0

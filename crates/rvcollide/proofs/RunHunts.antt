@@ -21,7 +21,7 @@ use Rattle.rvcollide.specs.Request.{Request}
 use Rattle.rvcollide.specs.Campaigns.{Campaign, campaign_of, elements, listed, skipped, unless_some}
 use Rattle.rvcollide.specs.Fault.{IsToldFault}
 use Rattle.rvcollide.specs.Images.{image_of}
-use Rattle.rvcollide.specs.RunFault.{Refusal, Plain, Campaign as Numbered, IsTold, plainly, refusal_of_campaign}
+use Rattle.rvcollide.specs.CommandFault.{Refusal, Plain, Campaign as Numbered, IsTold, plainly, refusal_of_campaign}
 use Rattle.rvcollide.specs.declared.fault.Fault.{Fault}
 use Rattle.rvcollide.specs.declared.fault.Fault.TheVariants.{Read, Write, NoMemory}
 

@@ -1,5 +1,5 @@
 -- What `run` makes of the bytes of an image and its options: the race table of a campaign, and a run's schedule.
-use Rattle.std.specs.Prelude.{ℕ, ◌+◌, Bool, false, IfSome, is_none, find, filter_map, slice_get, Option, Some, None, option_map, Result, Ok, Err, List, [], ◌∷◌, ◌++◌, map}
+use Rattle.std.specs.Prelude.{ℕ, ◌+◌, Bool, false, IfSome, IsSomeAnd, is_none, find, filter_map, slice_get, Option, Some, None, option_map, Result, Ok, Err, List, [], ◌∷◌, ◌++◌, map}
 use Rattle.std.specs.Option.{option_map_or}
 use Rattle.rv_campaign.specs.Campaign.{AreRuns, fault_of}
 use Rattle.rv_campaign.specs.Run.{Hunt}
@@ -18,7 +18,7 @@ use Rattle.rv_text.specs.Hexadecimal.{word_of}
 use Rattle.rv_text.specs.Pieces.{pieces_of}
 use Rattle.rvcollide.specs.Images.{image_of}
 use Rattle.rvcollide.specs.Request.{Request}
-use Rattle.rvcollide.specs.RunFault.{Refusal, Skip, Name, Campaign as Numbered, plainly}
+use Rattle.rvcollide.specs.CommandFault.{Refusal, Skip, Name, Campaign as Numbered, plainly}
 
 -- ---- the lists
 
@@ -75,12 +75,12 @@ abbrev pub table_of : Campaign → List Finished → List ℕ
 table_of c runs = table_text (races (told_from c.hunt.image c.listed 0 runs))
 
 -- These are the runs that the campaign has; their race table is written, and the schedule of the run that is kept
--- is saved.
+-- is saved. There is that run: a request's runs have it.
 pub record IsHunted (r : Request) (c : Campaign) (Writes Saves : List ℕ → Type 0) : Type 0 where
   pub runs : List Finished
   pub are_runs : AreRuns c.hunt r.runs runs
   pub written : Writes (table_of c runs)
-  pub saved : IfSome (slice_get runs r.keep) (λ one. Saves (schedule_text (numbers one.plan) one.entries.items))
+  pub saved : IsSomeAnd (slice_get runs r.keep) (λ one. Saves (schedule_text (numbers one.plan) one.entries.items))
 
 -- ---- a file that may be wanted
 

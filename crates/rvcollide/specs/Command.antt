@@ -4,10 +4,11 @@ use Rattle.std.specs.Str.{bytes_eq, chars}
 use Rattle.clap.specs.Words.{Row, first_of, subcommand_of}
 use Rattle.rv_collide.specs.Numbers.{numbers}
 use Rattle.rv_collide.specs.Plan.{Numbers}
-use Rattle.rvcollide.specs.Reading.{is_accepted, program}
+use Rattle.rvcollide.specs.ClapProgram.{is_accepted, program}
 use Rattle.rvcollide.specs.Request.{Request, request}
 use Rattle.rvcollide.specs.RunLine.{IsRunGiven, IsThreadsGiven, number_at, plan_at, request_at}
 use Rattle.rvcollide.specs.declared.command.Job.{Job}
+use Rattle.rvcollide.specs.declared.command.run.TheConstants.{MOST_SEED}
 use Rattle.rvcollide.specs.declared.command.Job.TheVariants as job
 
 -- Which job a command line asks for. A word is the list of its bytes.
@@ -82,7 +83,7 @@ run_of rows = option_and_then (λ image. option_map (λ wanted. Run image wanted
 -- `threads IMAGE` with its options
 abbrev pub threads_of : List Row → Option Asked
 threads_of rows = option_and_then (λ image. option_and_then (λ plan. option_map (λ seed. Threads image plan seed (first_of (codes "save") rows))
-    (number_at (codes "seed") 0 4_294_967_295 rows)) (plan_at rows)) (first_of (codes "IMAGE") rows)
+    (number_at (codes "seed") 0 MOST_SEED rows)) (plan_at rows)) (first_of (codes "IMAGE") rows)
 
 -- the job of a line whose command has options: `clap` finds no fault in it, and each number is in its range
 abbrev pub options_job : (List Row → Option Asked) → List (List ℕ) → Option Asked

@@ -1,15 +1,15 @@
 use Rattle.std.specs.Prelude.{ℕ, Bool, true, false, Option, Some, List, [], codes}
 use Rattle.std.specs.declared.io.ErrorKind.{ErrorKind}
 use Rattle.std.specs.declared.io.ErrorKind.TheVariants as kind
-use Rattle.rvcollide.specs.RunFault.{refusal_output, status}
+use Rattle.rvcollide.specs.CommandFault.{refusal_output, status}
 use Rattle.rvcollide.specs.declared.command.LineFault.{LineFault}
 use Rattle.rvcollide.specs.declared.command.LineFault.TheVariants as fault
 use Rattle.rvcollide.specs.declared.failure.Failure.{Failure}
 use Rattle.rvcollide.specs.declared.failure.Failure.TheVariants.{Line, NotText, Told}
 use Rattle.rvcollide.specs.declared.fault.Fault.{Fault}
 use Rattle.rvcollide.specs.declared.fault.Fault.TheVariants.{NoMemory, Write}
-use Rattle.rvcollide.specs.declared.run.fault.RunFault.{RunFault}
-use Rattle.rvcollide.specs.declared.run.fault.RunFault.TheVariants.{Plain}
+use Rattle.rvcollide.specs.declared.run.fault.CommandFault.{CommandFault}
+use Rattle.rvcollide.specs.declared.run.fault.CommandFault.TheVariants.{Plain}
 
 -- the exit status: 2 for a refused command line, and else the fault's
 abbrev pub status_of : Failure → ℕ
@@ -29,7 +29,7 @@ failure_output Line = Some []
 failure_output NotText = Some (codes "an argument is not UTF-8")
 failure_output (Told fault) = refusal_output fault
 
-abbrev pub told : RunFault → Failure
+abbrev pub told : CommandFault → Failure
 told fault = Told fault
 
 abbrev pub plain : Fault → Failure

@@ -1,4 +1,4 @@
-use Rattle.std.specs.Prelude.{ℕ, Option, Some, None, List, ◌++◌, codes}
+use Rattle.std.specs.Prelude.{ℕ, Option, Some, None, List, [], ◌++◌, codes}
 use Rattle.std.specs.Fmt.{decimal}
 use Rattle.rv_asm.specs.declared.statement.AsmKind.{AsmKind}
 use Rattle.rv_asm.specs.declared.statement.AsmKind.TheVariants as kind
@@ -30,8 +30,15 @@ abbrev pub threads_fault_name : ThreadsFault → List ℕ
 threads_fault_name NoThread = codes "NoThread"
 threads_fault_name Stray = codes "Stray"
 
--- what the program writes of a fault, after its own name; the names of load faults are rv_elf's, those of
--- faults of schedules and of entries rv_collide's
+-- The fixed words and the number of a fault's line, where the name behind them is another crate's: rv_elf names load
+-- faults, rv_collide those of schedules and of entries. A line counts from 1 and an entry from 0, as the fault has it.
+abbrev pub words_before : Fault → List ℕ
+words_before (Load fault) = codes "load "
+words_before (Schedule fault) = codes "schedule line " ++ (decimal fault.line ++ codes " ")
+words_before (Entry place why) = codes "replay entry " ++ (decimal place ++ codes " ")
+words_before _ = []
+
+-- what the program writes of a fault, after its own name; where the name is another crate's, it is said by `words_before`
 abbrev pub fault_output : Fault → Option (List ℕ)
 fault_output (Line number) = Some (codes "words line " ++ decimal number)
 fault_output (Step number fault) = Some (codes "words step " ++ (decimal number ++ (codes " " ++ step_fault_name fault)))

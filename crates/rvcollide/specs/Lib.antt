@@ -1,15 +1,15 @@
 pub mod Campaigns
+pub mod ClapProgram
 pub mod Command
+pub mod CommandFault
 pub mod Debug
 pub mod Failure
 pub mod Fault
 pub mod FaultText
 pub mod Images
 pub mod Notice
-pub mod Reading
 pub mod Replay
 pub mod Request
-pub mod RunFault
 pub mod RunLine
 pub mod Sources
 pub mod Threads

@@ -5,7 +5,7 @@ use Rattle.clap.specs.Words.{Text}
 use Rattle.clap.specs.Faults.{fault_of}
 use Rattle.clap.specs.declared.error.kind.ErrorKind.{ErrorKind}
 use Rattle.clap.specs.declared.error.kind.ErrorKind.TheVariants as kind
-use Rattle.rvcollide.specs.Reading.{is_accepted, program}
+use Rattle.rvcollide.specs.ClapProgram.{is_accepted, program}
 use Rattle.std.specs.Fmt.{decimal}
 use Rattle.rvcollide.specs.declared.command.complaint.Complaint.{Complaint}
 use Rattle.rvcollide.specs.declared.command.complaint.Complaint.TheVariants as complaint

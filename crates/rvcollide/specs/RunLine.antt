@@ -3,6 +3,9 @@ use Rattle.clap.specs.Words.{Row, Text, first_of}
 use Rattle.rv_collide.specs.Plan.{Numbers}
 use Rattle.rv_text.specs.Numeral.{number_of, up_to}
 use Rattle.rvcollide.specs.Request.{Request}
+use Rattle.rv_campaign.specs.declared.runs.TheConstants.{MOST_RUNS, MOST_WORKERS}
+use Rattle.rv_collide.specs.declared.plan.TheConstants.{MOST_ARMS, MOST_HARTS, MOST_PAUSE, MOST_STEPS}
+use Rattle.rvcollide.specs.declared.command.run.TheConstants.{MOST_KEEP, MOST_SEED}
 
 -- The options of `run` and `threads`: what each value means, and that it stands in the line.
 
@@ -22,23 +25,23 @@ abbrev pub plan_at : List Row → Option Numbers
 plan_at rows =
     option_and_then (λ harts. option_and_then (λ steps. option_and_then (λ arms. option_map (λ pause.
     record { harts = harts; steps = steps; arms = arms; pause = pause })
-    (number_at (codes "pause") 1 65_535 rows))
-    (number_at (codes "arms") 0 4096 rows))
-    (number_at (codes "steps") 1 1_000_000 rows))
-    (number_at (codes "harts") 1 16 rows)
+    (number_at (codes "pause") 1 MOST_PAUSE rows))
+    (number_at (codes "arms") 0 MOST_ARMS rows))
+    (number_at (codes "steps") 1 MOST_STEPS rows))
+    (number_at (codes "harts") 1 MOST_HARTS rows)
 
 -- the run whose schedule is saved: one of those that there are
 abbrev pub keep_at : ℕ → List Row → Option ℕ
-keep_at runs rows = option_and_then (λ keep. if nat_lt keep runs then Some keep else None) (number_or 0 (codes "keep") 0 999 rows)
+keep_at runs rows = option_and_then (λ keep. if nat_lt keep runs then Some keep else None) (number_or 0 (codes "keep") 0 MOST_KEEP rows)
 
 abbrev pub request_at : List Row → Option Request
 request_at rows =
     option_and_then (λ plan. option_and_then (λ seed. option_and_then (λ runs. option_and_then (λ workers. option_map (λ keep.
     record { plan = plan; seed = seed; runs = runs; workers = workers; named = first_of (codes "named") rows; skip = first_of (codes "skip") rows; keep = keep })
     (keep_at runs rows))
-    (number_at (codes "workers") 1 16 rows))
-    (number_at (codes "runs") 1 1000 rows))
-    (number_at (codes "seed") 0 4_294_967_295 rows))
+    (number_at (codes "workers") 1 MOST_WORKERS rows))
+    (number_at (codes "runs") 1 MOST_RUNS rows))
+    (number_at (codes "seed") 0 MOST_SEED rows))
     (plan_at rows)
 
 -- ---- what the words after the command's name hold
@@ -58,19 +61,19 @@ pub record GivesNumber (words : List Text) (name : Text) (least most n : ℕ) : 
 
 -- each number of the plan stands in the words
 pub record IsPlanGiven (words : List Text) (plan : Numbers) : Type 0 where
-  pub harts : GivesNumber words (codes "harts") 1 16 plan.harts
-  pub steps : GivesNumber words (codes "steps") 1 1_000_000 plan.steps
-  pub arms : GivesNumber words (codes "arms") 0 4096 plan.arms
-  pub pause : GivesNumber words (codes "pause") 1 65_535 plan.pause
+  pub harts : GivesNumber words (codes "harts") 1 MOST_HARTS plan.harts
+  pub steps : GivesNumber words (codes "steps") 1 MOST_STEPS plan.steps
+  pub arms : GivesNumber words (codes "arms") 0 MOST_ARMS plan.arms
+  pub pause : GivesNumber words (codes "pause") 1 MOST_PAUSE plan.pause
 
 -- each option of `run` stands in the words
 pub record IsRunGiven (words : List Text) (path : Text) (wanted : Request) (saved : Option Text) : Type 0 where
   pub image : Contains words path
   pub plan : IsPlanGiven words wanted.plan
-  pub seed : GivesNumber words (codes "seed") 0 4_294_967_295 wanted.seed
-  pub runs : GivesNumber words (codes "runs") 1 1000 wanted.runs
-  pub workers : GivesNumber words (codes "workers") 1 16 wanted.workers
-  pub keep : (wanted.keep ≡ 0) ⊎ GivesNumber words (codes "keep") 0 999 wanted.keep
+  pub seed : GivesNumber words (codes "seed") 0 MOST_SEED wanted.seed
+  pub runs : GivesNumber words (codes "runs") 1 MOST_RUNS wanted.runs
+  pub workers : GivesNumber words (codes "workers") 1 MOST_WORKERS wanted.workers
+  pub keep : (wanted.keep ≡ 0) ⊎ GivesNumber words (codes "keep") 0 MOST_KEEP wanted.keep
   pub keep_is_run : wanted.keep < wanted.runs
   pub named : IfSome wanted.named (Gives words (codes "named"))
   pub skip : IfSome wanted.skip (Gives words (codes "skip"))
@@ -80,5 +83,5 @@ pub record IsRunGiven (words : List Text) (path : Text) (wanted : Request) (save
 pub record IsThreadsGiven (words : List Text) (path : Text) (numbers : Numbers) (number : ℕ) (saved : Option Text) : Type 0 where
   pub image : Contains words path
   pub plan : IsPlanGiven words numbers
-  pub seed : GivesNumber words (codes "seed") 0 4_294_967_295 number
+  pub seed : GivesNumber words (codes "seed") 0 MOST_SEED number
   pub save : IfSome saved (Gives words (codes "save"))

@@ -1,5 +1,5 @@
 -- What `threads` writes of the bytes of an image: the endings and the turns of a run by threads, and its schedule.
-use Rattle.std.specs.Prelude.{⊤, ℕ, List}
+use Rattle.std.specs.Prelude.{ℕ, IsOk, List}
 use Rattle.rv_collide.specs.Grammar.{schedule_text}
 use Rattle.rv_collide.specs.Numbers.{numbers}
 use Rattle.rv_collide.specs.Plan.{Numbers}
@@ -20,7 +20,7 @@ pub record IsRunByThreads (image : Contents) (plan : Numbers) (seed : ℕ) (Writ
   pub written : Writes (finished_text told)
   pub saved : Saves (schedule_text (numbers told.plan) told.entries.items)
 
--- The fault is the one that is told of an image; that its threads are refused says nothing of it.
+-- The fault is the one that is told of an image; threads are refused only where there is an image to run.
 abbrev pub IsThreadsRefusal : List ℕ → Fault → Type 0
-IsThreadsRefusal bytes (Threads fault) = ⊤
+IsThreadsRefusal bytes (Threads fault) = IsOk (image_of bytes)
 IsThreadsRefusal bytes fault = IsToldFault (image_of bytes) fault

@@ -11,20 +11,20 @@ ghost use Rattle.clap.specs.Values.{kind_of};
 ghost use Rattle.clap.specs.Walk.{first_of, rows_of};
 ghost use Rattle.rvcollide.specs.Command as spec;
 ghost use Rattle.rvcollide.specs.Notice as notice;
-ghost use Rattle.rvcollide.specs.Reading as reading;
-ghost use Rattle.rvcollide.specs.internal.Reading as jobs;
+ghost use Rattle.rvcollide.specs.ClapProgram as known;
+ghost use Rattle.rvcollide.specs.internal.FoundJob as jobs;
 
+pub mod commands;
 pub mod complaint;
 pub mod run;
 pub mod subcommand;
-pub mod table;
 pub mod threads;
 
 use crate::arguments::{ImagePath, SavePath, SchedulePath, SourcePath};
+use crate::command::commands::COMMANDS;
 use crate::command::complaint::Complaint;
 use crate::command::run::run_of;
 use crate::command::subcommand::with_subcommands;
-use crate::command::table::COMMANDS;
 use crate::command::threads::threads_of;
 use crate::run::options::Options;
 use clap::error::ErrorKind;
@@ -161,15 +161,15 @@ fn read_line<'a>(alloc: Global, words: &'a [&'a str]) -> Result<ArgMatches<'a>, 
     ensures job { MatchResult result
         (λ m. option_and_then jobs.job_in (subcommand_rows_of m) ≡ spec.job_of (spec.texts words.entry.now))
         (λ e. (kind_of e ≡ ErrorKind.OutOfMemory) ⊎ (spec.job_of (spec.texts words.entry.now) ≡ None)) }
-    ensures rows { IfOk result (λ m. subcommand_rows_of m ≡ subcommand_of reading.program (spec.texts words.entry.now)) }
-    ensures kinds { FailsBy (fault_of reading.program (spec.texts words.entry.now)) result }
+    ensures rows { IfOk result (λ m. subcommand_rows_of m ≡ subcommand_of known.program (spec.texts words.entry.now)) }
+    ensures kinds { FailsBy (fault_of known.program (spec.texts words.entry.now)) result }
 {
     program(alloc)?.try_get_matches_from(words)
 }
 
 /// The program with all its commands.
 fn program<'a>(alloc: Global) -> Result<Command<'a>, AllocError>
-    ensures { IfOk result (λ c. app_of c ≡ reading.program) }
+    ensures { IfOk result (λ c. app_of c ≡ known.program) }
 {
     let program = Command::new(alloc, "rvcollide")
         .version("0.1.0")

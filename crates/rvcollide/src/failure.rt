@@ -4,7 +4,7 @@ ghost use Rattle.rvcollide.specs.Failure as spec;
 
 use crate::command::LineFault;
 use crate::fault::Fault;
-use crate::run::fault::RunFault;
+use crate::run::fault::CommandFault;
 use std::alloc::AllocError;
 use std::{fmt, io};
 
@@ -16,7 +16,7 @@ pub enum Failure<'a> {
     /// An argument is not UTF-8, and so the command line is refused.
     NotText,
     /// A fault that is told in one line.
-    Told(RunFault<'a>),
+    Told(CommandFault<'a>),
 }
 
 impl Failure<'_> {
@@ -58,14 +58,14 @@ impl<'a> From<Fault> for Failure<'a> {
     ghost from_gives = { λ fault made. made ≡ spec.plain fault };
 
     fn from(fault: Fault) -> Failure<'a> {
-        Failure::Told(RunFault::Plain(fault))
+        Failure::Told(CommandFault::Plain(fault))
     }
 }
 
-impl<'a> From<RunFault<'a>> for Failure<'a> {
+impl<'a> From<CommandFault<'a>> for Failure<'a> {
     ghost from_gives = { λ fault made. made ≡ spec.told fault };
 
-    fn from(fault: RunFault<'a>) -> Failure<'a> {
+    fn from(fault: CommandFault<'a>) -> Failure<'a> {
         Failure::Told(fault)
     }
 }
@@ -74,7 +74,7 @@ impl<'a> From<AllocError> for Failure<'a> {
     ghost from_gives = { λ _ made. made ≡ spec.memory };
 
     fn from(_: AllocError) -> Failure<'a> {
-        Failure::Told(RunFault::Plain(Fault::NoMemory))
+        Failure::Told(CommandFault::Plain(Fault::NoMemory))
     }
 }
 
@@ -84,7 +84,7 @@ impl<'a> From<LineFault> for Failure<'a> {
     fn from(fault: LineFault) -> Failure<'a> {
         match fault {
             LineFault::Line => Failure::Line,
-            LineFault::NoMemory => Failure::Told(RunFault::Plain(Fault::NoMemory)),
+            LineFault::NoMemory => Failure::Told(CommandFault::Plain(Fault::NoMemory)),
         }
     }
 }
@@ -96,9 +96,9 @@ impl<'a> From<io::Error> for Failure<'a> {
 
     fn from(error: io::Error) -> Failure<'a> {
         match error.kind() {
-            io::ErrorKind::OutOfMemory => Failure::Told(RunFault::Plain(Fault::NoMemory)),
+            io::ErrorKind::OutOfMemory => Failure::Told(CommandFault::Plain(Fault::NoMemory)),
             io::ErrorKind::InvalidData => Failure::NotText,
-            _ => Failure::Told(RunFault::Plain(Fault::Write)),
+            _ => Failure::Told(CommandFault::Plain(Fault::Write)),
         }
     }
 }

@@ -1,4 +1,4 @@
-ghost use Rattle.std.specs.Prelude.{◌≡◌};
+ghost use Rattle.std.specs.Prelude.{◌≡◌, ◌++◌, option_map};
 ghost use Rattle.rvcollide.specs.FaultText as spec;
 ghost use Rattle.rvcollide.specs.Fault.{fault_of_asm, fault_of_list, fault_of_load, fault_of_read, fault_of_replay, fault_of_schedule, fault_of_talk, fault_of_threads, fault_of_words};
 ghost use Rattle.rvcollide.specs.declared.fault.Fault.TheVariants as fault;
@@ -191,6 +191,27 @@ impl From<NoMemory> for Fault {
     }
 }
 
+/// The line of a fault whose name is another crate's: the fixed words, the number and the name.
+#[derive(Drop)]
+struct Named<'a, N> {
+    fault: &'a Fault,
+    name: &'a N,
+}
+
+impl<N: fmt::Display> fmt::Display for Named<'_, N> {
+    ghost output = { λ line. option_map (λ name. spec.words_before line.fault.now ++ name) (N.output line.name.now) };
+
+    fn fmt<W: fmt::Write>(&self, f: &mut fmt::Formatter<W>) -> fmt::Result {
+        let name = self.name;
+        match self.fault {
+            Fault::Load(_) => write!(f, "load {name}"),
+            Fault::Schedule(fault) => write!(f, "schedule line {} {name}", fault.line),
+            Fault::Entry { place, .. } => write!(f, "replay entry {place} {name}"),
+            _ => write!(f, "{name}"),
+        }
+    }
+}
+
 /// The fault's text, after the program's name.
 impl fmt::Display for Fault {
     ghost output = { λ told. spec.fault_output told };
@@ -204,9 +225,12 @@ impl fmt::Display for Fault {
             Fault::Asm(fault) => {
                 write!(f, "asm line {} {}", fault.line, asm_fault_name(fault.kind))
             }
-            Fault::Load(fault) => write!(f, "load {fault}"),
-            Fault::Schedule(fault) => write!(f, "schedule line {} {}", fault.line, fault.kind),
-            Fault::Entry { place, why } => write!(f, "replay entry {place} {why}"),
+            Fault::Load(name) => write!(f, "{}", Named { fault: self, name }),
+            Fault::Schedule(fault) => {
+                let name = &fault.kind;
+                write!(f, "{}", Named { fault: self, name })
+            }
+            Fault::Entry { why: name, .. } => write!(f, "{}", Named { fault: self, name }),
             Fault::Threads(fault) => write!(f, "run {}", threads_fault_name(*fault)),
             Fault::TooLong => f.write_str("input TooLong"),
             Fault::Read => f.write_str("read"),

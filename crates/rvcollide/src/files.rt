@@ -1,5 +1,7 @@
 //! Files of the system, by their paths.
-ghost use Rattle.std.specs.Prelude.{◌≡◌, ◌||◌, false, is_err};
+ghost use Rattle.std.specs.Prelude.{◌≡◌, ◌||◌, true, false, is_err, is_some, OnOk, option_and_then};
+ghost use Rattle.std.specs.Io.KnownBytes.{ReadConsumes};
+ghost use Rattle.std.specs.Io.{ReadsAtMost};
 
 use crate::new_file::NewFile;
 use rv_memory::flagged::{Flagged, WriteFault, flush, write_whole};
@@ -27,7 +29,16 @@ impl<'a, R: Files> InputFile<'a, R> {
 }
 
 impl<R: Files> Read for InputFile<'_, R> {
-    fn read(&mut self, buf: &mut [u8]) -> io::Result<usize> {
+    // What an open file will give is what its next read gives: the file is not opened anew.
+    ghost remaining = { λ input. option_and_then R.File.remaining input.file };
+
+    fn read(&mut self, buf: &mut [u8]) -> io::Result<usize>
+        ensures bound { ReadsAtMost result buf.new }
+        ensures bytes { ReadConsumes (option_and_then R.File.remaining self.old.file)
+            (option_and_then R.File.remaining self.new.file) result buf.new }
+        ensures kept { OnOk result (is_some self.new.file ≡ true) }
+        ensures open { is_some self.old.file ≡ true → is_some self.new.file ≡ true }
+    {
         if let Some(file) = &mut self.file {
             return file.read(buf);
         }

@@ -4,6 +4,10 @@
 //! Each engine writes the text that `specs/` states of the bytes that it reads, and nothing else.
 #![tactic(auto)]
 
+ghost use Rattle.std.specs.Prelude.{◌≡◌};
+ghost use Rattle.std.specs.Process.{exit_status};
+ghost use Rattle.rvcollide.specs.Failure.{status_of};
+
 pub mod arguments;
 pub mod asm;
 pub mod command;
@@ -31,7 +35,7 @@ use crate::files::{InputFile, OutputFile};
 use crate::list::run_list;
 use crate::replay::engine::run_replay;
 use crate::run::engine::run_campaign;
-use crate::run::fault::RunFault;
+use crate::run::fault::CommandFault;
 use crate::run::options::Options;
 use crate::threads::engine::run_by_threads;
 use crate::words::engine::run_words;
@@ -64,7 +68,9 @@ fn run_arguments(
 }
 
 /// Tells a failure, unless that was done, and gives its exit status.
-fn tell_failure(rt: &HostRuntime, failure: Failure<'_>) -> ExitCode {
+fn tell_failure(rt: &HostRuntime, failure: Failure<'_>) -> ExitCode
+    ensures { exit_status result ≡ status_of failure.entry }
+{
     if !failure.is_told() {
         // Where the standard error fails there is nothing left to tell it to.
         let _ = eprintln!(rt; "rvcollide: {failure}");
@@ -90,7 +96,7 @@ fn run_job<'a>(
     rt: &HostRuntime,
     threads: &(impl Threads + Wait + Sync),
     job: Job<'a>,
-) -> Result<(), RunFault<'a>> {
+) -> Result<(), CommandFault<'a>> {
     let alloc = rt.alloc();
     let mut writer = Buffered::new(alloc, rt.stdout());
     let plain = match job {
@@ -157,7 +163,7 @@ fn run_files<'a>(
     image: ImagePath<'_>,
     options: &Options<'a>,
     save: Option<SavePath<'_>>,
-) -> Result<(), RunFault<'a>> {
+) -> Result<(), CommandFault<'a>> {
     let alloc = rt.alloc();
     let mut image = Flagged::new(InputFile::new(rt, image.0));
     let mut file = save.map(|path| OutputFile::new(rt, path.0));

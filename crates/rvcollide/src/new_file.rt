@@ -1,5 +1,5 @@
 //! Files that a command makes.
-ghost use Rattle.std.specs.Prelude.{◌≡◌, ◌||◌, is_err, OnOk};
+ghost use Rattle.std.specs.Prelude.{◌≡◌, ◌||◌, true, is_err, OnOk};
 
 use rv_memory::flagged::WriteFault;
 
@@ -18,6 +18,7 @@ pub trait NewFile {
 
     /// Makes the file, with these bytes.
     fn make(&mut self, bytes: &[u8]) -> Result<(), WriteFault>
+        ensures made { is_made self.new ≡ true }
         ensures ok { OnOk result (Holds self.new bytes.now) }
         ensures failed { has_failed self.new ≡ (has_failed self.old || is_err result) };
 }

@@ -1,5 +1,5 @@
 //! The options of the command `run` in what `clap` finds.
-ghost use Rattle.std.specs.Prelude.{◌≡◌, ◌≤◌, IfOk, MatchResult, Some, None, option_map, codes};
+ghost use Rattle.std.specs.Prelude.{◌≡◌, ◌≤◌, ◌<◌, IfOk, MatchResult, Some, None, option_map, codes};
 ghost use Rattle.clap.specs.Matches.{found_of};
 ghost use Rattle.clap.specs.Walk.{first_of, rows_of};
 ghost use Rattle.rv_collide.specs.Numbers.{numbers};
@@ -12,55 +12,62 @@ use super::{Job, text_of};
 use crate::arguments::{ImagePath, SavePath};
 use crate::run::options::Options;
 use clap::ArgMatches;
-use rv_collide::plan::Plan;
+use rv_campaign::{MOST_RUNS, MOST_WORKERS};
+use rv_collide::plan::{MOST_ARMS, MOST_HARTS, MOST_PAUSE, MOST_STEPS, Plan};
 use rv_text::numeral::read_number;
+
+/// The greatest number of a run, which a campaign of the most runs has.
+pub const MOST_KEEP: u32 = MOST_RUNS - 1;
+
+/// The greatest seed.
+pub const MOST_SEED: u32 = 4_294_967_295;
 
 pub const HARTS: NumberOption = NumberOption {
     name: "harts",
     least: 1,
-    most: 16,
+    most: MOST_HARTS as u32,
 };
 
 pub const STEPS: NumberOption = NumberOption {
     name: "steps",
     least: 1,
-    most: 1_000_000,
+    most: MOST_STEPS,
 };
 
 pub const ARMS: NumberOption = NumberOption {
     name: "arms",
     least: 0,
-    most: 4096,
+    most: MOST_ARMS,
 };
 
 pub const PAUSE: NumberOption = NumberOption {
     name: "pause",
     least: 1,
-    most: 65_535,
+    most: MOST_PAUSE,
 };
 
 pub const SEED: NumberOption = NumberOption {
     name: "seed",
     least: 0,
-    most: 4_294_967_295,
+    most: MOST_SEED,
 };
 
 pub const RUNS: NumberOption = NumberOption {
     name: "runs",
     least: 1,
-    most: 1000,
+    most: MOST_RUNS,
 };
 
 pub const WORKERS: NumberOption = NumberOption {
     name: "workers",
     least: 1,
-    most: 16,
+    most: MOST_WORKERS,
 };
 
 pub const KEEP: NumberOption = NumberOption {
     name: "keep",
     least: 0,
-    most: 999,
+    most: MOST_KEEP,
 };
 
 /// `run` with its options.
@@ -124,8 +131,9 @@ pub fn plan_of<'a>(given: &ArgMatches<'a>) -> Result<Plan, Complaint<'a>>
 /// The run whose schedule is saved.
 fn keep_of<'a>(given: &ArgMatches<'a>, runs: u32) -> Result<u32, Complaint<'a>>
     requires { 1 ≤ runs }
-    ensures { MatchResult result (λ keep. line.keep_at runs (rows_of (found_of given.now)) ≡ Some keep)
+    ensures keep { MatchResult result (λ keep. line.keep_at runs (rows_of (found_of given.now)) ≡ Some keep)
         (λ _. line.keep_at runs (rows_of (found_of given.now)) ≡ None) }
+    ensures run { IfOk result (λ keep. keep < runs) }
 {
     let Some(value) = text_of(given, KEEP.name) else {
         // There is a run at least.

@@ -3,8 +3,8 @@ ghost use Rattle.std.specs.Prelude.{◌≡◌, IfOk, false, fold};
 ghost use Rattle.clap.specs.Simple.{app_of, shape_of};
 ghost use Rattle.clap.specs.Walk.{rule_of};
 ghost use Rattle.clap.specs.declared.builder.command.Command.TheViews.{out-Command as fields_of};
-ghost use Rattle.rvcollide.specs.Reading as reading;
-ghost use Rattle.rvcollide.specs.internal.Table as table;
+ghost use Rattle.rvcollide.specs.ClapProgram as known;
+ghost use Rattle.rvcollide.specs.internal.Commands as commands;
 
 use clap::{Arg, Command};
 use std::alloc::{AllocError, Global};
@@ -41,7 +41,7 @@ pub struct Subcommand {
 
 impl Argument {
     fn arg<'a>(self, alloc: Global) -> Arg<'a>
-        ensures rule { rule_of result ≡ table.rule self }
+        ensures rule { rule_of result ≡ commands.rule self }
         ensures local { result.global ≡ false }
     {
         match self {
@@ -54,7 +54,7 @@ impl Argument {
 
 /// An option `--name VALUE`.
 fn option<'a>(alloc: Global, name: &'a str, value: &'a str, help: &'a str) -> Arg<'a>
-    ensures rule { rule_of result ≡ reading.option name.entry.now }
+    ensures rule { rule_of result ≡ known.option name.entry.now }
     ensures local { result.global ≡ false }
 {
     Arg::new(alloc, name)
@@ -65,7 +65,7 @@ fn option<'a>(alloc: Global, name: &'a str, value: &'a str, help: &'a str) -> Ar
 
 impl Subcommand {
     fn command<'a>(self, alloc: Global) -> Result<Command<'a>, AllocError>
-        ensures { IfOk result (λ c. (shape_of c ≡ table.shape self) × ((fields_of c).has_globals ≡ false)) }
+        ensures { IfOk result (λ c. (shape_of c ≡ commands.shape self) × ((fields_of c).has_globals ≡ false)) }
     {
         let command = Command::new(alloc, self.name).about(self.about);
         let command = match self.after {
@@ -83,7 +83,7 @@ fn with_arguments<'a>(
     command: Command<'a>,
     arguments: &[Argument],
 ) -> Result<Command<'a>, AllocError>
-    ensures shape { IfOk result (λ c. shape_of c ≡ fold table.with_argument (shape_of command.entry) arguments.now) }
+    ensures shape { IfOk result (λ c. shape_of c ≡ fold commands.with_argument (shape_of command.entry) arguments.now) }
     ensures local { IfOk result (λ c. (fields_of c).has_globals ≡ (fields_of command.entry).has_globals) }
 {
     let mut command = command;
@@ -99,7 +99,7 @@ fn with_argument<'a>(
     command: Command<'a>,
     argument: Argument,
 ) -> Result<Command<'a>, AllocError>
-    ensures shape { IfOk result (λ c. shape_of c ≡ table.with_argument (shape_of command.entry) argument) }
+    ensures shape { IfOk result (λ c. shape_of c ≡ commands.with_argument (shape_of command.entry) argument) }
     ensures local { IfOk result (λ c. (fields_of c).has_globals ≡ (fields_of command.entry).has_globals) }
 {
     command.arg(argument.arg(alloc))
@@ -112,7 +112,7 @@ pub fn with_subcommands<'a>(
     program: Command<'a>,
     subcommands: &[Subcommand],
 ) -> Result<Command<'a>, AllocError>
-    ensures { IfOk result (λ c. app_of c ≡ fold table.with_subcommand (app_of program.entry) subcommands.now) }
+    ensures { IfOk result (λ c. app_of c ≡ fold commands.with_subcommand (app_of program.entry) subcommands.now) }
 {
     let mut program = program;
     for subcommand in subcommands {
@@ -127,7 +127,7 @@ fn with_subcommand<'a>(
     program: Command<'a>,
     subcommand: Subcommand,
 ) -> Result<Command<'a>, AllocError>
-    ensures { IfOk result (λ c. app_of c ≡ table.with_subcommand (app_of program.entry) subcommand) }
+    ensures { IfOk result (λ c. app_of c ≡ commands.with_subcommand (app_of program.entry) subcommand) }
 {
     program.subcommand(subcommand.command(alloc)?)
 }

@@ -1,5 +1,5 @@
 //! The engine of `run`: an image in, a race table and a schedule out.
-ghost use Rattle.std.specs.Prelude.{◌≡◌, ◌||◌, ◌⊎◌, true, false, All, IfErr, IfSome, OnOk, IsOkAnd, slice_get};
+ghost use Rattle.std.specs.Prelude.{◌≡◌, ◌<◌, ◌||◌, ◌⊎◌, true, false, All, IfErr, IfSome, IsSomeAnd, OnOk, IsOkAnd, is_some, length, slice_get};
 ghost use Rattle.std.specs.Io.KnownBytes.{Appends, Keeps};
 ghost use Rattle.rv_collide.specs.Grammar.{IsWritable, schedule_text};
 ghost use Rattle.rv_collide.specs.Numbers.{numbers};
@@ -10,11 +10,11 @@ ghost use Rattle.rv_report.specs.TableText.{table_text};
 ghost use Rattle.rvcollide.specs.Campaigns as spec;
 ghost use Rattle.rvcollide.specs.Fault as plain;
 ghost use Rattle.rvcollide.specs.Request.{request};
-ghost use Rattle.rvcollide.specs.RunFault.{IsTold, refusal, fails_by, is_read, is_write};
+ghost use Rattle.rvcollide.specs.CommandFault.{IsTold, refusal, fails_by, is_read, is_write};
 
 use crate::fault::Fault;
 use crate::new_file::NewFile;
-use crate::run::fault::RunFault;
+use crate::run::fault::CommandFault;
 use crate::run::hunting::{Hunted, hunt};
 use crate::run::options::Options;
 use crate::run::saving::save_run;
@@ -33,9 +33,11 @@ fn publish<F: NewFile, W: Write>(
     save: &mut Option<F>,
     writer: &mut Buffered<W>,
 ) -> Result<(), Fault>
-    requires { All (λ (run : Finished). IsWritable (numbers run.plan) run.entries.items) hunted.now.runs.items }
-    ensures saved { OnOk result (IfSome (slice_get hunted.now.runs.items keep) (λ run.
+    requires writable { All (λ (run : Finished). IsWritable (numbers run.plan) run.entries.items) hunted.now.runs.items }
+    requires run { keep < length hunted.now.runs.items }
+    ensures saved { OnOk result (IsSomeAnd (slice_get hunted.now.runs.items keep) (λ run.
         spec.IfWanted F.Holds save.new (schedule_text (numbers run.plan) run.entries.items))) }
+    ensures wanted { is_some save.new ≡ is_some save.old }
     ensures table { OnOk result (Appends (buffer.written W.contents writer.old) (buffer.sent W.contents writer.new)
         (table_text hunted.now.table)) }
     ensures refused { IfErr result (λ fault. (fault ≡ Fault.Write) ⊎ (fault ≡ Fault.NoMemory)) }
@@ -65,12 +67,13 @@ pub fn run_campaign<'a, R: Read, F: NewFile, W: Write>(
     image: &mut Flagged<R>,
     save: &mut Option<F>,
     writer: &mut Buffered<W>,
-) -> Result<(), RunFault<'a>>
+) -> Result<(), CommandFault<'a>>
     ensures table { OnOk result (IfSome (R.remaining (flag.device image.old)) (λ bytes.
         IsOkAnd (spec.campaign_of (request options.now) bytes) (λ c.
         spec.IsHunted (request options.now) c
         (Appends (buffer.written W.contents writer.old) (buffer.sent W.contents writer.new))
         (spec.IfWanted F.Holds save.new)))) }
+    ensures wanted { is_some save.new ≡ is_some save.old }
     ensures refused { IfErr result (λ fault. IfSome (R.remaining (flag.device image.old)) (λ bytes.
         IsTold (spec.campaign_of (request options.now) bytes) (refusal fault))) }
     ensures nothing { IfErr result (λ fault. is_write (refusal fault) ≡ false
@@ -86,6 +89,6 @@ pub fn run_campaign<'a, R: Read, F: NewFile, W: Write>(
     let hunted = hunt(rt, alloc, options, image)?;
     match publish(alloc, &hunted, options.keep, save, writer) {
         Ok(()) => Ok(()),
-        Err(fault) => Err(RunFault::from(fault)),
+        Err(fault) => Err(CommandFault::from(fault)),
     }
 }

@@ -1,6 +1,6 @@
 //! Why `run` does not write its table.
 ghost use Rattle.std.specs.Prelude.{◌≡◌};
-ghost use Rattle.rvcollide.specs.RunFault as spec;
+ghost use Rattle.rvcollide.specs.CommandFault as spec;
 ghost use Rattle.rvcollide.specs.declared.fault.Fault.TheVariants as fault;
 
 use crate::fault::Fault;
@@ -12,7 +12,7 @@ use std::fmt;
 
 /// Why `run`, or another command, does not write its text. A text of a list stays where the command line has it.
 #[derive(Clone, Copy, Debug, PartialEq, Eq)]
-pub enum RunFault<'a> {
+pub enum CommandFault<'a> {
     /// A fault that any command may tell.
     Plain(Fault),
     /// The first element of the list of addresses that is not eight hexadecimal digits.
@@ -23,71 +23,73 @@ pub enum RunFault<'a> {
     Campaign(CampaignFault),
 }
 
-impl RunFault<'_> {
+impl CommandFault<'_> {
     /// The exit status of a program that tells the fault.
     pub fn status(self) -> u8
         ensures { result ≡ spec.status self.entry }
     {
         match self {
-            RunFault::Plain(fault) => fault.status(),
-            RunFault::Skip(_) | RunFault::Name(_) | RunFault::Campaign(_) => 1,
+            CommandFault::Plain(fault) => fault.status(),
+            CommandFault::Skip(_) | CommandFault::Name(_) | CommandFault::Campaign(_) => 1,
         }
     }
 }
 
-impl<'a> From<Fault> for RunFault<'a> {
+impl<'a> From<Fault> for CommandFault<'a> {
     ghost from_gives = { λ given made. spec.refusal made ≡ spec.Plain given };
 
-    fn from(given: Fault) -> RunFault<'a> {
-        RunFault::Plain(given)
+    fn from(given: Fault) -> CommandFault<'a> {
+        CommandFault::Plain(given)
     }
 }
 
-impl<'a> From<CampaignFault> for RunFault<'a> {
+impl<'a> From<CampaignFault> for CommandFault<'a> {
     ghost from_gives = { λ given made. spec.refusal made ≡ spec.refusal_of_campaign given };
 
-    fn from(given: CampaignFault) -> RunFault<'a> {
+    fn from(given: CampaignFault) -> CommandFault<'a> {
         match given {
-            CampaignFault::NoMemory => RunFault::Plain(Fault::NoMemory),
-            _ => RunFault::Campaign(given),
+            CampaignFault::NoMemory => CommandFault::Plain(Fault::NoMemory),
+            _ => CommandFault::Campaign(given),
         }
     }
 }
 
-impl<'a> From<NoMemory> for RunFault<'a> {
+impl<'a> From<NoMemory> for CommandFault<'a> {
     ghost from_gives = { λ _ made. spec.refusal made ≡ spec.Plain fault.NoMemory };
 
-    fn from(_: NoMemory) -> RunFault<'a> {
-        RunFault::Plain(Fault::NoMemory)
+    fn from(_: NoMemory) -> CommandFault<'a> {
+        CommandFault::Plain(Fault::NoMemory)
     }
 }
 
-impl<'a> From<AllocError> for RunFault<'a> {
+impl<'a> From<AllocError> for CommandFault<'a> {
     ghost from_gives = { λ _ made. spec.refusal made ≡ spec.Plain fault.NoMemory };
 
-    fn from(_: AllocError) -> RunFault<'a> {
-        RunFault::Plain(Fault::NoMemory)
+    fn from(_: AllocError) -> CommandFault<'a> {
+        CommandFault::Plain(Fault::NoMemory)
     }
 }
 
-impl<'a> From<WriteFault> for RunFault<'a> {
+impl<'a> From<WriteFault> for CommandFault<'a> {
     ghost from_gives = { λ _ made. spec.refusal made ≡ spec.Plain fault.Write };
 
-    fn from(_: WriteFault) -> RunFault<'a> {
-        RunFault::Plain(Fault::Write)
+    fn from(_: WriteFault) -> CommandFault<'a> {
+        CommandFault::Plain(Fault::Write)
     }
 }
 
 /// The fault's text, after the program's name.
-impl fmt::Display for RunFault<'_> {
+impl fmt::Display for CommandFault<'_> {
     ghost output = { λ told. spec.refusal_output told };
 
     fn fmt<W: fmt::Write>(&self, f: &mut fmt::Formatter<W>) -> fmt::Result {
         match self {
-            RunFault::Plain(fault) => write!(f, "{fault}"),
-            RunFault::Skip(element) => write!(f, "skip {element}"),
-            RunFault::Name(name) => write!(f, "name {name}"),
-            RunFault::Campaign(fault) => { write!(f, "campaign {}", campaign_fault_name(*fault)) }
+            CommandFault::Plain(fault) => write!(f, "{fault}"),
+            CommandFault::Skip(element) => write!(f, "skip {element}"),
+            CommandFault::Name(name) => write!(f, "name {name}"),
+            CommandFault::Campaign(fault) => {
+                write!(f, "campaign {}", campaign_fault_name(*fault))
+            }
         }
     }
 }

@@ -1,16 +1,16 @@
 //! The campaign that an image and the options ask for.
-ghost use Rattle.std.specs.Prelude.{◌≡◌, ◌||◌, false, IfOk, IfErr, IfSome, IsOkAnd, All};
+ghost use Rattle.std.specs.Prelude.{◌≡◌, ◌||◌, false, IfOk, IfErr, IfSome, IsOkAnd, All, length};
 ghost use Rattle.rv_collide.specs.Grammar.{IsWritable};
 ghost use Rattle.rv_collide.specs.Numbers.{numbers};
 ghost use Rattle.rv_collide.specs.declared.collider.Finished.{Finished};
 ghost use Rattle.rv_memory.specs.Flagged as flag;
 ghost use Rattle.rvcollide.specs.Campaigns as spec;
 ghost use Rattle.rvcollide.specs.Request.{request};
-ghost use Rattle.rvcollide.specs.RunFault.{IsTold, refusal, fails_by, is_read, is_write};
+ghost use Rattle.rvcollide.specs.CommandFault.{IsTold, refusal, fails_by, is_read, is_write};
 ghost use Rattle.rvcollide.specs.internal.Hunted.{IsReady};
 
 use crate::image::read_image;
-use crate::run::fault::RunFault;
+use crate::run::fault::CommandFault;
 use crate::run::lists::{read_named, read_skipped};
 use crate::run::options::Options;
 use crate::run::table::table_of;
@@ -37,11 +37,12 @@ pub fn hunt<'a, R: Read>(
     alloc: Global,
     options: &Options<'a>,
     image: &mut Flagged<R>,
-) -> Result<Hunted, RunFault<'a>>
+) -> Result<Hunted, CommandFault<'a>>
     ensures ok { IfOk result (λ hunted. IfSome (R.remaining (flag.device image.old)) (λ bytes.
         IsOkAnd (spec.campaign_of (request options.now) bytes) (IsReady (request options.now) hunted))) }
     ensures writable { IfOk result (λ hunted.
         All (λ (run : Finished). IsWritable (numbers run.plan) run.entries.items) hunted.runs.items) }
+    ensures count { IfOk result (λ hunted. length hunted.runs.items ≡ options.now.runs) }
     ensures err { IfErr result (λ fault. IfSome (R.remaining (flag.device image.old)) (λ bytes.
         IsTold (spec.campaign_of (request options.now) bytes) (refusal fault))) }
     ensures reader { flag.has_failed image.new ≡ (flag.has_failed image.old || fails_by is_read result) }

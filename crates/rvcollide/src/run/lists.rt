@@ -3,9 +3,9 @@ ghost use Rattle.std.specs.Prelude.{◌≡◌, false, IfOk, IfErr, Ok, map, opti
 ghost use Rattle.rv_text.specs.Hexadecimal.{word_of};
 ghost use Rattle.rv_text.specs.Pieces.{pieces_of};
 ghost use Rattle.rvcollide.specs.Campaigns as spec;
-ghost use Rattle.rvcollide.specs.RunFault.{IsTold, refusal, fails_by, is_read, is_write};
+ghost use Rattle.rvcollide.specs.CommandFault.{IsTold, refusal, fails_by, is_read, is_write};
 
-use crate::run::fault::RunFault;
+use crate::run::fault::CommandFault;
 use rv_elf::Image;
 use rv_memory::store::NoMemory;
 use rv_prune::names::{NamesFault, ranges};
@@ -57,7 +57,7 @@ fn words(alloc: Global, given: &[&str]) -> Result<Vec<u32>, AllocError>
 }
 
 /// The addresses of the list of those that are no sites.
-pub fn read_skipped<'a>(alloc: Global, list: Option<&'a str>) -> Result<Vec<u32>, RunFault<'a>>
+pub fn read_skipped<'a>(alloc: Global, list: Option<&'a str>) -> Result<Vec<u32>, CommandFault<'a>>
     ensures ok { IfOk result (λ found. spec.skipped (spec.elements (option_map (λ text. text.now) list.entry))
         ≡ Ok found.items) }
     ensures err { IfErr result (λ fault.
@@ -67,7 +67,7 @@ pub fn read_skipped<'a>(alloc: Global, list: Option<&'a str>) -> Result<Vec<u32>
 {
     let given = elements(alloc, list)?;
     match first_malformed(&given) {
-        Some(place) => Err(RunFault::Skip(given[place])),
+        Some(place) => Err(CommandFault::Skip(given[place])),
         None => Ok(words(alloc, &given)?),
     }
 }
@@ -77,7 +77,7 @@ pub fn read_named<'a>(
     alloc: Global,
     image: &Image,
     list: Option<&'a str>,
-) -> Result<Vec<(u32, u32)>, RunFault<'a>>
+) -> Result<Vec<(u32, u32)>, CommandFault<'a>>
     ensures ok { IfOk result (λ found. spec.listed image.now (spec.elements (option_map (λ text. text.now) list.entry))
         ≡ Ok found.items) }
     ensures err { IfErr result (λ fault.
@@ -88,7 +88,7 @@ pub fn read_named<'a>(
     let names = elements(alloc, list)?;
     match ranges(alloc, image, &names) {
         Ok(found) => Ok(found),
-        Err(NamesFault::NoMemory) => Err(RunFault::from(NoMemory)),
-        Err(NamesFault::Unknown(place)) => Err(RunFault::Name(names[place])),
+        Err(NamesFault::NoMemory) => Err(CommandFault::from(NoMemory)),
+        Err(NamesFault::Unknown(place)) => Err(CommandFault::Name(names[place])),
     }
 }

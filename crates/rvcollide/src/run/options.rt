@@ -1,4 +1,6 @@
 //! What `run` is asked for, beside its files.
+ghost use Rattle.std.specs.Prelude.{◌<◌};
+
 use rv_collide::plan::Plan;
 
 /// The options of `run`.
@@ -16,6 +18,7 @@ pub struct Options<'a> {
     pub named: Option<&'a str>,
     /// Addresses in eight hexadecimal digits, with a comma between two: no hart is paused there.
     pub skip: Option<&'a str>,
-    /// The run whose schedule is saved, where one is.
+    /// The run whose schedule is saved, where one is: one of those that there are.
     pub keep: u32,
+    pub ghost keep_is_run: { keep < runs },
 }

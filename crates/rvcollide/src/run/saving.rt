@@ -1,5 +1,5 @@
 //! The schedule of a run, as a file.
-ghost use Rattle.std.specs.Prelude.{◌≡◌, ◌⊎◌, ◌||◌, false, IfOk, IfErr, OnOk, IfSome, slice_get, List, All};
+ghost use Rattle.std.specs.Prelude.{◌≡◌, ◌<◌, ◌⊎◌, ◌||◌, false, IfOk, IfErr, OnOk, IsSomeAnd, is_some, length, slice_get, List, All};
 ghost use Rattle.rv_collide.specs.Grammar.{IsWritable, schedule_text};
 ghost use Rattle.rv_collide.specs.Numbers.{numbers};
 ghost use Rattle.rv_collide.specs.declared.collider.Finished.{Finished};
@@ -36,6 +36,7 @@ pub fn save_schedule<F: NewFile>(
     requires { IsWritable (numbers run.now.plan) run.now.entries.items }
     ensures saved { OnOk result
         (spec.IfWanted F.Holds save.new (schedule_text (numbers run.now.plan) run.now.entries.items)) }
+    ensures wanted { is_some save.new ≡ is_some save.old }
     ensures refused { IfErr result (λ fault. (fault ≡ Fault.Write) ⊎ (fault ≡ Fault.NoMemory)) }
     ensures none { IfErr result (λ fault. is_write fault ≡ false
         → spec.passes F.is_made save.new ≡ spec.passes F.is_made save.old) }
@@ -50,24 +51,23 @@ pub fn save_schedule<F: NewFile>(
     Ok(())
 }
 
-/// Makes the file with the schedule of the run that is kept, where a file is wanted and there is that run.
+/// Makes the file with the schedule of the run that is kept, where a file is wanted.
 pub fn save_run<F: NewFile>(
     alloc: Global,
     runs: &[Finished],
     keep: u32,
     save: &mut Option<F>,
 ) -> Result<(), Fault>
-    requires { All (λ (run : Finished). IsWritable (numbers run.plan) run.entries.items) runs.now }
-    ensures saved { OnOk result (IfSome (slice_get runs.now keep) (λ run.
+    requires writable { All (λ (run : Finished). IsWritable (numbers run.plan) run.entries.items) runs.now }
+    requires run { keep < length runs.now }
+    ensures saved { OnOk result (IsSomeAnd (slice_get runs.now keep) (λ run.
         spec.IfWanted F.Holds save.new (schedule_text (numbers run.plan) run.entries.items))) }
+    ensures wanted { is_some save.new ≡ is_some save.old }
     ensures refused { IfErr result (λ fault. (fault ≡ Fault.Write) ⊎ (fault ≡ Fault.NoMemory)) }
     ensures none { IfErr result (λ fault. is_write fault ≡ false
         → spec.passes F.is_made save.new ≡ spec.passes F.is_made save.old) }
     ensures reader { fails_by is_read result ≡ false }
     ensures writer { spec.passes F.has_failed save.new ≡ (spec.passes F.has_failed save.old || fails_by is_write result) }
 {
-    let Some(run) = runs.get(keep as usize) else {
-        return Ok(());
-    };
-    save_schedule(alloc, run, save)
+    save_schedule(alloc, &runs[keep as usize], save)
 }

@@ -1,11 +1,11 @@
-ghost use Rattle.std.specs.Prelude.{◌≤◌, length};
+ghost use Rattle.std.specs.Prelude.{◌≤◌, ◌<◌, length};
 
 use crate::devices::{
     Kept, assert_is, assert_tells_each_failing_call, assert_tells_each_failing_read,
 };
 use crate::fault::Fault;
 use crate::run::engine::run_campaign;
-use crate::run::fault::RunFault;
+use crate::run::fault::CommandFault;
 use crate::run::options::Options;
 use rv_campaign::CampaignFault;
 use rv_collide::plan::Plan;
@@ -106,7 +106,21 @@ pub fn file_of(rt: &impl Abort, alloc: Global, words: &[u32]) -> Result<Vec<u8>,
 
 /// The options of a campaign that lists nothing: the harts, steps, arms and pause of each run, the seed, and how many
 /// runs there are.
-fn options(numbers: (u8, u32, u32, u32), seed: u32, runs: u32) -> Result<Options<'static>, Fail> {
+fn options(numbers: (u8, u32, u32, u32), seed: u32, runs: u32) -> Result<Options<'static>, Fail>
+    requires { 1 ≤ runs }
+{
+    options_keeping(numbers, seed, runs, 0)
+}
+
+/// The same, where the schedule of another run than the first is kept.
+fn options_keeping(
+    numbers: (u8, u32, u32, u32),
+    seed: u32,
+    runs: u32,
+    keep: u32,
+) -> Result<Options<'static>, Fail>
+    requires { keep < runs }
+{
     let (harts, steps, arms, pause) = numbers;
     Ok(Options {
         plan: Plan::new(harts, steps, arms, pause).ok_or("a plan")?,
@@ -115,7 +129,7 @@ fn options(numbers: (u8, u32, u32, u32), seed: u32, runs: u32) -> Result<Options
         workers: 1,
         named: None,
         skip: None,
-        keep: 0,
+        keep,
     })
 }
 
@@ -165,7 +179,7 @@ fn refuses(
     alloc: Global,
     file: &[u8],
     options: &Options<'_>,
-    fault: RunFault<'_>,
+    fault: CommandFault<'_>,
     text: &str,
 ) -> Result<(), Fail> {
     let mut writer = Buffered::new(alloc, Vec::new(alloc));
@@ -249,8 +263,7 @@ fn races(rt: HostRuntime) -> Result<(), Fail> {
 /// A later run's schedule, as another implementation has it.
 #[test]
 fn keeps_a_later_run(rt: HostRuntime) -> Result<(), Fail> {
-    let mut later = options((3, 100, 5, 1), 0, 3)?;
-    later.keep = 1;
+    let later = options_keeping((3, 100, 5, 1), 0, 3, 1)?;
     saves(
         &rt,
         rt.alloc(),
@@ -306,17 +319,24 @@ fn refuses_in_order(rt: HostRuntime) -> Result<(), Fail> {
     let file = file_of(&rt, alloc, P)?;
     let mut asked = options((1, 1_000_000, 0, 1), 0, 17)?;
     asked.workers = 17;
-    let fault = RunFault::Campaign(CampaignFault::Workers);
+    let fault = CommandFault::Campaign(CampaignFault::Workers);
     refuses(&rt, alloc, &file, &asked, fault, "campaign Workers")?;
     asked.workers = 16;
-    let fault = RunFault::Campaign(CampaignFault::TooLarge);
+    let fault = CommandFault::Campaign(CampaignFault::TooLarge);
     refuses(&rt, alloc, &file, &asked, fault, "campaign TooLarge")?;
     asked.named = Some("word,wor,other");
-    refuses(&rt, alloc, &file, &asked, RunFault::Name("wor"), "name wor")?;
+    refuses(
+        &rt,
+        alloc,
+        &file,
+        &asked,
+        CommandFault::Name("wor"),
+        "name wor",
+    )?;
     asked.skip = Some("00010004,0001000g,1");
-    let fault = RunFault::Skip("0001000g");
+    let fault = CommandFault::Skip("0001000g");
     refuses(&rt, alloc, &file, &asked, fault, "skip 0001000g")?;
-    let fault = RunFault::Plain(Fault::Load(LoadFault::Truncated));
+    let fault = CommandFault::Plain(Fault::Load(LoadFault::Truncated));
     refuses(&rt, alloc, b"", &asked, fault, "load Truncated")
 }
 
@@ -328,12 +348,12 @@ fn refuses_empty_elements(rt: HostRuntime) -> Result<(), Fail> {
     for list in ["", ",", "00010004,", "00010004,,00010008"] {
         let mut asked = options((1, 10, 0, 1), 0, 1)?;
         asked.skip = Some(list);
-        refuses(&rt, alloc, &file, &asked, RunFault::Skip(""), "skip ")?;
+        refuses(&rt, alloc, &file, &asked, CommandFault::Skip(""), "skip ")?;
     }
     for list in ["", "word,", ",word"] {
         let mut asked = options((1, 10, 0, 1), 0, 1)?;
         asked.named = Some(list);
-        refuses(&rt, alloc, &file, &asked, RunFault::Name(""), "name ")?;
+        refuses(&rt, alloc, &file, &asked, CommandFault::Name(""), "name ")?;
     }
     Ok(())
 }
@@ -348,7 +368,7 @@ fn makes_the_file_first(rt: HostRuntime) -> Result<(), Fail> {
     let mut save = Some(Kept::new(alloc, true));
     let asked = options((1, 10, 2, 5), 0, 1)?;
     let outcome = run_campaign(&rt, alloc, &asked, &mut image, &mut save, &mut writer);
-    let fault = RunFault::Plain(Fault::Write);
+    let fault = CommandFault::Plain(Fault::Write);
     assert_is(&rt, outcome, Err(fault), "the fault");
     assert_is(&rt, writer.failed(), false, "the writer failed");
     let is_empty = writer.into_inner().is_empty();
@@ -357,10 +377,10 @@ fn makes_the_file_first(rt: HostRuntime) -> Result<(), Fail> {
 }
 
 /// The fault that any command may tell, of an outcome that has no other.
-fn plain(outcome: Result<(), RunFault<'_>>) -> Result<(), Fault> {
+fn plain(outcome: Result<(), CommandFault<'_>>) -> Result<(), Fault> {
     match outcome {
         Ok(()) => Ok(()),
-        Err(RunFault::Plain(fault)) => Err(fault),
+        Err(CommandFault::Plain(fault)) => Err(fault),
         Err(_) => Err(Fault::TooLong),
     }
 }

@@ -1,5 +1,5 @@
 //! The engine of `threads`: an image in, the endings of a run by threads and its schedule out.
-ghost use Rattle.std.specs.Prelude.{◌≡◌, ◌||◌, true, false, IfErr, IfSome, OnOk, IsOkAnd};
+ghost use Rattle.std.specs.Prelude.{◌≡◌, ◌||◌, true, false, IfErr, IfSome, OnOk, IsOkAnd, is_some};
 ghost use Rattle.std.specs.Io.KnownBytes.{Appends, Keeps};
 ghost use Rattle.rv_collide.specs.Numbers.{numbers};
 ghost use Rattle.rv_memory.specs.Buffered as buffer;
@@ -38,6 +38,7 @@ pub fn run_by_threads<R: Read, F: NewFile, W: Write>(
         IsOkAnd (image_of bytes) (λ contents. spec.IsRunByThreads contents (numbers plan) seed
         (Appends (buffer.written W.contents writer.old) (buffer.sent W.contents writer.new))
         (IfWanted F.Holds save.new)))) }
+    ensures wanted { is_some save.new ≡ is_some save.old }
     ensures refused { IfErr result (λ fault. IfSome (R.remaining (flag.device image.old)) (λ bytes.
         spec.IsThreadsRefusal bytes fault)) }
     ensures nothing { IfErr result (λ fault. is_write fault ≡ false

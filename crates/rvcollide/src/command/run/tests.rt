@@ -1,4 +1,9 @@
+ghost use Rattle.std.specs.Prelude.{◌<◌};
+
+use super::{ARMS, HARTS, KEEP, PAUSE, RUNS, SEED, STEPS, WORKERS};
 use crate::arguments::{ImagePath, SavePath};
+use crate::command::commands::COMMANDS;
+use crate::command::subcommand::Argument;
 use crate::command::{Job, LineFault, Notice, command_of, notice_of};
 use crate::devices::assert_is;
 use crate::run::options::Options;
@@ -16,7 +21,9 @@ fn hunt<'a>(
     skip: Option<&'a str>,
     keep: u32,
     save: Option<&'a str>,
-) -> Option<Job<'a>> {
+) -> Option<Job<'a>>
+    requires { keep < 3 }
+{
     Some(Job::Run {
         image: ImagePath("a.elf"),
         options: Options {
@@ -300,6 +307,37 @@ fn refuses_other_options(rt: HostRuntime) -> Result<(), Fail> {
         ("a.elf", "a.elf --named", "--named <LIST>"),
     ];
     assert_changes_refused(&rt, rt.alloc(), &changes)
+}
+
+/// What the help says of an option of `run`.
+fn help_of(wanted: &str) -> Option<&'static str> {
+    for command in COMMANDS {
+        for argument in command.arguments {
+            let (name, help) = match argument {
+                Argument::Word { name, help } => (*name, *help),
+                Argument::Required { name, help } => (*name, *help),
+                Argument::Optional { name, help, .. } => (*name, *help),
+            };
+            if name == wanted {
+                return Some(help);
+            }
+        }
+    }
+    None
+}
+
+/// The help has the range of each number, as the reader has it.
+#[test]
+fn help_has_the_ranges(rt: HostRuntime) -> Result<(), Fail> {
+    let alloc = rt.alloc();
+    for option in &[HARTS, STEPS, ARMS, PAUSE, SEED, RUNS, WORKERS, KEEP] {
+        let range = format!(in alloc; ", {} to {}", option.least, option.most)?;
+        let help = help_of(option.name).ok_or(option.name)?;
+        let (_, after) = help.split_once(range.as_str()).ok_or(help)?;
+        let is_whole = after.is_empty() || after.starts_with(';') || after.starts_with(' ');
+        assert_is(&rt, is_whole, true, help);
+    }
+    Ok(())
 }
 
 #[test]

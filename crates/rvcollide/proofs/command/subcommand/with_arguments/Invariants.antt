@@ -3,7 +3,7 @@ use Rattle.std.proofs.Common.{◌≡◌, take}
 use Rattle.std.specs.Prelude.{fold}
 use Rattle.clap.specs.Simple.{shape_of}
 use Rattle.clap.specs.declared.builder.command.Command.TheViews.{out-Command as fields_of}
-use Rattle.rvcollide.specs.internal.Table.{with_argument}
+use Rattle.rvcollide.specs.internal.Commands.{with_argument}
 use Rattle.rvcollide.proofs.command.subcommand.with_arguments.Given as goal
 
 abbrev pub invariant-loop-argument : goal.invariant-loop-argument

@@ -2,7 +2,7 @@
 use Rattle.std.proofs.Common.{◌≡◌, take}
 use Rattle.std.specs.Prelude.{fold}
 use Rattle.clap.specs.Simple.{app_of}
-use Rattle.rvcollide.specs.internal.Table.{with_subcommand}
+use Rattle.rvcollide.specs.internal.Commands.{with_subcommand}
 use Rattle.rvcollide.proofs.command.subcommand.with_subcommands.Given as goal
 
 abbrev pub invariant-loop-subcommand : goal.invariant-loop-subcommand

@@ -1,7 +1,7 @@
 use Rattle.std.proofs.lemmas.Result.{err_from_is_err_and}
 use Rattle.rv_memory.specs.Flagged as flag
 use Rattle.rvcollide.specs.Request.{request}
-use Rattle.rvcollide.specs.RunFault.{refusal}
+use Rattle.rvcollide.specs.CommandFault.{refusal}
 use Rattle.rvcollide.specs.internal.Hunted.{IsReady}
 use Rattle.rvcollide.proofs.RunHunts.{campaign_known, image_refused, names_refused, numbers_refused, runs_are_writable, skip_refused}
 use Rattle.rvcollide.proofs.run.hunting.hunt.Goals as goal

@@ -2,7 +2,7 @@ use Rattle.std.specs.Prelude.{List, Option, Some, None, option_and_then, option_
 use Rattle.std.specs.Str.{bytes_eq}
 use Rattle.clap.specs.Words.{Row, Text, first_of, subcommand_of}
 use Rattle.rvcollide.specs.Command.{Asked, Words, Asm, Listing, Replay, Debug, run_of, threads_of}
-use Rattle.rvcollide.specs.Reading.{is_accepted, program}
+use Rattle.rvcollide.specs.ClapProgram.{is_accepted, program}
 
 -- The job in what `clap` finds. It is proved to be the one that the words spell.
 

@@ -6,8 +6,8 @@ use Rattle.rvcollide.specs.Fault as plain
 use Rattle.rvcollide.specs.FaultText as text
 use Rattle.rvcollide.specs.declared.fault.Fault.{Fault}
 use Rattle.rvcollide.specs.declared.fault.Fault.TheVariants.{Line, Step, Asm, Load, Schedule, Entry, Threads, TooLong, Read, Write, NoMemory}
-use Rattle.rvcollide.specs.declared.run.fault.RunFault.{RunFault}
-use Rattle.rvcollide.specs.declared.run.fault.RunFault.TheVariants as run
+use Rattle.rvcollide.specs.declared.run.fault.CommandFault.{CommandFault}
+use Rattle.rvcollide.specs.declared.run.fault.CommandFault.TheVariants as run
 
 -- a fault that any command may tell; an element of the list of addresses that is none; a name that no symbol has;
 -- and why the numbers of a campaign are refused
@@ -17,7 +17,7 @@ pub data Refusal : Type 0 where
   Name : (name : List ℕ) → Refusal
   Campaign : CampaignFault → Refusal
 
-abbrev pub refusal : RunFault → Refusal
+abbrev pub refusal : CommandFault → Refusal
 refusal (run.Plain fault) = Plain fault
 refusal (run.Skip element) = Skip element.now
 refusal (run.Name name) = Name name.now
@@ -67,7 +67,7 @@ is_write (Name name) = false
 is_write (Campaign fault) = false
 
 -- something was refused, and the refusal passes the test
-abbrev pub fails_by : {A : Type 0} → (Refusal → Bool) → Result A RunFault → Bool
+abbrev pub fails_by : {A : Type 0} → (Refusal → Bool) → Result A CommandFault → Bool
 fails_by test (Ok a) = false
 fails_by test (Err fault) = test (refusal fault)
 
@@ -80,14 +80,14 @@ campaign_fault_name campaign.Runs = codes "Runs"
 campaign_fault_name campaign.Workers = codes "Workers"
 
 -- what the program writes of a refusal, after its own name
-abbrev pub refusal_output : RunFault → Option (List ℕ)
+abbrev pub refusal_output : CommandFault → Option (List ℕ)
 refusal_output (run.Plain fault) = text.fault_output fault
 refusal_output (run.Skip element) = Some (codes "skip " ++ element.now)
 refusal_output (run.Name name) = Some (codes "name " ++ name.now)
 refusal_output (run.Campaign fault) = Some (codes "campaign " ++ campaign_fault_name fault)
 
 -- the exit status
-abbrev pub status : RunFault → ℕ
+abbrev pub status : CommandFault → ℕ
 status (run.Plain fault) = text.status fault
 status (run.Skip element) = 1
 status (run.Name name) = 1

@@ -1,7 +1,7 @@
 use Rattle.std.specs.Prelude.{fold, [], ◌∷◌, ◌++◌}
 use Rattle.clap.specs.Words.{App, Rule, Shape, with_subcommand as with_shape}
 use Rattle.clap.specs.Simple.{new_shape}
-use Rattle.rvcollide.specs.Reading.{option, required_option, required_word}
+use Rattle.rvcollide.specs.ClapProgram.{option, required_option, required_word}
 use Rattle.rvcollide.specs.declared.command.subcommand.Argument.{Argument}
 use Rattle.rvcollide.specs.declared.command.subcommand.Argument.TheVariants as argument
 use Rattle.rvcollide.specs.declared.command.subcommand.Subcommand.{Subcommand}
