@@ -2,13 +2,14 @@ use Rattle.std.proofs.Common.{◌≡◌, ℕ, ◌+◌, ◌≤◌, false, List, [
 use Rattle.std.specs.List.{range_with_len}
 use Rattle.std.proofs.lemmas.List.Elements.{All-append, All-map}
 use Rattle.std.proofs.lemmas.List.FromFn.{take-map-range_with_len, map-range_with_len_more}
+use Rattle.rv_hart.specs.declared.machine.TheConstants.{MOST_HARTS}
 use Rattle.rv_hart.specs.State.{stack, stacks, with_stacks, first_hart}
 use Rattle.rv_hart.specs.internal.Harts.{any_holds}
 use Rattle.rv_memory.specs.Extent.{Extent, IsExtent}
 
--- the first stacks of sixteen
-pub some_stacks : (count : ℕ) → count ≤ 16 → take count (stacks 16) ≡ stacks count
-some_stacks count h = take-map-range_with_len stack 0 16 count h
+-- the first of all stacks
+pub some_stacks : (count : ℕ) → count ≤ MOST_HARTS → take count (stacks MOST_HARTS) ≡ stacks count
+some_stacks count h = take-map-range_with_len stack 0 MOST_HARTS count h
 
 pub harts_more : (entry count n : ℕ) → map (first_hart entry count) (range_with_len 0 (n + 1)) ≡ map (first_hart entry count) (range_with_len 0 n) ++ first_hart entry count n ∷ []
 harts_more entry count n = map-range_with_len_more (first_hart entry count) 0 n n (omega arith)

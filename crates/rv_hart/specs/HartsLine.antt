@@ -2,7 +2,7 @@ use Rattle.std.specs.Prelude.{ℕ, ◌==◌, if◌then◌else◌, Option, Some, 
 use Rattle.rv_text.specs.Numeral.{up_to}
 use Rattle.rv_text.specs.Decimal.{decimal_of}
 use Rattle.rv_hart.specs.Prefix.{after}
-use Rattle.rv_hart.specs.declared.words.input.TheConstants.{MOST_HARTS}
+use Rattle.rv_hart.specs.declared.machine.TheConstants.{MOST_HARTS}
 
 abbrev pub unless_none : ℕ → Option ℕ
 unless_none harts = if harts == 0 then None else Some harts

@@ -4,7 +4,8 @@ use Rattle.rv_text.specs.Hexadecimal.{word_of}
 use Rattle.rv_text.specs.Lines.{lines_of}
 use Rattle.rv_hart.specs.HartsLine.{harts_of}
 use Rattle.rv_hart.specs.StepsLine.{steps_of}
-use Rattle.rv_hart.specs.declared.words.input.TheConstants.{MOST_HARTS, MOST_STEPS, MOST_WORDS}
+use Rattle.rv_hart.specs.declared.machine.TheConstants.{MOST_HARTS}
+use Rattle.rv_hart.specs.declared.words.input.TheConstants.{MOST_STEPS, MOST_WORDS}
 use Rattle.rv_hart.specs.declared.words.WordsFault.{WordsFault}
 use Rattle.rv_hart.specs.declared.words.WordsFault.TheVariants.{Line, Step, NoMemory}
 

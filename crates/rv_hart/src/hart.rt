@@ -46,13 +46,16 @@ pub enum Status {
     Stopped(Cause),
 }
 
-#[inline(always)]
-pub(crate) fn is_running(status: Status) -> bool
-    ensures { result ≡ state.is_running status }
-{
-    match status {
-        Status::Running => true,
-        Status::Exited(_) | Status::Stopped(_) => false,
+impl Status {
+    /// Whether the hart runs.
+    #[inline(always)]
+    pub fn is_running(self) -> bool
+        ensures { result ≡ state.is_running self }
+    {
+        match self {
+            Status::Running => true,
+            Status::Exited(_) | Status::Stopped(_) => false,
+        }
     }
 }
 

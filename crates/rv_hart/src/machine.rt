@@ -17,7 +17,7 @@ use crate::effect::{
     access_of, action_at, any_holds, event_of, loaded_by, print, put, ready, see_and_advance,
     written_by,
 };
-use crate::hart::{Hart, Status, is_running};
+use crate::hart::{Hart, Status};
 use crate::quick::{Attempt, quick, quick_seen};
 use crate::start::{first_harts, store_with_stacks};
 use rv_memory::laws::{bytes_stand_where_covered, memory_is_sound};
@@ -25,6 +25,9 @@ use rv_memory::region::Region;
 use rv_memory::store::{ByteStore, MemFault, Need};
 use std::alloc::Global;
 use std::marker::Model;
+
+/// The most harts of a machine.
+pub const MOST_HARTS: u8 = 16;
 
 /// The most bytes that a machine may be made to print.
 pub const OUTPUT_LIMIT: u32 = 1_000_000;
@@ -39,7 +42,7 @@ pub enum StepFault {
     NoMemory,
 }
 
-/// 1 to 16 harts over one memory. `S` keeps the memory's bytes; over a store that is `Steady` a step asks
+/// 1 to `MOST_HARTS` harts over one memory. `S` keeps the memory's bytes; over a store that is `Steady` a step asks
 /// for no memory.
 #[derive(Drop)]
 pub struct Machine<S: ByteStore> {
@@ -68,7 +71,7 @@ impl<S: ByteStore> Model for Machine<S> {
 }
 
 impl<S: ByteStore> Machine<S> {
-    /// A machine of so many harts (1 to 16) with these regions and the harts' stacks, each hart at the
+    /// A machine of so many harts (1 to `MOST_HARTS`) with these regions and the harts' stacks, each hart at the
     /// entry, a multiple of 4. It may print `out_limit` bytes, up to 1,000,000. The regions and the stacks
     /// are tested together, as a store tests its regions, before memory is asked for. The regions are lent,
     /// and the store's copy of their bytes is the only one.
@@ -82,7 +85,7 @@ impl<S: ByteStore> Machine<S> {
         requires regions { All IsExtent regions.now }
         requires entry { entry % 4 ≡ 0 }
         requires some { 1 ≤ harts }
-        requires within { harts ≤ 16 }
+        requires within { harts ≤ MOST_HARTS }
         requires limit { out_limit ≤ OUTPUT_LIMIT }
         ensures ok { IfOk result (λ m. m ≡ record {
           state = state.start regions.now entry harts;
@@ -113,11 +116,11 @@ impl<S: ByteStore> Machine<S> {
         })
     }
 
-    /// How many harts there are: 1 to 16.
+    /// How many harts there are: 1 to `MOST_HARTS`.
     pub fn harts(&self) -> u8
         ensures value { result ≡ length self.now.state.harts }
         ensures some { 1 ≤ result }
-        ensures within { result ≤ 16 }
+        ensures within { result ≤ MOST_HARTS }
     {
         self.harts.len() as u8
     }
@@ -300,7 +303,7 @@ impl<S: ByteStore> Machine<S> {
             return Err(StepFault::NoHart);
         }
         let hart = &self.harts[h as usize];
-        if !is_running(hart.status) {
+        if !hart.status.is_running() {
             return Err(StepFault::NotRunning);
         }
         let action = action_at(&self.store, hart);

@@ -9,7 +9,7 @@ use crate::access::Access;
 use crate::act::{act, combined};
 use crate::action::Action;
 use crate::effect::{advance, is_aligned, see_access};
-use crate::hart::{Hart, is_running};
+use crate::hart::Hart;
 use crate::operations::{self, Operation};
 use rv_isa::codec::decode_as;
 use rv_isa::op::Op;
@@ -75,7 +75,7 @@ fn see_attempt(harts: &mut [Hart], h: u8, attempt: Attempt, access: &Access)
 fn moved<S: ByteStore>(store: &mut S, hart: &mut Hart, access: &mut Access) -> Attempt
     ensures { Tried hart.old hart.new (S.memory store.old) (S.memory store.new) (event_of_attempt result access.new) }
 {
-    if !is_running(hart.status) {
+    if !hart.status.is_running() {
         return Attempt::Nothing;
     }
     let Some(word) = store.fetch_at_once(hart.pc) else {

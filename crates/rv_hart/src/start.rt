@@ -6,6 +6,7 @@ ghost use Rattle.rv_memory.specs.Extent.{IsExtent};
 ghost use Rattle.rv_memory.specs.Memory.{fault_of, memory_of};
 
 use crate::hart::{Hart, Status};
+use crate::machine::MOST_HARTS;
 use crate::registers::Registers;
 use rv_memory::region::Region;
 use rv_memory::store::{ByteStore, MemFault};
@@ -18,7 +19,7 @@ const STACKS: u32 = 0xc000_0000;
 const STACK_LEN: u32 = 0x1_0000;
 
 fn stack(alloc: Global, h: u8) -> Region
-    requires { h < 16 }
+    requires { h < MOST_HARTS }
     ensures { result ≡ state.stack h }
 {
     Region {
@@ -31,9 +32,9 @@ fn stack(alloc: Global, h: u8) -> Region
     }
 }
 
-/// The stacks of 16 harts. They are empty regions, which take no memory.
-fn all_stacks(alloc: Global) -> [Region; 16]
-    ensures { result ≡ state.stacks 16 }
+/// The stacks of `MOST_HARTS` harts. They are empty regions, which take no memory.
+fn all_stacks(alloc: Global) -> [Region; MOST_HARTS as usize]
+    ensures { result ≡ state.stacks MOST_HARTS }
 {
     [
         stack(alloc, 0),
@@ -62,7 +63,7 @@ pub(crate) fn store_with_stacks<S: ByteStore>(
     regions: &[Region],
     count: u8,
 ) -> Result<S, MemFault>
-    requires count { count ≤ 16 }
+    requires count { count ≤ MOST_HARTS }
     requires extents { All IsExtent regions.now }
     ensures fits { OnOk result (fault_of (state.with_stacks regions.now count) ≡ None) }
     ensures memory { IfOk result (λ store.
@@ -76,7 +77,7 @@ pub(crate) fn store_with_stacks<S: ByteStore>(
 
 /// A hart as it begins.
 fn first_hart(entry: u32, count: u8, h: u8) -> Hart
-    requires { h < 16 }
+    requires { h < MOST_HARTS }
     ensures { result ≡ state.first_hart entry count h }
 {
     let mut registers = Registers::zeros();
@@ -94,7 +95,7 @@ fn first_hart(entry: u32, count: u8, h: u8) -> Hart
 /// So many harts as they begin.
 #[tactic(auto, using(crate::proofs::StartLemmas::harts_more))]
 pub(crate) fn first_harts(alloc: Global, entry: u32, count: u8) -> Result<Vec<Hart>, AllocError>
-    requires { count ≤ 16 }
+    requires { count ≤ MOST_HARTS }
     ensures harts { IfOk result (λ harts.
         harts.items ≡ map (state.first_hart entry count) (range_with_len 0 count)) }
     ensures count { IfOk result (λ harts. vec_len harts ≡ count) }

@@ -4,7 +4,7 @@ ghost use Rattle.rv_memory.specs.Extent.{IsExtent};
 
 use crate::access::{Access, Event};
 use crate::hart::{Cause, Status};
-use crate::machine::{Machine, StepFault};
+use crate::machine::{MOST_HARTS, Machine, StepFault};
 use rv_memory::flat::Flat;
 use rv_memory::region::Region;
 use rv_memory::store::MemFault;
@@ -68,7 +68,7 @@ fn machine(
     data: &[u32],
     harts: u8,
 ) -> Result<Machine<Flat>, Fail> {
-    assert!(rt; 1 <= harts && harts <= 16);
+    assert!(rt; 1 <= harts && harts <= MOST_HARTS);
     let text = region(rt, alloc, 0x10000, words, false)?;
     let mut data = region(rt, alloc, 0x20000, data, true)?;
     assert!(rt; data.bytes.len() <= 4096);

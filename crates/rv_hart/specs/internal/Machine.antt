@@ -5,15 +5,16 @@ use Rattle.rv_hart.specs.State.{State, is_running}
 use Rattle.rv_hart.specs.Step.{action_at}
 use Rattle.rv_hart.specs.declared.action.Action.{Action}
 use Rattle.rv_hart.specs.declared.hart.Hart.{Hart}
+use Rattle.rv_hart.specs.declared.machine.TheConstants.{MOST_HARTS}
 use Rattle.rv_hart.specs.internal.Harts.{any_holds}
 use Rattle.rv_memory.specs.Memory.{Memory}
 use Rattle.rv_memory.specs.Sound.{IsSound}
 
--- what each machine keeps: 1 to 16 harts, sound memory, room for the output up to its limit, and whether a
+-- what each machine keeps: 1 to `MOST_HARTS` harts, sound memory, room for the output up to its limit, and whether a
 -- hart may hold a reservation
 pub record IsMachine (harts : Vec Hart Global) (memory : Memory) (output : Vec ℕ Global) (limit : ℕ) (reserved : Bool) : Type 0 where
   pub some : 1 ≤ vec_len harts
-  pub within : vec_len harts ≤ 16
+  pub within : vec_len harts ≤ MOST_HARTS
   pub sound : IsSound memory
   pub printed : vec_len output ≤ limit
   pub room : limit ≤ vec_capacity output

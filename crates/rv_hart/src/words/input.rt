@@ -6,6 +6,7 @@ ghost use Rattle.rv_hart.specs.HartsLine.{harts_of};
 ghost use Rattle.rv_hart.specs.StepsLine.{step_list_of, steps_of};
 ghost use Rattle.rv_hart.specs.WordsInput.{told_at, words_from, input_of, IsFaultOf, IsInLimits};
 
+use crate::machine::MOST_HARTS;
 use crate::words::WordsFault;
 use rv_text::decimal::read_decimal;
 use rv_text::hexadecimal::read_word;
@@ -13,9 +14,6 @@ use rv_text::lines::Lines;
 use rv_text::pieces::Pieces;
 use std::alloc::Global;
 use std::marker::Model;
-
-/// The most harts of a machine.
-pub const MOST_HARTS: u32 = 16;
 
 /// The greatest number of a step.
 pub const MOST_STEP: u32 = 15;
@@ -56,7 +54,7 @@ fn read_harts(line: &[u8]) -> Option<u8>
     ensures value { result ≡ harts_of line.now }
     ensures limits { IfSome result (λ harts. (1 ≤ harts) × (harts ≤ MOST_HARTS)) }
 {
-    let harts = read_decimal(after(b"harts ", line)?, MOST_HARTS)?;
+    let harts = read_decimal(after(b"harts ", line)?, u32::from(MOST_HARTS))?;
     if harts == 0 { None } else { Some(harts as u8) }
 }
 
