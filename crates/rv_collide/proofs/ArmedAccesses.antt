@@ -10,7 +10,7 @@ use Rattle.rv_collide.specs.StateAt.{state_at}
 use Rattle.rv_collide.specs.Stored.{Stored, setting_of}
 use Rattle.rv_collide.specs.declared.entry.Entry.{Entry}
 use Rattle.rv_collide.specs.declared.entry.Entry.TheVariants.{Stepped, Paused}
-use Rattle.rv_hart.specs.Next.{accessed, access_of_step, at_plain, next_access, next_plain}
+use Rattle.rv_hart.specs.NextAccess.{accessed, access_of_step, at_plain, next_access, next_plain}
 use Rattle.rv_hart.specs.State.{State, is_running}
 use Rattle.rv_hart.specs.Step.{action_at, event_of, reserves, step_by, step_of, step_of_hart}
 use Rattle.rv_hart.specs.declared.access.Access.{Access}

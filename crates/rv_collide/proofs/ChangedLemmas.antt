@@ -17,7 +17,7 @@ use Rattle.rv_collide.specs.Verdict.{bytes_at, verdict, verdict_of, watched}
 use Rattle.rv_collide.specs.declared.ending.Verdict.TheVariants.{Changed}
 use Rattle.rv_collide.specs.declared.entry.Entry.{Entry}
 use Rattle.rv_hart.specs.Conflict.{Touches, Shared, meets, conflicts, end_of}
-use Rattle.rv_hart.specs.Next.{accessed}
+use Rattle.rv_hart.specs.NextAccess.{accessed}
 use Rattle.rv_hart.specs.ReservationLaws.{NextIsMade, StepsOfRunningHarts}
 use Rattle.rv_hart.specs.State.{State}
 use Rattle.rv_hart.specs.StepLaws.{OtherBytesStay, access_writes}

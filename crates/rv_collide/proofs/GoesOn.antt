@@ -17,7 +17,7 @@ use Rattle.rv_collide.specs.declared.entry.Entry.TheVariants.{Stepped, Paused}
 use Rattle.rv_collide.specs.declared.open_pause.OpenPause.{OpenPause}
 use Rattle.rv_collide.specs.internal.Core.{opening}
 use Rattle.rv_collide.specs.internal.GoesOn.{GoesOn}
-use Rattle.rv_hart.specs.Next.{is_running_hart}
+use Rattle.rv_hart.specs.Refusals.{is_running_hart}
 use Rattle.rv_hart.specs.State.{State, is_running}
 use Rattle.rv_hart.specs.Step.{action_at, step_by, step_of, step_of_hart}
 use Rattle.rv_hart.specs.declared.access.Access.{Access}

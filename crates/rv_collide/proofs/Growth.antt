@@ -31,7 +31,7 @@ use Rattle.rv_collide.specs.declared.entry.Entry.{Entry}
 use Rattle.rv_collide.specs.declared.entry.Entry.TheVariants.{Stepped, Paused, Resumed, Armed, Disarmed}
 use Rattle.rv_collide.specs.declared.open_pause.OpenPause.{OpenPause}
 use Rattle.rv_collide.specs.internal.Core.{slots_freed, slots_seen, opening, IsKept, AreKept, is_at, is_in, AreApart, slots_of, IsCore}
-use Rattle.rv_hart.specs.Next.{accessed}
+use Rattle.rv_hart.specs.NextAccess.{accessed}
 use Rattle.rv_hart.specs.ReservationLaws.{NextIsMade}
 use Rattle.rv_hart.specs.State.{State, Guest}
 use Rattle.rv_hart.specs.Step.{step_of}

@@ -12,7 +12,7 @@ use Rattle.rv_collide.specs.Next.{next}
 use Rattle.rv_collide.specs.StateAt.{state_at}
 use Rattle.rv_collide.specs.declared.entry.Entry.{Entry}
 use Rattle.rv_collide.specs.declared.entry.Entry.TheVariants.{Stepped, Paused, Resumed, Armed, Disarmed}
-use Rattle.rv_hart.specs.Next.{accessed}
+use Rattle.rv_hart.specs.NextAccess.{accessed}
 use Rattle.rv_hart.specs.ReservationLaws.{reservation_at, own_after, left_by, writes_word, OwnReservation, OthersReservations, NextIsMade}
 use Rattle.rv_hart.specs.Run.{run}
 use Rattle.rv_hart.specs.State.{State, start, first_hart}

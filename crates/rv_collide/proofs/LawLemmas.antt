@@ -19,7 +19,7 @@ use Rattle.rv_collide.specs.declared.ending.Verdict.TheVariants.{Hit}
 use Rattle.rv_collide.specs.declared.entry.Entry.{Entry}
 use Rattle.rv_collide.specs.declared.entry.Entry.TheVariants.{Stepped, Paused, Resumed, Armed, Disarmed}
 use Rattle.rv_hart.specs.Conflict.{Conflict, conflicts, end_of, meets}
-use Rattle.rv_hart.specs.Next.{is_running_hart}
+use Rattle.rv_hart.specs.Refusals.{is_running_hart}
 use Rattle.rv_hart.specs.ReservationLaws.{StepsOfRunningHarts}
 use Rattle.rv_hart.specs.Run.{run}
 use Rattle.rv_hart.specs.State.{State}

@@ -19,7 +19,7 @@ use Rattle.rv_collide.specs.declared.ending.Ending.{Ending}
 use Rattle.rv_collide.specs.declared.entry.Entry.{Entry}
 use Rattle.rv_collide.specs.declared.open_pause.OpenPause.{OpenPause}
 use Rattle.rv_collide.specs.internal.Core.{AreApart, AreKept, claim_of, is_at, opening, slot_at, slots_of}
-use Rattle.rv_hart.specs.Next.{next_access}
+use Rattle.rv_hart.specs.NextAccess.{next_access}
 use Rattle.rv_hart.specs.ReservationLaws.{SizesOfAccesses}
 use Rattle.rv_hart.specs.State.{State}
 use Rattle.rv_hart.specs.declared.access.Access.{Access}

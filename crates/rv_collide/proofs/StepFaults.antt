@@ -3,7 +3,7 @@ use Rattle.std.proofs.Common.{◌≡◌, ℕ, ◌≤◌, ◌<◌, Bool, true, fa
 use Rattle.std.specs.Prelude.{not, nat_le, slice_get, ◌↔◌}
 use Rattle.std.proofs.lemmas.Bool.Decides.{nat_tests}
 use Rattle.std.proofs.lemmas.Option.{slice_get_past}
-use Rattle.rv_hart.specs.Next.{HasNoRoom, IsIdle, is_running_hart}
+use Rattle.rv_hart.specs.Refusals.{HasNoRoom, IsIdle, is_running_hart}
 use Rattle.rv_hart.specs.State.{Guest}
 use Rattle.rv_hart.specs.declared.access.Event.{Event}
 use Rattle.rv_hart.specs.declared.hart.Hart.{Hart}

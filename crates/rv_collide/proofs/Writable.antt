@@ -18,7 +18,7 @@ use Rattle.rv_collide.specs.Plan.{IsPlan}
 use Rattle.rv_collide.specs.StateAt.{state_at}
 use Rattle.rv_collide.specs.declared.entry.Entry.{Entry}
 use Rattle.rv_collide.specs.declared.entry.Entry.TheVariants.{Stepped, Paused, Resumed, Armed, Disarmed}
-use Rattle.rv_hart.specs.Next.{next_access, next_plain}
+use Rattle.rv_hart.specs.NextAccess.{next_access, next_plain}
 use Rattle.rv_hart.specs.State.{State}
 use Rattle.rv_hart.specs.declared.access.Access.{Access}
 use Rattle.rv_collide.proofs.ArmedAccesses.{plain_next}

@@ -3,7 +3,8 @@ use Rattle.std.specs.Prelude.{ℕ, Bool, false, Option, option_and_then, List, s
 use Rattle.std.specs.Option.{option_map_or}
 use Rattle.rv_collide.specs.StateAt.{state_at}
 use Rattle.rv_collide.specs.declared.entry.Entry.{Entry}
-use Rattle.rv_hart.specs.Next.{next_access, next_plain, is_running_hart}
+use Rattle.rv_hart.specs.NextAccess.{next_access, next_plain}
+use Rattle.rv_hart.specs.Refusals.{is_running_hart}
 use Rattle.rv_hart.specs.State.{State}
 use Rattle.rv_hart.specs.declared.access.Access.{Access}
 

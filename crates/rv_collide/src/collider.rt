@@ -15,7 +15,7 @@ ghost use Rattle.rv_collide.specs.Answers as answer;
 ghost use Rattle.rv_collide.specs.internal.Core.{IsUntil, slots_freed, slots_seen};
 ghost use Rattle.rv_collide.specs.internal.GoesOn.{GoesOn};
 ghost use Rattle.rv_break.specs.Slots as break_slots;
-ghost use Rattle.rv_hart.specs.Next.{accessed};
+ghost use Rattle.rv_hart.specs.NextAccess.{accessed};
 ghost use Rattle.rv_hart.specs.State.{is_running, start as first_state};
 ghost use Rattle.rv_memory.specs.Memory.{byte, load, IsSize};
 

@@ -4,7 +4,7 @@ use Rattle.rv_hart.specs.internal.Able.{AreBytes, IsAble, HasSize}
 use Rattle.rv_hart.specs.Act.{act, branch, jump, environment_call, following, immediate, address, source_1, source_2}
 use Rattle.rv_hart.specs.Registers.{get}
 use Rattle.rv_hart.specs.Step.{action_at_word, fetched, tested, allowed, action_at}
-use Rattle.rv_hart.specs.Words as words
+use Rattle.rv_hart.specs.Arithmetic as arithmetic
 use Rattle.rv_hart.specs.declared.action.Action.{Action}
 use Rattle.rv_hart.specs.declared.action.Action.TheVariants.{Trap, Set, Load, Store, Reserve, Conditional, Replace, Print, Exit}
 use Rattle.rv_hart.specs.declared.hart.Cause.{Cause}
@@ -35,7 +35,7 @@ sized_branch_at false aligned next after = tt
 
 sized_branch : (i : Instr) (hart : Hart) (taken : Bool) → HasSize (branch i hart taken)
 sized_branch i hart taken =
-    sized_branch_at taken (words.plus hart.pc (immediate i) % 4 == 0) (words.plus hart.pc (immediate i)) (following hart)
+    sized_branch_at taken (arithmetic.plus hart.pc (immediate i) % 4 == 0) (arithmetic.plus hart.pc (immediate i)) (following hart)
 
 sized_call_at : (exits prints : Bool) (code byte : ℕ) → HasSize (cond exits (Exit code) (cond prints (Print byte) (Trap UnknownCall)))
 sized_call_at true prints code byte = tt
@@ -49,12 +49,12 @@ sized_call hart =
 sized_act : (op : Op) (i : Instr) (hart : Hart) → HasSize (act op i hart)
 sized_act Lui i hart = tt
 sized_act Auipc i hart = tt
-sized_act Jal i hart = sized_jump i hart (words.plus hart.pc (immediate i))
+sized_act Jal i hart = sized_jump i hart (arithmetic.plus hart.pc (immediate i))
 sized_act Jalr i hart = sized_jump i hart (address i hart - address i hart % 2)
 sized_act Beq i hart = sized_branch i hart (source_1 i hart == source_2 i hart)
 sized_act Bne i hart = sized_branch i hart (not (source_1 i hart == source_2 i hart))
-sized_act Blt i hart = sized_branch i hart (words.less_signed (source_1 i hart) (source_2 i hart))
-sized_act Bge i hart = sized_branch i hart (not (words.less_signed (source_1 i hart) (source_2 i hart)))
+sized_act Blt i hart = sized_branch i hart (arithmetic.less_signed (source_1 i hart) (source_2 i hart))
+sized_act Bge i hart = sized_branch i hart (not (arithmetic.less_signed (source_1 i hart) (source_2 i hart)))
 sized_act Bltu i hart = sized_branch i hart (nat_lt (source_1 i hart) (source_2 i hart))
 sized_act Bgeu i hart = sized_branch i hart (not (nat_lt (source_1 i hart) (source_2 i hart)))
 sized_act Lb i hart = inl refl

@@ -1,7 +1,7 @@
 -- What a hart does next, in the terms of the instruction table.
 use Rattle.std.proofs.Common.{◌≡◌, ℕ, Option, Some, None, refl, ap}
 use Rattle.rv_hart.specs.FetchLaws as laws
-use Rattle.rv_hart.specs.Next.{next_plain}
+use Rattle.rv_hart.specs.NextAccess.{next_plain}
 use Rattle.rv_hart.specs.Step.{action_at_word, allowed}
 use Rattle.rv_hart.specs.declared.action.Action.TheVariants.{Trap}
 use Rattle.rv_hart.specs.declared.hart.Cause.TheVariants.{Illegal}

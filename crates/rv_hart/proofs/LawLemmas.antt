@@ -4,7 +4,7 @@ use Rattle.std.proofs.lemmas.List.{append-nil}
 use Rattle.std.proofs.lemmas.Option.{slice_get-map}
 use Rattle.std.proofs.lemmas.Bool.{cases_lt}
 use Rattle.std.proofs.lemmas.Bool.Decides.{nat_tests}
-use Rattle.rv_hart.specs.Next.{accessed}
+use Rattle.rv_hart.specs.NextAccess.{accessed}
 use Rattle.rv_hart.specs.State.{State, is_running}
 use Rattle.rv_hart.specs.Step.{step_of, step_of_hart, step_by, state_after, action_at, loaded_by, written_by, memory_after, event_of, reserves, seen_by}
 use Rattle.rv_hart.specs.ReservationLaws.{writes_word}

@@ -1,12 +1,12 @@
 use Rattle.std.proofs.Common.{◌≡◌, ℕ, ◌-◌, ◌%◌, Bool, true, false, cond, Option, Some, None, refl}
 use Rattle.std.specs.Prelude.{◌==◌, not, nat_lt, slice_get, option_map}
 use Rattle.rv_hart.specs.Act.{act, branch, jump, following, immediate, address, source_1, source_2}
-use Rattle.rv_hart.specs.Next.{next_access, next_plain, accessed, access_of_step, is_plain, is_plain_op, at_plain}
-use Rattle.rv_hart.specs.internal.Next.{hart_access, hart_plain, plain_access}
+use Rattle.rv_hart.specs.NextAccess.{next_access, next_plain, accessed, access_of_step, is_plain, is_plain_op, at_plain}
+use Rattle.rv_hart.specs.internal.HartAccess.{hart_access, hart_plain, plain_access}
 use Rattle.rv_hart.specs.Registers.{get}
 use Rattle.rv_hart.specs.State.{State, is_running}
 use Rattle.rv_hart.specs.Step.{step_of, step_by, access_of, event_of, action_at_word, tested, allowed, action_at}
-use Rattle.rv_hart.specs.Words as words
+use Rattle.rv_hart.specs.Arithmetic as arithmetic
 use Rattle.rv_hart.specs.declared.action.Action.{Action}
 use Rattle.rv_hart.specs.declared.action.Action.TheVariants.{Trap, Set, Load, Store, Reserve, Conditional, Replace, Print, Exit}
 use Rattle.rv_hart.specs.declared.hart.Cause.{Cause}
@@ -69,7 +69,7 @@ branch_at false aligned next after = refl
 
 plain_branch : (i : Instr) (hart : Hart) (taken : Bool) → acts_plainly (branch i hart taken) ≡ false
 plain_branch i hart taken =
-    branch_at taken (words.plus hart.pc (immediate i) % 4 == 0) (words.plus hart.pc (immediate i)) (following hart)
+    branch_at taken (arithmetic.plus hart.pc (immediate i) % 4 == 0) (arithmetic.plus hart.pc (immediate i)) (following hart)
 
 call_at : (exits prints : Bool) (code byte : ℕ) → acts_plainly (cond exits (Exit code) (cond prints (Print byte) (Trap UnknownCall))) ≡ false
 call_at true prints code byte = refl
@@ -79,12 +79,12 @@ call_at false false code byte = refl
 plain_op : (op : Op) (i : Instr) (hart : Hart) → acts_plainly (act op i hart) ≡ is_plain (shape_of op)
 plain_op Lui i hart = refl
 plain_op Auipc i hart = refl
-plain_op Jal i hart = plain_jump i hart (words.plus hart.pc (immediate i))
+plain_op Jal i hart = plain_jump i hart (arithmetic.plus hart.pc (immediate i))
 plain_op Jalr i hart = plain_jump i hart (address i hart - address i hart % 2)
 plain_op Beq i hart = plain_branch i hart (source_1 i hart == source_2 i hart)
 plain_op Bne i hart = plain_branch i hart (not (source_1 i hart == source_2 i hart))
-plain_op Blt i hart = plain_branch i hart (words.less_signed (source_1 i hart) (source_2 i hart))
-plain_op Bge i hart = plain_branch i hart (not (words.less_signed (source_1 i hart) (source_2 i hart)))
+plain_op Blt i hart = plain_branch i hart (arithmetic.less_signed (source_1 i hart) (source_2 i hart))
+plain_op Bge i hart = plain_branch i hart (not (arithmetic.less_signed (source_1 i hart) (source_2 i hart)))
 plain_op Bltu i hart = plain_branch i hart (nat_lt (source_1 i hart) (source_2 i hart))
 plain_op Bgeu i hart = plain_branch i hart (not (nat_lt (source_1 i hart) (source_2 i hart)))
 plain_op Lb i hart = refl

@@ -2,7 +2,7 @@
 use Rattle.std.proofs.Common.{◌≡◌, ℕ, ◌≤◌, Bool, true, false, Option, Some, None, List, ◌++◌, length, ap, refl, subst, arith}
 use Rattle.std.specs.Prelude.{IsTrue, slice_get, unwrap_or, if◌then◌else◌, not}
 use Rattle.std.proofs.lemmas.Option.{slice_get_past}
-use Rattle.rv_hart.specs.Next.{IsIdle, is_running_hart}
+use Rattle.rv_hart.specs.Refusals.{IsIdle, is_running_hart}
 use Rattle.rv_hart.specs.State.{State, is_running}
 use Rattle.rv_hart.specs.Step.{action_at, printed, state_after, step_by, step_of, step_of_hart}
 use Rattle.rv_hart.specs.declared.access.Event.{Event}

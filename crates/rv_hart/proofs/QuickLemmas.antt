@@ -4,9 +4,9 @@ use Rattle.std.specs.Prelude.{◌==◌, ◌||◌, is_some, slice_get, IfSome, Is
 use Rattle.std.proofs.lemmas.List.{append-nil, get_or-set_same, length-set, map-set, set-get_or, set-set}
 use Rattle.std.proofs.lemmas.Option.{slice_get-get_or}
 use Rattle.rv_hart.specs.Act.{action_of}
-use Rattle.rv_hart.specs.Next.{is_print}
+use Rattle.rv_hart.specs.Refusals.{is_print}
 use Rattle.rv_hart.specs.Step.{action_at_word, allowed, hart_after, kept, loaded_by, seen_by, written_by}
-use Rattle.rv_hart.specs.Words.{combined}
+use Rattle.rv_hart.specs.Arithmetic.{combined}
 use Rattle.rv_hart.specs.declared.access.Access.{Access}
 use Rattle.rv_hart.specs.declared.access.Event.{Event}
 use Rattle.rv_hart.specs.declared.access.Event.TheVariants.{Moved}

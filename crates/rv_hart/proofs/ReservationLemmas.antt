@@ -2,7 +2,8 @@
 use Rattle.std.proofs.Common.{◌≡◌, ℕ, ◌%◌, Bool, true, false, cond, Option, Some, None, refl, sym, ap, subst, ◌∙◌, inr}
 use Rattle.std.specs.Prelude.{◌==◌, is_some, option_and_then, option_map, slice_get}
 use Rattle.std.proofs.lemmas.Option.{slice_get-map}
-use Rattle.rv_hart.specs.Next.{accessed, access_of_step, next_access, is_running_hart}
+use Rattle.rv_hart.specs.NextAccess.{accessed, access_of_step, next_access}
+use Rattle.rv_hart.specs.Refusals.{is_running_hart}
 use Rattle.rv_hart.specs.ReservationLaws as laws
 use Rattle.rv_hart.specs.ReservationLaws.{reservation_at, own_after, writes_word, left_by}
 use Rattle.rv_hart.specs.State.{State, is_running}

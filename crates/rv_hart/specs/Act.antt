@@ -1,6 +1,6 @@
 use Rattle.std.specs.Prelude.{ℕ, ◌-◌, ◌%◌, Bool, true, false, not, ◌==◌, nat_lt, if◌then◌else◌, bit_and, bit_or, bit_xor}
 use Rattle.rv_hart.specs.Registers.{get}
-use Rattle.rv_hart.specs.Words.{plus, minus, word, flag, less_signed, shift_left, shift_right, shift_right_signed}
+use Rattle.rv_hart.specs.Arithmetic.{plus, minus, word, flag, less_signed, shift_left, shift_right, shift_right_signed}
 use Rattle.rv_hart.specs.declared.action.Action.{Action}
 use Rattle.rv_hart.specs.declared.action.Action.TheVariants.{Trap, Set, Load, Store, Reserve, Conditional, Replace, Print, Exit}
 use Rattle.rv_hart.specs.declared.action.Combine.{Combine}

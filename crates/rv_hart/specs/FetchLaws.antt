@@ -1,7 +1,7 @@
 -- What a hart does next, in the terms of the instruction table.
 use Rattle.std.specs.Prelude.{◌≡◌, ℕ, false, IsTrue, if◌then◌else◌, Some, None, slice_get}
 use Rattle.rv_hart.specs.Act.{action_of}
-use Rattle.rv_hart.specs.Next.{is_plain, next_access, next_plain}
+use Rattle.rv_hart.specs.NextAccess.{is_plain, next_access, next_plain}
 use Rattle.rv_hart.specs.State.{State}
 use Rattle.rv_hart.specs.Step.{action_at, allowed}
 use Rattle.rv_hart.specs.declared.action.Action.TheVariants.{Trap}

@@ -1,6 +1,7 @@
 -- What a step leaves of the harts' reservations, exactly, and what it accesses.
 use Rattle.std.specs.Prelude.{◌≡◌, ◌≢◌, ℕ, ◌+◌, Bool, false, ◌&&◌, nat_lt, if◌then◌else◌, Option, Some, None, option_and_then, is_some, slice_get}
-use Rattle.rv_hart.specs.Next.{accessed, next_access, is_running_hart}
+use Rattle.rv_hart.specs.NextAccess.{accessed, next_access}
+use Rattle.rv_hart.specs.Refusals.{is_running_hart}
 use Rattle.rv_hart.specs.State.{State}
 use Rattle.rv_hart.specs.Step.{step_of, action_at}
 use Rattle.rv_hart.specs.declared.access.Access.{Access}

@@ -2,7 +2,7 @@ use Rattle.std.specs.Prelude.{ℕ, ◌+◌, ◌%◌, Bool, true, false, ◌&&◌
 use Rattle.rv_hart.specs.Act.{action_of, following}
 use Rattle.rv_hart.specs.Registers.{set}
 use Rattle.rv_hart.specs.State.{State, is_running}
-use Rattle.rv_hart.specs.Words.{combined, extended}
+use Rattle.rv_hart.specs.Arithmetic.{combined, extended}
 use Rattle.rv_hart.specs.declared.access.Access.{Access}
 use Rattle.rv_hart.specs.declared.access.Event.{Event}
 use Rattle.rv_hart.specs.declared.access.Event.TheVariants as event
@@ -68,7 +68,7 @@ loaded_by m (Conditional rd address value) = 0
 loaded_by m (Print byte) = 0
 loaded_by m (Exit code) = 0
 
-abbrev write : ℕ → ℕ → ℕ → Write
+abbrev pub write : ℕ → ℕ → ℕ → Write
 write address size value = record { address = address; size = size; value = value }
 
 -- the bytes that it writes
@@ -87,17 +87,23 @@ abbrev pub memory_after : Memory → Option Write → Memory
 memory_after m None = m
 memory_after m (Some w) = store m w.address w.size w.value
 
-abbrev access : Hart → ℕ → ℕ → Bool → Bool → Access
-access hart first size read write =
-    record { pc = hart.pc; first = first; size = size; read = read; write = write }
+-- an access that reads its bytes, that writes them, or both
+abbrev pub reads : Hart → ℕ → ℕ → Access
+reads hart first size = record { pc = hart.pc; first = first; size = size; read = true; write = false }
+
+abbrev pub writes : Hart → ℕ → ℕ → Access
+writes hart first size = record { pc = hart.pc; first = first; size = size; read = false; write = true }
+
+abbrev pub both : Hart → ℕ → ℕ → Access
+both hart first size = record { pc = hart.pc; first = first; size = size; read = true; write = true }
 
 -- the access that it makes; a failing SC makes none
 abbrev pub access_of : Hart → Action → Option Access
-access_of hart (Load rd address size signed) = Some (access hart address size true false)
-access_of hart (Store address size value) = Some (access hart address size false true)
-access_of hart (Reserve rd address) = Some (access hart address 4 true false)
-access_of hart (Conditional rd address value) = if reserves hart.reservation address then Some (access hart address 4 false true) else None
-access_of hart (Replace rd address combine value) = Some (access hart address 4 true true)
+access_of hart (Load rd address size signed) = Some (reads hart address size)
+access_of hart (Store address size value) = Some (writes hart address size)
+access_of hart (Reserve rd address) = Some (reads hart address 4)
+access_of hart (Conditional rd address value) = if reserves hart.reservation address then Some (writes hart address 4) else None
+access_of hart (Replace rd address combine value) = Some (both hart address 4)
 access_of hart (Trap cause) = None
 access_of hart (Set rd value next) = None
 access_of hart (Print byte) = None

@@ -2,11 +2,12 @@ use Rattle.std.specs.Prelude.{◌≡◌, ◌≢◌, ℕ, ◌+◌, ◌*◌, ◌^�
 use Rattle.std.specs.Int.{int_shr}
 use Rattle.rv_hart.specs.Act.{following}
 use Rattle.rv_hart.specs.SomeHart.{SomeHart}
-use Rattle.rv_hart.specs.Next.{accessed, IsIdle}
+use Rattle.rv_hart.specs.NextAccess.{accessed}
+use Rattle.rv_hart.specs.Refusals.{IsIdle}
 use Rattle.rv_hart.specs.Registers.{get, set}
 use Rattle.rv_hart.specs.State.{State, is_running}
-use Rattle.rv_hart.specs.Step.{step_of, action_at, seen_by}
-use Rattle.rv_hart.specs.Words.{integer, less_signed, shift_left, shift_right, shift_right_signed, combined, extended}
+use Rattle.rv_hart.specs.Step.{step_of, action_at, seen_by, reads, writes, both, write}
+use Rattle.rv_hart.specs.Arithmetic.{integer, less_signed, shift_left, shift_right, shift_right_signed, combined, extended}
 use Rattle.rv_hart.specs.declared.access.Access.{Access}
 use Rattle.rv_hart.specs.declared.access.Event.{Event}
 use Rattle.rv_hart.specs.declared.access.Event.TheVariants as event
@@ -33,18 +34,6 @@ with_hart s h hart = record s { harts = slice_set s.harts h hart }
 abbrev pub with_write : State → ℕ → Hart → Write → State
 with_write s h hart w =
     record s { harts = slice_set (map (seen_by (Some w)) s.harts) h hart; memory = store s.memory w.address w.size w.value }
-
-abbrev reads : Hart → ℕ → ℕ → Access
-reads hart first size = record { pc = hart.pc; first = first; size = size; read = true; write = false }
-
-abbrev writes : Hart → ℕ → ℕ → Access
-writes hart first size = record { pc = hart.pc; first = first; size = size; read = false; write = true }
-
-abbrev both : Hart → ℕ → ℕ → Access
-both hart first size = record { pc = hart.pc; first = first; size = size; read = true; write = true }
-
-abbrev write : ℕ → ℕ → ℕ → Write
-write address size value = record { address = address; size = size; value = value }
 
 -- ---- what a step of each class changes; all else stays
 
@@ -145,7 +134,7 @@ pub record RegistersLaw : Type 0 where
 
 -- Compares and shifts agree with the numbers that the words stand for; SRA rounds down, as a shift of
 -- the integer does.
-pub record WordsLaw : Type 0 where
+pub record ArithmeticLaw : Type 0 where
   pub less : (a b : ℕ) → IsTrue (less_signed a b) ↔ (integer a <ℤ integer b)
   pub left : (a amount : ℕ) → (carried : ℕ) × (a * 2 ^ amount ≡ shift_left a amount + carried * 2 ^ 32)
   pub right : (a amount : ℕ) → (lost : ℕ) × (lost < 2 ^ amount) × (a ≡ shift_right a amount * 2 ^ amount + lost)

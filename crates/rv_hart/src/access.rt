@@ -22,6 +22,38 @@ pub enum Event {
     Stopped(Cause),
 }
 
+/// Whether an access reads its bytes, writes them, or both.
+#[derive(Clone, Copy)]
+pub(crate) enum AccessKind {
+    Load,
+    Store,
+    Both,
+}
+
+impl AccessKind {
+    ghost use Rattle.rv_hart.specs.internal.AccessKind as spec;
+
+    #[inline(always)]
+    pub(crate) fn reads(self) -> bool
+        ensures { result ≡ spec.does_read self }
+    {
+        match self {
+            AccessKind::Load | AccessKind::Both => true,
+            AccessKind::Store => false,
+        }
+    }
+
+    #[inline(always)]
+    pub(crate) fn writes(self) -> bool
+        ensures { result ≡ spec.does_write self }
+    {
+        match self {
+            AccessKind::Store | AccessKind::Both => true,
+            AccessKind::Load => false,
+        }
+    }
+}
+
 impl Access {
     ghost use Rattle.rv_hart.specs.Conflict.{conflicts, Conflict};
 

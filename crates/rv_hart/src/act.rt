@@ -2,7 +2,7 @@ ghost use Rattle.std.specs.Prelude.{◌≡◌, ◌<◌, ◌^◌};
 ghost use Rattle.rv_memory.specs.Memory.{IsSize};
 ghost use Rattle.rv_hart.specs.Act as spec;
 ghost use Rattle.rv_hart.specs.Registers.{get};
-ghost use Rattle.rv_hart.specs.Words as words;
+ghost use Rattle.rv_hart.specs.Arithmetic as arithmetic;
 
 use crate::action::{Action, Combine};
 use crate::hart::{Cause, Hart};
@@ -89,7 +89,7 @@ pub fn act(instr: &Instr, hart: &Hart) -> Action
 /// What an AMO stores, of the loaded word and the source register's.
 #[inline(always)]
 pub fn combined(combine: Combine, loaded: u32, value: u32) -> u32
-    ensures { result ≡ words.combined combine loaded value }
+    ensures { result ≡ arithmetic.combined combine loaded value }
 {
     match combine {
         Combine::Swap => value,
@@ -109,7 +109,7 @@ pub fn combined(combine: Combine, loaded: u32, value: u32) -> u32
 pub fn extended(signed: bool, size: u8, bits: u32) -> u32
     requires size { IsSize size }
     requires fits { bits < 256 ^ size }
-    ensures { result ≡ words.extended signed size bits }
+    ensures { result ≡ arithmetic.extended signed size bits }
 {
     match size {
         1 if signed && bits >= 0x80 => bits + 0xffff_ff00,
@@ -120,28 +120,28 @@ pub fn extended(signed: bool, size: u8, bits: u32) -> u32
 
 #[inline(always)]
 fn min_signed(a: u32, b: u32) -> u32
-    ensures { result ≡ words.combined Combine.Min a b }
+    ensures { result ≡ arithmetic.combined Combine.Min a b }
 {
     a.cast_signed().min(b.cast_signed()).cast_unsigned()
 }
 
 #[inline(always)]
 fn max_signed(a: u32, b: u32) -> u32
-    ensures { result ≡ words.combined Combine.Max a b }
+    ensures { result ≡ arithmetic.combined Combine.Max a b }
 {
     a.cast_signed().max(b.cast_signed()).cast_unsigned()
 }
 
 #[inline(always)]
 fn flag(b: bool) -> u32
-    ensures { result ≡ words.flag b }
+    ensures { result ≡ arithmetic.flag b }
 {
     u32::from(b)
 }
 
 #[inline(always)]
 fn less_signed(a: u32, b: u32) -> bool
-    ensures { result ≡ words.less_signed a b }
+    ensures { result ≡ arithmetic.less_signed a b }
 {
     a.cast_signed() < b.cast_signed()
 }
@@ -149,7 +149,7 @@ fn less_signed(a: u32, b: u32) -> bool
 #[inline(always)]
 fn shift_left(a: u32, amount: u32) -> u32
     requires { amount < 32 }
-    ensures { result ≡ words.shift_left a amount }
+    ensures { result ≡ arithmetic.shift_left a amount }
 {
     a << amount
 }
@@ -157,7 +157,7 @@ fn shift_left(a: u32, amount: u32) -> u32
 #[inline(always)]
 fn shift_right_signed(a: u32, amount: u32) -> u32
     requires { amount < 32 }
-    ensures { result ≡ words.shift_right_signed a amount }
+    ensures { result ≡ arithmetic.shift_right_signed a amount }
 {
     a.cast_signed().wrapping_shr(amount).cast_unsigned()
 }

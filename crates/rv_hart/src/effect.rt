@@ -1,13 +1,14 @@
 //! What an action does, one function a component of `specs/Step.antt`.
 ghost use Rattle.std.specs.Prelude.{◌≡◌, ◌==◌, ◌%◌, ◌<◌, ◌+◌, ◌++◌, vec_len, vec_capacity, Some, IsTrue, OnOk, OnErr, length, map};
 ghost use Rattle.rv_hart.specs.internal.Able.{HasSize, IsAble, IsAbleWrite, IsReady, Fits};
+ghost use Rattle.rv_hart.specs.internal.AccessKind.{access_of_kind};
 ghost use Rattle.rv_hart.specs.internal.Harts.{HartsAfter, Sees, any_holds, write_of_access};
-ghost use Rattle.rv_hart.specs.Next as next;
+ghost use Rattle.rv_hart.specs.Refusals.{is_print};
 ghost use Rattle.rv_hart.specs.Registers as registers;
 ghost use Rattle.rv_hart.specs.Step as spec;
 ghost use Rattle.rv_memory.specs.Memory.{IsSize};
 
-use crate::access::{Access, Event};
+use crate::access::{Access, AccessKind, Event};
 use crate::act::{act, combined, extended};
 use crate::action::Action;
 use crate::hart::{Cause, Hart, Status};
@@ -164,15 +165,15 @@ pub fn written_by(loaded: u32, hart: &Hart, action: Action) -> Option<Write>
 }
 
 #[inline(always)]
-fn access(hart: &Hart, first: u32, size: u8, read: bool, write: bool) -> Access
-    ensures { result ≡ record { pc = hart.now.pc; first = first; size = size; read = read; write = write } }
+fn access(hart: &Hart, first: u32, size: u8, kind: AccessKind) -> Access
+    ensures { result ≡ access_of_kind kind hart.now first size }
 {
     Access {
         pc: hart.pc,
         first,
         size,
-        read,
-        write,
+        read: kind.reads(),
+        write: kind.writes(),
     }
 }
 
@@ -182,13 +183,18 @@ pub fn access_of(hart: &Hart, action: Action) -> Option<Access>
     ensures { result ≡ spec.access_of hart.now action }
 {
     match action {
-        Action::Load { address, size, .. } => Some(access(hart, address, size, true, false)),
-        Action::Store { address, size, .. } => Some(access(hart, address, size, false, true)),
-        Action::Reserve { address, .. } => Some(access(hart, address, 4, true, false)),
+        Action::Load { address, size, .. } => Some(access(hart, address, size, AccessKind::Load)),
+        Action::Store { address, size, .. } => Some(access(hart, address, size, AccessKind::Store)),
+        Action::Reserve { address, .. } => Some(access(hart, address, 4, AccessKind::Load)),
         Action::Conditional { address, .. } => {
-            reserves(hart.reservation, address).then_some(access(hart, address, 4, false, true))
+            reserves(hart.reservation, address).then_some(access(
+                hart,
+                address,
+                4,
+                AccessKind::Store,
+            ))
         }
-        Action::Replace { address, .. } => Some(access(hart, address, 4, true, true)),
+        Action::Replace { address, .. } => Some(access(hart, address, 4, AccessKind::Both)),
         _ => None,
     }
 }
@@ -382,7 +388,7 @@ fn restore(hart: &mut Hart, own: Option<u32>)
 
 /// Appends the byte that the action prints.
 pub fn print(output: &mut Vec<u8>, action: Action)
-    requires { IsTrue (next.is_print action) → vec_len output.old < vec_capacity output.old }
+    requires { IsTrue (is_print action) → vec_len output.old < vec_capacity output.old }
     ensures items { output.new.items ≡ output.old.items ++ spec.printed action }
     ensures len { vec_len output.new ≡ vec_len output.old + length (spec.printed action) }
     ensures capacity { vec_capacity output.new ≡ vec_capacity output.old }

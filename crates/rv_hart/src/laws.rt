@@ -61,7 +61,7 @@ pub fn reservations_and_accesses()
 {}
 
 /// Register x0 is read as 0; compares and shifts agree with the numbers that the words stand for.
-pub fn registers_and_words()
+pub fn registers_and_arithmetic()
     ensures registers { law.RegistersLaw }
-    ensures words { law.WordsLaw }
+    ensures arithmetic { law.ArithmeticLaw }
 {}

@@ -5,8 +5,6 @@
 //!
 //! `act` and `effect` are the meaning's twins, one function a definition, and can make every step. `quick` is
 //! there for speed alone: it makes the common steps, and its contract is that they are the same.
-//!
-//! `words` reads the text of a list of instruction words, and gives the machine after its steps.
 #![tactic(auto)]
 
 pub mod access;
@@ -23,5 +21,4 @@ mod start;
 #[cfg(test)]
 mod tests;
 pub mod texts;
-pub mod words;
 pub mod write;

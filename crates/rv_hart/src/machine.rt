@@ -1,12 +1,14 @@
 ghost use Rattle.std.specs.Prelude.{◌≡◌, ◌^◌, ◌≢◌, ℕ, ◌<◌, ◌≤◌, ◌%◌, ◌↔◌, ◌+◌, Some, None, length, IsTrue, false, IsSome, IfSome, IfOk, IfErr, OnOk, OnErr, unwrap_or, slice_get, All};
 ghost use Rattle.rv_hart.specs.internal.Able.{IsAble};
 ghost use Rattle.rv_hart.specs.internal.Machine as machine;
-ghost use Rattle.rv_hart.specs.internal.Next as own;
-ghost use Rattle.rv_hart.specs.Next as next;
+ghost use Rattle.rv_hart.specs.internal.HartAccess as own;
+ghost use Rattle.rv_hart.specs.NextAccess as next;
+ghost use Rattle.rv_hart.specs.Refusals as refusals;
 ghost use Rattle.rv_hart.specs.Registers.{get};
 ghost use Rattle.rv_hart.specs.SomeHart.{SomeHart};
 ghost use Rattle.rv_hart.specs.State as state;
 ghost use Rattle.rv_hart.specs.Step.{step_of};
+ghost use Rattle.rv_hart.specs.StepAnswer.{AnswersStep};
 ghost use Rattle.rv_memory.specs.Extent.{IsExtent};
 ghost use Rattle.rv_memory.specs.Memory as memory;
 
@@ -211,15 +213,7 @@ impl<S: ByteStore> Machine<S> {
     /// One step of a hart: its instruction, an exit, or a stop. A refused step changes nothing.
     #[inline(always)]
     pub fn step(&mut self, h: u8) -> Result<Event, StepFault>
-        ensures step { IfOk result (λ event.
-            step_of self.old.state h ≡ Some (event, self.new.state)) }
-        ensures harts { length self.new.state.harts ≡ length self.old.state.harts }
-        ensures limit { self.new.limit ≡ self.old.limit }
-        ensures no_hart { (result ≡ Err StepFault.NoHart) ↔ (length self.old.state.harts ≤ h) }
-        ensures not_running { (result ≡ Err StepFault.NotRunning) ↔ next.IsIdle self.old.state h }
-        ensures output_full { (result ≡ Err StepFault.OutputFull) ↔ next.HasNoRoom self.old h }
-        ensures no_memory { (result ≡ Err StepFault.NoMemory) → IsTrue S.can_refuse }
-        ensures refused { OnErr result (self.new ≡ self.old) }
+        ensures { AnswersStep S.can_refuse self.old self.new h result }
     {
         match self.step_quick(h) {
             Some(event) => Ok(event),
@@ -233,9 +227,9 @@ impl<S: ByteStore> Machine<S> {
         ensures step { IfSome result (λ event.
             step_of self.old.state h ≡ Some (event, self.new.state)) }
         ensures running { IsSome result
-            → IsTrue (next.is_running_hart (slice_get self.old.state.harts h)) }
+            → IsTrue (refusals.is_running_hart (slice_get self.old.state.harts h)) }
         ensures silent { IsSome result
-            → next.prints self.old.state.memory (slice_get self.old.state.harts h) ≡ false }
+            → refusals.prints self.old.state.memory (slice_get self.old.state.harts h) ≡ false }
         ensures harts { length self.new.state.harts ≡ length self.old.state.harts }
         ensures limit { self.new.limit ≡ self.old.limit }
         ensures same { (result ≡ None) → self.new ≡ self.old }
@@ -255,15 +249,7 @@ impl<S: ByteStore> Machine<S> {
     /// `step_any`, with a place of its own for what that answers: the event of `step_quick` stays in registers.
     #[inline(always)]
     fn step_apart(&mut self, h: u8) -> Result<Event, StepFault>
-        ensures step { IfOk result (λ event.
-            step_of self.old.state h ≡ Some (event, self.new.state)) }
-        ensures harts { length self.new.state.harts ≡ length self.old.state.harts }
-        ensures limit { self.new.limit ≡ self.old.limit }
-        ensures no_hart { (result ≡ Err StepFault.NoHart) ↔ (length self.old.state.harts ≤ h) }
-        ensures not_running { (result ≡ Err StepFault.NotRunning) ↔ next.IsIdle self.old.state h }
-        ensures output_full { (result ≡ Err StepFault.OutputFull) ↔ next.HasNoRoom self.old h }
-        ensures no_memory { (result ≡ Err StepFault.NoMemory) → IsTrue S.can_refuse }
-        ensures refused { OnErr result (self.new ≡ self.old) }
+        ensures { AnswersStep S.can_refuse self.old self.new h result }
     {
         let general = self.step_any(h);
         general
@@ -273,15 +259,7 @@ impl<S: ByteStore> Machine<S> {
     #[cold]
     #[inline(never)]
     fn step_any(&mut self, h: u8) -> Result<Event, StepFault>
-        ensures step { IfOk result (λ event.
-            step_of self.old.state h ≡ Some (event, self.new.state)) }
-        ensures harts { length self.new.state.harts ≡ length self.old.state.harts }
-        ensures limit { self.new.limit ≡ self.old.limit }
-        ensures no_hart { (result ≡ Err StepFault.NoHart) ↔ (length self.old.state.harts ≤ h) }
-        ensures not_running { (result ≡ Err StepFault.NotRunning) ↔ next.IsIdle self.old.state h }
-        ensures output_full { (result ≡ Err StepFault.OutputFull) ↔ next.HasNoRoom self.old h }
-        ensures no_memory { (result ≡ Err StepFault.NoMemory) → IsTrue S.can_refuse }
-        ensures refused { OnErr result (self.new ≡ self.old) }
+        ensures { AnswersStep S.can_refuse self.old self.new h result }
     {
         let action = self.tested(h)?;
         self.take(h, action)
@@ -293,9 +271,9 @@ impl<S: ByteStore> Machine<S> {
         ensures hart { OnOk result (h < length self.now.state.harts) }
         ensures able { IfOk result (λ action. IsAble self.now.state.memory action) }
         ensures no_hart { (result ≡ Err StepFault.NoHart) ↔ (length self.now.state.harts ≤ h) }
-        ensures not_running { (result ≡ Err StepFault.NotRunning) ↔ next.IsIdle self.now.state h }
-        ensures output_full { (result ≡ Err StepFault.OutputFull) ↔ next.HasNoRoom self.now h }
-        ensures room { IfOk result (λ action. IsTrue (next.is_print action)
+        ensures not_running { (result ≡ Err StepFault.NotRunning) ↔ refusals.IsIdle self.now.state h }
+        ensures output_full { (result ≡ Err StepFault.OutputFull) ↔ refusals.HasNoRoom self.now h }
+        ensures room { IfOk result (λ action. IsTrue (refusals.is_print action)
             → length self.now.state.output < self.now.limit) }
         ensures memory { result ≢ Err StepFault.NoMemory }
     {
@@ -319,7 +297,7 @@ impl<S: ByteStore> Machine<S> {
         requires takes { machine.Takes self.old.state h action }
         requires hart { h < length self.old.state.harts }
         requires able { IsAble self.old.state.memory action }
-        requires room { IsTrue (next.is_print action) → length self.old.state.output < self.old.limit }
+        requires room { IsTrue (refusals.is_print action) → length self.old.state.output < self.old.limit }
         ensures step { IfOk result (λ event.
             step_of self.old.state h ≡ Some (event, self.new.state)) }
         ensures harts { length self.new.state.harts ≡ length self.old.state.harts }
@@ -379,7 +357,7 @@ fn plain_access(hart: &Hart, action: Action) -> Option<Access>
 }
 
 fn is_print(action: Action) -> bool
-    ensures { result ≡ next.is_print action }
+    ensures { result ≡ refusals.is_print action }
 {
     matches!(action, Action::Print(_))
 }

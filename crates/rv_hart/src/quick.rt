@@ -2,10 +2,11 @@
 //! twin; what is not taken here has changed nothing, and is for the functions there.
 ghost use Rattle.std.specs.Prelude.{◌≡◌, ◌<◌, false, length, IfSome};
 ghost use Rattle.rv_hart.specs.internal.Able.{HasSize};
+ghost use Rattle.rv_hart.specs.internal.AccessKind.{access_of_kind};
 ghost use Rattle.rv_hart.specs.internal.Harts.{Sees, any_holds};
 ghost use Rattle.rv_hart.specs.internal.Quick.{Begins, Fetches, Tried, TriedAt, event_of_attempt, write_of_attempt};
 
-use crate::access::Access;
+use crate::access::{Access, AccessKind};
 use crate::act::{act, combined};
 use crate::action::Action;
 use crate::effect::{advance, is_aligned, see_access};
@@ -299,7 +300,7 @@ fn loaded<S: ByteStore>(
     let Some(loaded) = store.load_permitted(address, size, Need::Read) else {
         return Attempt::Nothing;
     };
-    note(access, hart, address, size, true, false);
+    note(access, hart, address, size, AccessKind::Load);
     advance(hart, loaded, action);
     Attempt::Accessed
 }
@@ -328,7 +329,7 @@ fn stored<S: ByteStore>(
     if !is_aligned(address, size) || !store.store_permitted(address, size, value, Need::Write) {
         return Attempt::Nothing;
     }
-    note(access, hart, address, size, false, true);
+    note(access, hart, address, size, AccessKind::Store);
     advance(hart, 0, action);
     Attempt::Accessed
 }
@@ -364,19 +365,19 @@ fn replaced<S: ByteStore>(
     if !store.store_permitted(address, 4, stored, Need::Write) {
         return Attempt::Nothing;
     }
-    note(access, hart, address, 4, true, true);
+    note(access, hart, address, 4, AccessKind::Both);
     advance(hart, loaded, action);
     Attempt::Accessed
 }
 
 /// Notes an access that the hart makes.
 #[inline(always)]
-fn note(access: &mut Access, hart: &Hart, first: u32, size: u8, read: bool, write: bool)
-    ensures { access.new ≡ record { pc = hart.now.pc; first = first; size = size; read = read; write = write } }
+fn note(access: &mut Access, hart: &Hart, first: u32, size: u8, kind: AccessKind)
+    ensures { access.new ≡ access_of_kind kind hart.now first size }
 {
     access.pc = hart.pc;
     access.first = first;
     access.size = size;
-    access.read = read;
-    access.write = write;
+    access.read = kind.reads();
+    access.write = kind.writes();
 }

@@ -1,5 +1,5 @@
 use Rattle.std.specs.Prelude.{◌≡◌, ℕ, false, IsTrue, Option, Some, None, List, [], length, slice_get}
-use Rattle.rv_hart.specs.Next.{is_print, is_running_hart, prints}
+use Rattle.rv_hart.specs.Refusals.{is_print, is_running_hart, prints}
 use Rattle.rv_hart.specs.State.{State, is_running}
 use Rattle.rv_hart.specs.Step.{event_of, fetched, hart_after, loaded_by, memory_after, printed, seen_by, step_of, written_by}
 use Rattle.rv_hart.specs.declared.access.Access.{Access}

@@ -1,7 +1,7 @@
 use Rattle.std.proofs.Common.{◌≡◌, ◌+◌, ◌*◌, ◌≤◌, ◌<◌, ℕ, List, [], length, Ok, sym, ap, subst, ◌∙◌, arith}
 use Rattle.std.specs.Prelude.{option_map}
 use Rattle.std.specs.Vec.{vec_capacity}
-use Rattle.rv_hart.specs.Next.{accessed}
+use Rattle.rv_hart.specs.NextAccess.{accessed}
 use Rattle.rv_break.specs.Breakpoints.{Breaks}
 use Rattle.rv_collide.specs.Forced.{Turn, forced}
 use Rattle.rv_collide.specs.Numbers.{numbers}

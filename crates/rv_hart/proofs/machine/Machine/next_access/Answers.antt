@@ -1,5 +1,5 @@
 use Rattle.std.proofs.Common.{◌∙◌, sym, ap}
-use Rattle.rv_hart.specs.internal.Next.{hart_access}
+use Rattle.rv_hart.specs.internal.HartAccess.{hart_access}
 use Rattle.rv_hart.specs.State.{Guest}
 use Rattle.rv_hart.proofs.NextLemmas.{next_access_is}
 use Rattle.rv_hart.proofs.machine.Machine.next_access.Goals as goal

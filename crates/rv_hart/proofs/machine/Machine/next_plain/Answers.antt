@@ -1,5 +1,5 @@
 use Rattle.std.proofs.Common.{◌∙◌, sym, ap}
-use Rattle.rv_hart.specs.internal.Next.{hart_plain}
+use Rattle.rv_hart.specs.internal.HartAccess.{hart_plain}
 use Rattle.rv_hart.specs.State.{Guest}
 use Rattle.rv_hart.proofs.NextLemmas.{next_plain_is}
 use Rattle.rv_hart.proofs.machine.Machine.next_plain.Goals as goal

@@ -1,7 +1,0 @@
-use Rattle.std.proofs.Common.{◌≡◌, take}
-use Rattle.std.specs.Int.{to_le_bytes, w32}
-use Rattle.std.specs.List.{flat_map}
-use Rattle.rv_hart.proofs.words.guest.bytes_of.Given as goal
-
-abbrev pub invariant-loop-word : goal.invariant-loop-word
-invariant-loop-word l = l.bytes.items ≡ flat_map (to_le_bytes w32) (take l.word-index l.words)

@@ -1,5 +1,0 @@
-use Rattle.rv_hart.proofs.Fits.{regions_are_extents}
-use Rattle.rv_hart.proofs.words.guest.machine_of.Goals as goal
-
-pub new-requires-clause-regions : goal.new-requires-clause-regions
-new-requires-clause-regions c = rw (c.deref-2.ensures.value, c.in_ok-regions.ensures) (regions_are_extents _)

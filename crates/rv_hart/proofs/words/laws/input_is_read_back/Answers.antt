@@ -1,5 +1,0 @@
-use Rattle.rv_hart.proofs.ReadBack.{read_back}
-use Rattle.rv_hart.proofs.words.laws.input_is_read_back.Goals as goal
-
-pub returns : goal.returns
-returns c = read_back c.decimal_is_read_back.ensures c.word_is_read_back.ensures c.lines_are_read_back.ensures

@@ -1,0 +1,7 @@
+pub mod HartsLine
+pub mod Prefix
+pub mod StepsLaw
+pub mod StepsLine
+pub mod WordsGuest
+pub mod WordsInput
+pub mod WordsText
