@@ -15,7 +15,7 @@ use Rattle.rv_collide.specs.declared.entry.Entry.{Entry}
 use Rattle.rv_debug.specs.Placed.{Placed, setting, state}
 use Rattle.rv_debug.specs.internal.Told.{accessed_by}
 use Rattle.rv_elf.specs.Contents.{Contents}
-use Rattle.rv_hart.specs.Next.{access_of_step, accessed, next_access}
+use Rattle.rv_hart.specs.NextAccess.{access_of_step, accessed, next_access}
 use Rattle.rv_hart.specs.Run.{run}
 use Rattle.rv_hart.specs.State.{State}
 use Rattle.rv_hart.specs.Step.{step_of}

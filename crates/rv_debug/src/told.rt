@@ -5,7 +5,7 @@ ghost use Rattle.rv_collide.specs.Legal.{call_of, IsLegal};
 ghost use Rattle.rv_collide.specs.Numbers.{numbers};
 ghost use Rattle.rv_collide.specs.Stored.{added, setting_of, stored};
 ghost use Rattle.rv_debug.specs.internal.Told.{accessed_by};
-ghost use Rattle.rv_hart.specs.Next.{accessed};
+ghost use Rattle.rv_hart.specs.NextAccess.{accessed};
 
 use rv_collide::collider::{Collider, Turned};
 use rv_collide::entry::Entry;

@@ -24,7 +24,7 @@ use Rattle.rv_collide.specs.Pause.{Opening, opened, opening_of, openings, openin
 use Rattle.rv_collide.specs.StateAt.{state_at}
 use Rattle.rv_collide.specs.declared.entry.Entry.{Entry}
 use Rattle.rv_collide.specs.declared.entry.Entry.TheVariants.{Stepped, Paused, Resumed, Armed, Disarmed}
-use Rattle.rv_hart.specs.Next.{is_running_hart}
+use Rattle.rv_hart.specs.Refusals.{is_running_hart}
 use Rattle.rv_hart.specs.Run.{run}
 use Rattle.rv_hart.specs.State.{State, is_running}
 use Rattle.rv_hart.specs.Step.{action_at, hart_after, loaded_by, seen_by, step_by, step_of, step_of_hart, written_by}

@@ -6,7 +6,7 @@ use lib.Bits.{xor_assoc}
 use Rattle.std.proofs.lemmas.Bool.Decides.{nat_tests}
 use Rattle.std.proofs.lemmas.Nat.{and_xor_apart}
 use Rattle.rv_hart.specs.Conflict.{end_of}
-use Rattle.rv_hart.specs.Words.{word}
+use Rattle.rv_hart.specs.Arithmetic.{word}
 use Rattle.rv_hart.specs.declared.access.Access.{Access}
 use Rattle.rv_prune.specs.Class.{touches, loaded_by}
 use Rattle.rv_prune.specs.ClassLaws.{IsShared, TouchingIsSharing, FlagsLookSame}

@@ -15,7 +15,7 @@ use Rattle.rv_collide.specs.declared.ending.Verdict.{Verdict}
 use Rattle.rv_collide.specs.declared.ending.Verdict.TheVariants.{Hit, Changed, Quiet}
 use Rattle.rv_elf.specs.Contents.{Contents}
 use Rattle.rv_hart.specs.Conflict.{end_of}
-use Rattle.rv_hart.specs.Words.{plus, minus, word, extended}
+use Rattle.rv_hart.specs.Arithmetic.{plus, minus, word, extended}
 use Rattle.rv_hart.specs.declared.access.Access.{Access}
 use Rattle.rv_isa.specs.Shape.{shape_of}
 use Rattle.rv_isa.specs.declared.instr.Instr.{Instr}

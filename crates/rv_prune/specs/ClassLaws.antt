@@ -2,7 +2,7 @@
 use Rattle.std.specs.Prelude.{◌≡◌, ◌↔◌, ℕ, ◌+◌, ◌<◌, ◌≤◌, true, bit_and, IsTrue}
 use Rattle.rv_collide.specs.declared.ending.Ending.{Ending}
 use Rattle.rv_hart.specs.Conflict.{Touches}
-use Rattle.rv_hart.specs.Words.{word}
+use Rattle.rv_hart.specs.Arithmetic.{word}
 use Rattle.rv_hart.specs.declared.access.Access.{Access}
 use Rattle.rv_isa.specs.declared.instr.Instr.{Instr}
 use Rattle.rv_prune.specs.Class.{touches, loaded_by, looks_same}

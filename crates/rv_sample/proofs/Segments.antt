@@ -7,7 +7,7 @@ use Rattle.std.proofs.lemmas.Bool.Decides.{nat_tests}
 use Rattle.std.proofs.lemmas.List.{append-nil}
 use Rattle.std.proofs.lemmas.Option.{unwrap_or-slice_get}
 use Rattle.rv_elf.specs.Contents.{Contents, IsSegment, IsImage, stacks}
-use Rattle.rv_hart.specs.Next.{is_plain_op}
+use Rattle.rv_hart.specs.NextAccess.{is_plain_op}
 use Rattle.rv_isa.specs.Decoded.{op_at}
 use Rattle.rv_memory.specs.Extent.{Extent, end_of}
 use Rattle.rv_memory.specs.Memory.{byte, covers, load, meets, overlaps}

@@ -2,7 +2,7 @@
 use Rattle.std.specs.Prelude.{ℕ, ◌+◌, ◌%◌, ◌^◌, ◌==◌, ◌&&◌, Bool, not, nat_le, Option, List, [], ◌∷◌, length, slice_get, filter}
 use Rattle.std.specs.List.{list_any, range_with_len}
 use Rattle.rv_elf.specs.Contents.{Contents}
-use Rattle.rv_hart.specs.Next.{is_plain_op}
+use Rattle.rv_hart.specs.NextAccess.{is_plain_op}
 use Rattle.rv_isa.specs.Decoded.{op_at}
 use Rattle.rv_memory.specs.Extent.{Extent}
 use Rattle.rv_memory.specs.Memory.{load}

@@ -2,7 +2,7 @@
 ghost use Rattle.std.specs.Prelude.{◌≡◌, ◌++◌, ◌+◌, ◌%◌, ◌≤◌, [], ◌∷◌, ℕ, length, IfOk, OnOk, IsTrue};
 ghost use Rattle.std.specs.Option.{option_copied};
 ghost use Rattle.rv_elf.specs.Contents.{IsSegment};
-ghost use Rattle.rv_hart.specs.Next.{is_plain_op};
+ghost use Rattle.rv_hart.specs.NextAccess.{is_plain_op};
 ghost use Rattle.rv_isa.specs.Decoded.{op_at};
 ghost use Rattle.rv_memory.specs.Memory.{load};
 ghost use Rattle.rv_sample.specs.Sites.{is_site, sites, sites_among};

@@ -14,8 +14,8 @@ use Rattle.rv_debug.specs.declared.fault.TalkFault.{TalkFault}
 use Rattle.rv_debug.specs.declared.fault.TalkFault.TheVariants as talk
 use Rattle.rv_elf.specs.declared.fault.LoadFault.{LoadFault}
 use Rattle.rv_elf.specs.declared.fault.LoadFault.TheVariants as load
-use Rattle.rv_hart.specs.declared.words.WordsFault.{WordsFault}
-use Rattle.rv_hart.specs.declared.words.WordsFault.TheVariants as words
+use Rattle.rv_words.specs.declared.fault.WordsFault.{WordsFault}
+use Rattle.rv_words.specs.declared.fault.WordsFault.TheVariants as words
 use Rattle.rv_locked.specs.declared.threads.RunFault.{RunFault}
 use Rattle.rv_locked.specs.declared.threads.RunFault.TheVariants as threaded
 use Rattle.rv_memory.specs.declared.flagged.ReadFault.{ReadFault}

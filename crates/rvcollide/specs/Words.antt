@@ -1,8 +1,8 @@
 use Rattle.std.specs.Prelude.{ℕ, nat_lt, if◌then◌else◌, Result, Ok, Err, List, length}
 use Rattle.rv_hart.specs.State.{State}
 use Rattle.rv_hart.specs.Texts.{state_text}
-use Rattle.rv_hart.specs.WordsGuest as guest
-use Rattle.rv_hart.specs.declared.words.WordsFault.{WordsFault}
+use Rattle.rv_words.specs.WordsGuest as guest
+use Rattle.rv_words.specs.declared.fault.WordsFault.{WordsFault}
 use Rattle.rv_memory.specs.Chain.{◌>>=◌}
 use Rattle.rv_memory.specs.declared.flagged.TheConstants.{INPUT_LIMIT}
 use Rattle.rvcollide.specs.Fault.{fault_of_words}

@@ -9,7 +9,7 @@ ghost use Rattle.rvcollide.specs.Fault.{IsToldFault, fails_by, is_read, is_write
 use crate::fault::Fault;
 use rv_hart::machine::Machine;
 use rv_hart::texts::write_state;
-use rv_hart::words::machine_after;
+use rv_words::machine_after;
 use rv_memory::buffered::Buffered;
 use rv_memory::flagged::{Flagged, INPUT_LIMIT, read_whole};
 use rv_memory::flat::Flat;

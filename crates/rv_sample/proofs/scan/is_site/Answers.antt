@@ -1,7 +1,7 @@
 use Rattle.std.proofs.Common.{not, ap, sym, ◌∙◌}
 use Rattle.std.specs.Prelude.{◌&&◌, ◌==◌}
 use Rattle.std.specs.List.{list_any}
-use Rattle.rv_hart.specs.Next.{is_plain_op}
+use Rattle.rv_hart.specs.NextAccess.{is_plain_op}
 use Rattle.rv_isa.specs.Decoded.{op_at}
 use Rattle.rv_sample.proofs.Segments.{site_there}
 use Rattle.rv_sample.proofs.scan.is_site.Goals as goal
