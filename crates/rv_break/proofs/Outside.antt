@@ -1,41 +1,41 @@
--- What lies outside of the claims' stretch is shown to none of them.
+-- What lies outside of the claims' span is shown to none of them.
 use Rattle.std.proofs.Common.{◌≡◌, ◌≤◌, ◌<◌, Bool, true, false, cond, [], ◌∷◌, length, get_or, drop, Option, Some, None, refl, ap, ap₂, arith}
 use Rattle.std.specs.Prelude.{◌==◌, ◌&&◌, ◌||◌, not, is_none, IfSome}
 use Rattle.std.proofs.lemmas.Bool.Decides.{nat_tests}
 use Rattle.rv_break.specs.Slots.{Slots, claim_after, is_for, slots_after}
 use Rattle.rv_break.specs.declared.claim.Claim.{Claim}
 use Rattle.rv_break.specs.declared.claim.Seen.{Seen}
-use Rattle.rv_break.specs.declared.stretch.Stretch.{Stretch}
-use Rattle.rv_break.specs.internal.Stretch.{AreIn, LiesIn, is_outside}
+use Rattle.rv_break.specs.declared.span.Span.{Span}
+use Rattle.rv_break.specs.internal.Span.{AreIn, LiesIn, is_outside}
 use Rattle.rv_hart.specs.Conflict.{meets, end_of}
 use Rattle.rv_hart.specs.declared.access.Access.{Access}
 
-pub are_in_none : (s : Stretch) (slots : Slots) → length slots < 1 → AreIn s slots
+pub are_in_none : (s : Span) (slots : Slots) → length slots < 1 → AreIn s slots
 are_in_none s [] none = tt
 are_in_none s (held ∷ slots) none = absurd (omega arith)
 
-pub are_in_all : (s : Stretch) (slots : Slots) (d : Option Claim) → 1 ≤ length slots → IfSome (get_or slots 0 d) (λ claim. LiesIn s claim.access) → AreIn s (drop 1 slots) → AreIn s slots
+pub are_in_all : (s : Span) (slots : Slots) (d : Option Claim) → 1 ≤ length slots → IfSome (get_or slots 0 d) (λ claim. LiesIn s claim.access) → AreIn s (drop 1 slots) → AreIn s slots
 are_in_all s [] d some own others = absurd (omega arith)
 are_in_all s (held ∷ slots) d some own others = (own, others)
 
-lies_in_wider : (s wider : Stretch) (a : Access) → wider.first ≤ s.first → s.end ≤ wider.end → LiesIn s a → LiesIn wider a
+lies_in_wider : (s wider : Span) (a : Access) → wider.first ≤ s.first → s.end ≤ wider.end → LiesIn s a → LiesIn wider a
 lies_in_wider s wider a from to inside =
     let begins : s.first ≤ a.first = inside.0 in
     let ends : end_of a ≤ s.end = inside.1 in
     (omega arith, omega arith)
 
-pub are_in_wider : (s wider : Stretch) (slots : Slots) → wider.first ≤ s.first → s.end ≤ wider.end → AreIn s slots → AreIn wider slots
+pub are_in_wider : (s wider : Span) (slots : Slots) → wider.first ≤ s.first → s.end ≤ wider.end → AreIn s slots → AreIn wider slots
 are_in_wider s wider [] from to inside = tt
 are_in_wider s wider (None ∷ slots) from to inside = (tt, are_in_wider s wider slots from to inside.1)
 are_in_wider s wider (Some claim ∷ slots) from to inside = (lies_in_wider s wider claim.access from to inside.0, are_in_wider s wider slots from to inside.1)
 
 -- a claim keeps what it watches
-pub are_in_after : (s : Stretch) (seen : Seen) (slots : Slots) → AreIn s slots → AreIn s (slots_after seen slots)
+pub are_in_after : (s : Span) (seen : Seen) (slots : Slots) → AreIn s slots → AreIn s (slots_after seen slots)
 are_in_after s seen [] inside = tt
 are_in_after s seen (None ∷ slots) inside = (tt, are_in_after s seen slots inside.1)
 are_in_after s seen (Some claim ∷ slots) inside = (inside.0, are_in_after s seen slots inside.1)
 
-outside_meets_none : (s : Stretch) (watched other : Access) → LiesIn s watched → is_outside s other ≡ true → meets watched other ≡ false
+outside_meets_none : (s : Span) (watched other : Access) → LiesIn s watched → is_outside s other ≡ true → meets watched other ≡ false
 outside_meets_none s watched other inside outside = let from = inside.0 in let to = inside.1 in grind (arith, nat_tests, from, to, outside)
 
 none_passes : (b m w : Bool) → m ≡ false → (b && (m && w)) ≡ false
@@ -53,7 +53,7 @@ claim_same : (claim : Claim) (seen : Seen) → meets claim.access seen.access �
 claim_same claim seen none =
     ap (λ (b : Bool). record claim { seen = cond b (Some seen) claim.seen }) (shows_nothing (is_none claim.seen) (is_for claim seen) (is_not_for claim seen none))
 
-pub outside_shows_none : (s : Stretch) (seen : Seen) (slots : Slots) → AreIn s slots → is_outside s seen.access ≡ true → slots_after seen slots ≡ slots
+pub outside_shows_none : (s : Span) (seen : Seen) (slots : Slots) → AreIn s slots → is_outside s seen.access ≡ true → slots_after seen slots ≡ slots
 outside_shows_none s seen [] inside outside = refl
 outside_shows_none s seen (None ∷ slots) inside outside = ap (λ (rest : Slots). None ∷ rest) (outside_shows_none s seen slots inside.1 outside)
 outside_shows_none s seen (Some claim ∷ slots) inside outside =

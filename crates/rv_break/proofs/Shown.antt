@@ -1,8 +1,13 @@
 -- What the data breakpoints hold after accesses.
 use Rattle.std.proofs.Common.{◌≡◌, ◌≤◌, ℕ, zero, suc, ◌+◌, ◌<◌, true, false, cond, List, [], ◌∷◌, ◌++◌, length, get_or, take, drop, set, map, Some, refl, sym, ap, ◌∙◌, arith, add-one}
-use Rattle.std.specs.Prelude.{fold, find}
-use Rattle.rv_break.specs.Slots.{claim_after, is_for}
-use Rattle.rv_break.specs.SlotsLaw.{FirstIsSeen}
+use Rattle.std.specs.Prelude.{◌==◌, ◌&&◌, Bool, not, is_none, Option, None, find, filter_map, slice_get, option_and_then, option_map}
+use Rattle.std.specs.List.{list_all}
+use Rattle.std.specs.Option.{option_or}
+use Rattle.std.proofs.lemmas.Bool.{and_parts}
+use Rattle.std.proofs.lemmas.Bool.Decides.{nat_tests}
+use Rattle.std.proofs.lemmas.Option.{slice_get-map}
+use Rattle.rv_break.specs.Slots.{Slots, claim_after, is_for, seen_by, slots_after}
+use Rattle.rv_break.specs.SlotsLaw.{FirstIsSeen, Shown, Set, leaves, shown}
 use Rattle.rv_break.specs.declared.claim.Claim.{Claim}
 use Rattle.rv_break.specs.declared.claim.Seen.{Seen}
 
@@ -34,15 +39,30 @@ module _ {X : Type 0} (f : X → X) where
       ∙ ap (λ v. set (mapped xs i) i v) (is ∙ ap (λ zs. f (get_or zs i d)) before ∙ ap f (mapped_get xs i d))
       ∙ mapped_set xs i d below ∙ ap (mapped xs) (sym (add-one i))
 
--- once a claim has seen an access, it stays as it is
-stays : (claim : Claim) (seen : Seen) (since : List Seen) → claim.seen ≡ Some seen → (fold (λ c seen. claim_after seen c) claim since).seen ≡ Some seen
-stays claim seen [] has = has
-stays claim seen (x ∷ since) has = stays (claim_after x claim) seen since (rw has refl)
+or_none : (o : Option Seen) → option_or o None ≡ o
+or_none None = refl
+or_none (Some seen) = refl
+
+-- what a claim holds after one more access, and the others after that
+one_more : (f : Bool) (seen : Seen) (held later : Option Seen) → option_or (cond (is_none held && f) (Some seen) held) later ≡ option_or held (cond f (Some seen) later)
+one_more true seen None later = refl
+one_more false seen None later = refl
+one_more f seen (Some first) later = refl
+
+get_other : (slots : Slots) (other slot : ℕ) (held : Option Claim) → not (other == slot) ≡ true → slice_get (set slots other held) slot ≡ slice_get slots slot
+get_other [] other slot held apart = refl
+get_other (x ∷ slots) zero zero held apart = cc
+get_other (x ∷ slots) zero (suc slot) held apart = refl
+get_other (x ∷ slots) (suc other) zero held apart = refl
+get_other (x ∷ slots) (suc other) (suc slot) held apart =
+    let apart_below : not (other == slot) ≡ true = grind (arith, nat_tests) in
+    get_other slots other slot held apart_below
 
 pub first_is_seen : FirstIsSeen
-first_is_seen claim [] none = none
-first_is_seen claim (x ∷ since) none =
-    elim (is_for claim x) as (λ b. is_for claim x ≡ b → (fold (λ c seen. claim_after seen c) (claim_after x claim) since).seen ≡ cond b (Some x) (find (is_for claim) since)) [
-      | true ↦ λ e. stays (claim_after x claim) x since (rw (none, e) refl)
-      | false ↦ λ e. first_is_seen (claim_after x claim) since (rw (none, e) refl)
-    ] refl
+first_is_seen slots slot claim [] there left = ap (option_and_then seen_by) there ∙ sym (or_none claim.seen)
+first_is_seen slots slot claim (Shown seen ∷ since) there left =
+    first_is_seen (slots_after seen slots) slot (claim_after seen claim) since (slice_get-map (option_map (claim_after seen)) slots slot ∙ ap (option_map (option_map (claim_after seen))) there) left
+    ∙ one_more (is_for claim seen) seen claim.seen (find (is_for claim) (filter_map shown since))
+first_is_seen slots slot claim (Set other held ∷ since) there left =
+    let parts = and_parts (not (other == slot)) (list_all (leaves slot) since) left in
+    first_is_seen (set slots other held) slot claim since (get_other slots other slot held parts.0 ∙ there) parts.1

@@ -1,2 +1,2 @@
 pub mod Buckets
-pub mod Stretch
+pub mod Span

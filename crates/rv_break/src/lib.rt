@@ -10,6 +10,6 @@ pub mod breakpoints;
 pub mod claim;
 pub mod laws;
 mod slots;
-mod stretch;
+mod span;
 #[cfg(test)]
 mod tests;

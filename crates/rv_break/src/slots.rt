@@ -3,7 +3,7 @@ ghost use Rattle.std.specs.Prelude.{◌≡◌, ◌<◌, IfOk, IfSome, IfNone, Is
 ghost use Rattle.rv_break.specs.Slots as spec;
 
 use crate::claim::{Claim, SLOTS, Seen};
-use crate::stretch::{Stretch, stretch_of};
+use crate::span::{Span, span_of};
 use rv_hart::access::Access;
 use rv_memory::store::NoMemory;
 use std::alloc::Global;
@@ -13,14 +13,14 @@ use std::marker::Model;
 #[derive(Drop)]
 pub struct Slots {
     claims: Vec<Option<Claim>>,
-    watched: Stretch,
+    watched: Span,
 }
 
 impl Model for Slots {
     ghost use Rattle.std.specs.Prelude.{◌≡◌, length};
     ghost use Rattle.rv_break.specs.declared.claim.TheConstants.{SLOTS};
     ghost use Rattle.rv_break.specs.Slots as spec;
-    ghost use Rattle.rv_break.specs.internal.Stretch.{AreIn};
+    ghost use Rattle.rv_break.specs.internal.Span.{AreIn};
 
     ghost Value = { spec.Slots };
 
@@ -35,7 +35,7 @@ impl Slots {
         ensures { IfOk result (λ slots. slots ≡ replicate SLOTS None) }
     {
         let claims = vec![in alloc; None; SLOTS as usize]?;
-        let watched = stretch_of(&claims);
+        let watched = span_of(&claims);
         Ok(Slots { claims, watched })
     }
 
@@ -53,7 +53,7 @@ impl Slots {
             access,
             seen: None,
         });
-        self.watched = stretch_of(&self.claims);
+        self.watched = span_of(&self.claims);
         Some(slot as u8)
     }
 
@@ -93,7 +93,7 @@ impl Slots {
         let slot = slot as usize;
         let seen = seen_by(self.claims[slot]);
         self.claims[slot] = None;
-        self.watched = stretch_of(&self.claims);
+        self.watched = span_of(&self.claims);
         seen
     }
 }

@@ -1,6 +1,6 @@
 use Rattle.std.proofs.Common.{sym, ◌∙◌, subst}
 use Rattle.rv_break.specs.Slots.{Slots}
-use Rattle.rv_break.specs.internal.Stretch.{AreIn}
+use Rattle.rv_break.specs.internal.Span.{AreIn}
 use Rattle.rv_break.proofs.Outside.{outside_shows_none}
 use Rattle.rv_break.proofs.slots.Slots.see.Goals as goal
 

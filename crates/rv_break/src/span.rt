@@ -1,19 +1,19 @@
-//! The stretch of addresses that the claims watch, which tells most accesses at one look.
+//! The span of addresses that the claims watch, which tells most accesses at one look.
 ghost use Rattle.std.specs.Prelude.{◌≡◌, ◌≤◌, IfSome};
-ghost use Rattle.rv_break.specs.internal.Stretch.{AreIn, LiesIn, is_outside};
+ghost use Rattle.rv_break.specs.internal.Span.{AreIn, LiesIn, is_outside};
 
 use crate::claim::Claim;
 use rv_hart::access::Access;
 
 /// Addresses from `first` on, and before `end`.
 #[derive(Clone, Copy)]
-pub struct Stretch {
+pub struct Span {
     pub first: u64,
     pub end: u64,
 }
 
-impl Stretch {
-    /// Whether no byte of the access is in the stretch.
+impl Span {
+    /// Whether no byte of the access is in the span.
     #[inline(always)]
     pub fn misses(&self, access: &Access) -> bool
         ensures { result ≡ is_outside self.now access.now }
@@ -22,8 +22,8 @@ impl Stretch {
         first + u64::from(access.size) <= self.first || self.end <= first
     }
 
-    /// The stretch with what a claim watches.
-    fn widened(self, held: Option<Claim>) -> Stretch
+    /// The span with what a claim watches.
+    fn widened(self, held: Option<Claim>) -> Span
         ensures held { IfSome held (λ claim. LiesIn result claim.access) }
         ensures first { result.first ≤ self.first }
         ensures end { self.end ≤ result.end }
@@ -32,7 +32,7 @@ impl Stretch {
             None => self,
             Some(claim) => {
                 let first = u64::from(claim.access.first);
-                Stretch {
+                Span {
                     first: self.first.min(first),
                     end: self.end.max(first + u64::from(claim.access.size)),
                 }
@@ -42,14 +42,14 @@ impl Stretch {
 }
 
 /// From the first byte that a claim watches to the last.
-pub fn stretch_of(claims: &[Option<Claim>]) -> Stretch
+pub fn span_of(claims: &[Option<Claim>]) -> Span
     ensures { AreIn result claims.now }
 {
     match claims {
-        [] => Stretch {
+        [] => Span {
             first: u64::MAX,
             end: 0,
         },
-        [held, rest @ ..] => stretch_of(rest).widened(*held),
+        [held, rest @ ..] => span_of(rest).widened(*held),
     }
 }
