@@ -12,7 +12,7 @@ use Rattle.rv_memory.specs.Chain.{◌>>=◌, want}
 use Rattle.rv_text.specs.Pieces.{pieces_of}
 use Rattle.rv_collide.specs.Grammar.{end_line, header_line}
 use Rattle.rv_collide.specs.Plan.{Numbers, most_entries}
-use Rattle.rv_collide.specs.Reading.{Schedule, IsToldFault, entries_from, entry_of, first_line, header_in, is_over, is_plan, numbers_of, plan_in, plan_of, schedule_in, schedule_of, words_of}
+use Rattle.rv_collide.specs.ScheduleRead.{Schedule, IsToldFault, entries_from, entry_of, first_line, header_in, is_over, is_plan, numbers_of, plan_in, plan_of, schedule_in, schedule_of, words_of}
 use Rattle.rv_collide.specs.declared.entry.Entry.{Entry}
 use Rattle.rv_collide.specs.declared.schedule.fault.ScheduleFault.{ScheduleFault}
 use Rattle.rv_collide.specs.declared.schedule.fault.ScheduleKind.{ScheduleKind}

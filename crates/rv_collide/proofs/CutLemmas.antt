@@ -5,7 +5,7 @@ use Rattle.std.proofs.lemmas.Bool.{or_parts, or_from}
 use Rattle.std.proofs.lemmas.Bool.Decides.{nat_tests}
 use Rattle.std.proofs.lemmas.List.Elements.{All-head, All-tail}
 use Rattle.rv_text.specs.Pieces.{pieces_of}
-use Rattle.rv_collide.specs.Reading.{first_line, is_over}
+use Rattle.rv_collide.specs.ScheduleRead.{first_line, is_over}
 use Rattle.rv_collide.specs.declared.schedule.fault.ScheduleKind.TheVariants.{NoEnd, TooLong}
 
 -- the byte stands nowhere in the text

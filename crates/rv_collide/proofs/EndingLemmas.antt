@@ -5,9 +5,10 @@ use Rattle.std.specs.Io.KnownBytes.{Appends}
 use Rattle.std.proofs.KnownBytes.{Appends-trans}
 use Rattle.std.proofs.lemmas.Grind.{flat_map-append}
 use Rattle.std.proofs.lemmas.List.{take_more, length-take-le}
+use Rattle.std.proofs.lemmas.Option.{get_or_from_slice_get, slice_get_within}
 use Rattle.rv_text.specs.Lines.{text_of_lines}
 use Rattle.rv_collide.specs.Grammar.{slot_text}
-use Rattle.rv_collide.specs.Texts.{ending_line, ending_lines, pause_text, values_text, verdict_text}
+use Rattle.rv_collide.specs.Texts.{OneEndingMore, ending_line, ending_lines, endings_text, pause_text, values_text, verdict_text}
 use Rattle.rv_collide.specs.declared.ending.Ending.{Ending}
 
 lines_push : (endings : List Ending) (first : ℕ) (ending : Ending) → ending_lines first endings ++ ending_line (first + length endings) ending ∷ [] ≡ ending_lines first (endings ++ ending ∷ [])
@@ -30,6 +31,16 @@ lines_next endings n other a b c inside before next =
     let more : front ++ ending ∷ [] ≡ take (n + 1) endings = sym (take_more endings n other inside) in
     let push = ap (λ k. ending_lines 0 front ++ ending_line k ending ∷ []) (sym count) ∙ lines_push front 0 ending ∙ ap (ending_lines 0) more in
     subst (Appends a c) (text_push (ending_lines 0 front) (ending_line n ending) ∙ ap text_of_lines push) (Appends-trans a b c (text_of_lines (ending_lines 0 front)) (ending_line n ending ++ 10 ∷ []) before next)
+
+pub one_ending_more : OneEndingMore
+unfolding endings_text
+one_ending_more endings n ending there =
+    let front = take n endings in
+    let inside : n < length endings = slice_get_within endings n ending there in
+    let count : 0 + length front ≡ n = zero-add (length front) ∙ length-take-le n endings (omega arith) in
+    let more : front ++ ending ∷ [] ≡ take (n + 1) endings = ap (λ e. front ++ e ∷ []) (sym (get_or_from_slice_get endings n ending ending there)) ∙ sym (take_more endings n ending inside) in
+    let push = ap (λ k. ending_lines 0 front ++ ending_line k ending ∷ []) (sym count) ∙ lines_push front 0 ending ∙ ap (ending_lines 0) more in
+    sym (text_push (ending_lines 0 front) (ending_line n ending) ∙ ap text_of_lines push)
 
 -- a line in the order of writing
 pub ending_written : {T E : Type 0} (number : ℕ) (e : Ending) (r : Result T E) (a b c d f g h i : Option (List ℕ)) → Appends a b (pause_text number e) → Appends b c (codes " slot ") → Appends c d (slot_text e.slot)

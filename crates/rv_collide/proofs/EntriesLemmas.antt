@@ -3,7 +3,7 @@ use Rattle.std.proofs.Common.{◌≡◌, ℕ, ◌+◌, ◌-◌, true, false, nat
 use Rattle.std.specs.Str.{bytes_eq}
 use Rattle.rv_memory.specs.Chain.{◌>>=◌}
 use Rattle.rv_collide.specs.Grammar.{end_line}
-use Rattle.rv_collide.specs.Reading.{entries_from, entry_of, first_line, is_over}
+use Rattle.rv_collide.specs.ScheduleRead.{entries_from, entry_of, first_line, is_over}
 use Rattle.rv_collide.specs.internal.Before.{entries_before}
 use Rattle.rv_collide.specs.declared.entry.Entry.{Entry}
 use Rattle.rv_collide.specs.declared.schedule.fault.ScheduleFault.{ScheduleFault}

@@ -1,7 +1,7 @@
 use Rattle.std.proofs.Common.{◌≡◌, ℕ, ◌+◌, ◌-◌, ◌<◌, ◌≤◌, Bool, true, false, Result, Ok, Err, List, [], ◌∷◌, ◌++◌, length, refl, ap, ◌∙◌, append_assoc, append-nil, arith, sym, length-append}
 use Rattle.std.specs.Prelude.{MatchBool, ⊤}
 use Rattle.rv_text.specs.Pieces.{pieces_of}
-use Rattle.rv_collide.specs.Reading.{entries_from, is_of_text, IsToldFault}
+use Rattle.rv_collide.specs.ScheduleRead.{entries_from, is_of_text, IsToldFault}
 use Rattle.rv_collide.specs.internal.Before.{entries_before}
 use Rattle.rv_collide.specs.declared.entry.Entry.{Entry}
 use Rattle.rv_collide.specs.declared.schedule.fault.ScheduleFault.{ScheduleFault}

@@ -1,7 +1,7 @@
 -- What the words of an entry's line say.
 use Rattle.std.proofs.Common.{◌≡◌, ℕ, Option, Some, None, List, [], ◌∷◌, ap, ◌∙◌, sym, drop}
 use Rattle.std.specs.Prelude.{slice_get}
-use Rattle.rv_collide.specs.Reading.{entry_in, entry_of, short_entry, words_of}
+use Rattle.rv_collide.specs.ScheduleRead.{entry_in, entry_of, short_entry, words_of}
 use Rattle.rv_collide.specs.declared.entry.Entry.{Entry}
 
 -- two words and no third

@@ -5,7 +5,7 @@ use Rattle.rv_text.specs.Hexadecimal.{WordIsReadBack}
 use Rattle.rv_collide.specs.Grammar.{Grammar}
 use Rattle.rv_collide.specs.GrammarLaws.{ReadsTheGrammar, TextHasOneSchedule, ScheduleHasOneText, ScheduleHasText}
 use Rattle.rv_collide.specs.Numbers.{numbers}
-use Rattle.rv_collide.specs.Reading.{schedule_of}
+use Rattle.rv_collide.specs.ScheduleRead.{schedule_of}
 use Rattle.rv_collide.proofs.ReadsBack.{schedule_back}
 use Rattle.rv_collide.proofs.SpellLemmas.{schedule_read}
 

@@ -9,6 +9,7 @@ pub mod CutLemmas
 pub mod DrivenLemmas
 pub mod EndingLemmas
 pub mod Endings
+pub mod EndingsOf
 pub mod EntriesLemmas
 pub mod EntriesSoFar
 pub mod EntryLineLemmas

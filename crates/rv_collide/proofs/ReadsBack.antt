@@ -21,7 +21,7 @@ use Rattle.rv_text.specs.Lines.{text_of_lines}
 use Rattle.rv_text.specs.Pieces.{pieces_of}
 use Rattle.rv_collide.specs.Grammar.{HasAddress, IsInReach, IsWritable, end_line, entry_line, header_line, plan_line, schedule_lines, schedule_text, slot_text}
 use Rattle.rv_collide.specs.Plan.{IsPlan, Numbers, most_entries}
-use Rattle.rv_collide.specs.Reading.{Schedule, address_of, at_line, entries_from, entry_in, entry_of, first_line, hart_of, header_in, is_over, is_plan, named, numbers_of, pause_entry, plan_in, plan_of, schedule_in, schedule_of, short_entry, slot_of, words_of}
+use Rattle.rv_collide.specs.ScheduleRead.{Schedule, address_of, at_line, entries_from, entry_in, entry_of, first_line, hart_of, header_in, is_over, is_plan, named, numbers_of, pause_entry, plan_in, plan_of, schedule_in, schedule_of, short_entry, slot_of, words_of}
 use Rattle.rv_collide.specs.declared.entry.Entry.{Entry}
 use Rattle.rv_collide.specs.declared.entry.Entry.TheVariants.{Stepped, Paused, Resumed, Armed, Disarmed}
 use Rattle.rv_collide.specs.declared.schedule.fault.ScheduleKind.{ScheduleKind}

@@ -3,7 +3,7 @@ use Rattle.std.proofs.Common.{◌≡◌, ℕ, Bool, true, false, Ok, Err, List, 
 use Rattle.std.specs.Prelude.{MatchBool, ⊤}
 use Rattle.rv_text.specs.Pieces.{pieces_of}
 use Rattle.rv_collide.specs.Plan.{Numbers, most_entries}
-use Rattle.rv_collide.specs.Reading.{entries_from, header_in, is_of_text, IsToldFault, plan_in, schedule_in, schedule_of}
+use Rattle.rv_collide.specs.ScheduleRead.{entries_from, header_in, is_of_text, IsToldFault, plan_in, schedule_in, schedule_of}
 use Rattle.rv_collide.specs.declared.entry.Entry.{Entry}
 use Rattle.rv_collide.specs.declared.schedule.fault.ScheduleFault.{ScheduleFault}
 use Rattle.rv_collide.specs.declared.schedule.fault.ScheduleKind.{ScheduleKind}

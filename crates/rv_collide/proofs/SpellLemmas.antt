@@ -19,7 +19,7 @@ use Rattle.rv_text.specs.Lines.{has_line_feed, text_of_lines}
 use Rattle.rv_text.specs.Pieces.{pieces_of}
 use Rattle.rv_collide.specs.Grammar.{HasAddress, IsInReach, IsWritable, end_line, entry_line, header_line, plan_line, schedule_lines, schedule_text, slot_text}
 use Rattle.rv_collide.specs.Plan.{IsPlan, Numbers, most_entries}
-use Rattle.rv_collide.specs.Reading.{address_of, entries_from, entry_of, first_line, hart_of, is_plan, numbers_of, plan_in, plan_of, schedule_in, schedule_of, slot_of, words_of}
+use Rattle.rv_collide.specs.ScheduleRead.{address_of, entries_from, entry_of, first_line, hart_of, is_plan, numbers_of, plan_in, plan_of, schedule_in, schedule_of, slot_of, words_of}
 use Rattle.rv_collide.specs.declared.entry.Entry.{Entry}
 use Rattle.rv_collide.specs.declared.entry.Entry.TheVariants.{Stepped, Paused, Resumed, Armed, Disarmed}
 use Rattle.rv_collide.specs.internal.Before.{entries_before}

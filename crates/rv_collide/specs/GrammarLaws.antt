@@ -5,7 +5,7 @@ use Rattle.rv_collide.specs.Grammar.{Grammar, HasAddress, IsWritable, schedule_t
 use Rattle.rv_collide.specs.Legal.{IsLegal}
 use Rattle.rv_collide.specs.Numbers.{numbers}
 use Rattle.rv_collide.specs.Plan.{IsPlan}
-use Rattle.rv_collide.specs.Reading.{schedule_of}
+use Rattle.rv_collide.specs.ScheduleRead.{schedule_of}
 use Rattle.rv_collide.specs.declared.entry.Entry.{Entry}
 use Rattle.rv_collide.specs.declared.plan.Plan.{Plan}
 

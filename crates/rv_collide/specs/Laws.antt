@@ -1,17 +1,19 @@
 -- What follows from the definitions, in a user's words.
-use Rattle.std.specs.Prelude.{◌≡◌, ◌≢◌, ◌↔◌, ℕ, ◌<◌, ◌≤◌, IsSome, Some, List, length}
+use Rattle.std.specs.Prelude.{◌≡◌, ◌≢◌, ◌↔◌, ℕ, ◌<◌, ◌≤◌, IsSome, IsSomeAnd, Option, Some, List, length, map, filter_map, slice_get}
 use Rattle.rv_break.specs.declared.claim.Seen.{Seen}
 use Rattle.rv_collide.specs.Entries.{steps}
 use Rattle.rv_collide.specs.First.{paused_access, seen_at}
 use Rattle.rv_collide.specs.Forced.{Setting}
 use Rattle.rv_collide.specs.Held.{Held}
 use Rattle.rv_collide.specs.Legal.{IsLegal}
-use Rattle.rv_collide.specs.Pause.{Pause}
+use Rattle.rv_collide.specs.Next.{next}
+use Rattle.rv_collide.specs.Pause.{Pause, resumed_hart}
 use Rattle.rv_collide.specs.StateAt.{state_at}
-use Rattle.rv_collide.specs.Verdict.{verdict}
+use Rattle.rv_collide.specs.Verdict.{ending_at, endings, verdict}
 use Rattle.rv_collide.specs.declared.ending.Verdict.{Verdict}
 use Rattle.rv_collide.specs.declared.ending.Verdict.TheVariants.{Hit}
 use Rattle.rv_collide.specs.declared.entry.Entry.{Entry}
+use Rattle.rv_collide.specs.declared.entry.Entry.TheVariants.{Paused, Resumed}
 use Rattle.rv_hart.specs.Conflict.{Conflict}
 use Rattle.rv_hart.specs.ReservationLaws.{reservation_at}
 use Rattle.rv_hart.specs.State.{State, start}
@@ -57,3 +59,18 @@ LegalHasStates = (setting : Setting) (entries : List Entry) → IsLegal setting 
 abbrev pub ReservationsAreHeld : Type 0
 ReservationsAreHeld =
     (given : List Extent) (entry count : ℕ) (entries : List Entry) (place : ℕ) (s : State) → place ≤ length entries → state_at (start given entry count) entries place ≡ Some s → (hart address : ℕ) → (reservation_at s hart ≡ Some address) ↔ Held (start given entry count) entries place hart address
+
+-- Of a legal list: where a hart is paused, it would have made an access.
+abbrev pub PausesHaveAccesses : Type 0
+PausesHaveAccesses =
+    (setting : Setting) (entries : List Entry) → IsLegal setting entries → (place hart : ℕ) (slot : Option ℕ) → slice_get entries place ≡ Some (Paused hart slot) → IsSome (next setting.start entries place hart)
+
+-- where a hart is resumed, a pause of it ends
+abbrev pub ResumptionsHaveEndings : Type 0
+ResumptionsHaveEndings =
+    (setting : Setting) (entries : List Entry) → IsLegal setting entries → (place hart : ℕ) → slice_get entries place ≡ Some (Resumed hart) → IsSomeAnd (ending_at setting.start entries place) (λ told. told.hart ≡ hart)
+
+-- and there is one ending for each resumption, in their order
+abbrev pub OneEndingForEach : Type 0
+OneEndingForEach =
+    (setting : Setting) (entries : List Entry) → IsLegal setting entries → map (λ told. told.hart) (endings setting.start entries) ≡ filter_map resumed_hart entries

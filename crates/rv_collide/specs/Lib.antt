@@ -18,8 +18,8 @@ pub mod Next
 pub mod Numbers
 pub mod Pause
 pub mod Plan
-pub mod Reading
 pub mod Replays
+pub mod ScheduleRead
 pub mod StateAt
 pub mod Stored
 pub mod Texts

@@ -1,5 +1,5 @@
 -- The text that endings, and a run that is over, are shown in.
-use Rattle.std.specs.Prelude.{ℕ, ◌+◌, Bool, true, false, List, [], ◌∷◌, ◌++◌, codes, count_by}
+use Rattle.std.specs.Prelude.{◌≡◌, ℕ, ◌+◌, Bool, true, false, Some, List, [], ◌∷◌, ◌++◌, take, slice_get, codes, count_by}
 use Rattle.std.specs.Fmt.{decimal}
 use Rattle.rv_hart.specs.Texts.{access_text}
 use Rattle.rv_text.specs.Hexadecimal.{word_digits}
@@ -59,3 +59,8 @@ turns_line entries = codes "turns " ++ decimal (count_by is_turn entries)
 -- what is shown of a run that is over: its endings, and how many turns its harts took
 unfoldable pub finished_text : Finished → List ℕ
 finished_text told = endings_text told.endings.items ++ turns_line told.entries.items ++ 10 ∷ []
+
+-- the text of endings with one more of them is their text and that one's line
+abbrev pub OneEndingMore : Type 0
+OneEndingMore =
+    (endings : List Ending) (n : ℕ) (ending : Ending) → slice_get endings n ≡ Some ending → endings_text (take (n + 1) endings) ≡ endings_text (take n endings) ++ (ending_line n ending ++ 10 ∷ [])

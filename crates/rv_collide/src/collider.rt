@@ -16,7 +16,7 @@ ghost use Rattle.rv_collide.specs.internal.Core.{IsUntil, slots_freed, slots_see
 ghost use Rattle.rv_collide.specs.internal.GoesOn.{GoesOn};
 ghost use Rattle.rv_break.specs.Slots as break_slots;
 ghost use Rattle.rv_hart.specs.NextAccess.{accessed};
-ghost use Rattle.rv_hart.specs.State.{is_running, start as first_state};
+ghost use Rattle.rv_hart.specs.State.{start as first_state};
 ghost use Rattle.rv_memory.specs.Memory.{byte, load, IsSize};
 
 use crate::ending::{Ending, Verdict};
@@ -29,7 +29,6 @@ use rv_break::breakpoints::Breakpoints;
 use rv_break::claim::{ARMED_LIMIT, Seen};
 use rv_elf::Image;
 use rv_hart::access::{Access, Event};
-use rv_hart::hart::Status;
 use rv_hart::laws::{reservations_and_accesses, what_no_step_does};
 use rv_hart::machine::Machine;
 use rv_memory::store::{ByteStore, MemFault, NoMemory};
@@ -277,7 +276,7 @@ impl<S: ByteStore> Collider<S> {
         requires { h < self.now.plan.harts }
         ensures { result ≡ runs_at (setting_of self.now).start self.now.entries (length self.now.entries) h }
     {
-        is_running(self.machine.status(h))
+        self.machine.status(h).is_running()
     }
 
     /// Whether a hart is paused.
@@ -566,15 +565,6 @@ fn show(breaks: &mut Breakpoints, is_watched: bool, place: u32, h: u8, event: Ev
     }
     if let Event::Moved(Some(access)) = event {
         breaks.see(place, h, access);
-    }
-}
-
-fn is_running(status: Status) -> bool
-    ensures { result ≡ is_running status }
-{
-    match status {
-        Status::Running => true,
-        Status::Exited(_) | Status::Stopped(_) => false,
     }
 }
 

@@ -1,5 +1,6 @@
 //! Laws of schedules, in a user's words. Each function's contract is the law.
 ghost use Rattle.rv_collide.specs.Laws as law;
+ghost use Rattle.rv_collide.specs.Texts as text;
 
 use rv_hart::laws::reservations_and_accesses;
 
@@ -17,3 +18,17 @@ pub fn schedules()
 {
     reservations_and_accesses();
 }
+
+/// What the pauses of a legal schedule lead to: a hart that is paused would have made an access, and each
+/// resumption ends a pause of its hart, so that there is one ending for each of them, in their order.
+pub fn pauses_of_legal_schedules()
+    ensures accesses { law.PausesHaveAccesses }
+    ensures endings { law.ResumptionsHaveEndings }
+    ensures each { law.OneEndingForEach }
+{}
+
+/// The text of endings with one more of them is their text and the line of that one, so that it can be written
+/// ending by ending.
+pub fn one_ending_more()
+    ensures { text.OneEndingMore }
+{}

@@ -2,8 +2,7 @@
 ghost use Rattle.std.specs.Prelude.{◌≡◌, ◌↔◌, IsSome, IfSome};
 ghost use Rattle.rv_collide.specs.Plan.{IsPlan};
 
-/// The most harts of a machine.
-pub const MOST_HARTS: u8 = 16;
+pub use rv_hart::machine::MOST_HARTS;
 
 /// The most steps of a run.
 pub const MOST_STEPS: u32 = 1_000_000;

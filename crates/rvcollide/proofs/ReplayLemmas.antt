@@ -4,7 +4,7 @@ use Rattle.std.specs.Prelude.{◌||◌, IfSome, IsOkAnd, OnOk, if◌then◌else�
 use Rattle.std.specs.Io.KnownBytes.{Appends, Keeps}
 use Rattle.std.proofs.KnownBytes.{Appends-kept}
 use Rattle.std.proofs.lemmas.Option.{slice_get_within, get_or_from_slice_get}
-use Rattle.rv_collide.specs.Reading.{Schedule, schedule_of}
+use Rattle.rv_collide.specs.ScheduleRead.{Schedule, schedule_of}
 use Rattle.rv_collide.specs.Replays.{IsReplayFault}
 use Rattle.rv_collide.specs.Stored.{Stored, setting_of, stored}
 use Rattle.rv_collide.specs.Texts.{ending_line, ending_lines}

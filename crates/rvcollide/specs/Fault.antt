@@ -4,8 +4,8 @@ use Rattle.rv_asm.specs.declared.statement.AsmKind.{AsmKind}
 use Rattle.rv_asm.specs.declared.statement.AsmKind.TheVariants as kind
 use Rattle.rv_asm.specs.declared.listing.list.ListFault.{ListFault}
 use Rattle.rv_asm.specs.declared.listing.list.ListFault.TheVariants as list
-use Rattle.rv_collide.specs.Reading as schedule
-use Rattle.rv_collide.specs.Reading.{is_of_text}
+use Rattle.rv_collide.specs.ScheduleRead as schedule
+use Rattle.rv_collide.specs.ScheduleRead.{is_of_text}
 use Rattle.rv_collide.specs.declared.replay.ReplayFault.{ReplayFault}
 use Rattle.rv_collide.specs.declared.replay.ReplayFault.TheVariants as replay
 use Rattle.rv_collide.specs.declared.schedule.fault.ScheduleFault.{ScheduleFault}

@@ -1,7 +1,7 @@
 -- What `replay` writes of two files, an image and a schedule.
 use Rattle.std.specs.Prelude.{◌≡◌, ℕ, Option, Some, IfSome, Result, Ok, Err, IsOkAnd, List, ◌++◌, length}
 use Rattle.rv_collide.specs.Legal.{IsLegal}
-use Rattle.rv_collide.specs.Reading.{schedule_of}
+use Rattle.rv_collide.specs.ScheduleRead.{schedule_of}
 use Rattle.rv_collide.specs.Replays.{IsFirstFault}
 use Rattle.rv_collide.specs.StateAt.{state_at}
 use Rattle.rv_collide.specs.Stored.{Stored, setting_of, stored}

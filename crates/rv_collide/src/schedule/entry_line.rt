@@ -1,6 +1,6 @@
 //! The line of an entry.
 ghost use Rattle.std.specs.Prelude.{◌≡◌};
-ghost use Rattle.rv_collide.specs.Reading as spec;
+ghost use Rattle.rv_collide.specs.ScheduleRead as spec;
 
 use crate::entry::Entry;
 use rv_text::decimal::read_decimal;
@@ -65,7 +65,7 @@ fn read_pause(name: &[u8], hart: &[u8], slot: &[u8]) -> Option<Entry>
 }
 
 /// The entry that a line says. None where the line is another, or a number in it is out of its range.
-#[tactic(auto, unfolding(crate::specs::Reading::entry_of))]
+#[tactic(auto, unfolding(crate::specs::ScheduleRead::entry_of))]
 pub(crate) fn read_entry(line: &[u8]) -> Option<Entry>
     ensures { result ≡ spec.entry_of line.now }
 {

@@ -1,7 +1,7 @@
 //! A schedule's text is cut at its LFs.
 ghost use Rattle.std.specs.Prelude.{◌≡◌, ◌==◌, true, false, ◌∷◌, ◌++◌, All, MatchOption, IfOk, IfErr, Ok, Err};
 ghost use Rattle.rv_text.specs.Pieces.{pieces_of};
-ghost use Rattle.rv_collide.specs.Reading as spec;
+ghost use Rattle.rv_collide.specs.ScheduleRead as spec;
 
 use crate::schedule::fault::ScheduleKind;
 

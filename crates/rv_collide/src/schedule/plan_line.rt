@@ -5,7 +5,7 @@ ghost use Rattle.std.specs.Char.{is_ascii_digit};
 ghost use Rattle.std.specs.Option.{option_map};
 ghost use Rattle.rv_text.specs.Decimal.{decimal_of};
 ghost use Rattle.rv_collide.specs.Numbers.{numbers};
-ghost use Rattle.rv_collide.specs.Reading.{is_of_text, named, numbers_of, plan_of, words_of};
+ghost use Rattle.rv_collide.specs.ScheduleRead.{is_of_text, named, numbers_of, plan_of, words_of};
 ghost use Rattle.rv_collide.specs.internal.Capped.{capped, given_numbers};
 
 use crate::plan::Plan;
@@ -63,7 +63,7 @@ fn read_named(words: &mut Pieces<'_>, name: &[u8]) -> Option<u32>
     }
 }
 
-#[tactic(auto, unfolding(crate::specs::Reading::numbers_of))]
+#[tactic(auto, unfolding(crate::specs::ScheduleRead::numbers_of))]
 fn read_numbers(line: &[u8]) -> Option<Given>
     ensures { option_map given_numbers result ≡ option_map capped (numbers_of (words_of line.now)) }
 {
@@ -84,7 +84,7 @@ fn read_numbers(line: &[u8]) -> Option<Given>
 }
 
 /// The plan that a line says: its shape is tested before the range of its numbers.
-#[tactic(auto, unfolding(crate::specs::Reading::plan_of))]
+#[tactic(auto, unfolding(crate::specs::ScheduleRead::plan_of))]
 pub(crate) fn read_plan(line: &[u8]) -> Result<Plan, ScheduleKind>
     ensures ok { IfOk result (λ plan. plan_of line.now ≡ Ok (numbers plan)) }
     ensures err { IfErr result (λ kind. plan_of line.now ≡ Err kind) }

@@ -5,7 +5,7 @@ ghost use Rattle.rv_memory.specs.Flagged as flag;
 ghost use Rattle.rv_text.specs.Pieces.{pieces_of};
 ghost use Rattle.rv_collide.specs.Numbers.{numbers};
 ghost use Rattle.rv_collide.specs.Plan.{most_entries};
-ghost use Rattle.rv_collide.specs.Reading as spec;
+ghost use Rattle.rv_collide.specs.ScheduleRead as spec;
 ghost use Rattle.rv_collide.specs.internal.Before.{entries_before};
 
 use crate::entry::Entry;
@@ -154,7 +154,7 @@ fn read_front<R: Read>(alloc: Global, reader: &mut Flagged<R>) -> Result<Vec<u8>
     Ok(text)
 }
 
-/// Reads a plan and its entries: what the text says, or its first line with a fault (`specs/Reading.antt`).
+/// Reads a plan and its entries: what the text says, or its first line with a fault (`specs/ScheduleRead.antt`).
 /// The texts that are read are those of `specs/Grammar.antt` (`laws::reads_the_grammar`). Where the reader
 /// fails, that is told before any fault of the text. Whether a machine can make the entries is not tested
 /// here.

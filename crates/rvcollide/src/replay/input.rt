@@ -1,7 +1,7 @@
 //! The core that two files describe: an image, and a schedule whose calls are made again.
 ghost use Rattle.std.specs.Prelude.{◌≡◌, ◌||◌, false, Ok, IfOk, IfErr, IfSome};
 ghost use Rattle.rv_collide.specs.Numbers.{numbers};
-ghost use Rattle.rv_collide.specs.Reading.{schedule_of};
+ghost use Rattle.rv_collide.specs.ScheduleRead.{schedule_of};
 ghost use Rattle.rv_memory.specs.Flagged as flag;
 ghost use Rattle.rvcollide.specs.Fault.{IsToldFault, fails_by, is_read, is_write};
 ghost use Rattle.rvcollide.specs.Replay as spec;

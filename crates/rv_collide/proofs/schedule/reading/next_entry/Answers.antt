@@ -3,7 +3,7 @@ use Rattle.std.specs.Str.{bytes_eq}
 use Rattle.std.proofs.lemmas.Bool.Decides.{nat_tests}
 use Rattle.rv_text.specs.Pieces.{pieces_of}
 use Rattle.rv_collide.specs.Grammar.{end_line}
-use Rattle.rv_collide.specs.Reading.{is_over}
+use Rattle.rv_collide.specs.ScheduleRead.{is_over}
 use Rattle.rv_collide.proofs.CutLemmas.{over_where_empty}
 use Rattle.rv_collide.proofs.EntriesLemmas.{no_line, at_end, after_end, no_entry, too_many, one_more}
 use Rattle.rv_collide.proofs.schedule.reading.next_entry.Goals as goal

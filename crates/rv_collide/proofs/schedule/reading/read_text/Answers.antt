@@ -2,7 +2,7 @@ use Rattle.std.proofs.Common.{◌∙◌, Err, ap, sym}
 use Rattle.std.proofs.lemmas.Result.{err_from_is_err_and}
 use Rattle.rv_text.specs.Pieces.{pieces_of}
 use Rattle.rv_collide.specs.Numbers.{numbers}
-use Rattle.rv_collide.specs.Reading.{is_of_text}
+use Rattle.rv_collide.specs.ScheduleRead.{is_of_text}
 use Rattle.rv_collide.proofs.ScheduleLemmas.{told, header_fault, plan_fault, whole_told, whole_read}
 use Rattle.rv_collide.proofs.schedule.reading.read_text.Goals as goal
 
