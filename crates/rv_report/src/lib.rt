@@ -6,8 +6,8 @@
 #![tactic(auto)]
 
 pub mod key;
+pub mod race_table;
 pub mod row;
-pub mod table;
 #[cfg(test)]
 mod tests;
 mod texts;

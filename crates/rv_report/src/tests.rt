@@ -1,4 +1,4 @@
-use crate::table::RaceTable;
+use crate::race_table::RaceTable;
 use Class::{Counter, Flag, Kept, Named};
 use Shown::{Changed, Hit, Quiet};
 use rv_break::claim::Seen;

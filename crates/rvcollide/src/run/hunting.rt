@@ -19,7 +19,7 @@ use rv_collide::collider::Finished;
 use rv_collide::driver_laws::seeded_runs;
 use rv_collide::schedule::laws::legal_is_writable;
 use rv_memory::flagged::Flagged;
-use rv_report::table::RaceTable;
+use rv_report::race_table::RaceTable;
 use std::alloc::Global;
 use std::io::Read;
 use std::thread::Threads;

@@ -11,7 +11,7 @@ use rv_elf::Image;
 use rv_memory::store::NoMemory;
 use rv_prune::class::Class;
 use rv_prune::pruning::classify;
-use rv_report::table::RaceTable;
+use rv_report::race_table::RaceTable;
 use std::alloc::{AllocError, Global};
 use std::thread::Threads;
 

@@ -1,7 +1,7 @@
 use Rattle.std.proofs.Common.{rules, ◌∙◌, refl, ◌≡◌, Some, None}
 use Rattle.rv_report.specs.internal.Added.{row_of}
 use Rattle.rv_report.proofs.Rows.{looked-up}
-use Rattle.rv_report.proofs.table.RaceTable.raised_row.Goals as goal
+use Rattle.rv_report.proofs.race_table.RaceTable.raised_row.Goals as goal
 
 pub returns-in-Some : goal.returns-in-Some
 returns-in-Some c =

@@ -2,7 +2,7 @@ use Rattle.std.proofs.Common.{ap, ◌∙◌, refl, ◌≡◌}
 use Rattle.rv_report.specs.Races.{Table}
 use Rattle.rv_report.specs.internal.Added.{raised}
 use Rattle.rv_report.proofs.Rows.{inserted}
-use Rattle.rv_report.proofs.table.RaceTable.raise.Goals as goal
+use Rattle.rv_report.proofs.race_table.RaceTable.raise.Goals as goal
 
 pub returns-clause-ok : goal.returns-clause-ok
 returns-clause-ok c =

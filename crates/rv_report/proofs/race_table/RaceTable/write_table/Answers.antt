@@ -1,5 +1,5 @@
 use Rattle.rv_report.proofs.Written.{table_written}
-use Rattle.rv_report.proofs.table.RaceTable.write_table.Goals as goal
+use Rattle.rv_report.proofs.race_table.RaceTable.write_table.Goals as goal
 
 pub returns-clause-ok : goal.returns-clause-ok
 returns-clause-ok g c =

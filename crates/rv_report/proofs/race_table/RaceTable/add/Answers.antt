@@ -2,7 +2,7 @@ use Rattle.std.proofs.Common.{ap, ◌∙◌, sym, Some}
 use Rattle.rv_report.specs.Races as spec
 use Rattle.rv_report.specs.internal.Added.{added_key}
 use Rattle.rv_report.proofs.Tables.{added-push}
-use Rattle.rv_report.proofs.table.RaceTable.add.Goals as goal
+use Rattle.rv_report.proofs.race_table.RaceTable.add.Goals as goal
 
 pub returns-in_default-clause-ok : goal.returns-in_default-clause-ok
 returns-in_default-clause-ok c told is =

@@ -1,6 +1,6 @@
 use Rattle.std.proofs.Common.{rules}
 use Rattle.rv_report.specs.Races.{races, rows, reports, firsts, pruned}
-use Rattle.rv_report.proofs.table.RaceTable.new.Goals as goal
+use Rattle.rv_report.proofs.race_table.RaceTable.new.Goals as goal
 
 pub returns : goal.returns
 unfolding races rows reports firsts pruned
