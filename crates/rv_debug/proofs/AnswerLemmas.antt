@@ -4,7 +4,7 @@ use Rattle.std.specs.Prelude.{OnOk, IsSomeAnd, nat_le, slice_get, ◌⊎◌}
 use Rattle.std.specs.Io.KnownBytes.{Appends}
 use Rattle.std.proofs.lemmas.Bool.Decides.{nat_tests}
 use Rattle.std.proofs.lemmas.Option.{slice_get_past}
-use Rattle.rv_debug.specs.Answers.{HasNoTouch, IsFirstTouch, bytes_from, lines_from}
+use Rattle.rv_debug.specs.Answers.{HasBytes, HasLines, HasNoBytes, HasNoLines, HasNoTouch, IsFirstTouch, bytes_from, lines_from}
 use Rattle.rv_debug.specs.Placed.{Placed, SomeState, moved, state}
 use Rattle.rv_debug.specs.declared.session.SessionFault.{SessionFault}
 use Rattle.rv_debug.specs.declared.session.SessionFault.TheVariants.{NoPlace, NoHart, NoBytes, NotFound, NoMemory}
@@ -43,11 +43,11 @@ go_within p n within =
     let test : nat_le n (length p.entries) ≡ true = grind (arith, nat_tests) in
     rw test refl
 
-pub go_past : (p : Placed) (n : ℕ) (fault : SessionFault) → (fault ≡ NoPlace) ⊎ (fault ≡ NoMemory) → (fault ≡ NoPlace → length p.entries < n) → IsAnswered p (Some (said.Go n)) (refuses p fault)
-go_past p n fault told past =
+pub go_past : (p : Placed) (n : ℕ) (fault : SessionFault) → (fault ≡ NoPlace) ⊎ (fault ≡ NoMemory) → (fault ≡ NoPlace → length p.entries < n) → (length p.entries < n → fault ≡ NoPlace) → IsAnswered p (Some (said.Go n)) (refuses p fault)
+go_past p n fault told past due =
     elim told [
       | inl is ↦ (let more = past is in let test : nat_le n (length p.entries) ≡ false = grind (arith, nat_tests) in inl (rw (test, is) refl))
-      | inr is ↦ inr (refl, rw is refl)
+      | inr is ↦ (let there : length p.entries < n → ⊥ = λ more. let other = due more in cc in inr (omega arith, rw is refl))
     ]
 
 pub forward_within : (p : Placed) → (length p.entries ≡ p.place → ⊥) → IsAnswer p said.Forward (goes (p.place + 1))
@@ -65,16 +65,16 @@ back_within p within =
     let test : (p.place == 0) ≡ false = grind (arith, nat_tests) in
     rw test refl
 
-pub back_past : (p : Placed) (fault : SessionFault) → (fault ≡ NoPlace) ⊎ (fault ≡ NoMemory) → (fault ≡ NoPlace → p.place ≡ 0) → IsAnswered p (Some said.Back) (refuses p fault)
-back_past p fault told past =
+pub back_past : (p : Placed) (fault : SessionFault) → (fault ≡ NoPlace) ⊎ (fault ≡ NoMemory) → (fault ≡ NoPlace → p.place ≡ 0) → (p.place ≡ 0 → fault ≡ NoPlace) → IsAnswered p (Some said.Back) (refuses p fault)
+back_past p fault told past due =
     elim told [
       | inl is ↦ (let first = past is in let test : (p.place == 0) ≡ true = grind (arith, nat_tests) in inl (rw (test, is) refl))
-      | inr is ↦ inr (refl, rw is refl)
+      | inr is ↦ (let there : p.place ≡ 0 → ⊥ = λ first. let other = due first in cc in inr (omega arith, rw is refl))
     ]
 
 -- ---- the state at the place
 
-in_state : (p : Placed) (s : State) (P : State → Type 0) → state p ≡ Some s → P s → SomeState P p
+pub in_state : (p : Placed) (s : State) (P : State → Type 0) → state p ≡ Some s → P s → SomeState P p
 in_state p s P is holds = rw is holds
 
 some_then : {A : Type 0} (o : Option A) (P Q : A → Type 0) → ((x : A) → P x → Q x) → IsSomeAnd o P → IsSomeAnd o Q
@@ -96,24 +96,24 @@ pub bytes_shown : (p : Placed) (address len : ℕ) (bytes : List ℕ) → SomeSt
 bytes_shown p address len bytes is =
     some_then (state p) (λ s. bytes_from s.memory address len ≡ Some bytes) (λ s. shows p (bytes_text address bytes) ≡ showing p NoBytes (bytes_text address) (bytes_from s.memory address len)) (λ s found. rw found refl) is
 
-pub no_bytes : (p : Placed) (address len : ℕ) (fault : SessionFault) → (fault ≡ NoMemory) ⊎ ((fault ≡ NoBytes) × SomeState (λ (s : State). bytes_from s.memory address len ≡ None) p)
+pub no_bytes : (p : Placed) (address len : ℕ) (fault : SessionFault) → ((fault ≡ NoBytes) × HasNoBytes p address len) ⊎ ((fault ≡ NoMemory) × HasBytes p address len)
     → IsAnswered p (Some (said.Bytes address len)) (refuses p fault)
 no_bytes p address len fault told =
     elim told [
-      | inl is ↦ inr (refl, rw is refl)
-      | inr both ↦ inl (some_then (state p) (λ s. bytes_from s.memory address len ≡ None) (λ s. refuses p fault ≡ showing p NoBytes (bytes_text address) (bytes_from s.memory address len)) (λ s none. rw (none, both.0) refl) both.1)
+      | inl both ↦ inl (some_then (state p) (λ s. bytes_from s.memory address len ≡ None) (λ s. refuses p fault ≡ showing p NoBytes (bytes_text address) (bytes_from s.memory address len)) (λ s none. rw (none, both.0) refl) both.1)
+      | inr both ↦ inr (both.1, rw (both.0) refl)
     ]
 
 pub lines_shown : (p : Placed) (address count : ℕ) (lines : List (List ℕ)) → SomeState (λ (s : State). lines_from s.memory address count ≡ Some lines) p → IsAnswer p (said.Lines address count) (shows p (text_of_lines lines))
 lines_shown p address count lines is =
     some_then (state p) (λ s. lines_from s.memory address count ≡ Some lines) (λ s. shows p (text_of_lines lines) ≡ showing p NoBytes text_of_lines (lines_from s.memory address count)) (λ s found. rw found refl) is
 
-pub no_lines : (p : Placed) (address count : ℕ) (fault : SessionFault) → (fault ≡ NoMemory) ⊎ ((fault ≡ NoBytes) × SomeState (λ (s : State). lines_from s.memory address count ≡ None) p)
+pub no_lines : (p : Placed) (address count : ℕ) (fault : SessionFault) → ((fault ≡ NoBytes) × HasNoLines p address count) ⊎ ((fault ≡ NoMemory) × HasLines p address count)
     → IsAnswered p (Some (said.Lines address count)) (refuses p fault)
 no_lines p address count fault told =
     elim told [
-      | inl is ↦ inr (refl, rw is refl)
-      | inr both ↦ inl (some_then (state p) (λ s. lines_from s.memory address count ≡ None) (λ s. refuses p fault ≡ showing p NoBytes text_of_lines (lines_from s.memory address count)) (λ s none. rw (none, both.0) refl) both.1)
+      | inl both ↦ inl (some_then (state p) (λ s. lines_from s.memory address count ≡ None) (λ s. refuses p fault ≡ showing p NoBytes text_of_lines (lines_from s.memory address count)) (λ s none. rw (none, both.0) refl) both.1)
+      | inr both ↦ inr (both.1, rw (both.0) refl)
     ]
 
 -- ---- what is found
@@ -125,6 +125,6 @@ found_there p q address found a b is goes_there put =
 pub not_found : (p : Placed) (address : ℕ) (fault : SessionFault) → (fault ≡ NoMemory) ⊎ ((fault ≡ NotFound) × HasNoTouch p address) → IsAnswered p (Some (said.Find address)) (refuses p fault)
 not_found p address fault told =
     elim told [
-      | inl is ↦ inr (refl, rw is refl)
+      | inl is ↦ inr (tt, rw is refl)
       | inr both ↦ inl (inr (both.1, rw (both.0) refl))
     ]

@@ -3,6 +3,7 @@ pub mod CommandLemmas
 pub mod FindLemmas
 pub mod LineLemmas
 pub mod SeriesLemmas
+pub mod TalkLawLemmas
 pub mod TalkLemmas
 pub mod ToldLemmas
 pub mod ViewLemmas

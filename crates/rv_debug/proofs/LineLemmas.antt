@@ -6,7 +6,7 @@ use Rattle.std.proofs.lemmas.Bool.Decides.{nat_tests}
 use Rattle.std.proofs.lemmas.List.{length-take, take_all, take_more_set, take-append-le}
 use Rattle.std.proofs.lemmas.List.Folds.{list_any-append}
 use Rattle.rv_text.specs.Lines.{has_line_feed}
-use Rattle.rv_debug.specs.internal.Lines.{HoldsNothing, IsByteless, IsUntaken, Source, TakesLine, kept}
+use Rattle.rv_debug.specs.internal.Lines.{IsByteless, IsUntaken, Source, TakesLine, kept}
 use Rattle.rv_debug.specs.declared.fault.TalkFault.{TalkFault}
 use Rattle.rv_debug.specs.declared.fault.TalkFault.TheVariants.{TooLong, Read}
 

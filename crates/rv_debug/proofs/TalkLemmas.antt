@@ -2,10 +2,11 @@
 use Rattle.std.proofs.Common.{suc, ◌≡◌, ℕ, ◌+◌, ◌<◌, Bool, true, false, ◌==◌, ◌&&◌, List, [], ◌∷◌, ◌++◌, Option, Some, None, length, take, refl, sym, ap, subst, ◌∙◌, inl, inr, arith, append-nil, append_assoc, cond, length-append, zero-add}
 use Rattle.std.specs.Prelude.{◌⊎◌, IfSome, count_by, take_while}
 use Rattle.std.specs.Io.KnownBytes.{Appends, Consumes, IsAtEnd, Keeps, append_known, prepend_known}
-use Rattle.std.specs.List.{list_all, onto_first}
+use Rattle.std.specs.List.{flat_map, list_all, onto_first}
 use Rattle.std.proofs.KnownBytes.{Appends-kept, Appends-nil, Appends-trans}
 use Rattle.std.proofs.Math.Seq.{take-append-add, take-append_seam}
 use Rattle.std.proofs.lemmas.Bool.{and_parts, and_from, or_parts}
+use Rattle.std.proofs.lemmas.Grind.{flat_map-append}
 use Rattle.std.proofs.lemmas.List.Folds.{list_all-append}
 use Rattle.std.proofs.lemmas.List.Sums.{sum_by-cons, take_while-cons}
 use Rattle.rv_debug.specs.Placed.{Placed, moved}
@@ -161,9 +162,9 @@ less_left before after old new line took =
 
 -- ---- the talk
 
-answers_more : (lines : List (List ℕ)) (p now next : Placed) (text line : List ℕ) (answer : Answer) → Answers p lines text now → IsAnswered now (command_of line) answer → next ≡ moved now answer.place
-    → Answers p (lines ++ line ∷ []) (text ++ answer.text) next
-answers_more [] p now next text line answer was is goes =
+answers_more : (lines : List (List ℕ)) (p now next : Placed) (texts : List (List ℕ)) (line : List ℕ) (answer : Answer) → Answers p lines texts now → IsAnswered now (command_of line) answer → next ≡ moved now answer.place
+    → Answers p (lines ++ line ∷ []) (texts ++ answer.text ∷ []) next
+answers_more [] p now next texts line answer was is goes =
     let same : now ≡ p = was.1 in (
       answer,
       (
@@ -171,20 +172,20 @@ answers_more [] p now next text line answer was is goes =
         (
           subst (λ (q : Placed). IsAnswered q (command_of line) answer) same is,
           (refl, goes ∙ ap (λ q. moved q answer.place) same),
-          ap (λ l. l ++ answer.text) was.0 ∙ sym (append-nil answer.text),
+          ap (λ l. l ++ answer.text ∷ []) was.0,
         ),
       ),
     )
-answers_more (first ∷ lines) p now next text line answer was is goes =
+answers_more (first ∷ lines) p now next texts line answer was is goes =
     let rest = was.1.0 in
     let parts = was.1.1 in (
       was.0,
       (
-        rest ++ answer.text,
+        rest ++ answer.text ∷ [],
         (
           parts.0,
           answers_more lines (moved p was.0.place) now next rest line answer parts.1 is goes,
-          ap (λ l. l ++ answer.text) parts.2 ∙ append_assoc was.0.text rest answer.text,
+          ap (λ l. l ++ answer.text ∷ []) parts.2,
         ),
       ),
     )
@@ -195,13 +196,19 @@ while_all p (x ∷ xs) ys all =
     let parts = and_parts (p x) (list_all p xs) all in
     take_while-cons p x (xs ++ ys) ∙ rw parts.0 (ap (λ l. x ∷ l) (while_all p xs ys parts.1))
 
+abbrev pub joined : List (List ℕ) → List ℕ
+joined texts = flat_map (λ text. text) texts
+
+joined_more : (texts : List (List ℕ)) (text : List ℕ) → joined (texts ++ text ∷ []) ≡ joined texts ++ text
+joined_more texts text = flat_map-append (λ text. text) texts (text ∷ []) ∙ ap (λ l. joined texts ++ l) (append-nil text)
+
 -- the lines so far are answered, this is written, and the session stands there
 pub record TalkSoFar (limit : ℕ) (start now : Placed) (all rest : Option (List ℕ)) (source : Source) (a b : Option (List ℕ)) : Type 0 where
   pub done : List (List ℕ)
-  pub text : List ℕ
-  pub answers : Answers start done text now
+  pub texts : List (List ℕ)
+  pub answers : Answers start done texts now
   pub goes_on : list_all goes_on done ≡ true
-  pub written : Appends a b text
+  pub written : Appends a b (joined texts)
   pub after : IsAfter limit all rest done source
 
 after_none : (limit : ℕ) (all : Option (List ℕ)) → IsAfter limit all (prepend_known [] all) [] (fresh limit)
@@ -209,7 +216,7 @@ after_none limit None = tt
 after_none limit (Some all) = cut_none limit all
 
 pub TalkSoFar-none : (limit : ℕ) (start : Placed) (all a : Option (List ℕ)) → TalkSoFar limit start start all (prepend_known [] all) (fresh limit) a a
-TalkSoFar-none limit start all a = record { done = []; text = []; answers = (refl, refl); goes_on = refl; written = Appends-nil a; after = after_none limit all }
+TalkSoFar-none limit start all a = record { done = []; texts = []; answers = (refl, refl); goes_on = refl; written = Appends-nil a; after = after_none limit all }
 
 -- what is pending is nothing
 handed : (a sent : Option (List ℕ)) (pending : List ℕ) → Keeps a sent → pending ≡ [] → Keeps a (append_known sent pending)
@@ -227,10 +234,10 @@ TalkSoFar-more limit start now next all old new before after line a b sent c pen
     let on' : goes_on took.text ≡ true = rw (← same, on) refl in
     record {
       done = so_far.done ++ took.text ∷ [];
-      text = so_far.text ++ put.answer.text;
-      answers = answers_more so_far.done start now next so_far.text took.text put.answer so_far.answers is put.place;
+      texts = so_far.texts ++ put.answer.text ∷ [];
+      answers = answers_more so_far.done start now next so_far.texts took.text put.answer so_far.answers is put.place;
       goes_on = list_all-append goes_on so_far.done (took.text ∷ []) ∙ and_from _ _ so_far.goes_on (and_from _ _ on' refl);
-      written = Appends-trans a (append_known sent pending) c so_far.text put.answer.text (Appends-kept a b (append_known sent pending) so_far.text so_far.written (handed b sent pending keeps none)) put.written;
+      written = rw (joined_more so_far.texts put.answer.text) (Appends-trans a (append_known sent pending) c (joined so_far.texts) put.answer.text (Appends-kept a b (append_known sent pending) (joined so_far.texts) so_far.written (handed b sent pending keeps none)) put.written);
       after = after_more limit all old new so_far.done before after line so_far.after took;
     }
 
@@ -238,7 +245,7 @@ TalkSoFar-more limit start now next all old new before after line a b sent c pen
 
 told : {limit : ℕ} {start now : Placed} {all rest : Option (List ℕ)} {source : Source} {a b : Option (List ℕ)} (sent : Option (List ℕ)) (so_far : TalkSoFar limit start now all rest source a b) → Keeps b sent → IsTalk start so_far.done (Appends a sent)
 told {now = now} {a = a} {b = b} sent so_far keeps =
-    record { text = so_far.text; end = now; answers = so_far.answers; written = Appends-kept a b sent so_far.text so_far.written keeps }
+    record { texts = so_far.texts; end = now; answers = so_far.answers; written = Appends-kept a b sent (joined so_far.texts) so_far.written keeps }
 
 with_lines : (p : Placed) (lines lines' : List (List ℕ)) (W : List ℕ → Type 0) → lines' ≡ lines → IsTalk p lines W → IsTalk p lines' W
 with_lines p lines lines' W same talk = rw same talk

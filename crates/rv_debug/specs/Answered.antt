@@ -1,8 +1,8 @@
 -- What the debugger answers to a command at a place.
-use Rattle.std.specs.Prelude.{◌≡◌, ℕ, ◌+◌, ◌-◌, ◌==◌, ◌⊎◌, nat_le, Bool, true, false, if◌then◌else◌, Option, Some, None, List, [], ◌∷◌, ◌++◌, codes, length, slice_get}
+use Rattle.std.specs.Prelude.{◌≡◌, ℕ, ◌+◌, ◌-◌, ◌<◌, ◌≤◌, ◌==◌, ◌⊎◌, ⊤, nat_le, if◌then◌else◌, Option, Some, None, List, [], ◌∷◌, ◌++◌, codes, length, slice_get}
 use Rattle.std.specs.List.{flat_map}
 use Rattle.std.specs.Fmt.{decimal}
-use Rattle.rv_debug.specs.Answers.{HasNoTouch, IsFirstTouch, bytes_from, lines_from}
+use Rattle.rv_debug.specs.Answers.{HasBytes, HasLines, HasNoTouch, IsFirstTouch, bytes_from, lines_from}
 use Rattle.rv_debug.specs.Placed.{Placed, SomeState}
 use Rattle.rv_debug.specs.declared.session.SessionFault.{SessionFault}
 use Rattle.rv_debug.specs.declared.session.SessionFault.TheVariants.{NoPlace, NoHart, NoBytes, NotFound, NoMemory}
@@ -91,20 +91,20 @@ IsAnswer p (said.Lines address count) answer = SomeState (λ (s : State). answer
 IsAnswer p (said.Find address) answer = IsFinding p address answer
 IsAnswer p said.Quit answer = answer ≡ shows p []
 
--- whether memory has to be found for a command
-abbrev pub takes_memory : Command → Bool
-takes_memory (said.Go n) = true
-takes_memory said.Forward = false
-takes_memory said.Back = true
-takes_memory (said.Hart h) = false
-takes_memory (said.Bytes address len) = true
-takes_memory (said.Lines address count) = true
-takes_memory (said.Find address) = true
-takes_memory said.Quit = false
+-- Memory has to be found for the command's own answer: it is a way to another place, bytes, lines, or what a search
+-- over the entries gives. A fault that is told without a search takes none.
+abbrev pub TakesMemory : Placed → Command → Type 0
+TakesMemory p (said.Go n) = n ≤ length p.entries
+TakesMemory p said.Forward = ⊥
+TakesMemory p said.Back = 0 < p.place
+TakesMemory p (said.Hart h) = ⊥
+TakesMemory p (said.Bytes address len) = HasBytes p address len
+TakesMemory p (said.Lines address count) = HasLines p address count
+TakesMemory p (said.Find address) = ⊤
+TakesMemory p said.Quit = ⊥
 
--- The answer to a line: that it is malformed; or the command's; or, where memory has to be found for it, that
+-- The answer to a line: that it is malformed; or the command's own; or, where memory has to be found for that, that
 -- there is none.
 abbrev pub IsAnswered : Placed → Option Command → Answer → Type 0
 IsAnswered p None answer = answer ≡ shows p malformed_text
-IsAnswered p (Some command) answer =
-    IsAnswer p command answer ⊎ ((takes_memory command ≡ true) × (answer ≡ refuses p NoMemory))
+IsAnswered p (Some command) answer = IsAnswer p command answer ⊎ (TakesMemory p command × (answer ≡ refuses p NoMemory))

@@ -1,5 +1,5 @@
 -- What the commands of a session answer.
-use Rattle.std.specs.Prelude.{◌≡◌, ℕ, ◌+◌, ◌%◌, ◌==◌, ◌<◌, ◌≤◌, zero, suc, Option, Some, None, option_and_then, option_map, IsSomeAnd, if◌then◌else◌, List, [], ◌∷◌, length, slice_get}
+use Rattle.std.specs.Prelude.{◌≡◌, ℕ, ◌+◌, ◌%◌, ◌==◌, ◌<◌, ◌≤◌, zero, suc, Option, Some, None, option_and_then, option_map, IsSome, IsSomeAnd, if◌then◌else◌, List, [], ◌∷◌, length, slice_get}
 use Rattle.rv_asm.specs.Listing.{listed, word_from}
 use Rattle.rv_collide.specs.Made.{made}
 use Rattle.rv_debug.specs.Placed.{Placed, SomeState, setting}
@@ -52,6 +52,22 @@ line_at m address = option_map (λ word. listed address word) (word_at m address
 -- the lines of so many words from an address on, a multiple of 4
 abbrev pub lines_from : Memory → ℕ → ℕ → Option (List (List ℕ))
 lines_from m address count = if address % 4 == 0 then series (line_at m) 4 address count else None
+
+-- each of the bytes is there at the place
+abbrev pub HasBytes : Placed → ℕ → ℕ → Type 0
+HasBytes p address len = SomeState (λ (s : State). IsSome (bytes_from s.memory address len)) p
+
+-- one of the bytes is not there
+abbrev pub HasNoBytes : Placed → ℕ → ℕ → Type 0
+HasNoBytes p address len = SomeState (λ (s : State). bytes_from s.memory address len ≡ None) p
+
+-- the address is a multiple of 4, and each of the words is there at the place
+abbrev pub HasLines : Placed → ℕ → ℕ → Type 0
+HasLines p address count = SomeState (λ (s : State). IsSome (lines_from s.memory address count)) p
+
+-- the address is no multiple of 4, or one of the words is not there
+abbrev pub HasNoLines : Placed → ℕ → ℕ → Type 0
+HasNoLines p address count = SomeState (λ (s : State). lines_from s.memory address count ≡ None) p
 
 -- ---- accesses
 

@@ -4,4 +4,5 @@ pub mod Command
 pub mod Fault
 pub mod Placed
 pub mod Talk
+pub mod TalkLaws
 pub mod internal

@@ -1,7 +1,7 @@
 -- What is written of an input of the debugger's commands, line by line.
-use Rattle.std.specs.Prelude.{◌≡◌, ℕ, ◌<◌, ◌==◌, ⊤, Bool, true, false, if◌then◌else◌, Option, Some, List, [], ◌∷◌, ◌++◌, length, take, take_while, count_by}
+use Rattle.std.specs.Prelude.{◌≡◌, ℕ, ◌<◌, ◌==◌, ⊤, Bool, true, false, if◌then◌else◌, Option, Some, List, [], ◌∷◌, length, take, take_while, count_by}
 use Rattle.std.specs.Io.KnownBytes.{Consumes}
-use Rattle.std.specs.List.{list_all}
+use Rattle.std.specs.List.{flat_map, list_all}
 use Rattle.rv_memory.specs.declared.flagged.TheConstants.{INPUT_LIMIT}
 use Rattle.rv_text.specs.Lines.{lines_of}
 use Rattle.rv_debug.specs.Answered.{Answer, IsAnswered}
@@ -25,20 +25,20 @@ whole_lines text = take (count_by (λ byte. byte == 10) text) (lines_of text)
 
 -- ---- the talk
 
--- The lines are answered one after another, each where the one before it left the session, and this is written.
--- At their end the session stands at a place.
-abbrev pub Answers : Placed → List (List ℕ) → List ℕ → Placed → Type 0
-Answers p [] text end = (text ≡ []) × (end ≡ p)
-Answers p (line ∷ lines) text end =
-    (answer : Answer) × ((rest : List ℕ) × (IsAnswered p (command_of line) answer
-    × Answers (moved p answer.place) lines rest end × (text ≡ answer.text ++ rest)))
+-- The lines are answered one after another, each where the one before it left the session: these are the texts of
+-- the answers, one a line. At their end the session stands at a place.
+abbrev pub Answers : Placed → List (List ℕ) → List (List ℕ) → Placed → Type 0
+Answers p [] texts end = (texts ≡ []) × (end ≡ p)
+Answers p (line ∷ lines) texts end =
+    (answer : Answer) × ((rest : List (List ℕ)) × (IsAnswered p (command_of line) answer
+    × Answers (moved p answer.place) lines rest end × (texts ≡ answer.text ∷ rest)))
 
--- The lines are answered, and so much is written.
+-- The lines are answered, and the texts of the answers are written, one after another.
 pub record IsTalk (p : Placed) (lines : List (List ℕ)) (Writes : List ℕ → Type 0) : Type 0 where
-  pub text : List ℕ
+  pub texts : List (List ℕ)
   pub end : Placed
-  pub answers : Answers p lines text end
-  pub written : Writes text
+  pub answers : Answers p lines texts end
+  pub written : Writes (flat_map (λ text. text) texts)
 
 -- The input is too long: its lines within the limit are answered, and none of them ends the session.
 pub record IsCutOff (p : Placed) (input : List ℕ) (Writes : List ℕ → Type 0) : Type 0 where

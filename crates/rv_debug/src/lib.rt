@@ -9,6 +9,7 @@ pub mod command;
 pub mod fault;
 mod finding;
 pub mod hart_view;
+pub mod laws;
 mod lines;
 mod listing;
 pub mod session;

@@ -1,52 +1,45 @@
 //! The lines of words in memory.
-ghost use Rattle.std.specs.Prelude.{◌≡◌, IfOk, MatchOption, Some, None, map};
+ghost use Rattle.std.specs.Prelude.{◌≡◌, ◌≤◌, IfOk, IsSome, MatchOption, Some, None, is_some, map};
 ghost use Rattle.std.specs.String.{string_bytes};
 ghost use Rattle.rv_debug.specs.Answers as answer;
 
-use crate::shown::byte_at;
+use crate::shown::{byte_at, has_bytes};
 use rv_asm::listed;
 use rv_hart::machine::Machine;
 use rv_memory::flat::Flat;
 use rv_memory::store::NoMemory;
 use std::alloc::Global;
 
-/// The lines of words from an address on, or None where it is no multiple of 4 or memory lacks a byte of
-/// them.
+/// Whether the address is a multiple of 4, and memory has each of the words from there on.
+pub(crate) fn has_lines(machine: &Machine<Flat>, address: u32, count: u32) -> bool
+    requires { count ≤ 64 }
+    ensures { result ≡ is_some (answer.lines_from machine.now.state.memory address count) }
+{
+    if address % 4 != 0 {
+        return false;
+    }
+    has_bytes(machine, address, 4 * count)
+}
+
+/// The lines of the words from an address on, all of which memory has.
 pub(crate) fn lines_of(
     alloc: Global,
     machine: &Machine<Flat>,
     address: u32,
     count: u32,
-) -> Result<Option<Vec<String>>, NoMemory>
-    ensures { IfOk result (λ answered. MatchOption answered
-        (answer.lines_from machine.now.state.memory address count ≡ None)
-        (λ lines. answer.lines_from machine.now.state.memory address count ≡ Some (map (λ line. string_bytes line) lines.items))) }
-{
-    if address % 4 != 0 {
-        return Ok(None);
-    }
-    words_of(alloc, machine, address, count)
-}
-
-/// The lines of words from an address on, or None where memory lacks a byte of them.
-fn words_of(
-    alloc: Global,
-    machine: &Machine<Flat>,
-    address: u32,
-    count: u32,
-) -> Result<Option<Vec<String>>, NoMemory>
-    ensures { IfOk result (λ answered. MatchOption answered
-        (answer.series (answer.line_at machine.now.state.memory) 4 address count ≡ None)
-        (λ lines. answer.series (answer.line_at machine.now.state.memory) 4 address count ≡ Some (map (λ line. string_bytes line) lines.items))) }
+) -> Result<Vec<String>, NoMemory>
+    requires { IsSome (answer.lines_from machine.now.state.memory address count) }
+    ensures { IfOk result (λ lines. answer.lines_from machine.now.state.memory address count
+        ≡ Some (map (λ line. string_bytes line) lines.items)) }
 {
     let mut lines = Vec::new(alloc);
     for i in 0..count {
         match line_at(alloc, machine, u64::from(address) + 4 * u64::from(i))? {
-            None => return Ok(None),
+            None => unreachable!(),
             Some(line) => lines.push(line)?,
         }
     }
-    Ok(Some(lines))
+    Ok(lines)
 }
 
 /// The line of the word at an address, or None where memory lacks a byte of it.

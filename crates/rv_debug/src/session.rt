@@ -1,5 +1,5 @@
 //! A session: a stored schedule at one of its places.
-ghost use Rattle.std.specs.Prelude.{◌≡◌, ◌⊎◌, ◌↔◌, ℕ, ◌+◌, ◌-◌, ◌<◌, ◌≤◌, [], ◌∷◌, Err, Some, None, IfOk, IfErr, OnOk, OnErr, length, map};
+ghost use Rattle.std.specs.Prelude.{◌≡◌, ◌⊎◌, ◌↔◌, ℕ, ◌+◌, ◌-◌, ◌<◌, ◌≤◌, [], ◌∷◌, Err, Some, None, IfOk, IfErr, IsSome, OnOk, OnErr, length, map};
 ghost use Rattle.std.specs.String.{string_bytes};
 ghost use Rattle.rv_collide.specs.Legal.{IsLegal};
 ghost use Rattle.rv_collide.specs.Numbers.{numbers};
@@ -8,13 +8,13 @@ ghost use Rattle.rv_collide.specs.StateAt.{state_at};
 ghost use Rattle.rv_collide.specs.Stored.{setting_of, stored};
 ghost use Rattle.rv_hart.specs.State.{State};
 ghost use Rattle.rv_debug.specs.Answers as answer;
-ghost use Rattle.rv_debug.specs.Placed.{moved, placed, state, SomeState};
+ghost use Rattle.rv_debug.specs.Placed.{moved, placed, setting, state, SomeState};
 ghost use Rattle.rv_debug.specs.declared.session.SessionFault.TheVariants as fault_is;
 
 use crate::finding::next_touch;
 use crate::hart_view::HartView;
-use crate::listing::lines_of;
-use crate::shown::{bytes_of, view_of};
+use crate::listing::{has_lines, lines_of};
+use crate::shown::{bytes_of, has_bytes, view_of};
 use crate::told::{advance, collider_at};
 use rv_collide::collider::Collider;
 use rv_collide::entry::Entry;
@@ -106,6 +106,16 @@ impl Session {
         })
     }
 
+    /// What holds of each session: its schedule is legal, and there is a state at its place.
+    pub fn facts(&self)
+        ensures legal { IsLegal (setting self.now) self.now.entries }
+        ensures within { self.now.place ≤ length self.now.entries }
+        ensures state { IsSome (state self.now) }
+    {
+        let _place = self.place;
+        let _machine = self.machine();
+    }
+
     /// The place.
     pub fn place(&self) -> u32
         ensures value { result ≡ self.now.place }
@@ -187,13 +197,14 @@ impl Session {
         requires some { 1 ≤ len }
         requires few { len ≤ 256 }
         ensures ok { IfOk result (λ bytes. SomeState (λ (s : State). answer.bytes_from s.memory address len ≡ Some bytes.items) self.now) }
-        ensures err { IfErr result (λ fault. (fault ≡ SessionFault.NoMemory)
-            ⊎ ((fault ≡ SessionFault.NoBytes) × SomeState (λ (s : State). answer.bytes_from s.memory address len ≡ None) self.now)) }
+        ensures err { IfErr result (λ fault. ((fault ≡ SessionFault.NoBytes) × answer.HasNoBytes self.now address len)
+            ⊎ ((fault ≡ SessionFault.NoMemory) × answer.HasBytes self.now address len)) }
     {
-        match bytes_of(alloc, self.machine(), address, len)? {
-            Some(bytes) => Ok(bytes),
-            None => Err(SessionFault::NoBytes),
+        let machine = self.machine();
+        if !has_bytes(machine, address, len) {
+            return Err(SessionFault::NoBytes);
         }
+        Ok(bytes_of(alloc, machine, address, len)?)
     }
 
     /// The lines of the words from an address on, at the place: 1 to 64 of them, each without its line feed.
@@ -201,13 +212,14 @@ impl Session {
         requires some { 1 ≤ count }
         requires few { count ≤ 64 }
         ensures ok { IfOk result (λ lines. SomeState (λ (s : State). answer.lines_from s.memory address count ≡ Some (map (λ line. string_bytes line) lines.items)) self.now) }
-        ensures err { IfErr result (λ fault. (fault ≡ SessionFault.NoMemory)
-            ⊎ ((fault ≡ SessionFault.NoBytes) × SomeState (λ (s : State). answer.lines_from s.memory address count ≡ None) self.now)) }
+        ensures err { IfErr result (λ fault. ((fault ≡ SessionFault.NoBytes) × answer.HasNoLines self.now address count)
+            ⊎ ((fault ≡ SessionFault.NoMemory) × answer.HasLines self.now address count)) }
     {
-        match lines_of(alloc, self.machine(), address, count)? {
-            Some(lines) => Ok(lines),
-            None => Err(SessionFault::NoBytes),
+        let machine = self.machine();
+        if !has_lines(machine, address, count) {
+            return Err(SessionFault::NoBytes);
         }
+        Ok(lines_of(alloc, machine, address, count)?)
     }
 
     /// The least place, from the present one on, whose entry's access touches the byte. The session goes to

@@ -1,5 +1,5 @@
 //! What is shown of a machine.
-ghost use Rattle.std.specs.Prelude.{◌≡◌, ◌+◌, ◌<◌, IfOk, MatchOption, Some, None, length};
+ghost use Rattle.std.specs.Prelude.{◌≡◌, ◌+◌, ◌<◌, IfOk, IsSome, Some, is_some, length};
 ghost use Rattle.rv_debug.specs.Answers as answer;
 ghost use Rattle.rv_hart.specs.SomeHart.{SomeHart};
 ghost use Rattle.rv_memory.specs.Memory.{byte};
@@ -27,25 +27,36 @@ pub(crate) fn view_of(machine: &Machine<Flat>, h: u8) -> HartView
     }
 }
 
-/// The bytes from an address on, or None where memory lacks one of them.
+/// Whether memory has each of the bytes from an address on.
+pub(crate) fn has_bytes(machine: &Machine<Flat>, address: u32, len: u32) -> bool
+    ensures { result ≡ is_some (answer.bytes_from machine.now.state.memory address len) }
+{
+    for i in 0..len {
+        if byte_at(machine, u64::from(address) + u64::from(i)).is_none() {
+            return false;
+        }
+    }
+    true
+}
+
+/// The bytes from an address on, all of which memory has.
 pub(crate) fn bytes_of(
     alloc: Global,
     machine: &Machine<Flat>,
     address: u32,
     len: u32,
-) -> Result<Option<Vec<u8>>, NoMemory>
-    ensures { IfOk result (λ answered. MatchOption answered
-        (answer.bytes_from machine.now.state.memory address len ≡ None)
-        (λ bytes. answer.bytes_from machine.now.state.memory address len ≡ Some bytes.items)) }
+) -> Result<Vec<u8>, NoMemory>
+    requires { IsSome (answer.bytes_from machine.now.state.memory address len) }
+    ensures { IfOk result (λ bytes. answer.bytes_from machine.now.state.memory address len ≡ Some bytes.items) }
 {
     let mut bytes = Vec::new(alloc);
     for i in 0..len {
         match byte_at(machine, u64::from(address) + u64::from(i)) {
-            None => return Ok(None),
+            None => unreachable!(),
             Some(byte) => bytes.push(byte)?,
         }
     }
-    Ok(Some(bytes))
+    Ok(bytes)
 }
 
 /// The byte at an address, which may lie past the last one.

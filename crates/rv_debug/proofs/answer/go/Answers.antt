@@ -9,4 +9,4 @@ returns-in-Ok-clause-ok g c =
 
 pub returns-in-Err-clause-ok : goal.returns-in-Err-clause-ok
 returns-in-Err-clause-ok g c =
-    when_put c.put_fault.result (refused c.args.session.now c.go.new.self (said.Go c.args.n) c.in-Err.fault _ _ (go_past c.args.session.now c.args.n c.in-Err.fault c.in-Err.ensures.err (λ is. c.in-Err.ensures.no_place.0 (rw is refl))) c.in-Err.ensures.refused) c.put_fault.ensures.ok
+    when_put c.put_fault.result (refused c.args.session.now c.go.new.self (said.Go c.args.n) c.in-Err.fault _ _ (go_past c.args.session.now c.args.n c.in-Err.fault c.in-Err.ensures.err (λ is. c.in-Err.ensures.no_place.0 (rw is refl)) (λ more. let is = c.in-Err.ensures.no_place.1 more in cc)) c.in-Err.ensures.refused) c.put_fault.ensures.ok

@@ -1,17 +1,19 @@
 use Rattle.std.proofs.Common.{◌≡◌, ◌<◌, ◌+◌, ◌-◌, ◌++◌, sym, ap, ◌∙◌, arith}
 use Rattle.std.specs.Prelude.{option_map}
 use Rattle.rv_debug.specs.Answers.{bytes_from}
-use Rattle.rv_debug.proofs.SeriesLemmas.{series_end, series_more}
+use Rattle.rv_debug.proofs.SeriesLemmas.{not_both, series_end, series_more}
 use Rattle.rv_memory.specs.Memory.{byte}
 use Rattle.rv_debug.proofs.shown.bytes_of.Goals as goal
 
-pub returns-in-None : goal.returns-in-None
-returns-in-None c =
+pub unreachable-requires : goal.unreachable-requires
+unreachable-requires c =
     let first = c.from.ensures in
     let offset = c.from-in-loop-i.ensures in
     let lt : c.loop-i.i < c.args.len = omega arith in
     let here : c.args.address + c.loop-i.i ≡ c.from.result + c.from-in-loop-i.result = omega arith in
-    series_end (byte c.args.machine.now.state.memory) 1 (c.args.address + c.loop-i.i) c.loop-i.i c.args.len c.loop-i.bytes.items _ c.loop-i.invariant lt (ap (byte c.args.machine.now.state.memory) here ∙ sym c.byte_at.ensures ∙ c.in-None.is)
+    not_both (bytes_from c.args.machine.now.state.memory c.args.address c.args.len)
+    (series_end (byte c.args.machine.now.state.memory) 1 (c.args.address + c.loop-i.i) c.loop-i.i c.args.len c.loop-i.bytes.items _ c.loop-i.invariant lt (ap (byte c.args.machine.now.state.memory) here ∙ sym c.byte_at.ensures ∙ c.in-None.is))
+    c.requires
 
 pub loop-i-preserved : goal.loop-i-preserved
 loop-i-preserved c =
