@@ -29,9 +29,10 @@ pub fn run_debug<R: Read, Q: Read, C: Read, W: Write>(
 ) -> Result<(), Fault>
     ensures text { OnOk result (
         IfKnown (R.remaining (flag.device image.old)) (Q.remaining (flag.device schedule.old)) (λ i s.
-        IsOkAnd (run_of i s) (λ run. IfSome (C.remaining (flag.device commands.old)) (λ input.
-        talk.IsTalk (spec.start_of run) (talk.lines_before_quit (lines_of input))
-        (Appends (buffer.written W.contents writer.old) (buffer.sent W.contents writer.new)))))) }
+        IsOkAnd (run_of i s) (λ run. spec.IsTalkOver run (λ start.
+        IfSome (C.remaining (flag.device commands.old)) (λ input.
+        talk.IsTalk start (talk.lines_before_quit (lines_of input))
+        (Appends (buffer.written W.contents writer.old) (buffer.sent W.contents writer.new))))))) }
     ensures within { OnOk result (IfSome (C.remaining (flag.device commands.old)) talk.IsWithin) }
     ensures refused { IfErr result (λ fault.
         IfKnown (R.remaining (flag.device image.old)) (Q.remaining (flag.device schedule.old)) (λ i s.

@@ -1,6 +1,8 @@
 //! The session that two files describe: an image, and a legal schedule of it.
 ghost use Rattle.std.specs.Prelude.{◌≡◌, ◌||◌, false, Ok, IfOk, IfErr};
+ghost use Rattle.rv_collide.specs.Legal.{IsLegal};
 ghost use Rattle.rv_collide.specs.Stored.{stored};
+ghost use Rattle.rv_debug.specs.Placed.{setting};
 ghost use Rattle.rv_memory.specs.Flagged as flag;
 ghost use Rattle.rvcollide.specs.Fault.{fails_by, is_read, is_write};
 ghost use Rattle.rvcollide.specs.Replay as spec;
@@ -23,6 +25,7 @@ pub fn read_session<R: Read, Q: Read>(
         spec.IfKnown (R.remaining (flag.device image.old)) (Q.remaining (flag.device schedule.old))
         (λ i s. spec.run_of i s ≡ Ok (stored session.image session.plan session.entries))) }
     ensures place { IfOk result (λ session. session.place ≡ 0) }
+    ensures legal { IfOk result (λ session. IsLegal (setting session) session.entries) }
     ensures err { IfErr result (λ fault.
         spec.IfKnown (R.remaining (flag.device image.old)) (Q.remaining (flag.device schedule.old))
         (λ i s. spec.IsReplayRefusal i s fault)) }
@@ -33,7 +36,10 @@ pub fn read_session<R: Read, Q: Read>(
     let contents = read_image(alloc, image)?;
     let (plan, entries) = read_entries(alloc, schedule)?;
     match Session::new(alloc, &contents, plan, entries) {
-        Ok(session) => Ok(session),
+        Ok(session) => {
+            session.facts();
+            Ok(session)
+        }
         Err(fault) => Err(Fault::from(fault)),
     }
 }

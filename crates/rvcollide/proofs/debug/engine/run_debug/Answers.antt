@@ -13,7 +13,7 @@ returns-clause-text g c =
     of_the_run (g.R.Read.remaining (flag.device c.args.image.now)) (g.Q.Read.remaining (flag.device c.args.schedule.now)) c.in_ok-session.session
     (λ q. IfSome (g.C.Read.remaining (flag.device c.args.commands.now)) (λ input. IsTalk q (lines_before_quit (lines_of input))
     (Appends (buffer.written g.W.Write.contents c.args.writer.now) (buffer.sent g.W.Write.contents c.talk.new.writer))))
-    c.in_ok-session.ensures.ok c.in_ok-session.ensures.place c.in_ok-talk.ensures.text
+    c.in_ok-session.ensures.ok c.in_ok-session.ensures.place c.in_ok-session.ensures.legal c.in_ok-talk.ensures.text
 
 pub returns-in_err-talk-clause-refused : goal.returns-in_err-talk-clause-refused
 returns-in_err-talk-clause-refused g c =
@@ -22,7 +22,7 @@ returns-in_err-talk-clause-refused g c =
     (Keeps (buffer.sent g.W.Write.contents c.args.writer.now) (buffer.sent g.W.Write.contents c.talk.new.writer))
     (λ start stop. IfSome (g.C.Read.remaining (flag.device c.args.commands.now)) (λ input. IsStopped start input (g.C.Read.remaining (flag.device c.talk.new.commands))
     (Appends (buffer.written g.W.Write.contents c.args.writer.now) (buffer.sent g.W.Write.contents c.talk.new.writer)) stop))
-    c.in_err-talk.field-0.0 c.in_ok-session.session c.in_ok-session.ensures.ok c.in_ok-session.ensures.place c.in_err-talk.ensures.stopped)
+    c.in_err-talk.field-0.0 c.in_ok-session.session c.in_ok-session.ensures.ok c.in_ok-session.ensures.place c.in_ok-session.ensures.legal c.in_err-talk.ensures.stopped)
 
 pub returns-in_err-talk-clause-readers : goal.returns-in_err-talk-clause-readers
 returns-in_err-talk-clause-readers g c =
