@@ -1,3 +1,4 @@
+-- The values of `.word` and `.byte`: numbers, or labels in the place of their addresses.
 use Rattle.std.specs.Prelude.{ℕ, ℤ, ◌%◌, ◌^◌, Bool, Option, Some, None, option_map, option_and_then, is_some, List}
 use Rattle.std.specs.List.{list_all, filter_map}
 use Rattle.std.specs.Int.{cast_unsigned, w64}

@@ -1,3 +1,4 @@
+-- The instructions that a statement stands for, from its operation and its operands.
 use Rattle.std.specs.Prelude.{◌≡◌, ℕ, ℤ, pos, ◌+◌, ◌-◌, ◌/◌, ◌%◌, ◌^◌, Bool, true, false, Result, Ok, Err, refl}
 use Rattle.rv_isa.specs.Fields.{signed}
 use Rattle.rv_isa.specs.Operands.{are_operands}

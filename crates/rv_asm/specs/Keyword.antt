@@ -1,3 +1,4 @@
+-- What the first word of a statement names: a mnemonic, a directive, or neither.
 use Rattle.std.specs.Prelude.{ℕ, Bool, false, ◌==◌, ◌&&◌, if◌then◌else◌, Option, Some, None, option_map, Result, Ok, Err, List, [], ◌∷◌, codes}
 use Rattle.std.specs.Option.{option_or}
 use Rattle.std.specs.List.{find}

@@ -1,3 +1,4 @@
+-- The text of a word at an address in a listing.
 use Rattle.std.specs.Prelude.{ℕ, ℤ, Bool, true, false, ◌+◌, ◌/◌, ◌%◌, ◌^◌, ◌==◌, ◌&&◌, nat_lt, if◌then◌else◌, Option, Some, None, List, [], ◌++◌, codes, unsigned_abs}
 use Rattle.std.specs.Fmt.{decimal, signed_decimal, radix_digits}
 use Rattle.std.specs.Int.{cast_unsigned, w32}

@@ -1,3 +1,4 @@
+-- The mnemonic of each operation, with its ordering bits.
 use Rattle.std.specs.Prelude.{ℕ, Bool, true, false, Option, option_map, List, [], ◌++◌, codes}
 use Rattle.std.specs.Option.{option_or}
 use Rattle.std.specs.List.{find}

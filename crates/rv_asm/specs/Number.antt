@@ -1,3 +1,4 @@
+-- The numbers of a source, decimal and hexadecimal.
 use Rattle.std.specs.Prelude.{ℕ, ℤ, pos, ◌^◌, ◌-◌, ◌==◌, ◌&&◌, nat_le, neg_ℤ, if◌then◌else◌, Option, Some, None, option_map, List, ◌∷◌, drop, slice_index}
 use Rattle.rv_text.specs.Numeral.{number_of}
 

@@ -1,3 +1,4 @@
+-- The operands of a statement by their shapes.
 use Rattle.std.specs.Prelude.{ℕ, Bool, false, ◌==◌, ◌&&◌, if◌then◌else◌, Option, Some, None, option_map, option_and_then, List, [], ◌∷◌, map}
 use Rattle.rv_text.specs.Pieces.{pieces_of}
 use Rattle.rv_asm.specs.Number.{number}

@@ -1,3 +1,4 @@
+-- What a FENCE orders, as letters and as a number.
 use Rattle.std.specs.Prelude.{ℕ, ℤ, pos, ◌==◌, ◌/◌, ◌%◌, if◌then◌else◌, Option, option_map, List, [], ◌++◌, codes}
 use Rattle.std.specs.List.{find, range_with_len}
 use Rattle.std.specs.Str.{bytes_eq}

@@ -1,3 +1,4 @@
+-- The names of the registers, by number and by the calling convention.
 use Rattle.std.specs.Prelude.{ℕ, Bool, ◌==◌, ◌&&◌, ◌||◌, Option, List, [], ◌∷◌, codes, slice_index_or}
 use Rattle.std.specs.List.{find, range_with_len}
 use Rattle.std.specs.Str.{bytes_eq}

@@ -1,3 +1,4 @@
+-- What a line of source says: its label, and its statement or the first of the statement's faults by rank.
 use Rattle.std.specs.Prelude.{ℕ, ℤ, pos, negsuc, ◌+ℤ◌, ◌*ℤ◌, Bool, true, false, not, ◌==◌, ⊤, if◌then◌else◌, Option, Some, None, Result, Ok, Err, List, [], ◌∷◌, is_some}
 use Rattle.std.specs.List.{list_all}
 use Rattle.std.specs.Char.{is_ascii}

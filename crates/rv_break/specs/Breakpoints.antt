@@ -1,3 +1,4 @@
+-- What breakpoints are to contracts: the armed addresses, a set, and the data breakpoints.
 use Rattle.std.specs.FinSet.{FinSet, empty}
 use Rattle.std.specs.Ordering.{nat_cmp}
 use Rattle.std.specs.Prelude.{None, replicate}

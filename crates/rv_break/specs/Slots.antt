@@ -1,3 +1,4 @@
+-- The data breakpoints by number, what claims one, and what it holds after an access.
 use Rattle.std.specs.Prelude.{ℕ, Bool, ◌==◌, ◌&&◌, not, is_none, if◌then◌else◌, Option, Some, None, option_and_then, option_map, IsSome, IsSomeAnd, List, map, position, slice_get}
 use Rattle.rv_break.specs.declared.claim.Claim.{Claim}
 use Rattle.rv_break.specs.declared.claim.Seen.{Seen}

@@ -1,3 +1,4 @@
+-- A data breakpoint holds the first access since its claim that another hart made and that conflicts.
 use Rattle.std.specs.Prelude.{◌≡◌, ℕ, ◌==◌, Bool, true, not, Option, Some, None, List, fold, find, filter_map, slice_get, slice_set}
 use Rattle.std.specs.List.{list_all}
 use Rattle.std.specs.Option.{option_or}

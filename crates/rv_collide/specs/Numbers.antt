@@ -1,3 +1,4 @@
+-- The numbers that a plan in the code has.
 use Rattle.rv_collide.specs.Plan.{Numbers}
 use Rattle.rv_collide.specs.declared.plan.Plan.{Plan}
 

@@ -1,3 +1,4 @@
+-- What each operation does with the registers and the pc, before its access is tested.
 use Rattle.std.specs.Prelude.{ℕ, ◌-◌, ◌%◌, Bool, true, false, not, ◌==◌, nat_lt, if◌then◌else◌, bit_and, bit_or, bit_xor}
 use Rattle.rv_hart.specs.Registers.{get}
 use Rattle.rv_hart.specs.Arithmetic.{plus, minus, word, flag, less_signed, shift_left, shift_right, shift_right_signed}

@@ -1,3 +1,4 @@
+-- Arithmetic on words of 32 bits: sums modulo 2 ^ 32, shifts and comparisons.
 use Rattle.std.specs.Prelude.{ℕ, ℤ, ◌+◌, ◌-◌, ◌*◌, ◌/◌, ◌%◌, ◌^◌, Bool, nat_lt, int_lt, if◌then◌else◌, bit_and, bit_or, bit_xor, min, max}
 use Rattle.std.specs.Int.{cast_signed, cast_unsigned, int_shr, int_min, int_max, w32}
 use Rattle.rv_hart.specs.declared.action.Combine.{Combine}

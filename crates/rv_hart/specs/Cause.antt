@@ -1,3 +1,4 @@
+-- The numbers of the causes for which a hart stops.
 use Rattle.std.specs.Prelude.{ℕ}
 use Rattle.rv_hart.specs.declared.hart.Cause.{Cause}
 use Rattle.rv_hart.specs.declared.hart.Cause.TheVariants.{TargetMisaligned, FetchFault, Illegal, Breakpoint, LoadMisaligned, LoadFault, StoreMisaligned, StoreFault, UnknownCall}

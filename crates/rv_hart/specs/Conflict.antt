@@ -1,3 +1,4 @@
+-- When two accesses conflict: some address is a byte of both, and one of them writes.
 use Rattle.std.specs.Prelude.{ℕ, ◌+◌, ◌<◌, ◌≤◌, Bool, ◌&&◌, ◌||◌, nat_lt, min, max, IsTrue}
 use Rattle.rv_hart.specs.declared.access.Access.{Access}
 

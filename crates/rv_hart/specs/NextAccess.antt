@@ -1,3 +1,4 @@
+-- The access that a hart's next step would make, and the same of a plain load or store alone.
 use Rattle.std.specs.Prelude.{ℕ, Bool, true, false, Option, Some, None, if◌then◌else◌, slice_get}
 use Rattle.rv_hart.specs.State.{State}
 use Rattle.rv_hart.specs.Step.{step_of}

@@ -1,3 +1,4 @@
+-- The registers: x0 is read as 0, and a write to it is lost.
 use Rattle.std.specs.Prelude.{ℕ, ◌==◌, if◌then◌else◌, List, slice_index, slice_set}
 
 -- Register x0 is read as 0, and a write to it is lost. (RISC-V Unprivileged ISA, "Programmers' Model

@@ -1,3 +1,4 @@
+-- There is a hart of the number, and it is so.
 use Rattle.std.specs.Prelude.{ℕ, slice_get, IsSomeAnd}
 use Rattle.rv_hart.specs.State.{State}
 use Rattle.rv_hart.specs.declared.hart.Hart.{Hart}

@@ -1,3 +1,4 @@
+-- The state of a machine, its harts, memory and output, and how it begins.
 use Rattle.std.specs.Prelude.{ℕ, ◌+◌, ◌*◌, Bool, true, false, List, [], ◌++◌, map, slice_set, replicate, None}
 use Rattle.std.specs.List.{range_with_len}
 use Rattle.rv_hart.specs.declared.hart.Hart.{Hart}

@@ -1,3 +1,4 @@
+-- One step of a hart: its event and the new state, or none where it does not run.
 use Rattle.std.specs.Prelude.{ℕ, ◌+◌, ◌%◌, Bool, true, false, ◌&&◌, ◌==◌, nat_lt, if◌then◌else◌, Option, Some, None, List, [], ◌∷◌, ◌++◌, map, slice_get, slice_set}
 use Rattle.rv_hart.specs.Act.{action_of, following}
 use Rattle.rv_hart.specs.Registers.{set}

@@ -1,3 +1,4 @@
+-- What asking for a step answers: the event and the new state, or each refusal where its cause holds.
 use Rattle.std.specs.Prelude.{◌≡◌, ℕ, ◌≤◌, ◌↔◌, Bool, IsTrue, Some, Result, Err, IfOk, OnErr, length}
 use Rattle.rv_hart.specs.Refusals.{IsIdle, HasNoRoom}
 use Rattle.rv_hart.specs.State.{Guest}

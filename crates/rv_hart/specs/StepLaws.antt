@@ -1,3 +1,4 @@
+-- What a step of each class of instructions changes, and what stays.
 use Rattle.std.specs.Prelude.{◌≡◌, ◌≢◌, ℕ, ◌+◌, ◌*◌, ◌^◌, ◌<◌, ◌≤◌, ◌<ℤ◌, ◌↔◌, Bool, true, false, ◌&&◌, nat_le, nat_lt, IsTrue, Option, Some, None, List, [], ◌∷◌, ◌++◌, length, map, slice_get, slice_set}
 use Rattle.std.specs.Int.{int_shr}
 use Rattle.rv_hart.specs.Act.{following}

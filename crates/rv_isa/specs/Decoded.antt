@@ -1,3 +1,4 @@
+-- The operation and the instruction of a word, or none where no row of the table matches it.
 use Rattle.std.specs.Prelude.{ℕ, Option, option_map}
 use Rattle.std.specs.List.{find}
 use Rattle.rv_isa.specs.Operands.{operands_of}

@@ -1,3 +1,4 @@
+-- The word of an instruction: its fixed bits with each field in its place.
 use Rattle.std.specs.Prelude.{ℕ, ◌+◌, ◌*◌, ◌/◌, ◌%◌, ◌^◌, if◌then◌else◌}
 use Rattle.std.specs.Int.{cast_unsigned, w32}
 use Rattle.rv_isa.specs.Instr.{operands}

@@ -1,3 +1,4 @@
+-- The fields and the immediates of the base instruction formats.
 use Rattle.std.specs.Prelude.{ℕ, ℤ, ◌+◌, ◌-◌, ◌*◌, ◌/◌, ◌%◌, ◌^◌, Bool, ◌==◌, nat_lt, if◌then◌else◌, pos, ◌-ℤ◌}
 
 -- the `width` bits of a word from bit `low` up

@@ -1,3 +1,4 @@
+-- The formats: which bits are fixed in each, and which fields it has.
 use Rattle.std.specs.Prelude.{ℕ, Bool, true, false}
 use Rattle.rv_isa.specs.declared.form.Form.{Form}
 use Rattle.rv_isa.specs.declared.form.Form.TheVariants.{R, I, S, B, U, J, Shift, Fence, Plain, Lr, Amo}

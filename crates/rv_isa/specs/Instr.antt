@@ -1,3 +1,4 @@
+-- The row of an instruction: the word has the fixed bits of its operation, and each of its fields.
 use Rattle.std.specs.Prelude.{◌≡◌, ℕ}
 use Rattle.rv_isa.specs.declared.operands.Operands.{Operands}
 use Rattle.rv_isa.specs.Operands.{operands_of}

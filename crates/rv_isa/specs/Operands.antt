@@ -1,3 +1,4 @@
+-- The operands of a word in a format, and the ranges of an instruction's operands.
 use Rattle.std.specs.Prelude.{ℕ, ℤ, pos, negsuc, unsigned_abs, int_le, ◌%◌, Bool, true, not, ◌&&◌, ◌==◌, nat_lt, if◌then◌else◌, IsTrue}
 use Rattle.rv_isa.specs.Fields as fields
 use Rattle.rv_isa.specs.Form.{has_rd, has_rs1, has_rs2, has_ordering}

@@ -1,3 +1,4 @@
+-- How each operation accesses memory, if it does, and with which size.
 use Rattle.rv_isa.specs.declared.shape.Shape.{Shape}
 use Rattle.rv_isa.specs.declared.shape.Shape.TheVariants as shape
 use Rattle.rv_isa.specs.declared.op.Op.{Op}

@@ -1,3 +1,4 @@
+-- The instruction table: a line an operation, with its format and its fixed bits.
 use Rattle.std.specs.Prelude.{◌≡◌, ℕ, Bool, ◌==◌, List, [], ◌∷◌, bit_and}
 use Rattle.rv_isa.specs.Form.{mask_of}
 use Rattle.rv_isa.specs.declared.form.Form.{Form}

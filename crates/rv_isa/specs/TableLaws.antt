@@ -1,3 +1,4 @@
+-- What holds of the table: no word matches two rows, and a word and its instruction are one.
 use Rattle.std.specs.Prelude.{◌≡◌, ℕ, ◌^◌, ◌<◌, ◌↔◌, Some, Contains, IsTrue}
 use Rattle.rv_isa.specs.Decoded.{op_at, decoded}
 use Rattle.rv_isa.specs.Encoded.{encoded}

@@ -1,3 +1,4 @@
+-- A writer with a buffer: what is pending, what its device has got, and both together.
 use Rattle.std.specs.Prelude.{ℕ, Bool, List, Option}
 use Rattle.std.specs.Io.KnownBytes.{append_known}
 use Rattle.rv_memory.specs.Flagged as flag

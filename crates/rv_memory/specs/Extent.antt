@@ -1,3 +1,4 @@
+-- A range of addresses with its bytes and its permissions.
 use Rattle.std.specs.Prelude.{◌≡◌, ℕ, ◌+◌, ◌-◌, ◌≤◌, Bool, List, [], ◌++◌, length, replicate}
 
 -- A stretch of addresses from `start` on, `len` bytes long: `bytes`, then zeros. `r`, `w` and `x` say

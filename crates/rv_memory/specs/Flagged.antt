@@ -1,3 +1,4 @@
+-- A reader or a writer: the device that is wrapped, and whether it has failed.
 use Rattle.std.specs.Prelude.{ℕ, Bool, true, false, ◌&&◌, ◌==◌, nat_lt, List, length, Result, Ok, Err}
 use Rattle.rv_memory.specs.declared.flagged.Flagged.{Flagged}
 use Rattle.rv_memory.specs.declared.flagged.ReadFault.{ReadFault}

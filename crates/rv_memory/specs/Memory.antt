@@ -1,3 +1,4 @@
+-- Memory as a map from addresses to bytes: reading, writing and permissions.
 use Rattle.std.specs.Prelude.{◌≡◌, ℕ, ◌+◌, ◌-◌, ◌*◌, ◌/◌, ◌%◌, ◌^◌, ◌⊎◌, Bool, true, false, ◌&&◌, ◌||◌, nat_le, nat_lt, if◌then◌else◌, Option, Some, None, unwrap_or, List, [], ◌∷◌, slice_get, slice_set, map, sum_by, zero, suc}
 use Rattle.std.specs.List.{list_any}
 use Rattle.rv_memory.specs.Extent.{Extent, end_of, filled}

@@ -1,3 +1,4 @@
+-- What a store leaves as it was, and what is read back.
 use Rattle.std.specs.Prelude.{◌≡◌, ℕ, ◌+◌, ◌^◌, ◌%◌, ◌≤◌, ◌<◌, ◌⊎◌, true, false, is_some, List, map, None, All, IsTrue}
 use Rattle.std.specs.List.{list_any}
 use Rattle.rv_memory.specs.Extent.{Extent, IsExtent, IsFull, span}

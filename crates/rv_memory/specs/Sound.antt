@@ -1,3 +1,4 @@
+-- Memory as a store makes it.
 use Rattle.std.specs.Prelude.{◌≡◌, None, All}
 use Rattle.rv_memory.specs.Extent.{IsFull}
 use Rattle.rv_memory.specs.Memory.{Memory, fault_of}

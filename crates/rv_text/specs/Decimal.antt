@@ -1,3 +1,4 @@
+-- Decimal numbers: how one is written, and which texts are one.
 use Rattle.std.specs.Prelude.{◌≡◌, ℕ, ◌^◌, ◌<◌, Bool, ◌==◌, ◌&&◌, nat_lt, if◌then◌else◌, Option, Some, None, List, length, slice_index}
 use Rattle.std.specs.Fmt.{decimal}
 use Rattle.rv_text.specs.Numeral.{number_of}

@@ -1,3 +1,4 @@
+-- Hexadecimal digits of words and bytes.
 use Rattle.std.specs.Prelude.{◌≡◌, ℕ, ◌/◌, ◌%◌, ◌^◌, ◌<◌, Bool, false, ◌==◌, if◌then◌else◌, Option, Some, None, List, [], ◌∷◌, ◌++◌, length, zero, suc}
 use Rattle.std.specs.List.{list_any}
 use Rattle.std.specs.Char.{digit_char, is_ascii_uppercase}

@@ -1,3 +1,4 @@
+-- The lines of a text.
 use Rattle.std.specs.Prelude.{◌≡◌, ℕ, ◌==◌, Bool, false, if◌then◌else◌, List, [], ◌∷◌, ◌++◌}
 use Rattle.std.specs.List.{onto_first, flat_map, list_any}
 

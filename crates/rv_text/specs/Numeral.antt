@@ -1,3 +1,4 @@
+-- Numbers in a radix, as a source writes them.
 use Rattle.std.specs.Prelude.{ℕ, Bool, ◌&&◌, nat_lt, nat_le, if◌then◌else◌, Option, Some, None, List, length}
 use Rattle.std.specs.List.{list_all}
 use Rattle.std.specs.Char.{is_digit}

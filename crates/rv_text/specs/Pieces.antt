@@ -1,3 +1,4 @@
+-- The pieces of a text that a separator stands between.
 use Rattle.std.specs.Prelude.{ℕ, ◌==◌, List}
 use Rattle.std.specs.List.{slice_split}
 

@@ -1,3 +1,4 @@
+-- The first line of an input of `words`: the number of harts.
 use Rattle.std.specs.Prelude.{ℕ, ◌==◌, if◌then◌else◌, Option, Some, None, option_and_then, List, codes}
 use Rattle.rv_text.specs.Numeral.{up_to}
 use Rattle.rv_text.specs.Decimal.{decimal_of}

@@ -1,3 +1,4 @@
+-- What follows a prefix in a text that begins with it.
 use Rattle.std.specs.Prelude.{ℕ, nat_eq, if◌then◌else◌, Option, Some, None, List, length, drop}
 use Rattle.std.specs.List.{starts_with}
 

@@ -1,3 +1,4 @@
+-- The steps of an input of `words` are the run of their harts.
 use Rattle.std.specs.Prelude.{◌≡◌, ℕ, ◌↔◌, Ok, Some, List}
 use Rattle.rv_hart.specs.Run.{run}
 use Rattle.rv_hart.specs.State.{State}

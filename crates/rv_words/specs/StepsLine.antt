@@ -1,3 +1,4 @@
+-- The second line of an input of `words`: the hart of each step.
 use Rattle.std.specs.Prelude.{ℕ, ◌==◌, nat_le, if◌then◌else◌, Option, Some, None, option_and_then, option_map, List, [], ◌∷◌, length, codes}
 use Rattle.rv_text.specs.Numeral.{up_to}
 use Rattle.rv_text.specs.Decimal.{decimal_of}

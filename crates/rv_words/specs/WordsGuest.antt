@@ -1,3 +1,4 @@
+-- The machine of an input of `words`, its steps, and the state after them, or the first fault.
 use Rattle.std.specs.Prelude.{◌≡◌, ℕ, ◌+◌, ◌*◌, ⊤, true, false, nat_lt, if◌then◌else◌, Result, Ok, Err, List, [], ◌∷◌, length}
 use Rattle.std.specs.Int.{to_le_bytes, w32}
 use Rattle.std.specs.List.{flat_map}

@@ -1,3 +1,4 @@
+-- What an input of `words` says, or its first malformed line.
 use Rattle.std.specs.Prelude.{◌≡◌, ℕ, ◌+◌, ◌≤◌, ⊤, IsTrue, false, nat_lt, if◌then◌else◌, Option, Some, None, option_and_then, Result, Ok, Err, List, [], ◌∷◌, length, drop, slice_get}
 use Rattle.rv_memory.specs.Chain.{◌>>=◌}
 use Rattle.rv_text.specs.Hexadecimal.{word_of}

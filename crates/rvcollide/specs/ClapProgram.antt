@@ -1,3 +1,4 @@
+-- The commands and options as `clap` knows them, and what it finds in the words.
 use Rattle.std.specs.Prelude.{Bool, true, List, [], ◌∷◌, ◌++◌, fold, Some, codes}
 use Rattle.clap.specs.Words.{App, Rule, Shape, Text, new_app, new_rule, with_subcommand}
 use Rattle.clap.specs.Walk.{is_empty}

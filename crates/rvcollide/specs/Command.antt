@@ -1,3 +1,4 @@
+-- Which job a command line asks for. A word is the list of its bytes.
 use Rattle.std.specs.Prelude.{◌≡◌, ℕ, ◌==◌, ◌&&◌, Bool, false, is_some, drop, slice_get, List, [], ◌∷◌, map, Contains, Option, Some, None, option_map, option_and_then, codes, if◌then◌else◌}
 use Rattle.std.specs.Borrow.{Bor}
 use Rattle.std.specs.Str.{bytes_eq, chars}

@@ -1,3 +1,4 @@
+-- The exit status of a failure, and what is printed of it.
 use Rattle.std.specs.Prelude.{ℕ, Bool, true, false, Option, Some, List, [], codes}
 use Rattle.std.specs.declared.io.ErrorKind.{ErrorKind}
 use Rattle.std.specs.declared.io.ErrorKind.TheVariants as kind

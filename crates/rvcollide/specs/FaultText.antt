@@ -1,3 +1,4 @@
+-- The text of a fault, and its exit status.
 use Rattle.std.specs.Prelude.{ℕ, Option, Some, None, List, [], ◌++◌, codes}
 use Rattle.std.specs.Fmt.{decimal}
 use Rattle.rv_asm.specs.declared.statement.AsmKind.{AsmKind}

@@ -1,3 +1,4 @@
+-- The image of a file's bytes, or why they are refused; what is listed of it.
 use Rattle.std.specs.Prelude.{Result, Ok, Err, List, ℕ}
 use Rattle.rv_asm.specs.Listing.{listing}
 use Rattle.rv_elf.specs.Contents.{Contents}

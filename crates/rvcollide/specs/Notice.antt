@@ -1,3 +1,4 @@
+-- What is written of a line that gives no job: the help, the version, or why it is refused.
 use Rattle.std.specs.Prelude.{Bool, true, false, not, ◌&&◌, ◌++◌, List, Option, Some, codes}
 use Rattle.std.specs.List.{list_all, list_any}
 use Rattle.std.specs.String.{string_bytes}

@@ -1,3 +1,4 @@
+-- The options of `run` and `threads`: the number that each value means, its range, and that it stands in the line.
 use Rattle.std.specs.Prelude.{ℕ, ◌+◌, ◌≡◌, ◌≤◌, ◌<◌, IfSome, ◌⊎◌, is_some, nat_le, nat_lt, slice_get, List, ◌++◌, Contains, Option, Some, None, option_and_then, option_map, codes, if◌then◌else◌}
 use Rattle.clap.specs.Words.{Row, Text, first_of}
 use Rattle.rv_collide.specs.Plan.{Numbers}

@@ -1,3 +1,4 @@
+-- The file of a source's bytes, or why they are refused.
 use Rattle.std.specs.Prelude.{ℕ, ◌+◌, ◌==◌, if◌then◌else◌, Result, Ok, Err, List, length, take, count_by}
 use Rattle.std.specs.Str.Lossy.{utf8_valid_len}
 use Rattle.rv_asm.specs.Assembled.{assembled}

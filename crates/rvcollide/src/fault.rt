@@ -9,10 +9,10 @@ use rv_collide::schedule::{ScheduleFault, ScheduleKind};
 use rv_debug::fault::TalkFault;
 use rv_elf::LoadFault;
 use rv_hart::machine::StepFault;
-use rv_words::fault::WordsFault;
 use rv_locked::threads::RunFault;
 use rv_memory::flagged::{ReadFault, WriteFault};
 use rv_memory::store::NoMemory;
+use rv_words::fault::WordsFault;
 use std::convert::Infallible;
 use std::fmt;
 

@@ -9,10 +9,10 @@ ghost use Rattle.rvcollide.specs.Fault.{IsToldFault, fails_by, is_read, is_write
 use crate::fault::Fault;
 use rv_hart::machine::Machine;
 use rv_hart::texts::write_state;
-use rv_words::machine_after;
 use rv_memory::buffered::Buffered;
 use rv_memory::flagged::{Flagged, INPUT_LIMIT, read_whole};
 use rv_memory::flat::Flat;
+use rv_words::machine_after;
 use std::alloc::Global;
 use std::io::{Read, Write};
 
