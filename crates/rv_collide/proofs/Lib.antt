@@ -28,6 +28,7 @@ pub mod Lists
 pub mod OpenAt
 pub mod OpenPauses
 pub mod Openings
+pub mod PauseLemmas
 pub mod Places
 pub mod PlanLineLemmas
 pub mod Prefix
@@ -40,6 +41,7 @@ pub mod ScheduleLemmas
 pub mod Slots
 pub mod SpellLemmas
 pub mod StepFaults
+pub mod ToldLemmas
 pub mod Writable
 pub mod Until
 pub mod Unwatched

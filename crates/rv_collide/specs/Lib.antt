@@ -17,11 +17,13 @@ pub mod Made
 pub mod Next
 pub mod Numbers
 pub mod Pause
+pub mod PauseLaws
 pub mod Plan
 pub mod Replays
 pub mod ScheduleRead
 pub mod StateAt
 pub mod Stored
 pub mod Texts
+pub mod Told
 pub mod Verdict
 pub mod internal

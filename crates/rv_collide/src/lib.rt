@@ -12,6 +12,7 @@ pub mod ending;
 pub mod entry;
 pub mod laws;
 mod open_pause;
+pub mod pause_laws;
 pub mod plan;
 pub mod refused;
 pub mod replay;
@@ -19,3 +20,4 @@ pub mod schedule;
 #[cfg(test)]
 mod tests;
 pub mod texts;
+pub mod told;

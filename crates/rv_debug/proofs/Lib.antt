@@ -2,8 +2,8 @@ pub mod AnswerLemmas
 pub mod CommandLemmas
 pub mod FindLemmas
 pub mod LineLemmas
+pub mod PlaceLemmas
 pub mod SeriesLemmas
 pub mod TalkLawLemmas
 pub mod TalkLemmas
-pub mod ToldLemmas
 pub mod ViewLemmas

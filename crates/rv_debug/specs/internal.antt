@@ -2,4 +2,3 @@
 pub mod Lines
 pub mod Puts
 pub mod Session
-pub mod Told

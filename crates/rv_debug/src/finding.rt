@@ -6,9 +6,9 @@ ghost use Rattle.rv_debug.specs.Answers as answer;
 ghost use Rattle.rv_debug.specs.Placed.{placed};
 ghost use Rattle.rv_hart.specs.Conflict.{Touches};
 
-use crate::told::advance;
 use rv_collide::collider::Collider;
 use rv_collide::entry::Entry;
+use rv_collide::told::advance;
 use rv_hart::access::Access;
 use rv_memory::flat::Flat;
 
@@ -34,7 +34,7 @@ pub(crate) fn next_touch(
         answer.HasNoTouch (placed collider.old.image collider.old.plan entries.now from) address }
 {
     for place in from..count {
-        let access = advance(collider, entries[place as usize]);
+        let access = advance(collider, entries, place);
         if touches(access, address) {
             return Some(place);
         }

@@ -17,4 +17,3 @@ mod shown;
 pub mod talk;
 #[cfg(test)]
 mod tests;
-mod told;

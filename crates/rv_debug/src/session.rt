@@ -15,11 +15,11 @@ use crate::finding::next_touch;
 use crate::hart_view::HartView;
 use crate::listing::{has_lines, lines_of};
 use crate::shown::{bytes_of, has_bytes, view_of};
-use crate::told::{advance, collider_at};
 use rv_collide::collider::Collider;
 use rv_collide::entry::Entry;
 use rv_collide::plan::Plan;
 use rv_collide::replay::{ReplayFault, replay};
+use rv_collide::told::{advance, collider_at};
 use rv_elf::Image;
 use rv_hart::machine::Machine;
 use rv_memory::flat::Flat;
@@ -148,8 +148,7 @@ impl Session {
         if self.place == self.count {
             return Err(SessionFault::NoPlace);
         }
-        let entry = self.entries[self.place as usize];
-        let _access = advance(&mut self.collider, entry);
+        let _access = advance(&mut self.collider, &self.entries, self.place);
         self.place += 1;
         Ok(())
     }

@@ -1,7 +1,7 @@
 use Rattle.std.proofs.Common.{◌≡◌, Some, subst}
 use Rattle.rv_collide.specs.Numbers.{numbers}
 use Rattle.rv_debug.specs.Placed.{Placed, placed, state}
-use Rattle.rv_debug.proofs.ToldLemmas.{state_of_core}
+use Rattle.rv_debug.proofs.PlaceLemmas.{state_of_core}
 use Rattle.rv_debug.proofs.session.Session.machine.Goals as goal
 
 pub returns : goal.returns

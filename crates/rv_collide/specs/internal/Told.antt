@@ -1,3 +1,4 @@
+-- What one entry of a schedule accesses.
 use Rattle.std.specs.Prelude.{Option, option_and_then, length}
 use Rattle.rv_collide.specs.Entries.{stepped_hart}
 use Rattle.rv_collide.specs.Next.{next}

@@ -1,15 +1,17 @@
 //! A legal schedule is told again, entry by entry.
-ghost use Rattle.std.specs.Prelude.{◌≡◌, ◌≤◌, [], IfOk, Ok, take, length};
+ghost use Rattle.std.specs.Prelude.{◌≡◌, ◌+◌, ◌<◌, ◌≤◌, [], IfOk, Ok, take, length};
 ghost use Rattle.rv_collide.specs.Forced.{forced};
 ghost use Rattle.rv_collide.specs.Legal.{call_of, IsLegal};
+ghost use Rattle.rv_collide.specs.Made.{made};
 ghost use Rattle.rv_collide.specs.Numbers.{numbers};
 ghost use Rattle.rv_collide.specs.Stored.{added, setting_of, stored};
-ghost use Rattle.rv_debug.specs.internal.Told.{accessed_by};
+ghost use Rattle.rv_collide.specs.Told.{IsToldUpTo};
+ghost use Rattle.rv_collide.specs.internal.Told.{accessed_by};
 ghost use Rattle.rv_hart.specs.NextAccess.{accessed};
 
-use rv_collide::collider::{Collider, Turned};
-use rv_collide::entry::Entry;
-use rv_collide::plan::Plan;
+use crate::collider::{Collider, Turned};
+use crate::entry::Entry;
+use crate::plan::Plan;
 use rv_elf::Image;
 use rv_hart::access::{Access, Event};
 use rv_memory::flat::Flat;
@@ -17,7 +19,7 @@ use rv_memory::store::NoMemory;
 use std::alloc::Global;
 
 /// The core after the first `n` entries of a legal schedule.
-pub(crate) fn collider_at(
+pub fn collider_at(
     alloc: Global,
     image: &Image,
     plan: Plan,
@@ -30,13 +32,25 @@ pub(crate) fn collider_at(
 {
     let mut collider = Collider::new(alloc, image, plan)?;
     for i in 0..n {
-        let _access = advance(&mut collider, entries[i as usize]);
+        let _access = advance(&mut collider, entries, i);
     }
     Ok(collider)
 }
 
+/// Goes on by one entry of a legal schedule, of which the core has been told the entries before it. What that
+/// entry accessed, if it is a step that did.
+pub fn advance(collider: &mut Collider<Flat>, entries: &[Entry], place: u32) -> Option<Access>
+    requires legal { IsLegal (setting_of collider.old) entries.now }
+    requires within { place < length entries.now }
+    requires here { IsToldUpTo collider.old entries.now place }
+    ensures after { collider.new ≡ stored collider.old.image collider.old.plan (take (place + 1) entries.now) }
+    ensures access { result ≡ made (setting_of collider.old).start entries.now place }
+{
+    add(collider, entries[place as usize])
+}
+
 /// Makes the call of an entry that it is forced to add; what its step accessed, if it is a step that did.
-pub(crate) fn advance(collider: &mut Collider<Flat>, entry: Entry) -> Option<Access>
+fn add(collider: &mut Collider<Flat>, entry: Entry) -> Option<Access>
     requires { forced (setting_of collider.old) collider.old.entries (call_of entry) ≡ Ok entry }
     ensures after { collider.new ≡ added collider.old entry }
     ensures access { result ≡ accessed_by collider.old entry }

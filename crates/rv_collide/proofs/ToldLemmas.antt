@@ -7,14 +7,12 @@ use Rattle.rv_collide.specs.Forced.{forced}
 use Rattle.rv_collide.specs.Legal.{IsLegal, call_of}
 use Rattle.rv_collide.specs.Made.{made}
 use Rattle.rv_collide.specs.Next.{next}
-use Rattle.rv_collide.specs.Plan.{Numbers}
 use Rattle.rv_collide.specs.StateAt.{state_at}
 use Rattle.rv_collide.specs.Stored.{Stored, added, setting_of, stored}
+use Rattle.rv_collide.specs.Told.{IsToldUpTo}
 use Rattle.rv_collide.specs.Entries.{steps}
 use Rattle.rv_collide.specs.declared.entry.Entry.{Entry}
-use Rattle.rv_debug.specs.Placed.{Placed, setting, state}
-use Rattle.rv_debug.specs.internal.Told.{accessed_by}
-use Rattle.rv_elf.specs.Contents.{Contents}
+use Rattle.rv_collide.specs.internal.Told.{accessed_by}
 use Rattle.rv_hart.specs.NextAccess.{access_of_step, accessed, next_access}
 use Rattle.rv_hart.specs.Run.{run}
 use Rattle.rv_hart.specs.State.{State}
@@ -42,31 +40,27 @@ take_one (x ∷ xs) zero e there = let same : x ≡ e = cc in ap (λ (y : Entry)
 take_one (x ∷ xs) (suc i) e there =
     rw (add-one (suc i)) (ap (λ ys. x ∷ ys) (subst (λ (n : ℕ). take n xs ≡ take i xs ++ e ∷ []) (add-one i) (take_one xs i e there)))
 
-module _ (image : Contents) (plan : Numbers) (xs : List Entry) (i : ℕ) (e : Entry) (old : Stored) (is : old ≡ stored image plan (take i xs)) (there : slice_get xs i ≡ Some e) where
-  pub forced_here : IsLegal (setting_of (stored image plan [])) xs → forced (setting_of old) old.entries (call_of e) ≡ Ok e
-  forced_here legal = subst (λ (s : Stored). forced (setting_of s) s.entries (call_of e) ≡ Ok e) (sym is) (legal i e there)
+module _ (c : Stored) (xs : List Entry) (i : ℕ) (e : Entry) (here : IsToldUpTo c xs i) (there : slice_get xs i ≡ Some e) where
+  pub forced_here : IsLegal (setting_of c) xs → forced (setting_of c) c.entries (call_of e) ≡ Ok e
+  forced_here legal = subst (λ (ys : List Entry). forced (setting_of c) ys (call_of e) ≡ Ok e) (sym here) (legal i e there)
 
-  pub one_more : (new : Stored) → new ≡ added old e → new ≡ stored image plan (take (i + 1) xs)
-  one_more new adds = adds ∙ ap (λ (s : Stored). added s e) is ∙ ap (stored image plan) (sym (take_one xs i e there))
+  pub one_more : (new : Stored) → new ≡ added c e → new ≡ stored c.image c.plan (take (i + 1) xs)
+  one_more new adds = adds ∙ ap (λ (ys : List Entry). stored c.image c.plan (ys ++ e ∷ [])) here ∙ ap (stored c.image c.plan) (sym (take_one xs i e there))
 
-  made_here : (o : Option ℕ) → o ≡ stepped_at xs i → option_and_then (λ h. next (setting_of (stored image plan [])).start (take i xs) (length (take i xs)) h) o ≡ made (setting_of (stored image plan [])).start xs i
+  made_here : (o : Option ℕ) → o ≡ stepped_at xs i → option_and_then (λ h. next (setting_of c).start (take i xs) (length (take i xs)) h) o ≡ made (setting_of c).start xs i
   unfolding made
   made_here o at =
-      elim o as (λ (o : Option ℕ). option_and_then (λ h. next (setting_of (stored image plan [])).start (take i xs) (length (take i xs)) h) o ≡ option_and_then (λ h. next (setting_of (stored image plan [])).start xs i h) o) [
+      elim o as (λ (o : Option ℕ). option_and_then (λ h. next (setting_of c).start (take i xs) (length (take i xs)) h) o ≡ option_and_then (λ h. next (setting_of c).start xs i h) o) [
         | None ↦ refl
-        | Some h ↦ next_here (setting_of (stored image plan [])).start xs i h
+        | Some h ↦ next_here (setting_of c).start xs i h
       ]
-      ∙ ap (option_and_then (λ h. next (setting_of (stored image plan [])).start xs i h)) at
+      ∙ ap (option_and_then (λ h. next (setting_of c).start xs i h)) at
 
   stepped_there : stepped_hart e ≡ stepped_at xs i
   unfolding stepped_at
   stepped_there = sym (ap (option_and_then stepped_hart) there)
 
-  pub accessed_here : accessed_by old e ≡ made (setting_of (stored image plan [])).start xs i
+  pub accessed_here : accessed_by c e ≡ made (setting_of c).start xs i
   accessed_here =
-      ap (λ (s : Stored). accessed_by s e) is ∙ made_here (stepped_hart e) stepped_there
-
--- the state of the core is the state at the place
-pub state_of_core : (p : Placed) (c : Stored) (s : Option State) → c ≡ stored p.image p.plan (take p.place p.entries) → state_at (setting_of c).start c.entries (length c.entries) ≡ s → state p ≡ s
-state_of_core p c s told at =
-    sym (state_here (setting p).start p.entries p.place) ∙ subst (λ (v : Stored). state_at (setting_of v).start v.entries (length v.entries) ≡ s) told at
+      ap (λ (ys : List Entry). option_and_then (λ h. next (setting_of c).start ys (length ys) h) (stepped_hart e)) here
+      ∙ made_here (stepped_hart e) stepped_there

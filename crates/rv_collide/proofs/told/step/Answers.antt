@@ -2,8 +2,8 @@ use Rattle.std.proofs.Common.{length, subst, ◌∙◌}
 use Rattle.rv_collide.specs.Answers.{Turns}
 use Rattle.rv_collide.specs.Stored.{setting_of}
 use Rattle.rv_collide.specs.declared.collider.Turned.{Turned}
-use Rattle.rv_debug.proofs.ToldLemmas.{next_event}
-use Rattle.rv_debug.proofs.told.step.Goals as goal
+use Rattle.rv_collide.proofs.ToldLemmas.{next_event}
+use Rattle.rv_collide.proofs.told.step.Goals as goal
 
 pub returns-clause-access : goal.returns-clause-access
 returns-clause-access c =
