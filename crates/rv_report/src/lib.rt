@@ -5,6 +5,8 @@
 //! and the numbers of endings that were pruned.
 #![tactic(auto)]
 
+pub mod exhibit;
+pub mod exhibiting;
 pub mod key;
 pub mod race_table;
 pub mod row;
