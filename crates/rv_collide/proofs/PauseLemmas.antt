@@ -13,7 +13,7 @@ use Rattle.rv_collide.specs.StateAt.{state_at}
 use Rattle.rv_collide.specs.declared.entry.Entry.{Entry}
 use Rattle.rv_collide.specs.declared.entry.Entry.TheVariants.{Paused}
 use Rattle.rv_collide.specs.declared.refused.Refused.{Refused}
-use Rattle.rv_hart.specs.Next.{next_access, next_plain}
+use Rattle.rv_hart.specs.NextAccess.{next_access, next_plain}
 use Rattle.rv_hart.specs.State.{State}
 use Rattle.rv_hart.specs.declared.access.Access.{Access}
 use Rattle.rv_collide.proofs.ArmedAccesses.{plain_next}

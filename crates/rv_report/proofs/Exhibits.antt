@@ -26,7 +26,7 @@ use Rattle.rv_collide.specs.declared.ending.Verdict.TheVariants.{Hit, Changed, Q
 use Rattle.rv_collide.specs.declared.entry.Entry.{Entry}
 use Rattle.rv_elf.specs.Contents.{Contents}
 use Rattle.rv_hart.specs.Conflict.{Conflict, Shared, end_of, meets}
-use Rattle.rv_hart.specs.Next.{next_access, next_plain}
+use Rattle.rv_hart.specs.NextAccess.{next_access, next_plain}
 use Rattle.rv_hart.specs.ReservationLaws.{NextIsMade}
 use Rattle.rv_hart.specs.Run.{run}
 use Rattle.rv_hart.specs.State.{State}

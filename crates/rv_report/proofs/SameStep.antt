@@ -2,7 +2,7 @@
 use Rattle.std.proofs.Common.{◌≡◌, ℕ, ◌%◌, Bool, true, false, cond, Option, Some, None, refl, sym, ap, ◌∙◌}
 use Rattle.std.specs.Prelude.{◌==◌, slice_get, option_map}
 use Rattle.rv_hart.specs.Act.{act, address, source_2}
-use Rattle.rv_hart.specs.Next.{accessed, access_of_step, at_plain, is_plain, is_plain_op, next_access, next_plain}
+use Rattle.rv_hart.specs.NextAccess.{accessed, access_of_step, at_plain, is_plain, is_plain_op, next_access, next_plain}
 use Rattle.rv_hart.specs.State.{State, is_running}
 use Rattle.rv_hart.specs.Step.{action_at, action_at_word, allowed, event_of, reserves, state_after, step_by, step_of, step_of_hart}
 use Rattle.rv_hart.specs.declared.access.Access.{Access}

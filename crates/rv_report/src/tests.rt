@@ -14,6 +14,8 @@ use std::io::{ErrorKind, Write};
 use std::process::Abort;
 use std::test::Fail;
 
+mod exhibits;
+
 const fn access(pc: u32, write: bool) -> Access {
     Access {
         pc,
