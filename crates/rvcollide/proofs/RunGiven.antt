@@ -15,7 +15,8 @@ use Rattle.rvcollide.specs.Command.{Asked, IsGiven, options_job, run_of, threads
 use Rattle.rvcollide.specs.ClapProgram.{is_accepted, program}
 use Rattle.rvcollide.specs.Request.{Request}
 use Rattle.rv_campaign.specs.declared.runs.TheConstants.{MOST_RUNS, MOST_WORKERS}
-use Rattle.rv_collide.specs.declared.plan.TheConstants.{MOST_ARMS, MOST_HARTS, MOST_PAUSE, MOST_STEPS}
+use Rattle.rv_collide.specs.declared.plan.TheConstants.{MOST_ARMS, MOST_PAUSE, MOST_STEPS}
+use Rattle.rv_hart.specs.declared.machine.TheConstants.{MOST_HARTS}
 use Rattle.rvcollide.specs.declared.command.run.TheConstants.{MOST_KEEP, MOST_SEED}
 use Rattle.rvcollide.specs.RunLine.{Gives, GivesNumber, IsPlanGiven, IsRunGiven, request_at, keep_at, number_at, number_in, number_or, plan_at}
 
