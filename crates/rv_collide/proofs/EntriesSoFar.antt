@@ -1,7 +1,8 @@
-use Rattle.std.proofs.Common.{◌≡◌, ℕ, ◌+◌, ◌-◌, ◌<◌, ◌≤◌, Bool, true, false, Result, Ok, Err, List, [], ◌∷◌, ◌++◌, length, refl, ap, ◌∙◌, append_assoc, append-nil, arith, sym, length-append}
-use Rattle.std.specs.Prelude.{MatchBool, ⊤}
+use Rattle.std.proofs.Common.{◌≡◌, ℕ, zero, suc, ◌+◌, ◌-◌, ◌<◌, ◌≤◌, inl, inr, Bool, true, false, Some, Result, Ok, Err, List, [], ◌∷◌, ◌++◌, length, drop, refl, ap, subst, ◌∙◌, append_assoc, append-nil, arith, sym, length-append, add-one}
+use Rattle.std.specs.Prelude.{MatchBool, ⊤, IsSome, IsSomeAnd, slice_get}
+use Rattle.std.proofs.lemmas.Bool.{cases_lt}
 use Rattle.rv_text.specs.Pieces.{pieces_of}
-use Rattle.rv_collide.specs.ScheduleRead.{entries_from, is_of_text, IsToldFault}
+use Rattle.rv_collide.specs.ScheduleRead.{AreEntriesTo, IsToldFault, entries_from, entry_of, is_of_text}
 use Rattle.rv_collide.specs.internal.Before.{entries_before}
 use Rattle.rv_collide.specs.declared.entry.Entry.{Entry}
 use Rattle.rv_collide.specs.declared.schedule.fault.ScheduleFault.{ScheduleFault}
@@ -10,6 +11,8 @@ use Rattle.rv_collide.specs.declared.schedule.fault.ScheduleFault.{ScheduleFault
 pub record EntriesSoFar (whole left : List ℕ) (room : ℕ) (entries : List Entry) : Type 0 where
   pub so_far : entries_from 3 room (pieces_of 10 whole) ≡ entries_before entries (entries_from (3 + length entries) (room - length entries) (pieces_of 10 left))
   pub few : length entries ≤ room
+  pub left_are : drop (length entries) (pieces_of 10 whole) ≡ pieces_of 10 left
+  pub said : (index : ℕ) → index < length entries → IsSomeAnd (slice_get (pieces_of 10 whole) index) (λ line. IsSome (entry_of line))
 
 nothing_before : (r : Result (List Entry) ScheduleFault) → r ≡ entries_before [] r
 nothing_before (Ok rest) = refl
@@ -25,12 +28,48 @@ so_far_first text room =
     record {
       so_far = nothing_before (entries_from 3 room (pieces_of 10 text)) ∙ ap (λ r. entries_before [] (entries_from 3 r (pieces_of 10 text))) all_room;
       few = omega arith;
+      left_are = refl;
+      said = λ index below. absurd (omega arith);
+    }
+
+-- the line at the front of what is left
+get_there : (lines : List (List ℕ)) (n : ℕ) (line : List ℕ) (more : List (List ℕ)) → drop n lines ≡ line ∷ more → slice_get lines n ≡ Some line
+get_there [] zero line more is = cc
+get_there [] (suc n) line more is = cc
+get_there (x ∷ lines) zero line more is = cc
+get_there (x ∷ lines) (suc n) line more is = get_there lines n line more is
+
+drop_next : (lines : List (List ℕ)) (n : ℕ) (line : List ℕ) (more : List (List ℕ)) → drop n lines ≡ line ∷ more → drop (suc n) lines ≡ more
+drop_next [] zero line more is = cc
+drop_next [] (suc n) line more is = cc
+drop_next (x ∷ lines) zero line more is = cc
+drop_next (x ∷ lines) (suc n) line more is = drop_next lines n line more is
+
+one_said : (lines : List (List ℕ)) (n : ℕ) (line : List ℕ) (more : List (List ℕ)) (entry : Entry) → ((index : ℕ) → index < n → IsSomeAnd (slice_get lines index) (λ line. IsSome (entry_of line)))
+    → drop n lines ≡ line ∷ more → entry_of line ≡ Some entry → (index : ℕ) → index < suc n → IsSomeAnd (slice_get lines index) (λ line. IsSome (entry_of line))
+one_said lines n line more entry before is says index below =
+    elim (cases_lt index n) [
+      | inl lt ↦ before index lt
+      | inr ge ↦ (
+          let same : n ≡ index = omega arith in
+          let there : slice_get lines index ≡ Some line = subst (λ (i : ℕ). slice_get lines i ≡ Some line) same (get_there lines n line more is) in
+          rw there (rw says refl))
+    ]
+
+-- the line of one entry more says it, as those before it do
+pub entry_line_is : (whole left after : List ℕ) (room : ℕ) (entries : List Entry) (entry : Entry) → EntriesSoFar whole left room entries
+    → (line : List ℕ) × (pieces_of 10 left ≡ line ∷ pieces_of 10 after) × (entry_of line ≡ Some entry) → AreEntriesTo (pieces_of 10 whole) (3 + length entries)
+entry_line_is whole left after room entries entry before next =
+    let size : (3 + length entries) - 2 ≡ suc (length entries) = omega arith in
+    record {
+      after_plan = omega arith;
+      each = λ index below. one_said (pieces_of 10 whole) (length entries) next.0 (pieces_of 10 after) entry before.said (before.left_are ∙ next.1) next.2 index (omega arith);
     }
 
 pub so_far_next : (whole left after : List ℕ) (room : ℕ) (entries : List Entry) (entry : Entry) → EntriesSoFar whole left room entries
     → entries_from (3 + length entries) (room - length entries) (pieces_of 10 left) ≡ entries_before (entry ∷ []) (entries_from ((3 + length entries) + 1) ((room - length entries) - 1) (pieces_of 10 after))
-    → 0 < room - length entries → EntriesSoFar whole after room (entries ++ entry ∷ [])
-so_far_next whole left after room entries entry before more some =
+    → 0 < room - length entries → (line : List ℕ) × (pieces_of 10 left ≡ line ∷ pieces_of 10 after) × (entry_of line ≡ Some entry) → EntriesSoFar whole after room (entries ++ entry ∷ [])
+so_far_next whole left after room entries entry before more some next =
     let longer : length (entries ++ entry ∷ []) ≡ length entries + 1 = length-append entries (entry ∷ []) in
     let number : (3 + length entries) + 1 ≡ 3 + length (entries ++ entry ∷ []) = omega (arith, longer) in
     let left_room : (room - length entries) - 1 ≡ room - length (entries ++ entry ∷ []) = omega (arith, longer) in
@@ -38,6 +77,8 @@ so_far_next whole left after room entries entry before more some =
     record {
       so_far = before.so_far ∙ ap (entries_before entries) more ∙ before_more entries entry _ ∙ ap (entries_before (entries ++ entry ∷ [])) rest;
       few = omega (arith, longer);
+      left_are = ap (λ n. drop n (pieces_of 10 whole)) (longer ∙ add-one (length entries)) ∙ drop_next (pieces_of 10 whole) (length entries) next.0 (pieces_of 10 after) (before.left_are ∙ next.1);
+      said = λ index below. one_said (pieces_of 10 whole) (length entries) next.0 (pieces_of 10 after) entry before.said (before.left_are ∙ next.1) next.2 index (omega (arith, longer));
     }
 
 pub so_far_end : (whole left : List ℕ) (room : ℕ) (entries : List Entry) → EntriesSoFar whole left room entries → entries_from (3 + length entries) (room - length entries) (pieces_of 10 left) ≡ Ok []

@@ -1,12 +1,13 @@
 -- What the header, the plan and the entries say together.
-use Rattle.std.proofs.Common.{◌≡◌, ℕ, Bool, true, false, Ok, Err, List, [], ◌∷◌, refl, ap, ◌∙◌, sym, drop}
+use Rattle.std.proofs.Common.{◌≡◌, ℕ, inl, inr, Bool, true, false, Ok, Err, List, [], ◌∷◌, refl, ap, ◌∙◌, sym, drop}
 use Rattle.std.specs.Prelude.{MatchBool, ⊤}
 use Rattle.rv_text.specs.Pieces.{pieces_of}
 use Rattle.rv_collide.specs.Plan.{Numbers, most_entries}
-use Rattle.rv_collide.specs.ScheduleRead.{entries_from, header_in, is_of_text, IsToldFault, plan_in, schedule_in, schedule_of}
+use Rattle.rv_collide.specs.ScheduleRead.{AreEntriesTo, IsBrokenOff, IsToldFault, entries_from, header_in, is_of_text, is_read, line_after, plan_in, schedule_in, schedule_of}
 use Rattle.rv_collide.specs.declared.entry.Entry.{Entry}
 use Rattle.rv_collide.specs.declared.schedule.fault.ScheduleFault.{ScheduleFault}
 use Rattle.rv_collide.specs.declared.schedule.fault.ScheduleKind.{ScheduleKind}
+use Rattle.rv_collide.specs.declared.schedule.fault.ScheduleKind.TheVariants as kind
 
 pub told : (b : Bool) (P : Type 0) → P → MatchBool b P ⊤
 told true P p = p
@@ -28,8 +29,25 @@ plan_fault text lines k header rest plan =
     let at : plan_in (drop 1 (pieces_of 10 text)) ≡ Err k = ap plan_in (sym rest) ∙ plan in
     rw (header, at) refl
 
+-- ---- where reading is broken off
+
+pub of_text_there : (taken : List ℕ) (line : ℕ) (k : ScheduleKind) → is_of_text k ≡ true → IsBrokenOff taken line k
+of_text_there taken line kind.Read of_text = cc
+of_text_there taken line kind.NoMemory of_text = cc
+of_text_there taken line _ of_text = tt
+
+pub taking_there : (taken : List ℕ) (line : ℕ) (k : ScheduleKind) → line ≡ line_after taken → IsBrokenOff taken line k
+taking_there taken line kind.Read is = is
+taking_there taken line kind.NoMemory is = inl is
+taking_there taken line _ is = tt
+
+pub entry_there : (taken : List ℕ) (line : ℕ) (k : ScheduleKind) → is_read k ≡ false → (is_of_text k ≡ false → AreEntriesTo (drop 2 (pieces_of 10 taken)) line) → IsBrokenOff taken line k
+entry_there taken line kind.Read reads entries = cc
+entry_there taken line kind.NoMemory reads entries = inr (entries refl)
+entry_there taken line _ reads entries = tt
+
 -- the entries' lines after the plan's
-after_plan : (text : List ℕ) (second third : List (List ℕ)) → second ≡ drop 1 (pieces_of 10 text) → third ≡ drop 1 second → third ≡ drop 2 (pieces_of 10 text)
+pub after_plan : (text : List ℕ) (second third : List (List ℕ)) → second ≡ drop 1 (pieces_of 10 text) → third ≡ drop 1 second → third ≡ drop 2 (pieces_of 10 text)
 after_plan text second third rest more = more ∙ ap (drop 1) rest ∙ drop_twice (pieces_of 10 text)
 
 module _ (text : List ℕ) (second third : List (List ℕ)) (n : Numbers) (header : header_in (pieces_of 10 text) ≡ Ok tt) (rest : second ≡ drop 1 (pieces_of 10 text)) (plan : plan_in second ≡ Ok n)

@@ -1,6 +1,6 @@
 -- What a schedule's text says, line by line, or its first line with a fault. That the texts that are read
 -- are those of the grammar is a law.
-use Rattle.std.specs.Prelude.{◌≡◌, ℕ, ◌+◌, ◌-◌, ⊤, Bool, true, false, MatchBool, ◌&&◌, ◌==◌, nat_lt, nat_le, if◌then◌else◌, Option, Some, None, option_and_then, option_map, Result, Ok, Err, List, [], ◌∷◌, length, drop, codes}
+use Rattle.std.specs.Prelude.{◌≡◌, ℕ, ◌+◌, ◌-◌, ◌<◌, ◌≤◌, ◌⊎◌, ⊤, Bool, true, false, MatchBool, ◌&&◌, ◌==◌, nat_lt, nat_le, if◌then◌else◌, Option, Some, None, option_and_then, option_map, Result, Ok, Err, List, [], ◌∷◌, length, drop, codes, count_by, slice_get, IsSome, IsSomeAnd}
 use Rattle.std.specs.Option.{ok_or}
 use Rattle.std.specs.Str.{bytes_eq}
 use Rattle.rv_memory.specs.Chain.{◌>>=◌, want}
@@ -162,6 +162,22 @@ is_of_text _ = true
 -- the fault is the one that is told of the text; that the reader failed or memory is out says nothing of it
 abbrev pub IsToldFault : {A : Type 0} → Result A ScheduleFault → ScheduleFault → Type 0
 IsToldFault said fault = MatchBool (is_of_text fault.kind) (said ≡ Err fault) ⊤
+
+-- the line that is being taken when so much of a text has been
+abbrev pub line_after : List ℕ → ℕ
+line_after taken = count_by (λ byte. byte == 10) taken + 1
+
+-- Each line says an entry, from the third of the text, which is the first of these, to the one of the number.
+pub record AreEntriesTo (lines : List (List ℕ)) (last : ℕ) : Type 0 where
+  pub after_plan : 3 ≤ last
+  pub each : (index : ℕ) → index < last - 2 → IsSomeAnd (slice_get lines index) (λ line. IsSome (entry_of line))
+
+-- The line at which reading was broken off when so much of the text had been taken: the one that was being
+-- taken; or, where memory was out, one of an entry, which there was no room for.
+abbrev pub IsBrokenOff : List ℕ → ℕ → ScheduleKind → Type 0
+IsBrokenOff taken line kind.Read = line ≡ line_after taken
+IsBrokenOff taken line kind.NoMemory = (line ≡ line_after taken) ⊎ AreEntriesTo (drop 2 (pieces_of 10 taken)) line
+IsBrokenOff taken line _ = ⊤
 
 -- the fault is that the reader failed
 abbrev pub is_read : ScheduleKind → Bool

@@ -55,6 +55,8 @@ fn next_entry(text: &[u8], number: u32, room: u32) -> Result<Option<(Entry, &[u8
         spec.entries_from number room (pieces_of 10 text.now)
         ≡ entries_before (said.0 ∷ []) (spec.entries_from (number + 1) (room - 1) (pieces_of 10 said.1.now)))) }
     ensures room { IfOk result (λ next. OnSome next (0 < room)) }
+    ensures line { IfOk result (λ next. IfSome next (λ said. (line : List ℕ)
+        × (pieces_of 10 text.now ≡ line ∷ pieces_of 10 said.1.now) × (spec.entry_of line ≡ Some said.0))) }
     ensures shorter { IfOk result (λ next. IfSome next (λ said. length said.1.now < length text.now)) }
     ensures err { IfErr result (λ fault.
         spec.entries_from number room (pieces_of 10 text.now) ≡ Err fault) }
@@ -85,6 +87,8 @@ fn read_entries(alloc: Global, text: &[u8], room: u32) -> Result<Vec<Entry>, Sch
         spec.entries_from 3 room (pieces_of 10 text.now) ≡ Ok entries.items) }
     ensures err { IfErr result (spec.IsToldFault (spec.entries_from 3 room (pieces_of 10 text.now))) }
     ensures reader { spec.fails_reading result ≡ false }
+    ensures memory { IfErr result (λ fault. spec.is_of_text fault.kind ≡ false
+        → spec.AreEntriesTo (pieces_of 10 text.now) fault.line) }
 {
     let mut entries = Vec::new(alloc);
     let mut rest = text;
@@ -106,6 +110,7 @@ fn read_text(alloc: Global, text: &[u8]) -> Result<(Plan, Vec<Entry>), ScheduleF
         ≡ Ok (record { numbers = numbers said.0; entries = said.1.items })) }
     ensures err { IfErr result (spec.IsToldFault (spec.schedule_of text.now)) }
     ensures reader { spec.fails_reading result ≡ false }
+    ensures place { IfErr result (λ fault. spec.IsBrokenOff text.now fault.line fault.kind) }
 {
     let after_header = match read_header(text) {
         Ok(rest) => rest,
@@ -119,12 +124,13 @@ fn read_text(alloc: Global, text: &[u8]) -> Result<(Plan, Vec<Entry>), ScheduleF
     Ok((plan, entries))
 }
 
-/// The line that was being read when so much of the text was read.
-fn line_after(text: &[u8]) -> u32
-    requires { length text.now ≤ INPUT_LIMIT + 4096 }
-    ensures { result ≡ count_by (λ byte. byte == 10) text.now + 1 }
+/// How many LFs are in a part of the text.
+fn line_feeds(part: &[u8]) -> u32
+    requires { length part.now ≤ INPUT_LIMIT + 4096 }
+    ensures count { result ≡ count_by (λ byte. byte == 10) part.now }
+    ensures few { result ≤ INPUT_LIMIT + 4096 }
 {
-    text.iter().filter(|byte| **byte == b'\n').count() as u32 + 1
+    part.iter().filter(|byte| **byte == b'\n').count() as u32
 }
 
 /// Reads to the text's end, or up to a place past its first `INPUT_LIMIT` bytes. No error is tried again,
@@ -133,22 +139,26 @@ fn read_front<R: Read>(alloc: Global, reader: &mut Flagged<R>) -> Result<Vec<u8>
     ensures front { IfOk result (λ text. IfSome (R.remaining (flag.device reader.old)) (λ known.
         (n : ℕ) × (INPUT_LIMIT ≤ n) × (text.items ≡ take n known))) }
     ensures told { IfErr result (λ fault. spec.is_of_text fault.kind ≡ false) }
-    ensures place { IfErr result (λ fault. spec.is_read fault.kind ≡ true → (taken : List ℕ)
+    ensures taken { IfOk result (λ text.
+        Consumes (R.remaining (flag.device reader.old)) (R.remaining (flag.device reader.new)) text.items) }
+    ensures place { IfErr result (λ fault. (taken : List ℕ)
         × Consumes (R.remaining (flag.device reader.old)) (R.remaining (flag.device reader.new)) taken
-        × (fault.line ≡ count_by (λ byte. byte == 10) taken + 1)) }
+        × spec.IsBrokenOff taken fault.line fault.kind) }
     ensures failed { flag.has_failed reader.new ≡ (flag.has_failed reader.old || spec.fails_reading result) }
 {
     let mut text = Vec::new(alloc);
     let mut buffer = [0; 4096];
     'reads: while text.len() < INPUT_LIMIT {
         let Ok(count) = reader.read(&mut buffer) else {
-            return Err(ScheduleKind::Read.at(line_after(&text)));
+            return Err(ScheduleKind::Read.at(1 + line_feeds(&text)));
         };
         if count == 0 {
             return Ok(text);
         }
-        if text.extend_from_slice(&buffer[..count]).is_err() {
-            return Err(ScheduleKind::NoMemory.at(line_after(&text)));
+        let part = &buffer[..count];
+        if text.extend_from_slice(part).is_err() {
+            let line = 1 + line_feeds(&text) + line_feeds(part);
+            return Err(ScheduleKind::NoMemory.at(line));
         }
     }
     Ok(text)
@@ -170,9 +180,9 @@ pub fn read_schedule<R: Read>(
         spec.schedule_of bytes ≡ Ok (record { numbers = numbers said.0; entries = said.1.items }))) }
     ensures err { IfErr result (λ fault. IfSome (R.remaining (flag.device reader.old)) (λ bytes.
         spec.IsToldFault (spec.schedule_of bytes) fault)) }
-    ensures place { IfErr result (λ fault. spec.is_read fault.kind ≡ true → (taken : List ℕ)
+    ensures place { IfErr result (λ fault. (taken : List ℕ)
         × Consumes (R.remaining (flag.device reader.old)) (R.remaining (flag.device reader.new)) taken
-        × (fault.line ≡ count_by (λ byte. byte == 10) taken + 1)) }
+        × spec.IsBrokenOff taken fault.line fault.kind) }
     ensures failed { flag.has_failed reader.new ≡ (flag.has_failed reader.old || spec.fails_reading result) }
 {
     let text = read_front(alloc, reader)?;
