@@ -16,6 +16,7 @@ use std::process::Abort;
 use std::test::Fail;
 
 mod calls;
+mod names;
 mod rows;
 
 /// `lui x6,0x20`, `sw x10,0(x6)`, `lw x5,0(x6)`, `ecall`.

@@ -11,6 +11,7 @@ use Rattle.std.proofs.lemmas.List.Folds.{list_all-append}
 use Rattle.std.proofs.lemmas.List.Sums.{sum_by-cons, take_while-cons}
 use Rattle.rv_debug.specs.Placed.{Placed, moved}
 use Rattle.rv_memory.specs.declared.flagged.TheConstants.{INPUT_LIMIT}
+use Rattle.rv_text.specs.Decimal.{DecimalHasOneSpelling}
 use Rattle.rv_text.specs.Lines.{has_line_feed, lines_of}
 use Rattle.rv_debug.specs.Answered.{Answer, IsAnswered}
 use Rattle.rv_debug.specs.Command.{command_of, is_quit}
@@ -224,12 +225,12 @@ handed None sent pending keeps none = tt
 handed (Some x) None pending keeps none = absurd keeps
 handed (Some x) (Some y) pending keeps none = ap (λ l. y ++ l) none ∙ append-nil y ∙ keeps
 
-pub TalkSoFar-more : (limit : ℕ) (start now next : Placed) (all old new : Option (List ℕ)) (before after : Source) (line : List ℕ) (a b sent c : Option (List ℕ)) (pending : List ℕ)
+pub TalkSoFar-more : DecimalHasOneSpelling → (limit : ℕ) (start now next : Placed) (all old new : Option (List ℕ)) (before after : Source) (line : List ℕ) (a b sent c : Option (List ℕ)) (pending : List ℕ)
     → TalkSoFar limit start now all old before a b → TakesLine before after old new line → (is_quit (command_of line) ≡ false)
     → Keeps b sent → pending ≡ [] → Puts now (command_of line) next (Appends (append_known sent pending) c)
     → TalkSoFar limit start next all new after a c
-TalkSoFar-more limit start now next all old new before after line a b sent c pending so_far took on keeps none put =
-    let same : command_of line ≡ command_of took.text = ap command_of took.is_kept ∙ kept_command took.text in
+TalkSoFar-more one_spelling limit start now next all old new before after line a b sent c pending so_far took on keeps none put =
+    let same : command_of line ≡ command_of took.text = ap command_of took.is_kept ∙ kept_command one_spelling took.text in
     let is = subst (λ (m : Option _). IsAnswered now m put.answer) same put.answered in
     let on' : goes_on took.text ≡ true = rw (← same, on) refl in
     record {
@@ -272,10 +273,10 @@ quit_after limit start now (Some all) old (Some rest) before after a b sent line
     (ap lines_before_quit lines ∙ while_all goes_on so_far.done (line ∷ lines_of rest) so_far.goes_on ∙ ap (λ l. so_far.done ++ l) none ∙ append-nil so_far.done)
     (told sent so_far keeps)
 
-pub quit_talk : (limit : ℕ) (start now : Placed) (all old new : Option (List ℕ)) (before after : Source) (line : List ℕ) (a b sent : Option (List ℕ)) → TalkSoFar limit start now all old before a b
+pub quit_talk : DecimalHasOneSpelling → (limit : ℕ) (start now : Placed) (all old new : Option (List ℕ)) (before after : Source) (line : List ℕ) (a b sent : Option (List ℕ)) → TalkSoFar limit start now all old before a b
     → TakesLine before after old new line → is_quit (command_of line) ≡ true → Keeps b sent → IfSome all (λ input. IsTalk start (lines_before_quit (lines_of input)) (Appends a sent))
-quit_talk limit start now all old new before after line a b sent so_far took quits keeps =
-    let same : command_of line ≡ command_of took.text = ap command_of took.is_kept ∙ kept_command took.text in
+quit_talk one_spelling limit start now all old new before after line a b sent so_far took quits keeps =
+    let same : command_of line ≡ command_of took.text = ap command_of took.is_kept ∙ kept_command one_spelling took.text in
     let stops : goes_on took.text ≡ false = rw (← same, quits) refl in
     quit_after limit start now all old new before after a b sent took.text so_far (after_more limit all old new so_far.done before after line so_far.after took) stops keeps
 
@@ -304,10 +305,10 @@ within_line (Some all) (Some rest) done line after is stops =
     let count = is.count in
     λ more. ap (list_all goes_on) (whole_within INPUT_LIMIT all rest (done ++ line ∷ []) after is (omega arith)) ∙ quits_among done line (whole_lines (take after.left rest)) stops
 
-pub within_quit : (start now : Placed) (all old new : Option (List ℕ)) (before after : Source) (line : List ℕ) (a b : Option (List ℕ)) → TalkSoFar INPUT_LIMIT start now all old before a b
+pub within_quit : DecimalHasOneSpelling → (start now : Placed) (all old new : Option (List ℕ)) (before after : Source) (line : List ℕ) (a b : Option (List ℕ)) → TalkSoFar INPUT_LIMIT start now all old before a b
     → TakesLine before after old new line → is_quit (command_of line) ≡ true → IfSome all IsWithin
-within_quit start now all old new before after line a b so_far took quits =
-    let same : command_of line ≡ command_of took.text = ap command_of took.is_kept ∙ kept_command took.text in
+within_quit one_spelling start now all old new before after line a b so_far took quits =
+    let same : command_of line ≡ command_of took.text = ap command_of took.is_kept ∙ kept_command one_spelling took.text in
     let stops : goes_on took.text ≡ false = rw (← same, quits) refl in
     within_line all new so_far.done took.text after (after_more INPUT_LIMIT all old new so_far.done before after line so_far.after took) stops
 

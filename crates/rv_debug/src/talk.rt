@@ -14,6 +14,7 @@ use crate::lines::LineSource;
 use crate::session::Session;
 use rv_memory::buffered::Buffered;
 use rv_memory::flagged::{Flagged, INPUT_LIMIT};
+use rv_text::laws::decimal_has_one_spelling;
 use std::alloc::Global;
 use std::io::{Read, Write};
 
@@ -35,6 +36,7 @@ pub fn talk<C: Read, W: Write>(
     ensures reader { flag.has_failed commands.new ≡ (flag.has_failed commands.old || fails_by is_read result) }
     ensures writer { buffer.has_failed writer.new ≡ (buffer.has_failed writer.old || fails_by is_write result) }
 {
+    decimal_has_one_spelling();
     let mut lines = LineSource::new(INPUT_LIMIT);
     'lines: loop {
         writer.finish()?;

@@ -28,13 +28,13 @@ returns-in-None-clause-text g c =
 pub returns-then-is_quit-clause-text : goal.returns-then-is_quit-clause-text
 returns-then-is_quit-clause-text g c =
     let quits : is_quit (command_of c.in-Some.line) ≡ true = cc in
-    quit_talk INPUT_LIMIT c.args.session.now c.lines.session (g.C.Read.remaining (flag.device c.args.commands.now)) _ _ c.lines.lines c.next_line.new.self c.in-Some.line _ _ (buffer.sent g.W.Write.contents c.finish.new.self) c.lines.invariant.so_far (rw c.in-Some.is at c.in_ok-line.ensures.line) quits c.in_ok-finish.ensures.sent
+    quit_talk c.decimal_has_one_spelling.ensures INPUT_LIMIT c.args.session.now c.lines.session (g.C.Read.remaining (flag.device c.args.commands.now)) _ _ c.lines.lines c.next_line.new.self c.in-Some.line _ _ (buffer.sent g.W.Write.contents c.finish.new.self) c.lines.invariant.so_far (rw c.in-Some.is at c.in_ok-line.ensures.line) quits c.in_ok-finish.ensures.sent
 
 pub lines-preserved : goal.lines-preserved
 lines-preserved g c =
     let on : is_quit (command_of c.in-Some.line) ≡ false = cc in
     record {
-      so_far = TalkSoFar-more INPUT_LIMIT c.args.session.now c.lines.session c.answer.new.session (g.C.Read.remaining (flag.device c.args.commands.now)) _ _ c.lines.lines c.next_line.new.self c.in-Some.line _ _
+      so_far = TalkSoFar-more c.decimal_has_one_spelling.ensures INPUT_LIMIT c.args.session.now c.lines.session c.answer.new.session (g.C.Read.remaining (flag.device c.args.commands.now)) _ _ c.lines.lines c.next_line.new.self c.in-Some.line _ _
           (buffer.sent g.W.Write.contents c.finish.new.self) _ (buffer.pending c.finish.new.self) c.lines.invariant.so_far (rw c.in-Some.is at c.in_ok-line.ensures.line) on c.in_ok-finish.ensures.sent c.in_ok-finish.ensures.pending
           (rw (c.read_command-command.ensures.value, c.as_bytes.ensures) at c.in_ok-answer.ensures.ok);
       reader = grind (arith, nat_tests);
@@ -48,4 +48,4 @@ returns-in-None-clause-within g c =
 pub returns-then-is_quit-clause-within : goal.returns-then-is_quit-clause-within
 returns-then-is_quit-clause-within g c =
     let quits : is_quit (command_of c.in-Some.line) ≡ true = cc in
-    within_quit c.args.session.now c.lines.session (g.C.Read.remaining (flag.device c.args.commands.now)) _ _ c.lines.lines c.next_line.new.self c.in-Some.line _ _ c.lines.invariant.so_far (rw c.in-Some.is at c.in_ok-line.ensures.line) quits
+    within_quit c.decimal_has_one_spelling.ensures c.args.session.now c.lines.session (g.C.Read.remaining (flag.device c.args.commands.now)) _ _ c.lines.lines c.next_line.new.self c.in-Some.line _ _ c.lines.invariant.so_far (rw c.in-Some.is at c.in_ok-line.ensures.line) quits
