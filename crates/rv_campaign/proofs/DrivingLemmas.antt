@@ -8,10 +8,10 @@ use Rattle.std.proofs.lemmas.List.{append-nil, take-append-le, take_all, length-
 use Rattle.std.proofs.lemmas.List.Sums.{sum_by-append}
 use Rattle.std.proofs.lemmas.Option.{slice_get_past, slice_get_within}
 use Rattle.rv_campaign.specs.internal.Driving.{IsDriving}
-use Rattle.rv_collide.specs.Able.{able, due}
-use Rattle.rv_collide.specs.Drawn.{IsDrawn, driven, picked_hart, turn_drawn, turns_and_resumptions}
-use Rattle.rv_collide.specs.DriverLaws.{AddsItsKind}
-use Rattle.rv_collide.specs.Draws.{Sampling, draw, draw_after, draws, first_draws, is_resumed, next_index, owed}
+use Rattle.rv_drive.specs.Able.{able, due}
+use Rattle.rv_drive.specs.Drawn.{IsDrawn, driven, picked_hart, turn_drawn, turns_and_resumptions}
+use Rattle.rv_drive.specs.DriverLaws.{AddsItsKind, DrawsGoOn}
+use Rattle.rv_drive.specs.Draws.{Sampling, draw, draw_after, draws, first_draws, is_resumed, next_index, owed}
 use Rattle.rv_collide.specs.Forced.{Setting, Turn, Arm, forced}
 use Rattle.rv_collide.specs.Legal.{call_of}
 use Rattle.rv_collide.specs.declared.entry.Entry.{Entry}
@@ -34,9 +34,6 @@ one_longer xs e = length-append xs (e ∷ [])
 whole_front : (xs : List Entry) (e : Entry) → take (length xs) (xs ++ e ∷ []) ≡ xs
 whole_front xs e = take-append-le (length xs) xs (e ∷ []) (omega arith) ∙ take_all (length xs) xs (omega arith)
 
-less_one : (xs : List Entry) (e : Entry) → length (xs ++ e ∷ []) - 1 ≡ length xs
-less_one xs e = let more = one_longer xs e in omega arith
-
 -- the list so far goes on by what is driven
 so_far_more : (setting : Setting) (sampling : Sampling) (xs : List Entry) (e : Entry) → ((place : ℕ) → place < length xs → slice_get xs place ≡ driven setting sampling (take place xs)) → driven setting sampling xs ≡ Some e → (place : ℕ) → place < length (xs ++ e ∷ []) → slice_get (xs ++ e ∷ []) place ≡ driven setting sampling (take place (xs ++ e ∷ []))
 so_far_more setting sampling xs e before gives place below =
@@ -49,43 +46,8 @@ so_far_more setting sampling xs e before gives place below =
 
 -- ---- what is owed after an entry
 
-is_there : (xs : List Entry) (n : ℕ) → n < length xs → slice_get xs n ≡ None → ⊥
-is_there [] n below none = absurd (omega arith)
-is_there (x ∷ xs) zero below none = cc
-is_there (x ∷ xs) (suc n) below none = is_there xs n (omega arith) none
-
-past_draws : (all : List Entry) (n : ℕ) → slice_get all n ≡ None → slice_get all (n + 1) ≡ None
-past_draws all n none =
-    elim (cases_lt n (length all)) [
-      | inl lt ↦ absurd (is_there all n lt none)
-      | inr ge ↦ slice_get_past all (n + 1) (omega arith)
-    ]
-
-first_none : {X : Type 0} → (a b : Option X) → option_or a b ≡ None → a ≡ None
-first_none None b h = refl
-first_none (Some x) b h = cc
-
-owed_past : (setting : Setting) (sampling : Sampling) (xs : List Entry) (e : Entry) → slice_get (draws setting sampling first_draws) (length xs) ≡ None → owed setting sampling turns_and_resumptions (xs ++ e ∷ []) ≡ cond (is_resumed e) (draw setting sampling (xs ++ e ∷ []) (next_index turns_and_resumptions xs)) None
-unfolding owed draw_after
-owed_past setting sampling xs e before =
-    let all = draws setting sampling first_draws in
-    let past : slice_get all (length (xs ++ e ∷ [])) ≡ None = ap (slice_get all) (one_longer xs e) ∙ past_draws all (length xs) before in
-    ap (λ o. option_or o (option_and_then (λ last. cond (is_resumed last) (draw setting sampling (xs ++ e ∷ []) (next_index turns_and_resumptions (take (length (xs ++ e ∷ []) - 1) (xs ++ e ∷ [])))) None) (slice_get (xs ++ e ∷ []) (length (xs ++ e ∷ []) - 1)))) past
-    ∙ ap (λ (n : ℕ). option_and_then (λ last. cond (is_resumed last) (draw setting sampling (xs ++ e ∷ []) (next_index turns_and_resumptions (take n (xs ++ e ∷ [])))) None) (slice_get (xs ++ e ∷ []) n)) (less_one xs e)
-    ∙ ap (option_and_then (λ last. cond (is_resumed last) (draw setting sampling (xs ++ e ∷ []) (next_index turns_and_resumptions (take (length xs) (xs ++ e ∷ [])))) None)) (last xs e)
-    ∙ ap (λ ys. cond (is_resumed e) (draw setting sampling (xs ++ e ∷ []) (next_index turns_and_resumptions ys)) None) (whole_front xs e)
-
-past_first : (setting : Setting) (sampling : Sampling) (xs : List Entry) → owed setting sampling turns_and_resumptions xs ≡ None → slice_get (draws setting sampling first_draws) (length xs) ≡ None
-unfolding owed
-past_first setting sampling xs paid = first_none (slice_get (draws setting sampling first_draws) (length xs)) (draw_after setting sampling turns_and_resumptions xs) paid
-
-owed_more : (setting : Setting) (sampling : Sampling) (xs : List Entry) (e : Entry) → owed setting sampling turns_and_resumptions xs ≡ None → owed setting sampling turns_and_resumptions (xs ++ e ∷ []) ≡ cond (is_resumed e) (draw setting sampling (xs ++ e ∷ []) (next_index turns_and_resumptions xs)) None
-owed_more setting sampling xs e paid = owed_past setting sampling xs e (past_first setting sampling xs paid)
-
-index_more : (xs : List Entry) (e : Entry) → next_index turns_and_resumptions (xs ++ e ∷ []) ≡ next_index turns_and_resumptions xs + cond (turns_and_resumptions e) 1 0
-index_more xs e =
-    let more = sum_by-append (λ x. cond (turns_and_resumptions x) 1 0) xs (e ∷ []) in
-    omega (arith, more)
+owed_more : DrawsGoOn → (setting : Setting) (sampling : Sampling) (xs : List Entry) (e : Entry) → owed setting sampling turns_and_resumptions xs ≡ None → owed setting sampling turns_and_resumptions (xs ++ e ∷ []) ≡ cond (is_resumed e) (draw setting sampling (xs ++ e ∷ []) (next_index turns_and_resumptions xs)) None
+owed_more go setting sampling xs e paid = go.owed setting sampling turns_and_resumptions xs e (go.past setting sampling turns_and_resumptions xs paid)
 
 -- ---- a turn
 
@@ -112,14 +74,14 @@ turn_driven setting sampling xs hart e paid undue picked ok =
     ∙ ap (option_and_then (λ h. result_ok (forced setting xs (Turn h)))) picked
     ∙ ap result_ok ok
 
-pub after_turn : AddsItsKind → (setting : Setting) (sampling : Sampling) (xs : List Entry) (taken hart : ℕ) (e : Entry) → IsDriving setting sampling xs taken → due setting xs ≡ None → picked_hart setting xs (sampling.word_at taken) ≡ Some hart → forced setting xs (Turn hart) ≡ Ok e → IsDriving setting sampling (xs ++ e ∷ []) (taken + 1)
-after_turn kind setting sampling xs taken hart e d undue picked ok =
+pub after_turn : DrawsGoOn → AddsItsKind → (setting : Setting) (sampling : Sampling) (xs : List Entry) (taken hart : ℕ) (e : Entry) → IsDriving setting sampling xs taken → due setting xs ≡ None → picked_hart setting xs (sampling.word_at taken) ≡ Some hart → forced setting xs (Turn hart) ≡ Ok e → IsDriving setting sampling (xs ++ e ∷ []) (taken + 1)
+after_turn go kind setting sampling xs taken hart e d undue picked ok =
     let t = is_turn e hart (kind setting xs (Turn hart) e ok) in
     let at = subst (λ (n : ℕ). picked_hart setting xs (sampling.word_at n) ≡ Some hart) d.taken_are picked in
-    let one : next_index turns_and_resumptions (xs ++ e ∷ []) ≡ next_index turns_and_resumptions xs + 1 = index_more xs e ∙ ap (λ b. next_index turns_and_resumptions xs + cond b 1 0) t.takes in
+    let one : next_index turns_and_resumptions (xs ++ e ∷ []) ≡ next_index turns_and_resumptions xs + 1 = go.index turns_and_resumptions xs e ∙ ap (λ b. next_index turns_and_resumptions xs + cond b 1 0) t.takes in
     record {
       so_far = so_far_more setting sampling xs e d.so_far (turn_driven setting sampling xs hart e d.paid undue at ok);
-      paid = owed_more setting sampling xs e d.paid ∙ ap (λ b. cond b (draw setting sampling (xs ++ e ∷ []) (next_index turns_and_resumptions xs)) None) t.stays;
+      paid = owed_more go setting sampling xs e d.paid ∙ ap (λ b. cond b (draw setting sampling (xs ++ e ∷ []) (next_index turns_and_resumptions xs)) None) t.stays;
       taken_are = ap (λ n. n + 1) d.taken_are ∙ sym one;
     }
 
@@ -159,28 +121,29 @@ drawn_first setting sampling xs e owes = ap (λ o. option_or o (option_or (optio
 plus_none : (n : ℕ) → n + 0 ≡ n
 plus_none n = omega arith
 
-after_draw : AddsItsKind → (setting : Setting) (sampling : Sampling) (xs : List Entry) (taken : ℕ) (d : Option Entry) → ((place : ℕ) → place < length xs → slice_get xs place ≡ driven setting sampling (take place xs)) → owed setting sampling turns_and_resumptions xs ≡ d → (index : ℕ) → draw setting sampling xs index ≡ d → taken ≡ next_index turns_and_resumptions xs → slice_get (draws setting sampling first_draws) (length xs) ≡ None → IsDriving setting sampling (xs ++ option_to_list d) taken
-after_draw kind setting sampling xs taken None so_far owes index adds are past =
+after_draw : DrawsGoOn → AddsItsKind → (setting : Setting) (sampling : Sampling) (xs : List Entry) (taken : ℕ) (d : Option Entry) → ((place : ℕ) → place < length xs → slice_get xs place ≡ driven setting sampling (take place xs)) → owed setting sampling turns_and_resumptions xs ≡ d → (index : ℕ) → draw setting sampling xs index ≡ d → taken ≡ next_index turns_and_resumptions xs → length (draws setting sampling first_draws) ≤ length xs → IsDriving setting sampling (xs ++ option_to_list d) taken
+after_draw go kind setting sampling xs taken None so_far owes index adds are past =
     subst (λ (ys : List Entry). IsDriving setting sampling ys taken) (sym (append-nil xs)) (record { so_far = so_far; paid = owes; taken_are = are })
-after_draw kind setting sampling xs taken (Some e) so_far owes index adds are past =
+after_draw go kind setting sampling xs taken (Some e) so_far owes index adds are past =
     let armed = drawn_is_armed kind setting sampling xs index e adds in
     record {
       so_far = so_far_more setting sampling xs e so_far (drawn_first setting sampling xs e owes);
-      paid = owed_past setting sampling xs e past ∙ ap (λ b. cond b (draw setting sampling (xs ++ e ∷ []) (next_index turns_and_resumptions xs)) None) armed.1;
-      taken_are = are ∙ sym (index_more xs e ∙ ap (λ b. next_index turns_and_resumptions xs + cond b 1 0) armed.0 ∙ plus_none (next_index turns_and_resumptions xs));
+      paid = go.owed setting sampling turns_and_resumptions xs e past ∙ ap (λ b. cond b (draw setting sampling (xs ++ e ∷ []) (next_index turns_and_resumptions xs)) None) armed.1;
+      taken_are = are ∙ sym (go.index turns_and_resumptions xs e ∙ ap (λ b. next_index turns_and_resumptions xs + cond b 1 0) armed.0 ∙ plus_none (next_index turns_and_resumptions xs));
     }
 
-pub after_resumption : AddsItsKind → (setting : Setting) (sampling : Sampling) (xs : List Entry) (taken hart : ℕ) → IsDriving setting sampling xs taken → due setting xs ≡ Some hart → IsDriving setting sampling ((xs ++ Resumed hart ∷ []) ++ option_to_list (draw setting sampling (xs ++ Resumed hart ∷ []) taken)) (taken + 1)
-after_resumption kind setting sampling xs taken hart d is =
+pub after_resumption : DrawsGoOn → AddsItsKind → (setting : Setting) (sampling : Sampling) (xs : List Entry) (taken hart : ℕ) → IsDriving setting sampling xs taken → due setting xs ≡ Some hart → IsDriving setting sampling ((xs ++ Resumed hart ∷ []) ++ option_to_list (draw setting sampling (xs ++ Resumed hart ∷ []) taken)) (taken + 1)
+after_resumption go kind setting sampling xs taken hart d is =
     let ys = xs ++ Resumed hart ∷ [] in
     let all = draws setting sampling first_draws in
-    let past = past_first setting sampling xs d.paid in
-    after_draw kind setting sampling (xs ++ Resumed hart ∷ []) (taken + 1) (draw setting sampling (xs ++ Resumed hart ∷ []) taken)
+    let past = go.past setting sampling turns_and_resumptions xs d.paid in
+    let more = one_longer xs (Resumed hart) in
+    after_draw go kind setting sampling (xs ++ Resumed hart ∷ []) (taken + 1) (draw setting sampling (xs ++ Resumed hart ∷ []) taken)
     (so_far_more setting sampling xs (Resumed hart) d.so_far (due_driven setting sampling xs hart d.paid is))
-    (owed_more setting sampling xs (Resumed hart) d.paid ∙ ap (draw setting sampling (xs ++ Resumed hart ∷ [])) (sym d.taken_are))
+    (owed_more go setting sampling xs (Resumed hart) d.paid ∙ ap (draw setting sampling (xs ++ Resumed hart ∷ [])) (sym d.taken_are))
     taken refl
-    (ap (λ n. n + 1) d.taken_are ∙ sym (index_more xs (Resumed hart)))
-    (ap (slice_get all) (one_longer xs (Resumed hart)) ∙ past_draws all (length xs) past)
+    (ap (λ n. n + 1) d.taken_are ∙ sym (go.index turns_and_resumptions xs (Resumed hart)))
+    (omega (arith, more, past))
 
 -- ---- the end
 

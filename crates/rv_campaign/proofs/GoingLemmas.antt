@@ -4,10 +4,10 @@ use Rattle.std.specs.Prelude.{slice_get}
 use Rattle.std.specs.Option.{option_to_list}
 use Rattle.rv_campaign.specs.Run.{IsRunOver, sampling_of}
 use Rattle.rv_campaign.specs.internal.Driving.{IsDriving}
-use Rattle.rv_collide.specs.Able.{able, due}
-use Rattle.rv_collide.specs.Drawn.{IsDrawn, driven, picked_hart}
-use Rattle.rv_collide.specs.DriverLaws.{AddsItsKind}
-use Rattle.rv_collide.specs.Draws.{draw, draws, first_draws}
+use Rattle.rv_drive.specs.Able.{able, due}
+use Rattle.rv_drive.specs.Drawn.{IsDrawn, driven, picked_hart}
+use Rattle.rv_drive.specs.DriverLaws.{AddsItsKind, DrawsGoOn}
+use Rattle.rv_drive.specs.Draws.{draw, draws, first_draws}
 use Rattle.rv_collide.specs.Forced.{Setting, Turn}
 use Rattle.rv_collide.specs.Answers.{Adds, IsOutput, Turns}
 use Rattle.rv_collide.specs.Numbers.{numbers}
@@ -20,8 +20,8 @@ use Rattle.rv_collide.specs.declared.entry.Entry.{Entry}
 use Rattle.rv_collide.specs.declared.entry.Entry.TheVariants.{Stepped, Paused, Resumed}
 use Rattle.rv_collide.specs.declared.collider.Turned.{Turned}
 use Rattle.rv_collide.specs.declared.collider.Turned.TheVariants as turned
-use Rattle.rv_locked.specs.Watched.{begun}
-use Rattle.rv_sample.specs.Words.{Given, word_at}
+use Rattle.rv_drive.specs.Sampling.{begun}
+use Rattle.rv_sample.specs.Generator.{Given, word_at}
 use Rattle.rv_campaign.proofs.DrivingLemmas.{after_draws, after_resumption, after_turn, whole_run}
 
 pub opened_drives : AddsItsKind → (driver : Stored) (image : Contents) (plan : Numbers) (sites : List ℕ) (before after : Given) → driver ≡ begun image plan (sampling_of sites before.seed before.stream) → after ≡ record before { taken = first_draws } → IsDriving (setting_of driver) (sampling_of sites after.seed after.stream) driver.entries after.taken
@@ -31,9 +31,9 @@ opened_drives kind driver image plan sites before after is words =
     let at_driver = subst (λ (s : Stored). IsDriving (setting_of s) sampling s.entries first_draws) (sym is) core in
     subst (λ (w : Given). IsDriving (setting_of driver) (sampling_of sites w.seed w.stream) driver.entries w.taken) (sym words) at_driver
 
-pub resumed_on : AddsItsKind → (old mid new : Stored) (sites : List ℕ) (before after : Given) (hart : ℕ) → IsDriving (setting_of old) (sampling_of sites before.seed before.stream) old.entries before.taken → due (setting_of old) old.entries ≡ Some hart → mid ≡ added old (Resumed hart) → new ≡ record mid { entries = mid.entries ++ option_to_list (draw (setting_of mid) (sampling_of sites before.seed before.stream) mid.entries before.taken) } → after ≡ record before { taken = before.taken + 1 } → IsDriving (setting_of new) (sampling_of sites after.seed after.stream) new.entries after.taken
-resumed_on kind old mid new sites before after hart d is resumes gives words =
-    let core = after_resumption kind (setting_of old) (sampling_of sites before.seed before.stream) old.entries before.taken hart d is in
+pub resumed_on : DrawsGoOn → AddsItsKind → (old mid new : Stored) (sites : List ℕ) (before after : Given) (hart : ℕ) → IsDriving (setting_of old) (sampling_of sites before.seed before.stream) old.entries before.taken → due (setting_of old) old.entries ≡ Some hart → mid ≡ added old (Resumed hart) → new ≡ record mid { entries = mid.entries ++ option_to_list (draw (setting_of mid) (sampling_of sites before.seed before.stream) mid.entries before.taken) } → after ≡ record before { taken = before.taken + 1 } → IsDriving (setting_of new) (sampling_of sites after.seed after.stream) new.entries after.taken
+resumed_on go kind old mid new sites before after hart d is resumes gives words =
+    let core = after_resumption go kind (setting_of old) (sampling_of sites before.seed before.stream) old.entries before.taken hart d is in
     let at_mid = subst (λ (s : Stored). IsDriving (setting_of s) (sampling_of sites before.seed before.stream) (s.entries ++ option_to_list (draw (setting_of s) (sampling_of sites before.seed before.stream) s.entries before.taken)) (before.taken + 1)) (sym resumes) core in
     let at_new = subst (λ (s : Stored). IsDriving (setting_of s) (sampling_of sites before.seed before.stream) s.entries (before.taken + 1)) (sym gives) at_mid in
     subst (λ (w : Given). IsDriving (setting_of new) (sampling_of sites w.seed w.stream) new.entries w.taken) (sym words) at_new
@@ -52,10 +52,10 @@ has_turned : (old new : Stored) (hart : ℕ) (t : Turned) → Turns old new hart
 has_turned old new hart (turned.Stepped event) turns = record { entry = Stepped hart; adds = turns.0 }
 has_turned old new hart (turned.Paused slot) turns = record { entry = Paused hart slot; adds = turns }
 
-pub turned_on : AddsItsKind → (old new : Stored) (sites : List ℕ) (before after : Given) (hart : ℕ) (t : Turned) → IsDriving (setting_of old) (sampling_of sites before.seed before.stream) old.entries before.taken → due (setting_of old) old.entries ≡ None → picked_hart (setting_of old) old.entries (word_at before.seed before.stream before.taken) ≡ Some hart → Turns old new hart t → after ≡ record before { taken = before.taken + 1 } → IsDriving (setting_of new) (sampling_of sites after.seed after.stream) new.entries after.taken
-turned_on kind old new sites before after hart t d undue picked turns words =
+pub turned_on : DrawsGoOn → AddsItsKind → (old new : Stored) (sites : List ℕ) (before after : Given) (hart : ℕ) (t : Turned) → IsDriving (setting_of old) (sampling_of sites before.seed before.stream) old.entries before.taken → due (setting_of old) old.entries ≡ None → picked_hart (setting_of old) old.entries (word_at before.seed before.stream before.taken) ≡ Some hart → Turns old new hart t → after ≡ record before { taken = before.taken + 1 } → IsDriving (setting_of new) (sampling_of sites after.seed after.stream) new.entries after.taken
+turned_on go kind old new sites before after hart t d undue picked turns words =
     let accepts = has_turned old new hart t turns in
-    let core = after_turn kind (setting_of old) (sampling_of sites before.seed before.stream) old.entries before.taken hart accepts.entry d undue picked accepts.adds.is_forced in
+    let core = after_turn go kind (setting_of old) (sampling_of sites before.seed before.stream) old.entries before.taken hart accepts.entry d undue picked accepts.adds.is_forced in
     let at_new = subst (λ (s : Stored). IsDriving (setting_of s) (sampling_of sites before.seed before.stream) s.entries (before.taken + 1)) (sym accepts.adds.is_added) core in
     subst (λ (w : Given). IsDriving (setting_of new) (sampling_of sites w.seed w.stream) new.entries w.taken) (sym words) at_new
 

@@ -1,14 +1,14 @@
 -- A run of a campaign: the schedule that its seed drives, and what it leaves.
 use Rattle.std.specs.Prelude.{◌≡◌, ℕ, List, []}
 use Rattle.rv_collide.specs.Answers.{IsOutput}
-use Rattle.rv_collide.specs.Drawn.{IsDrawn}
+use Rattle.rv_drive.specs.Drawn.{IsDrawn}
 use Rattle.rv_collide.specs.Numbers.{numbers}
 use Rattle.rv_collide.specs.Plan.{Numbers}
 use Rattle.rv_collide.specs.Stored.{setting_of, stored}
 use Rattle.rv_collide.specs.Verdict.{endings}
 use Rattle.rv_collide.specs.declared.collider.Finished.{Finished}
 use Rattle.rv_elf.specs.Contents.{Contents}
-pub use Rattle.rv_locked.specs.Watched.{sampling_of}
+pub use Rattle.rv_drive.specs.Sampling.{sampling_of}
 use Rattle.rv_sample.specs.Sites.{sites}
 
 -- What a campaign is made of: an image, a plan, a seed, and the addresses that are no sites.

@@ -1,18 +1,18 @@
 ghost use Rattle.std.specs.Prelude.{◌≡◌, ◌<◌, ◌≤◌, true, false, None, length, IfOk};
 ghost use Rattle.rv_campaign.specs.Run.{IsRun, IsRunOver, sampling_of};
 ghost use Rattle.rv_campaign.specs.internal.Driving.{IsDriving, SameRun};
-ghost use Rattle.rv_collide.specs.Drawn.{driven};
+ghost use Rattle.rv_drive.specs.Drawn.{driven};
 ghost use Rattle.rv_collide.specs.Plan.{most_entries};
 ghost use Rattle.rv_collide.specs.Stored.{setting_of};
 ghost use Rattle.rv_collide.specs.Numbers.{numbers};
 
 use rv_collide::collider::Finished;
-use rv_collide::driver_laws::accepted_calls;
 use rv_collide::plan::Plan;
+use rv_drive::driver::Driver;
+use rv_drive::driver_laws::{accepted_calls, draws_owed};
 use rv_elf::Image;
-use rv_locked::driver::Driver;
 use rv_memory::store::NoMemory;
-use rv_sample::{Sampler, Words};
+use rv_sample::{Generator, Sampler};
 use std::alloc::Global;
 
 /// The one run of an image and a plan by the words of a seed and a run's number, at the image's sites without
@@ -48,7 +48,7 @@ pub(crate) fn run_sampled(
     ensures { IfOk result (λ told. IsRunOver image.now (numbers plan) sampler.now seed run told) }
 {
     accepted_calls();
-    let mut words = Words::new(seed, u64::from(run));
+    let mut words = Generator::new(seed, u64::from(run));
     let mut driver = Driver::open(alloc, image, plan, sampler, &mut words)?;
     while go_on(&mut driver, &mut words, sampler) {}
     Ok(driver.into_collider().finish())
@@ -56,7 +56,7 @@ pub(crate) fn run_sampled(
 
 /// What the run adds next: the lowest pause that is due ends, and a draw follows; else an able hart takes a
 /// turn. It answers whether there was something to add.
-fn go_on(driver: &mut Driver, words: &mut Words, sampler: &Sampler) -> bool
+fn go_on(driver: &mut Driver, words: &mut Generator, sampler: &Sampler) -> bool
     requires driving { IsDriving (setting_of driver.old)
         (sampling_of sampler.now words.old.seed words.old.stream) driver.old.entries words.old.taken }
     ensures driving { IsDriving (setting_of driver.new)
@@ -68,6 +68,7 @@ fn go_on(driver: &mut Driver, words: &mut Words, sampler: &Sampler) -> bool
         (sampling_of sampler.now words.new.seed words.new.stream) driver.new.entries ≡ None }
 {
     accepted_calls();
+    draws_owed();
     driver.collider().facts();
     let _plan = driver.collider().plan();
     if let Some(h) = driver.due() {

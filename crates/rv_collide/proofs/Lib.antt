@@ -6,7 +6,6 @@ pub mod Bytes
 pub mod Calls
 pub mod ChangedLemmas
 pub mod CutLemmas
-pub mod DrivenLemmas
 pub mod EndingLemmas
 pub mod Endings
 pub mod EndingsOf
@@ -16,8 +15,6 @@ pub mod EntryLineLemmas
 pub mod Facts
 pub mod Fits
 pub mod FrontLemmas
-pub mod Fronts
-pub mod GoingOn
 pub mod GoesOn
 pub mod GrammarLemmas
 pub mod GrammarProof

@@ -1,10 +1,6 @@
-pub mod Able
 pub mod Answers
 pub mod Armed
 pub mod ChangedLaws
-pub mod Drawn
-pub mod Draws
-pub mod DriverLaws
 pub mod Entries
 pub mod First
 pub mod Forced
@@ -13,6 +9,7 @@ pub mod GrammarLaws
 pub mod Held
 pub mod Laws
 pub mod Legal
+pub mod ListLaws
 pub mod Made
 pub mod Next
 pub mod Numbers

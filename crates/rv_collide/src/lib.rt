@@ -7,10 +7,10 @@
 
 pub mod changed_laws;
 pub mod collider;
-pub mod driver_laws;
 pub mod ending;
 pub mod entry;
 pub mod laws;
+pub mod list_laws;
 mod open_pause;
 pub mod pause_laws;
 pub mod plan;

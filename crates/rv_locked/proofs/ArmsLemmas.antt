@@ -1,5 +1,5 @@
 -- Addresses armed by draws alone, entry by entry, where a resumption takes one word.
-use Rattle.std.proofs.Common.{◌≡◌, ℕ, zero, suc, ◌+◌, ◌-◌, ◌≤◌, ◌<◌, inl, inr, Bool, true, false, cond, List, [], ◌∷◌, ◌++◌, length, take, Option, Some, None, Ok, Err, Result, refl, sym, ap, subst, ◌∙◌, arith, length-append, add-one}
+use Rattle.std.proofs.Common.{◌≡◌, ℕ, zero, suc, ◌+◌, ◌-◌, ◌≤◌, ◌<◌, inl, inr, Bool, true, false, cond, List, [], ◌∷◌, ◌++◌, length, take, Option, Some, None, Ok, Err, Result, refl, sym, ap, subst, ◌∙◌, arith, length-append}
 use Rattle.std.specs.Prelude.{slice_get, option_and_then, count_by, IsTrue, not}
 use Rattle.std.specs.Result.{result_ok}
 use Rattle.std.specs.Option.{option_or, option_to_list}
@@ -7,9 +7,9 @@ use Rattle.std.proofs.lemmas.Bool.{cases_lt}
 use Rattle.std.proofs.lemmas.List.{append-nil, take-append-le, take_all, length-take-le}
 use Rattle.std.proofs.lemmas.List.Sums.{sum_by-append}
 use Rattle.std.proofs.lemmas.Option.{slice_get_past, slice_get_within}
-use Rattle.rv_collide.specs.Able.{IsLong, is_due}
-use Rattle.rv_collide.specs.DriverLaws.{AddsItsKind}
-use Rattle.rv_collide.specs.Draws.{IsArmedByDraws, IsOwed, Sampling, arms_or_disarms, draw, draw_after, draws, first_draws, is_resumed, next_index, owed}
+use Rattle.rv_drive.specs.Able.{IsLong, is_due}
+use Rattle.rv_drive.specs.DriverLaws.{AddsItsKind, DrawsGoOn}
+use Rattle.rv_drive.specs.Draws.{IsArmedByDraws, IsOwed, Sampling, arms_or_disarms, draw, draw_after, draws, first_draws, is_resumed, next_index, owed}
 use Rattle.rv_collide.specs.Forced.{Setting, Arm, forced}
 use Rattle.rv_collide.specs.Legal.{call_of}
 use Rattle.rv_collide.specs.declared.entry.Entry.{Entry}
@@ -32,9 +32,6 @@ one_longer xs e = length-append xs (e ∷ [])
 whole_front : (xs : List Entry) (e : Entry) → take (length xs) (xs ++ e ∷ []) ≡ xs
 whole_front xs e = take-append-le (length xs) xs (e ∷ []) (omega arith) ∙ take_all (length xs) xs (omega arith)
 
-less_one : (xs : List Entry) (e : Entry) → length (xs ++ e ∷ []) - 1 ≡ length xs
-less_one xs e = let more = one_longer xs e in omega arith
-
 -- ---- pauses end when they are due
 
 same_entry : (x e : Entry) → Some x ≡ Some e → x ≡ e
@@ -53,43 +50,8 @@ long_more setting xs e before gives place hart there =
 
 -- ---- what is owed after an entry
 
-is_there : (xs : List Entry) (n : ℕ) → n < length xs → slice_get xs n ≡ None → ⊥
-is_there [] n below none = absurd (omega arith)
-is_there (x ∷ xs) zero below none = cc
-is_there (x ∷ xs) (suc n) below none = is_there xs n (omega arith) none
-
-past_draws : (all : List Entry) (n : ℕ) → slice_get all n ≡ None → slice_get all (n + 1) ≡ None
-past_draws all n none =
-    elim (cases_lt n (length all)) [
-      | inl lt ↦ absurd (is_there all n lt none)
-      | inr ge ↦ slice_get_past all (n + 1) (omega arith)
-    ]
-
-first_none : {X : Type 0} → (a b : Option X) → option_or a b ≡ None → a ≡ None
-first_none None b h = refl
-first_none (Some x) b h = cc
-
-owed_past : (setting : Setting) (sampling : Sampling) (xs : List Entry) (e : Entry) → slice_get (draws setting sampling first_draws) (length xs) ≡ None → owed setting sampling is_resumed (xs ++ e ∷ []) ≡ cond (is_resumed e) (draw setting sampling (xs ++ e ∷ []) (next_index is_resumed xs)) None
-unfolding owed draw_after
-owed_past setting sampling xs e before =
-    let all = draws setting sampling first_draws in
-    let past : slice_get all (length (xs ++ e ∷ [])) ≡ None = ap (slice_get all) (one_longer xs e) ∙ past_draws all (length xs) before in
-    ap (λ o. option_or o (option_and_then (λ last. cond (is_resumed last) (draw setting sampling (xs ++ e ∷ []) (next_index is_resumed (take (length (xs ++ e ∷ []) - 1) (xs ++ e ∷ [])))) None) (slice_get (xs ++ e ∷ []) (length (xs ++ e ∷ []) - 1)))) past
-    ∙ ap (λ (n : ℕ). option_and_then (λ last. cond (is_resumed last) (draw setting sampling (xs ++ e ∷ []) (next_index is_resumed (take n (xs ++ e ∷ [])))) None) (slice_get (xs ++ e ∷ []) n)) (less_one xs e)
-    ∙ ap (option_and_then (λ last. cond (is_resumed last) (draw setting sampling (xs ++ e ∷ []) (next_index is_resumed (take (length xs) (xs ++ e ∷ [])))) None)) (last xs e)
-    ∙ ap (λ ys. cond (is_resumed e) (draw setting sampling (xs ++ e ∷ []) (next_index is_resumed ys)) None) (whole_front xs e)
-
-past_first : (setting : Setting) (sampling : Sampling) (xs : List Entry) → owed setting sampling is_resumed xs ≡ None → slice_get (draws setting sampling first_draws) (length xs) ≡ None
-unfolding owed
-past_first setting sampling xs paid = first_none (slice_get (draws setting sampling first_draws) (length xs)) (draw_after setting sampling is_resumed xs) paid
-
-owed_more : (setting : Setting) (sampling : Sampling) (xs : List Entry) (e : Entry) → owed setting sampling is_resumed xs ≡ None → owed setting sampling is_resumed (xs ++ e ∷ []) ≡ cond (is_resumed e) (draw setting sampling (xs ++ e ∷ []) (next_index is_resumed xs)) None
-owed_more setting sampling xs e paid = owed_past setting sampling xs e (past_first setting sampling xs paid)
-
-pub index_more : (xs : List Entry) (e : Entry) → next_index is_resumed (xs ++ e ∷ []) ≡ next_index is_resumed xs + cond (is_resumed e) 1 0
-index_more xs e =
-    let more = sum_by-append (λ x. cond (is_resumed x) 1 0) xs (e ∷ []) in
-    omega (arith, more)
+owed_more : DrawsGoOn → (setting : Setting) (sampling : Sampling) (xs : List Entry) (e : Entry) → owed setting sampling is_resumed xs ≡ None → owed setting sampling is_resumed (xs ++ e ∷ []) ≡ cond (is_resumed e) (draw setting sampling (xs ++ e ∷ []) (next_index is_resumed xs)) None
+owed_more go setting sampling xs e paid = go.owed setting sampling is_resumed xs e (go.past setting sampling is_resumed xs paid)
 
 -- ---- so far, and at the end
 
@@ -140,12 +102,12 @@ is_owed (Some x) e h = sym h
 
 -- ---- a turn
 
-pub after_turn : (setting : Setting) (sampling : Sampling) (xs : List Entry) (e : Entry) → IsArmedByDraws setting sampling is_resumed xs → is_resumed e ≡ false → IsTrue (not (arms_or_disarms e)) → IsArmedByDraws setting sampling is_resumed (xs ++ e ∷ [])
-after_turn setting sampling xs e arms stays arms_none =
+pub after_turn : DrawsGoOn → (setting : Setting) (sampling : Sampling) (xs : List Entry) (e : Entry) → IsArmedByDraws setting sampling is_resumed xs → is_resumed e ≡ false → IsTrue (not (arms_or_disarms e)) → IsArmedByDraws setting sampling is_resumed (xs ++ e ∷ [])
+after_turn go setting sampling xs e arms stays arms_none =
     let paid = is_paid setting sampling xs arms in
     whole setting sampling (xs ++ e ∷ [])
     (so_far_more setting sampling xs e (λ place below. arms place) (harmless (owed setting sampling is_resumed xs) e paid arms_none))
-    (owed_more setting sampling xs e paid ∙ ap (λ b. cond b (draw setting sampling (xs ++ e ∷ []) (next_index is_resumed xs)) None) stays)
+    (owed_more go setting sampling xs e paid ∙ ap (λ b. cond b (draw setting sampling (xs ++ e ∷ []) (next_index is_resumed xs)) None) stays)
 
 -- ---- a resumption with its draw
 
@@ -182,34 +144,35 @@ pub record HasDrawn (setting : Setting) (sampling : Sampling) (entries : List En
 not_resumed : (e : Entry) (hart : ℕ) → is_resumed e ≡ false → e ≡ Resumed hart → ⊥
 not_resumed e hart stays is = (let differ : false ≡ true = sym stays ∙ ap is_resumed is in cc)
 
-after_draw : AddsItsKind → (setting : Setting) (sampling : Sampling) (xs : List Entry) (taken index : ℕ) (d : Option Entry) → IsLong setting xs → SoFar setting sampling xs → owed setting sampling is_resumed xs ≡ d → draw setting sampling xs index ≡ d → taken ≡ next_index is_resumed xs → slice_get (draws setting sampling first_draws) (length xs) ≡ None → HasDrawn setting sampling (xs ++ option_to_list d) taken
-after_draw kind setting sampling xs taken index None long so_far owes adds are past =
+after_draw : DrawsGoOn → AddsItsKind → (setting : Setting) (sampling : Sampling) (xs : List Entry) (taken index : ℕ) (d : Option Entry) → IsLong setting xs → SoFar setting sampling xs → owed setting sampling is_resumed xs ≡ d → draw setting sampling xs index ≡ d → taken ≡ next_index is_resumed xs → length (draws setting sampling first_draws) ≤ length xs → HasDrawn setting sampling (xs ++ option_to_list d) taken
+after_draw go kind setting sampling xs taken index None long so_far owes adds are past =
     subst (λ (ys : List Entry). HasDrawn setting sampling ys taken) (sym (append-nil xs)) (record { long = long; arms = whole setting sampling xs so_far owes; taken_are = are })
-after_draw kind setting sampling xs taken index (Some e) long so_far owes adds are past =
+after_draw go kind setting sampling xs taken index (Some e) long so_far owes adds are past =
     let armed = drawn_is_armed kind setting sampling xs index e adds in
     record {
       long = long_more setting xs e long (λ hart is. absurd (not_resumed e hart armed is));
       arms = whole setting sampling (xs ++ e ∷ [])
           (so_far_more setting sampling xs e so_far (is_owed (owed setting sampling is_resumed xs) e owes))
-          (owed_past setting sampling xs e past ∙ ap (λ b. cond b (draw setting sampling (xs ++ e ∷ []) (next_index is_resumed xs)) None) armed);
-      taken_are = are ∙ sym (index_more xs e ∙ ap (λ b. next_index is_resumed xs + cond b 1 0) armed ∙ plus_none (next_index is_resumed xs));
+          (go.owed setting sampling is_resumed xs e past ∙ ap (λ b. cond b (draw setting sampling (xs ++ e ∷ []) (next_index is_resumed xs)) None) armed);
+      taken_are = are ∙ sym (go.index is_resumed xs e ∙ ap (λ b. next_index is_resumed xs + cond b 1 0) armed ∙ plus_none (next_index is_resumed xs));
     }
 
 same_hart : (a b : ℕ) → Resumed a ≡ Resumed b → a ≡ b
 same_hart a b h = cc
 
-pub after_resumption : AddsItsKind → (setting : Setting) (sampling : Sampling) (xs : List Entry) (hart : ℕ) → IsLong setting xs → IsArmedByDraws setting sampling is_resumed xs → IsTrue (is_due setting xs hart) → HasDrawn setting sampling ((xs ++ Resumed hart ∷ []) ++ option_to_list (draw setting sampling (xs ++ Resumed hart ∷ []) (next_index is_resumed xs))) (next_index is_resumed xs + 1)
-after_resumption kind setting sampling xs hart long arms due =
+pub after_resumption : DrawsGoOn → AddsItsKind → (setting : Setting) (sampling : Sampling) (xs : List Entry) (hart : ℕ) → IsLong setting xs → IsArmedByDraws setting sampling is_resumed xs → IsTrue (is_due setting xs hart) → HasDrawn setting sampling ((xs ++ Resumed hart ∷ []) ++ option_to_list (draw setting sampling (xs ++ Resumed hart ∷ []) (next_index is_resumed xs))) (next_index is_resumed xs + 1)
+after_resumption go kind setting sampling xs hart long arms due =
     let all = draws setting sampling first_draws in
     let paid = is_paid setting sampling xs arms in
-    let past = past_first setting sampling xs paid in
-    after_draw kind setting sampling (xs ++ Resumed hart ∷ []) (next_index is_resumed xs + 1) (next_index is_resumed xs) (draw setting sampling (xs ++ Resumed hart ∷ []) (next_index is_resumed xs))
+    let past = go.past setting sampling is_resumed xs paid in
+    let more = one_longer xs (Resumed hart) in
+    after_draw go kind setting sampling (xs ++ Resumed hart ∷ []) (next_index is_resumed xs + 1) (next_index is_resumed xs) (draw setting sampling (xs ++ Resumed hart ∷ []) (next_index is_resumed xs))
     (long_more setting xs (Resumed hart) long (λ other is. subst (λ (n : ℕ). IsTrue (is_due setting xs n)) (same_hart hart other is) due))
     (so_far_more setting sampling xs (Resumed hart) (λ place below. arms place) (harmless (owed setting sampling is_resumed xs) (Resumed hart) paid refl))
-    (owed_more setting sampling xs (Resumed hart) paid)
+    (owed_more go setting sampling xs (Resumed hart) paid)
     refl
-    (sym (index_more xs (Resumed hart)))
-    (ap (slice_get all) (one_longer xs (Resumed hart)) ∙ past_draws all (length xs) past)
+    (sym (go.index is_resumed xs (Resumed hart)))
+    (omega (arith, more, past))
 
 -- ---- the first draws
 
@@ -294,14 +257,6 @@ after_draws kind setting sampling = record {
   arms = whole setting sampling (draws setting sampling first_draws) (draws_owed setting sampling) (all_paid kind setting sampling);
   taken_are = (let none = none_taken kind setting sampling first_draws in omega (arith, none));
 }
-
-pub one_draw_more : (setting : Setting) (sampling : Sampling) (n : ℕ) → draws setting sampling (n + 1) ≡ draws setting sampling n ++ option_to_list (draw setting sampling (draws setting sampling n) n)
-unfolding draws
-one_draw_more setting sampling n = ap (draws setting sampling) (add-one n)
-
-pub no_draws : (setting : Setting) (sampling : Sampling) → draws setting sampling 0 ≡ []
-unfolding draws
-no_draws setting sampling = refl
 
 -- ---- so few words are taken
 

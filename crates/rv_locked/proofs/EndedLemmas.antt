@@ -1,13 +1,12 @@
 -- A schedule of which each hart's part has ended has ended.
-use Rattle.std.proofs.Common.{◌≡◌, ℕ, zero, suc, ◌+◌, ◌-◌, ◌≤◌, ◌<◌, inl, inr, Bool, true, false, cond, List, [], ◌∷◌, ◌++◌, length, map, take, Option, Some, None, Ok, Err, Result, refl, sym, ap, subst, ◌∙◌, arith}
-use Rattle.std.specs.Prelude.{◌==◌, ◌&&◌, filter, find, is_some, nat_lt, not, slice_get}
+use Rattle.std.proofs.Common.{◌≡◌, ℕ, zero, suc, ◌+◌, ◌<◌, Bool, true, false, cond, List, [], ◌∷◌, ◌++◌, length, take, Option, Some, Ok, Err, Result, refl, sym, ap, subst, ◌∙◌, arith}
+use Rattle.std.specs.Prelude.{◌==◌, filter, find, is_some, nat_lt, not, slice_get}
 use Rattle.std.specs.List.{list_any, range_with_len}
 use Rattle.std.proofs.lemmas.Bool.Decides.{nat_tests}
-use Rattle.std.proofs.lemmas.List.{length-map}
-use Rattle.rv_collide.specs.Able.{HasEnded, IsLong, able, is_able}
+use Rattle.rv_drive.specs.Able.{HasEnded, IsLong, able, is_able}
 use Rattle.rv_collide.specs.Answers.{IsOutput}
 use Rattle.rv_collide.specs.Verdict.{endings}
-use Rattle.rv_collide.specs.Draws.{IsArmedByDraws, is_resumed}
+use Rattle.rv_drive.specs.Draws.{IsArmedByDraws, is_resumed}
 use Rattle.rv_collide.specs.Entries.{steps}
 use Rattle.rv_collide.specs.Forced.{Setting, Turn, forced, turn_entry}
 use Rattle.rv_collide.specs.Legal.{IsLegal}
@@ -24,7 +23,8 @@ use Rattle.rv_elf.specs.Contents.{Contents}
 use Rattle.rv_memory.specs.Chain.{◌>>=◌, want}
 use Rattle.rv_locked.specs.Own.{AreCopies, AreOwn, IsOwn}
 use Rattle.rv_locked.specs.Threaded.{IsThreaded}
-use Rattle.rv_locked.specs.Watched.{IsHistory, IsLeft, Watch, sampling}
+use Rattle.rv_drive.specs.Sampling.{sampling}
+use Rattle.rv_locked.specs.Watched.{IsHistory, IsLeft, Watch}
 
 -- ---- an open pause is a hart's of the plan
 

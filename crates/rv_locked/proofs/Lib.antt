@@ -1,10 +1,6 @@
-pub mod AheadLemmas
 pub mod ArmsLemmas
-pub mod DueLemmas
 pub mod EndedLemmas
-pub mod KeptLemmas
 pub mod OwnLemmas
-pub mod RowLemmas
-pub mod RunsLemmas
+pub mod RoomLemmas
 pub mod SentLemmas
 pub mod WatchLemmas

@@ -12,12 +12,12 @@ use Rattle.rv_hart.proofs.machine.Machine.TheSendSync as machine
 use Rattle.rv_memory.proofs.flat.Flat.TheSendSync as flat
 use Rattle.rv_memory.specs.declared.store.ByteStore.{Ghosts}
 use Rattle.rv_sample.proofs.sampler.Sampler.TheSendSync as sampler
-use Rattle.rv_sample.proofs.words.Words.TheSendSync as words
-use Rattle.rv_locked.specs.contracts.ahead.Ahead as ahead
-use Rattle.rv_locked.specs.contracts.driver.Driver as driver
+use Rattle.rv_sample.proofs.generator.Generator.TheSendSync as words
+use Rattle.rv_drive.specs.contracts.ahead.Ahead as ahead
+use Rattle.rv_drive.specs.contracts.driver.Driver as driver
 use Rattle.rv_locked.specs.contracts.watched.Watched as watched
 use Rattle.rv_locked.specs.contracts.worker.Shared as shared
-use Rattle.rv_locked.specs.declared.gate.Gate as gate
+use Rattle.rv_drive.specs.declared.gate.Gate as gate
 use Rattle.rv_locked.proofs.worker.Record.TheSendSync as recorded
 
 collider_send : (T : RattleType) (g : Ghosts T.Denot) → IsSend T → IsSend (collider.the_row T g)

@@ -1,10 +1,10 @@
 -- What the locked value keeps, after each of its calls.
 use Rattle.std.proofs.Common.{◌≡◌, ℕ, ◌+◌, true, false, cond, List, [], refl, sym, ap, subst, ◌∙◌, arith}
 use Rattle.std.specs.Prelude.{IsTrue, not}
-use Rattle.rv_collide.specs.Able.{is_due}
+use Rattle.rv_drive.specs.Able.{is_due}
 use Rattle.rv_collide.specs.Answers.{Turns}
-use Rattle.rv_collide.specs.DriverLaws.{AddsItsKind}
-use Rattle.rv_collide.specs.Draws.{Sampling, arms_or_disarms, draws, first_draws, is_resumed, next_index}
+use Rattle.rv_drive.specs.DriverLaws.{AddsItsKind, DrawsGoOn}
+use Rattle.rv_drive.specs.Draws.{arms_or_disarms, draws, first_draws, is_resumed, next_index}
 use Rattle.rv_collide.specs.Plan.{Numbers}
 use Rattle.rv_collide.specs.Stored.{Stored, added, setting_of, stored}
 use Rattle.rv_collide.specs.declared.collider.Turned.{Turned}
@@ -12,11 +12,11 @@ use Rattle.rv_collide.specs.declared.collider.Turned.TheVariants as turned
 use Rattle.rv_collide.specs.declared.entry.Entry.{Entry}
 use Rattle.rv_collide.specs.declared.entry.Entry.TheVariants.{Stepped, Paused, Resumed}
 use Rattle.rv_elf.specs.Contents.{Contents}
-use Rattle.rv_locked.specs.Watched.{begun, drew, opened, sampling, sampling_of}
+use Rattle.rv_drive.specs.Sampling.{begun, drew, opened, sampling, sampling_of}
 use Rattle.rv_locked.specs.internal.Watching.{IsWatching}
-use Rattle.rv_locked.proofs.ArmsLemmas.{after_draws, after_resumption, after_turn, index_more, long_more, one_draw_more}
+use Rattle.rv_locked.proofs.ArmsLemmas.{after_draws, after_resumption, after_turn, long_more}
 use Rattle.rv_sample.specs.Sites.{sites}
-use Rattle.rv_sample.specs.Words.{Given}
+use Rattle.rv_sample.specs.Generator.{Given}
 
 abbrev given : ℕ → ℕ → Given
 given seed taken = record { seed = seed; stream = 0; taken = taken }
@@ -29,22 +29,22 @@ not_a_resumption e hart stays is = (let differ : false ≡ true = sym stays ∙ 
 plus_none : (n : ℕ) → n + 0 ≡ n
 plus_none n = omega arith
 
-after_entry : (old new : Stored) (e : Entry) (among : List ℕ) (words : Given) (image : Contents) (seed : ℕ) → IsWatching old among words image seed → new ≡ added old e → is_resumed e ≡ false → IsTrue (not (arms_or_disarms e)) → IsWatching new among words image seed
-after_entry old new e among words image seed w is stays arms_none =
+after_entry : DrawsGoOn → (old new : Stored) (e : Entry) (among : List ℕ) (words : Given) (image : Contents) (seed : ℕ) → IsWatching old among words image seed → new ≡ added old e → is_resumed e ≡ false → IsTrue (not (arms_or_disarms e)) → IsWatching new among words image seed
+after_entry go old new e among words image seed w is stays arms_none =
     subst (λ (s : Stored). IsWatching s among words image seed) (sym is)
     (record {
       long = long_more (setting_of old) old.entries e w.long (λ hart same. absurd (not_a_resumption e hart stays same));
-      arms = after_turn (setting_of old) (sampling old.image seed) old.entries e w.arms stays arms_none;
+      arms = after_turn go (setting_of old) (sampling old.image seed) old.entries e w.arms stays arms_none;
       sites_are = w.sites_are;
-      words_are = w.words_are ∙ ap (given seed) (sym (index_more old.entries e ∙ ap (λ b. next_index is_resumed old.entries + cond b 1 0) stays ∙ plus_none (next_index is_resumed old.entries)));
+      words_are = w.words_are ∙ ap (given seed) (sym (go.index is_resumed old.entries e ∙ ap (λ b. next_index is_resumed old.entries + cond b 1 0) stays ∙ plus_none (next_index is_resumed old.entries)));
       image_is = w.image_is;
     })
 
-pub turned_on : (old new : Stored) (h : ℕ) (t : Turned) (among : List ℕ) (words : Given) (image : Contents) (seed : ℕ) → IsWatching old among words image seed → Turns old new h t → IsWatching new among words image seed
-turned_on old new h (turned.Stepped event) among words image seed w turns =
-    after_entry old new (Stepped h) among words image seed w turns.0.is_added refl refl
-turned_on old new h (turned.Paused slot) among words image seed w turns =
-    after_entry old new (Paused h slot) among words image seed w turns.is_added refl refl
+pub turned_on : DrawsGoOn → (old new : Stored) (h : ℕ) (t : Turned) (among : List ℕ) (words : Given) (image : Contents) (seed : ℕ) → IsWatching old among words image seed → Turns old new h t → IsWatching new among words image seed
+turned_on go old new h (turned.Stepped event) among words image seed w turns =
+    after_entry go old new (Stepped h) among words image seed w turns.0.is_added refl refl
+turned_on go old new h (turned.Paused slot) among words image seed w turns =
+    after_entry go old new (Paused h slot) among words image seed w turns.is_added refl refl
 
 -- ---- the end of a pause
 
@@ -55,9 +55,9 @@ drew_on old mid new h among words image seed w resumes draws =
     ∙ ap (λ (xs : List ℕ). drew (sampling_of xs seed 0) (next_index is_resumed old.entries) mid) w.sites_are
     ∙ ap (drew (sampling old.image seed) (next_index is_resumed old.entries)) resumes
 
-pub ended_on : AddsItsKind → (old new : Stored) (h : ℕ) (among : List ℕ) (words after : Given) (image : Contents) (seed : ℕ) → IsWatching old among words image seed → is_due (setting_of old) old.entries h ≡ true → new ≡ drew (sampling old.image seed) (next_index is_resumed old.entries) (added old (Resumed h)) → after ≡ record words { taken = words.taken + 1 } → IsWatching new among after image seed
-ended_on kind old new h among words after image seed w due is one_more =
-    let drawn = after_resumption kind (setting_of old) (sampling old.image seed) old.entries h w.long w.arms due in
+pub ended_on : DrawsGoOn → AddsItsKind → (old new : Stored) (h : ℕ) (among : List ℕ) (words after : Given) (image : Contents) (seed : ℕ) → IsWatching old among words image seed → is_due (setting_of old) old.entries h ≡ true → new ≡ drew (sampling old.image seed) (next_index is_resumed old.entries) (added old (Resumed h)) → after ≡ record words { taken = words.taken + 1 } → IsWatching new among after image seed
+ended_on go kind old new h among words after image seed w due is one_more =
+    let drawn = after_resumption go kind (setting_of old) (sampling old.image seed) old.entries h w.long w.arms due in
     subst (λ (s : Stored). IsWatching s among after image seed) (sym is)
     (record {
       long = drawn.long;
@@ -68,26 +68,6 @@ ended_on kind old new h among words after image seed w due is one_more =
     })
 
 -- ---- the first draws
-
-pub entries_as : (first : Stored) (xs : List Entry) → first.entries ≡ xs → first ≡ record first { entries = xs }
-entries_as first xs is = ap (λ (ys : List Entry). record first { entries = ys }) is
-
-pub taken_as : (words : Given) (n : ℕ) → words.taken ≡ n → words ≡ record words { taken = n }
-taken_as words n is = ap (λ (k : ℕ). record words { taken = k }) is
-
-pub one_taken : (words before after : Given) (n : ℕ) → before ≡ record words { taken = n } → after ≡ record before { taken = before.taken + 1 } → after ≡ record words { taken = n + 1 }
-one_taken words before after n is one_more = one_more ∙ ap (λ (g : Given). record g { taken = g.taken + 1 }) is
-
-pub draw_more : (first now new : Stored) (among : List ℕ) (words before : Given) (n : ℕ) → now ≡ record first { entries = draws (setting_of first) (sampling_of among words.seed words.stream) n } → before ≡ record words { taken = n } → new ≡ drew (sampling_of among before.seed before.stream) before.taken now → new ≡ record first { entries = draws (setting_of first) (sampling_of among words.seed words.stream) (n + 1) }
-draw_more first now new among words before n is taken draws_one =
-    draws_one
-    ∙ ap (λ (g : Given). drew (sampling_of among g.seed g.stream) g.taken now) taken
-    ∙ ap (drew (sampling_of among words.seed words.stream) n) is
-    ∙ ap (λ (xs : List Entry). record first { entries = xs }) (sym (one_draw_more (setting_of first) (sampling_of among words.seed words.stream) n))
-
-pub begun_is : (first new : Stored) (image : Contents) (plan : Numbers) (sampling : Sampling) → first ≡ stored image plan [] → new ≡ record first { entries = draws (setting_of first) sampling first_draws } → new ≡ begun image plan sampling
-begun_is first new image plan sampling is gives =
-    gives ∙ ap (λ (s : Stored). record s { entries = draws (setting_of s) sampling first_draws }) is
 
 pub opened_is : (new : Stored) (image : Contents) (plan : Numbers) (seed : ℕ) (among : List ℕ) (words : Given) → words ≡ given seed 0 → among ≡ sites image [] → new ≡ begun image plan (sampling_of among words.seed words.stream) → new ≡ opened image plan seed
 opened_is new image plan seed among words are sites_are gives =

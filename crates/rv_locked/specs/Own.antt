@@ -2,7 +2,7 @@
 -- more.
 use Rattle.std.specs.Prelude.{◌≡◌, ℕ, ◌<◌, ◌==◌, ◌⊎◌, Bool, false, is_some, Some, List, filter, slice_get}
 use Rattle.std.specs.Option.{option_map_or}
-use Rattle.rv_collide.specs.Able.{is_able}
+use Rattle.rv_drive.specs.Able.{is_able}
 use Rattle.rv_collide.specs.Entries.{places}
 use Rattle.rv_collide.specs.Pause.{opening_of}
 use Rattle.rv_collide.specs.Plan.{Numbers}

@@ -1,8 +1,8 @@
 -- What a threaded run leaves, and what its refusals tell.
-use Rattle.std.specs.Prelude.{◌≡◌, ℕ, List, [], ⊤}
-use Rattle.rv_collide.specs.Able.{HasEnded, IsLong}
+use Rattle.std.specs.Prelude.{◌≡◌, ℕ, [], ⊤}
+use Rattle.rv_drive.specs.Able.{HasEnded, IsLong}
 use Rattle.rv_collide.specs.Answers.{IsOutput}
-use Rattle.rv_collide.specs.Draws.{IsArmedByDraws, is_resumed}
+use Rattle.rv_drive.specs.Draws.{IsArmedByDraws, is_resumed}
 use Rattle.rv_collide.specs.Legal.{IsLegal}
 use Rattle.rv_collide.specs.Numbers.{numbers}
 use Rattle.rv_collide.specs.Plan.{Numbers}
@@ -10,7 +10,7 @@ use Rattle.rv_collide.specs.Stored.{setting_of, stored}
 use Rattle.rv_collide.specs.Verdict.{endings}
 use Rattle.rv_collide.specs.declared.collider.Finished.{Finished}
 use Rattle.rv_elf.specs.Contents.{Contents}
-use Rattle.rv_locked.specs.Watched.{sampling}
+use Rattle.rv_drive.specs.Sampling.{sampling}
 use Rattle.rv_locked.specs.declared.threads.RunFault.{RunFault}
 use Rattle.rv_locked.specs.declared.threads.RunFault.TheVariants.{NoMemory, NoThread, GateClosed, Stray}
 

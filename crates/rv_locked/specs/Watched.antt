@@ -1,23 +1,19 @@
 -- The locked machine: a core that workers share, with the draws of a seed. What holds of it whenever the lock
 -- is got, and what its calls answer.
-use Rattle.std.specs.Prelude.{◌≡◌, ℕ, true, false, Bool, Option, List, [], ◌++◌}
-use Rattle.std.specs.Option.{option_to_list}
-use Rattle.rv_collide.specs.Able.{IsLong, is_able, is_due}
+use Rattle.std.specs.Prelude.{◌≡◌, ℕ, true, false, Bool, Option}
 use Rattle.rv_collide.specs.Answers.{AreFacts, IsOutput, Resumes, Turns}
-use Rattle.rv_collide.specs.Draws.{IsArmedByDraws, Sampling, draw, draws, first_draws, is_resumed, next_index}
 use Rattle.rv_collide.specs.Numbers.{numbers}
-use Rattle.rv_collide.specs.Plan.{Numbers}
-use Rattle.rv_collide.specs.Stored.{Stored, added, setting_of, stored}
+use Rattle.rv_collide.specs.Stored.{Stored, added, setting_of}
 use Rattle.rv_collide.specs.Verdict.{endings}
 use Rattle.rv_collide.specs.declared.collider.Finished.{Finished}
 use Rattle.rv_collide.specs.declared.collider.Turned.TheVariants as turned
 use Rattle.rv_collide.specs.declared.ending.Ending.{Ending}
 use Rattle.rv_collide.specs.declared.entry.Entry.TheVariants as entry
-use Rattle.rv_elf.specs.Contents.{Contents}
+use Rattle.rv_drive.specs.Able.{IsLong, is_able, is_due}
+use Rattle.rv_drive.specs.Draws.{IsArmedByDraws, is_resumed, next_index}
+use Rattle.rv_drive.specs.Sampling.{drew, sampling}
 use Rattle.rv_locked.specs.declared.watched.Taken.{Taken}
 use Rattle.rv_locked.specs.declared.watched.Taken.TheVariants.{Stepped, Paused, Over}
-use Rattle.rv_sample.specs.Sites.{picked, sites}
-use Rattle.rv_sample.specs.Words.{word_at}
 
 -- What the workers share: the core, the seed of its draws, and whether the run is broken off.
 pub record Watch : Type 0 where
@@ -25,26 +21,8 @@ pub record Watch : Type 0 where
   pub seed : ℕ
   pub broken_off : Bool
 
--- the words of the generator of a seed and a stream, each of which picks one of the sites
-abbrev pub sampling_of : List ℕ → ℕ → ℕ → Sampling
-sampling_of sites seed stream = record { word_at = word_at seed stream; site_of = picked sites }
-
--- what the core draws: the words of its seed in stream 0, which pick among all sites of its image
-abbrev pub sampling : Contents → ℕ → Sampling
-sampling image seed = sampling_of (sites image []) seed 0
-
--- the core after a draw of the word at an index
-abbrev pub drew : Sampling → ℕ → Stored → Stored
-drew sampling index core =
-    record core { entries = core.entries ++ option_to_list (draw (setting_of core) sampling core.entries index) }
-
--- a core of which nothing has been done but the first draws
-abbrev pub begun : Contents → Numbers → Sampling → Stored
-begun image plan sampling = stored image plan (draws (setting_of (stored image plan [])) sampling first_draws)
-
--- the same, with what a core draws by its seed
-abbrev pub opened : Contents → Numbers → ℕ → Stored
-opened image plan seed = begun image plan (sampling image seed)
+abbrev pub watch : Stored → ℕ → Bool → Watch
+watch core seed broken_off = record { core = core; seed = seed; broken_off = broken_off }
 
 -- What holds of it whenever the lock is got: its schedule is legal, no pause has ended before it was due, and
 -- addresses are armed by draws alone, of which each resumption takes one word.

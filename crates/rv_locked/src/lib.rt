@@ -6,9 +6,6 @@
 //! `threads.rt` the whole. What each worker recorded is compared with the schedule at the end (`specs/Own.antt`).
 #![tactic(auto)]
 
-mod ahead;
-pub mod driver;
-pub mod gate;
 mod own;
 mod same;
 #[cfg(test)]
@@ -17,4 +14,5 @@ pub mod threads;
 mod watched;
 mod worker;
 
+pub use rv_drive::gate;
 pub use watched::{Stray, Taken, Watched};

@@ -1,16 +1,17 @@
 //! Whether a worker's record of places is the hart's own.
 ghost use Rattle.std.specs.Prelude.{◌≡◌, ◌↔◌, ◌<◌, ◌≤◌, map, length, IsTrue, IfNone, IfSome, is_some};
 ghost use Rattle.rv_collide.specs.Pause.{opening_of};
+ghost use Rattle.rv_hart.specs.declared.machine.TheConstants.{MOST_HARTS};
 ghost use Rattle.rv_locked.specs.Own.{AreOwn, IsLeastStray, IsOwn, is_of, own_places};
 
-use crate::driver::Driver;
 use rv_collide::collider::Collider;
 use rv_collide::entry::Entry;
+use rv_drive::driver::Driver;
 use rv_memory::flat::Flat;
 
 /// The least hart whose list is not its own.
 pub(crate) fn first_stray(driver: &Driver, places: &[Vec<u32>]) -> Option<u8>
-    requires { length places.now ≤ 16 }
+    requires { length places.now ≤ MOST_HARTS }
     ensures none { IfNone result (AreOwn driver.now (map (λ p. p.items) places.now)) }
     ensures some { IfSome result (λ hart. IsLeastStray driver.now (map (λ p. p.items) places.now) hart) }
 {

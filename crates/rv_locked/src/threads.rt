@@ -1,15 +1,16 @@
 //! A run by threads.
-ghost use Rattle.std.specs.Prelude.{◌≡◌, length, IfOk, IfErr};
+ghost use Rattle.std.specs.Prelude.{◌≡◌, ◌≤◌, ◌+◌, ◌*◌, [], length, vec_capacity, IfOk, IfErr};
 ghost use Rattle.std.specs.Thread.{IsSend, IsSync};
 ghost use Rattle.rv_collide.specs.Numbers.{numbers};
 ghost use Rattle.rv_locked.specs.Threaded.{IsThreaded, IsToldBy};
+ghost use Rattle.rv_locked.specs.internal.Rooms.{HaveRoom};
 ghost use Rattle.rv_locked.specs.declared.threads.RunFault.TheVariants.{NoMemory as OutOfMemory};
 
-use crate::gate::Gate;
 use crate::watched::{Stray, Watched};
 use crate::worker::{Left, Record, Shared, work};
 use rv_collide::collider::Finished;
 use rv_collide::plan::Plan;
+use rv_drive::gate::Gate;
 use rv_elf::Image;
 use rv_memory::store::NoMemory;
 use std::alloc::Global;
@@ -37,16 +38,24 @@ impl<S> From<NoMemory> for RunFault<S> {
 }
 
 /// A list with room for so many.
-fn room<T>(alloc: Global, count: usize) -> Result<Vec<T>, NoMemory> {
+fn room<T>(alloc: Global, count: usize) -> Result<Vec<T>, NoMemory>
+    ensures none { IfOk result (λ list. list.items ≡ []) }
+    ensures room { IfOk result (λ list. count ≤ vec_capacity list) }
+{
     Ok(Vec::with_capacity(alloc, count)?)
 }
 
-/// A list for each hart, with room for the places of all its entries.
-fn places(alloc: Global, plan: Plan) -> Result<Vec<Vec<u32>>, NoMemory> {
+/// A list for each hart, with room for the places of all its entries: of its steps, and of the pauses and
+/// resumptions, of which there are no more than arms.
+fn places(alloc: Global, plan: Plan) -> Result<Vec<Vec<u32>>, NoMemory>
+    ensures count { IfOk result (λ lists. length lists.items ≡ plan.harts) }
+    ensures room { IfOk result (λ lists. HaveRoom (plan.steps + 2 * plan.arms) lists.items) }
+{
     let count = plan.steps as usize + 2 * plan.arms as usize;
     let mut lists = room(alloc, usize::from(plan.harts))?;
     for _ in 0..plan.harts {
-        lists.push(room(alloc, count)?)?;
+        let list = room(alloc, count)?;
+        lists.push(list)?;
     }
     Ok(lists)
 }
@@ -162,7 +171,7 @@ fn told<G: Gate>(
 }
 
 /// Starts a worker for each list of places, and waits until all have ended. Where one can't be started, the
-/// run is broken off.
+/// run is broken off, and no other is started.
 fn start_all<R: Threads + Wait + Sync, G: Gate>(
     rt: &R,
     shared: &Shared<G>,
@@ -180,6 +189,7 @@ fn start_all<R: Threads + Wait + Sync, G: Gate>(
                 let started = scope.spawn(move || work(rt, shared, gate, h, list));
                 if started.is_err() {
                     shared.break_off(rt);
+                    break;
                 }
                 h = h.saturating_add(1);
             }

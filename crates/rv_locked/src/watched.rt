@@ -1,24 +1,24 @@
 //! The value that workers share under a lock.
 ghost use Rattle.std.specs.Prelude.{◌≡◌, ◌↔◌, ◌<◌, false, true, map, length, is_some, IsTrue, IfOk, IfErr, IfSome, IfNone};
-ghost use Rattle.rv_collide.specs.Able.{due, is_due};
+ghost use Rattle.rv_drive.specs.Able.{due, is_due};
 ghost use Rattle.rv_collide.specs.Numbers.{numbers};
 ghost use Rattle.rv_collide.specs.Stored.{setting_of};
 ghost use Rattle.rv_locked.specs.Own.{AreCopies, AreOwn, IsStray};
-ghost use Rattle.rv_locked.specs.Watched.{Ends, IsHistory, IsLeft, Takes, opened};
-ghost use Rattle.rv_locked.specs.internal.Watching.{watch};
+ghost use Rattle.rv_drive.specs.Sampling.{opened};
+ghost use Rattle.rv_locked.specs.Watched.{Ends, IsHistory, IsLeft, Takes, watch};
 
-use crate::driver::Driver;
 use crate::own::first_stray;
 use crate::same::{same_image, same_plan};
 use rv_collide::collider::{Collider, Finished, Turned};
-use rv_collide::driver_laws::accepted_calls;
 use rv_collide::ending::Ending;
 use rv_collide::plan::Plan;
+use rv_drive::driver::Driver;
+use rv_drive::driver_laws::{accepted_calls, draws_owed};
 use rv_elf::Image;
 use rv_hart::access::Event;
 use rv_memory::flat::Flat;
 use rv_memory::store::NoMemory;
-use rv_sample::{Sampler, Words};
+use rv_sample::{Generator, Sampler};
 use std::alloc::Global;
 use std::marker::Model;
 
@@ -44,15 +44,15 @@ pub struct Stray {
 pub struct Watched {
     driver: Driver,
     sampler: Sampler,
-    words: Words,
+    words: Generator,
     image: Image,
     seed: u64,
     is_broken_off: bool,
 }
 
 impl Model for Watched {
-    ghost use Rattle.rv_locked.specs.Watched.{Watch};
-    ghost use Rattle.rv_locked.specs.internal.Watching.{IsWatching, watch};
+    ghost use Rattle.rv_locked.specs.Watched.{Watch, watch};
+    ghost use Rattle.rv_locked.specs.internal.Watching.{IsWatching};
 
     ghost Value = { Watch };
 
@@ -69,7 +69,7 @@ impl Watched {
     {
         accepted_calls();
         let sampler = Sampler::sites(alloc, image, &[])?;
-        let mut words = Words::new(seed, 0);
+        let mut words = Generator::new(seed, 0);
         let driver = Driver::open(alloc, image, plan, &sampler, &mut words)?;
         let image = image.copy(alloc)?;
         Ok(Watched {
@@ -96,6 +96,7 @@ impl Watched {
         ensures seed { self.new.seed ≡ self.old.seed }
         ensures flag { self.new.broken_off ≡ self.old.broken_off }
     {
+        draws_owed();
         if !self.driver.is_able(h) {
             return Taken::Over;
         }
@@ -115,6 +116,7 @@ impl Watched {
         ensures flag { self.new.broken_off ≡ self.old.broken_off }
     {
         accepted_calls();
+        draws_owed();
         self.driver.collider().facts();
         let _plan = self.driver.collider().plan();
         if !self.driver.is_due(h) {

@@ -1,8 +1,8 @@
 //! The workers: one a hart, each in a thread of its own.
 ghost use Rattle.std.specs.Prelude.{IfErr, IfSome};
 
-use crate::gate::Gate;
 use crate::watched::{Taken, Watched};
+use rv_drive::gate::Gate;
 use rv_hart::access::Event;
 use rv_memory::store::NoMemory;
 use std::alloc::Global;

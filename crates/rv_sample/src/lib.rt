@@ -2,14 +2,14 @@
 //!
 //! To the layer above, a sampler is the ascending list of an image's sites (`specs/Sites.antt`), a word picks
 //! the site at its index modulo their count, and the words are those of one PCG generator, each given
-//! once, in their order (`specs/Words.antt`).
+//! once, in their order (`specs/Generator.antt`).
 #![tactic(auto)]
 
+mod generator;
 mod sampler;
 mod scan;
 #[cfg(test)]
 mod tests;
-mod words;
 
+pub use generator::Generator;
 pub use sampler::Sampler;
-pub use words::Words;

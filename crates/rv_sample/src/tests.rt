@@ -1,4 +1,4 @@
-use crate::{Sampler, Words};
+use crate::{Generator, Sampler};
 use rv_elf::Image;
 use rv_memory::region::Region;
 use std::alloc::Global;
@@ -226,7 +226,7 @@ const WORDS: [(u64, u64, [u32; 5]); 6] = [
 ];
 
 fn first_words(seed: u64, stream: u64) -> [u32; 5] {
-    let mut words = Words::new(seed, stream);
+    let mut words = Generator::new(seed, stream);
     [
         words.next(),
         words.next(),

@@ -7,7 +7,7 @@ use Rattle.rv_campaign.specs.Campaign.{AreRuns, fault_of}
 use Rattle.rv_campaign.specs.Run.{Hunt, IsRun, sampling_of}
 use Rattle.rv_campaign.specs.declared.runs.CampaignFault.{CampaignFault}
 use Rattle.rv_campaign.specs.declared.runs.CampaignFault.TheVariants as campaign
-use Rattle.rv_collide.specs.DriverLaws.{DrawnIsLegal}
+use Rattle.rv_drive.specs.DriverLaws.{DrawnIsLegal}
 use Rattle.rv_collide.specs.Grammar.{IsWritable}
 use Rattle.rv_collide.specs.GrammarLaws.{LegalIsWritable}
 use Rattle.rv_collide.specs.Numbers.{numbers}

@@ -1,10 +1,10 @@
 -- How far a seeded run has come.
 use Rattle.std.specs.Prelude.{◌≡◌, ℕ, ◌<◌, None, List, length, slice_get, take}
-use Rattle.rv_collide.specs.Drawn.{driven, turns_and_resumptions}
-use Rattle.rv_collide.specs.Draws.{Sampling, next_index, owed}
+use Rattle.rv_drive.specs.Drawn.{driven, turns_and_resumptions}
+use Rattle.rv_drive.specs.Draws.{Sampling, next_index, owed}
 use Rattle.rv_collide.specs.Forced.{Setting}
 use Rattle.rv_collide.specs.Stored.{Stored}
-use Rattle.rv_sample.specs.Words.{Given}
+use Rattle.rv_sample.specs.Generator.{Given}
 use Rattle.rv_collide.specs.declared.entry.Entry.{Entry}
 
 -- each entry so far is what the run adds at its place, its draws have been made, and so many words are taken

@@ -151,10 +151,12 @@ impl Counts {
         }
     }
 
-    /// How many calls were let in and not left.
-    pub fn within(&self) -> u64 {
-        let came = self.came.load(Ordering::SeqCst).min(self.most);
-        came.saturating_sub(self.left.load(Ordering::SeqCst))
+    /// How many calls were let in, and how many have left.
+    pub fn counts(&self) -> (u64, u64) {
+        (
+            self.came.load(Ordering::SeqCst).min(self.most),
+            self.left.load(Ordering::SeqCst),
+        )
     }
 }
 
@@ -175,5 +177,56 @@ impl Gate for Counts {
 
     fn leave(&self, _hart: u8) {
         self.left.fetch_add(1, Ordering::SeqCst);
+    }
+}
+
+/// Keeps hart 1 out till hart 0 calls `leave` for the fourth time, and hart 0 in that call till hart 1 has
+/// left four times.
+#[derive(Drop)]
+pub struct Keeps {
+    left: AtomicU64,
+    others_left: AtomicU64,
+}
+
+impl Keeps {
+    pub fn new() -> Keeps {
+        Keeps {
+            left: AtomicU64::new(0),
+            others_left: AtomicU64::new(0),
+        }
+    }
+
+    /// How often hart 0 and hart 1 have left.
+    pub fn counts(&self) -> (u64, u64) {
+        (
+            self.left.load(Ordering::SeqCst),
+            self.others_left.load(Ordering::SeqCst),
+        )
+    }
+}
+
+impl Gate for Keeps {
+    type Shut = Shut;
+
+    ghost shuts = { λ hart shut. shut.hart ≡ hart };
+
+    fn enter(&self, hart: u8) -> Result<(), Shut>
+        ensures { IfErr result (λ shut. shut.hart ≡ hart) }
+    {
+        if hart == 0 || reaches(&self.left, 4) {
+            return Ok(());
+        }
+        Err(Shut { hart, number: 0 })
+    }
+
+    fn leave(&self, hart: u8) {
+        if hart != 0 {
+            self.others_left.fetch_add(1, Ordering::SeqCst);
+            return;
+        }
+        let number = self.left.fetch_add(1, Ordering::SeqCst).saturating_add(1);
+        if number == 4 {
+            reaches(&self.others_left, 4);
+        }
     }
 }

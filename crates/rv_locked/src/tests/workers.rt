@@ -1,5 +1,5 @@
 //! Runs by threads: that the workers run side by side, that they end, and what is told of them.
-use super::gates::{Counts, Holds, Meets, Shut};
+use super::gates::{Counts, Holds, Keeps, Meets, Shut};
 use super::{FOUR_AND_FOUR, ONE_SITE, ONE_STORE, P, assert_is, image, plan};
 use crate::gate::FreeGate;
 use crate::threads::{RunFault, run_threads};
@@ -154,6 +154,20 @@ fn a_gate_orders_the_turns(rt: HostRuntime) -> Result<(), Fail> {
     assert_holds(&rt, alloc, &image, plan, 1, &FOUR_AND_FOUR)
 }
 
+/// A worker leaves its gate after its turn: hart 1 comes in once hart 0 leaves after its last turn, and has
+/// made its own before that call returns.
+#[test]
+fn a_worker_leaves_after_its_turn(rt: HostRuntime) -> Result<(), Fail> {
+    let alloc = rt.alloc();
+    let image = image(&rt, alloc, &P)?;
+    let plan = plan(2, 20, 0, 5)?;
+    let gate = Keeps::new();
+    let told = run_threads(&rt, alloc, &image, plan, 7, &gate)?;
+    assert_is(&rt, told.entries.as_slice(), &FOUR_AND_FOUR, "entries");
+    assert_is(&rt, gate.counts(), (4, 4), "counts");
+    Ok(())
+}
+
 /// What a gate leaves that lets so many calls in: from eight on the whole run, or else the hart that was
 /// refused, after at most one more call of each.
 fn assert_shut_after(rt: &impl Abort, most: u64, answer: &Result<Finished, RunFault<Shut>>) {
@@ -172,7 +186,7 @@ fn assert_shut_after(rt: &impl Abort, most: u64, answer: &Result<Finished, RunFa
     }
 }
 
-/// A gate that shuts after so many calls, or stays open. Whoever was let in has left.
+/// A gate that shuts after so many calls, or stays open. Whoever was let in has left once.
 fn assert_shuts<R: Threads + Wait + Sync + Abort>(
     rt: &R,
     alloc: Global,
@@ -183,7 +197,8 @@ fn assert_shuts<R: Threads + Wait + Sync + Abort>(
     let gate = Counts::new(most);
     let answer = run_threads(rt, alloc, image, plan, most, &gate);
     assert_shut_after(rt, most, &answer);
-    assert_is(rt, gate.within(), 0, "calls that are not left");
+    let (let_in, left) = gate.counts();
+    assert_is(rt, left, let_in, "calls that have left");
 }
 
 /// Gates that shut at each of the eight calls in turn, and one that stays open.
@@ -242,6 +257,16 @@ fn one_site_and_one_thread(rt: HostRuntime) -> Result<(), Fail> {
         assert_one_site(&rt, alloc, &image, plan, seed)?;
     }
     Ok(())
+}
+
+/// A hart that makes all steps of its plan, and is paused as often as the plan arms: each of its entries has a
+/// place in its list.
+#[test]
+fn a_hart_spends_its_steps_with_pauses(rt: HostRuntime) -> Result<(), Fail> {
+    let alloc = rt.alloc();
+    let image = image(&rt, alloc, &ONE_STORE)?;
+    let plan = plan(1, 3, 2, 5)?;
+    assert_one_site(&rt, alloc, &image, plan, 7)
 }
 
 fn assert_race<R: Threads + Wait + Sync + Abort>(

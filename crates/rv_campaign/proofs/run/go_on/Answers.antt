@@ -7,7 +7,7 @@ use Rattle.rv_campaign.proofs.run.go_on.Goals as goal
 
 pub returns-in-Some-clause-driving : goal.returns-in-Some-clause-driving
 returns-in-Some-clause-driving c =
-    resumed_on c.accepted_calls.ensures.kind c.args.driver.now c.resume.new.self c.draw.new.self c.args.sampler.now c.args.words.now c.draw.new.words c.in-Some.h c.requires.driving (sym c.due.ensures.value ∙ c.in-Some.is) c.resume.ensures.adds.is_added c.draw.ensures.core c.draw.ensures.words
+    resumed_on c.draws_owed.ensures c.accepted_calls.ensures.kind c.args.driver.now c.resume.new.self c.draw.new.self c.args.sampler.now c.args.words.now c.draw.new.words c.in-Some.h c.requires.driving (sym c.due.ensures.value ∙ c.in-Some.is) c.resume.ensures.adds.is_added c.draw.ensures.core c.draw.ensures.words
 
 pub returns-then-count-eq0-clause-over : goal.returns-then-count-eq0-clause-over
 returns-then-count-eq0-clause-over c = λ _.
@@ -15,7 +15,7 @@ returns-then-count-eq0-clause-over c = λ _.
 
 pub returns-clause-driving : goal.returns-clause-driving
 returns-clause-driving c =
-    turned_on c.accepted_calls.ensures.kind c.args.driver.now c.turn.new.self c.args.sampler.now c.args.words.now c.next-word.new.self c.in-Some-nth.h c.turn.result c.requires.driving (sym c.due.ensures.value ∙ c.in_default.is)
+    turned_on c.draws_owed.ensures c.accepted_calls.ensures.kind c.args.driver.now c.turn.new.self c.args.sampler.now c.args.words.now c.next-word.new.self c.in-Some-nth.h c.turn.result c.requires.driving (sym c.due.ensures.value ∙ c.in_default.is)
     (is_picked (setting_of c.args.driver.now) c.args.driver.now.entries c.next-word.result _ c.count-count.result c.in-Some-nth.h c.next-word.ensures.word c.count-count.ensures (sym c.nth.ensures.value ∙ c.in-Some-nth.is))
     c.turn.ensures c.next-word.ensures.after
 

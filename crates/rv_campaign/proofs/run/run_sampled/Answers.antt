@@ -3,7 +3,7 @@ use Rattle.rv_collide.specs.Answers.{IsOutput}
 use Rattle.rv_collide.specs.Stored.{Stored, setting_of}
 use Rattle.rv_collide.specs.Verdict.{endings}
 use Rattle.rv_collide.specs.Numbers.{numbers}
-use Rattle.rv_sample.specs.Words.{Given}
+use Rattle.rv_sample.specs.Generator.{Given}
 use Rattle.rv_campaign.proofs.GoingLemmas.{finished, opened_drives}
 use Rattle.rv_campaign.proofs.run.run_sampled.Goals as goal
 

@@ -1,8 +1,8 @@
-use Rattle.std.proofs.Common.{◌≡◌, [], ℕ, sym, ap, subst, ◌∙◌}
+use Rattle.std.proofs.Common.{◌≡◌, [], sym, ap, subst, ◌∙◌}
 use Rattle.std.specs.Prelude.{nat_lt}
 use Rattle.rv_collide.specs.Numbers.{numbers}
 use Rattle.rv_collide.specs.Pause.{openings}
-use Rattle.rv_collide.specs.Stored.{Stored, setting_of, stored}
+use Rattle.rv_collide.specs.Stored.{Stored, stored}
 use Rattle.rv_collide.specs.internal.GoesOn.{GoesOn}
 use Rattle.rv_collide.proofs.Until.{free_unwatched, free_goes_on}
 use Rattle.rv_collide.proofs.collider.Collider.is_free.Goals as goal

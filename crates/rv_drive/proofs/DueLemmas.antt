@@ -1,0 +1,37 @@
+-- Whether a pause is due, as a driver counts.
+use Rattle.std.proofs.Common.{◌≡◌, ℕ, ◌+◌, ◌-◌, ◌≤◌, ◌<◌, Bool, true, false, List, Option, Some, None, refl, ap, arith}
+use Rattle.std.specs.Prelude.{◌||◌, nat_le, not, is_some, slice_index}
+use Rattle.std.specs.Option.{option_map_or}
+use Rattle.std.proofs.lemmas.Bool.Decides.{nat_tests}
+use Rattle.rv_drive.specs.internal.Kept.{IsKept}
+use Rattle.rv_drive.specs.Able.{another_is_able, is_due, others_steps}
+use Rattle.rv_collide.specs.Forced.{Setting}
+use Rattle.rv_collide.specs.Pause.{Opening, opening_of}
+use Rattle.rv_collide.specs.declared.entry.Entry.{Entry}
+
+by_opening : (f : Opening → Bool) (o : Option Opening) → is_some o ≡ false → false ≡ option_map_or f o false
+by_opening f None h = refl
+by_opening f (Some x) h = cc
+
+pub not_due : (setting : Setting) (entries : List Entry) (hart : ℕ) → is_some (opening_of entries hart) ≡ false → false ≡ is_due setting entries hart
+unfolding is_due
+not_due setting entries hart h = by_opening (λ opening. nat_le setting.plan.pause (others_steps entries opening) || not (another_is_able setting entries hart)) (opening_of entries hart) h
+
+counted : (setting : Setting) (entries : List Entry) (hart made since : ℕ) (o : Option Opening) (rest : Bool) → is_some o ≡ true → ((p : Opening) → o ≡ Some p → others_steps entries p ≡ since) → option_map_or (λ opening. nat_le setting.plan.pause (others_steps entries opening) || rest) o false ≡ (nat_le setting.plan.pause since || rest)
+counted setting entries hart made since None rest some each = cc
+counted setting entries hart made since (Some p) rest some each = ap (λ n. nat_le setting.plan.pause n || rest) (each p refl)
+
+minus : (a b c : ℕ) → a + b ≡ c → a ≡ c - b
+minus a b c h = omega arith
+
+pub by_count : (setting : Setting) (entries : List Entry) (made : ℕ) (made_at : List ℕ) (hart : ℕ) → IsKept entries made made_at → is_some (opening_of entries hart) ≡ true → is_due setting entries hart ≡ (nat_le setting.plan.pause (made - slice_index made_at hart) || not (another_is_able setting entries hart))
+unfolding is_due
+by_count setting entries made made_at hart k some =
+    counted setting entries hart made (made - slice_index made_at hart) (opening_of entries hart) (not (another_is_able setting entries hart)) some
+    (λ p is. minus (others_steps entries p) (slice_index made_at hart) made (k.since hart p is))
+
+pub le_is : (a b : ℕ) → a ≤ b → nat_le a b ≡ true
+le_is a b h = grind (arith, nat_tests)
+
+pub le_not : (a b : ℕ) → b < a → nat_le a b ≡ false
+le_not a b h = grind (arith, nat_tests)

@@ -1,0 +1,10 @@
+pub mod AheadLemmas
+pub mod DrivenLemmas
+pub mod DueLemmas
+pub mod FirstLemmas
+pub mod Fronts
+pub mod GoingOn
+pub mod KeptLemmas
+pub mod OwedLemmas
+pub mod RowLemmas
+pub mod RunsLemmas

@@ -1,0 +1,6 @@
+pub mod Able
+pub mod Drawn
+pub mod Draws
+pub mod DriverLaws
+pub mod Sampling
+pub mod internal
