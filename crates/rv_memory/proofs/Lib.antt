@@ -1,5 +1,7 @@
 pub mod Both
 pub mod Frame
+pub mod InPages
+pub mod Lie
 pub mod LookFrom
 pub mod Permitted
 pub mod Places

@@ -17,11 +17,11 @@ use Rattle.rv_memory.proofs.Spans.{with_bytes, spans-with_bytes, same_overlaps, 
 apart : (a b : Extent) (address : ℕ) → meets a b ≡ false → covers b address ≡ true → covers a address ≡ false
 apart a b address h k = grind (arith, nat_tests)
 
-or_parts : (x y : Bool) → (x || y) ≡ false → (x ≡ false) × (y ≡ false)
+pub or_parts : (x y : Bool) → (x || y) ≡ false → (x ≡ false) × (y ≡ false)
 or_parts true y h = (h, cc)
 or_parts false y h = (refl, h)
 
-meets_none : (e d : Extent) (es : Memory) (place : ℕ) → list_any (meets e) es ≡ false → place < length es → meets e (get_or es place d) ≡ false
+pub meets_none : (e d : Extent) (es : Memory) (place : ℕ) → list_any (meets e) es ≡ false → place < length es → meets e (get_or es place d) ≡ false
 meets_none e d [] place h k = absurd (omega arith)
 meets_none e d (x ∷ xs) zero h k = (or_parts (meets e x) _ h).0
 meets_none e d (x ∷ xs) (suc place) h k = meets_none e d xs place (or_parts (meets e x) _ h).1 (omega arith)

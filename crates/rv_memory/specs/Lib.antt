@@ -4,5 +4,6 @@ pub mod Extent
 pub mod Flagged
 pub mod Memory
 pub mod MemoryLaws
+pub mod Pages
 pub mod Sound
 pub mod internal

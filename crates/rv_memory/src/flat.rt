@@ -198,7 +198,7 @@ fn find_permitted(
 
 /// The `size` bytes at `offset` as a little-endian number.
 #[inline(always)]
-fn number_at(bytes: &[u8], offset: usize, size: u8) -> u32
+pub(crate) fn number_at(bytes: &[u8], offset: usize, size: u8) -> u32
     requires size { spec.IsSize size }
     requires within { offset + size ≤ length bytes.now }
     ensures value { result ≡ number_at bytes.now offset size }
@@ -216,7 +216,7 @@ fn number_at(bytes: &[u8], offset: usize, size: u8) -> u32
 
 /// Puts the low `size` bytes of the number at `offset`, the least significant first.
 #[inline(always)]
-fn put_at(bytes: &mut [u8], offset: usize, size: u8, value: u32)
+pub(crate) fn put_at(bytes: &mut [u8], offset: usize, size: u8, value: u32)
     requires size { spec.IsSize size }
     requires within { offset + size ≤ length bytes.old }
     ensures { bytes.new ≡ put_at bytes.old offset size value }
@@ -297,7 +297,11 @@ fn fill_all(alloc: Global, regions: &[Region]) -> Result<Vec<Region>, NoMemory>
     Ok(all)
 }
 
-fn fill_both(alloc: Global, first: &[Region], second: &[Region]) -> Result<Vec<Region>, NoMemory>
+pub(crate) fn fill_both(
+    alloc: Global,
+    first: &[Region],
+    second: &[Region],
+) -> Result<Vec<Region>, NoMemory>
     requires first { All IsExtent first.now }
     requires second { All IsExtent second.now }
     ensures { IfOk result (λ all. all.items ≡ map filled (first.now ++ second.now)) }

@@ -16,5 +16,6 @@ pub mod flat;
 mod index;
 pub mod laws;
 pub mod output;
+pub mod paged;
 pub mod region;
 pub mod store;

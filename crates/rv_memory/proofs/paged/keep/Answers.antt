@@ -1,0 +1,18 @@
+use Rattle.std.proofs.Common.{◌++◌}
+use Rattle.std.proofs.lemmas.List.Elements.{All-append}
+use Rattle.rv_memory.specs.Extent.{IsExtent}
+use Rattle.rv_memory.proofs.Sound.{sound_made}
+use Rattle.rv_memory.proofs.paged.keep.Goals as goal
+
+pub tables_of-requires : goal.tables_of-requires
+tables_of-requires c =
+    let all = c.args.first.now ++ c.args.second.now in
+    rw (c.deref.ensures.value, c.in_ok-regions.ensures) (sound_made all (All-append IsExtent c.args.first.now c.args.second.now c.requires.first c.requires.second) c.requires.passed).full
+
+pub invariant_of-result : goal.invariant_of-result
+invariant_of-result c =
+    let all = c.args.first.now ++ c.args.second.now in
+    rw c.in_ok-tables.ensures (record {
+      sound = rw (c.deref.ensures.value, c.in_ok-regions.ensures) (sound_made all (All-append IsExtent c.args.first.now c.args.second.now c.requires.first c.requires.second) c.requires.passed);
+      index = rw (c.in_ok-firsts.ensures.ok, c.deref.ensures.value) (rw c.deref-2.ensures.value at c.in_ok-index_of.ensures);
+    })
