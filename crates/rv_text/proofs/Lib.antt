@@ -3,3 +3,4 @@ pub mod HexLemmas
 pub mod DecimalLemmas
 pub mod SpellingLemmas
 pub mod LineLemmas
+pub mod SeparatorLemmas

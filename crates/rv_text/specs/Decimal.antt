@@ -2,6 +2,7 @@
 use Rattle.std.specs.Prelude.{◌≡◌, ℕ, ◌^◌, ◌<◌, Bool, ◌==◌, ◌&&◌, nat_lt, if◌then◌else◌, Option, Some, None, List, length, slice_index}
 use Rattle.std.specs.Fmt.{decimal}
 use Rattle.rv_text.specs.Numeral.{number_of}
+use Rattle.rv_text.specs.Pieces.{Lacks}
 
 -- a zero with more digits after it
 abbrev pub has_leading_zero : List ℕ → Bool
@@ -18,3 +19,7 @@ DecimalIsReadBack = (n : ℕ) → n < 2 ^ 64 → decimal_of (decimal n) ≡ Some
 -- a number has one spelling
 abbrev pub DecimalHasOneSpelling : Type 0
 DecimalHasOneSpelling = (text : List ℕ) (n : ℕ) → decimal_of text ≡ Some n → n < 2 ^ 64 → text ≡ decimal n
+
+-- in the digits of a number stands no byte below the digit 0 (48), as a blank, a comma or an LF is
+abbrev pub DecimalLacksSeparators : Type 0
+DecimalLacksSeparators = (byte : ℕ) → byte < 48 → (text : List ℕ) (n : ℕ) → decimal_of text ≡ Some n → Lacks byte text

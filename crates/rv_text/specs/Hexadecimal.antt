@@ -3,6 +3,7 @@ use Rattle.std.specs.Prelude.{◌≡◌, ℕ, ◌/◌, ◌%◌, ◌^◌, ◌<◌
 use Rattle.std.specs.List.{list_any}
 use Rattle.std.specs.Char.{digit_char, is_ascii_uppercase}
 use Rattle.rv_text.specs.Numeral.{number_of}
+use Rattle.rv_text.specs.Pieces.{Lacks}
 
 -- the last `places` digits of a number in base 16, in lower case, the most significant first
 abbrev pub hex_digits : ℕ → ℕ → List ℕ
@@ -31,3 +32,7 @@ WordIsReadBack = (n : ℕ) → n < 2 ^ 32 → word_of (word_digits n) ≡ Some n
 -- but for the case of its letters a word has one spelling
 abbrev pub WordHasOneSpelling : Type 0
 WordHasOneSpelling = (text : List ℕ) (n : ℕ) → word_of text ≡ Some n → has_uppercase text ≡ false → text ≡ word_digits n
+
+-- in the digits of a word stands no byte below the digit 0 (48), as a blank, a comma or an LF is
+abbrev pub WordLacksSeparators : Type 0
+WordLacksSeparators = (byte : ℕ) → byte < 48 → (text : List ℕ) (n : ℕ) → word_of text ≡ Some n → Lacks byte text

@@ -7,11 +7,11 @@ use Rattle.std.proofs.lemmas.Bool.{and_parts, or_from, or_parts}
 use Rattle.std.proofs.lemmas.Bool.Decides.{nat_tests}
 use Rattle.std.proofs.lemmas.List.Elements.{All-head, All-tail}
 use Rattle.std.proofs.lemmas.List.Folds.{list_any-append}
-use Rattle.rv_text.specs.Numeral.{number_of, up_to}
-use Rattle.rv_text.specs.Decimal.{has_leading_zero, decimal_of, DecimalIsReadBack}
-use Rattle.rv_text.specs.Hexadecimal.{word_digits, word_of, WordIsReadBack}
+use Rattle.rv_text.specs.Numeral.{up_to}
+use Rattle.rv_text.specs.Decimal.{decimal_of, DecimalIsReadBack, DecimalLacksSeparators}
+use Rattle.rv_text.specs.Hexadecimal.{word_digits, WordIsReadBack, WordLacksSeparators}
 use Rattle.rv_text.specs.Lines.{lines_of, has_line_feed, LinesAreReadBack}
-use Rattle.rv_text.specs.Pieces.{pieces_of}
+use Rattle.rv_text.specs.Pieces.{pieces_of, Lacks, PiecesAreCut}
 use Rattle.rv_hart.specs.declared.machine.TheConstants.{MOST_HARTS}
 use Rattle.rv_words.specs.declared.input.TheConstants.{MOST_STEP, MOST_STEPS, MOST_WORDS}
 use Rattle.rv_words.specs.HartsLine.{harts_of}
@@ -19,55 +19,7 @@ use Rattle.rv_words.specs.StepsLine.{numbers_of, steps_of}
 use Rattle.rv_words.specs.WordsInput.{WordsInput, words_from, input_of}
 use Rattle.rv_words.specs.WordsText.{text_of, InputIsReadBack}
 
--- the byte stands nowhere in the text
-abbrev Lacks : ℕ → List ℕ → Type 0
-Lacks byte text = list_any (λ b. b == byte) text ≡ false
-
--- digits have no byte below the digit 0
-digits_lack : (byte radix : ℕ) → byte < 48 → radix ≤ 36 → (text : List ℕ) → list_all (λ c. is_digit c radix) text ≡ true → Lacks byte text
-digits_lack byte radix low most [] all = refl
-digits_lack byte radix low most (c ∷ text) all =
-    let parts = and_parts (is_digit c radix) (list_all (λ c. is_digit c radix) text) all in
-    let digit : is_digit c radix ≡ true = parts.0 in
-    let other : (c == byte) ≡ false = grind (arith, nat_tests) in
-    or_from (c == byte) (list_any (λ b. b == byte) text) other (digits_lack byte radix low most text parts.1)
-
-number_lacks : (byte radix : ℕ) → byte < 48 → radix ≤ 36 → (text : List ℕ) (n : ℕ) → number_of radix text ≡ Some n → Lacks byte text
-unfolding number_of
-number_lacks byte radix low most text n reads = by_test (nat_lt 0 (length text)) (list_all (λ c. is_digit c radix) text) refl reads where
-  by_test : (some all : Bool) → list_all (λ c. is_digit c radix) text ≡ all → cond (some && all) (Some (digits_value radix text)) None ≡ Some n → Lacks byte text
-  by_test true true all reads = digits_lack byte radix low most text all
-  by_test true false all reads = cc
-  by_test false all' all reads = cc
-
-word_lacks : (byte : ℕ) → byte < 48 → (text : List ℕ) (n : ℕ) → word_of text ≡ Some n → Lacks byte text
-unfolding word_of
-word_lacks byte low text n reads = by_test (length text == 8) reads where
-  by_test : (eight : Bool) → cond eight (number_of 16 text) None ≡ Some n → Lacks byte text
-  by_test true reads = number_lacks byte 16 low (omega arith) text n reads
-  by_test false reads = cc
-
-decimal_lacks : (byte : ℕ) → byte < 48 → (text : List ℕ) (n : ℕ) → decimal_of text ≡ Some n → Lacks byte text
-unfolding decimal_of
-decimal_lacks byte low text n reads = by_test (has_leading_zero text) reads where
-  by_test : (zero : Bool) → cond zero None (number_of 10 text) ≡ Some n → Lacks byte text
-  by_test false reads = number_lacks byte 10 low (omega arith) text n reads
-  by_test true reads = cc
-
--- pieces that lack the separator
-pieces_last : (piece : List ℕ) → Lacks 32 piece → pieces_of 32 piece ≡ piece ∷ []
-pieces_last [] lacks = refl
-pieces_last (b ∷ piece) lacks =
-    let parts = or_parts (b == 32) (list_any (λ b. b == 32) piece) lacks in
-    rw parts.0 (ap (onto_first b) (pieces_last piece parts.1))
-
-pieces_more : (piece rest : List ℕ) → Lacks 32 piece → pieces_of 32 (piece ++ 32 ∷ rest) ≡ piece ∷ pieces_of 32 rest
-pieces_more [] rest lacks = refl
-pieces_more (b ∷ piece) rest lacks =
-    let parts = or_parts (b == 32) (list_any (λ b. b == 32) piece) lacks in
-    rw parts.0 (ap (onto_first b) (pieces_more piece rest parts.1))
-
-module _ (decimals : DecimalIsReadBack) where
+module _ (decimals : DecimalIsReadBack) (lacks_separators : DecimalLacksSeparators) (cut : PiecesAreCut) where
   step_reads : (step : ℕ) → step ≤ MOST_STEP → up_to MOST_STEP (decimal_of (decimal step)) ≡ Some step
   step_reads step small =
       let fits : nat_le step MOST_STEP ≡ true = grind (arith, nat_tests) in
@@ -76,12 +28,14 @@ module _ (decimals : DecimalIsReadBack) where
   -- a step and those after it
   numbers_read : (step : ℕ) (steps : List ℕ) → step ≤ MOST_STEP → All (λ s. s ≤ MOST_STEP) steps → numbers_of (pieces_of 32 (decimal step ++ flat_map (λ s. 32 ∷ decimal s) steps)) ≡ Some (step ∷ steps)
   numbers_read step [] small all =
-      let lacks = decimal_lacks 32 (omega arith) (decimal step) step (decimals step (omega arith)) in
-      rw (append-nil (decimal step), pieces_last (decimal step) lacks, step_reads step small) refl
+      let lacks = lacks_separators 32 (omega arith) (decimal step) step (decimals step (omega arith)) in
+      let pieces = cut 32 (decimal step) [] lacks in
+      rw (append-nil (decimal step), pieces.1, step_reads step small) refl
   numbers_read step (next ∷ steps) small all =
-      let lacks = decimal_lacks 32 (omega arith) (decimal step) step (decimals step (omega arith)) in
+      let lacks = lacks_separators 32 (omega arith) (decimal step) step (decimals step (omega arith)) in
+      let pieces = cut 32 (decimal step) (decimal next ++ flat_map (λ s. 32 ∷ decimal s) steps) lacks in
       let rest = numbers_read next steps (All-head (λ s. s ≤ MOST_STEP) next steps all) (All-tail (λ s. s ≤ MOST_STEP) next steps all) in
-      rw (pieces_more (decimal step) (decimal next ++ flat_map (λ s. 32 ∷ decimal s) steps) lacks, step_reads step small, rest) refl
+      rw (pieces.0, step_reads step small, rest) refl
 
   steps_read : (steps : List ℕ) → length steps ≤ MOST_STEPS → All (λ s. s ≤ MOST_STEP) steps → steps_of (codes "steps" ++ flat_map (λ s. 32 ∷ decimal s) steps) ≡ Some steps
   unfolding steps_of
@@ -101,10 +55,10 @@ module _ (decimals : DecimalIsReadBack) where
   steps_lack [] all = refl
   steps_lack (step ∷ steps) all =
       let small : step ≤ MOST_STEP = All-head (λ s. s ≤ MOST_STEP) step steps all in
-      let here = decimal_lacks 10 (omega arith) (decimal step) step (decimals step (omega arith)) in
+      let here = lacks_separators 10 (omega arith) (decimal step) step (decimals step (omega arith)) in
       list_any-append (λ b. b == 10) (decimal step) (flat_map (λ s. 32 ∷ decimal s) steps) ∙ or_from _ _ here (steps_lack steps (All-tail (λ s. s ≤ MOST_STEP) step steps all))
 
-module _ (words_back : WordIsReadBack) where
+module _ (words_back : WordIsReadBack) (lacks_separators : WordLacksSeparators) where
   words_read : (line : ℕ) (words : List ℕ) → line + length words ≤ 3 + MOST_WORDS → All (λ w. w < 2 ^ 32) words → words_from line (map word_digits words) ≡ Ok words
   words_read line [] few all = refl
   words_read line (word ∷ words) few all =
@@ -116,25 +70,25 @@ module _ (words_back : WordIsReadBack) where
   words_lack [] all = refl
   words_lack (word ∷ words) all =
       let reads = words_back word (All-head (λ w. w < 2 ^ 32) word words all) in
-      or_from _ _ (word_lacks 10 (omega arith) (word_digits word) word reads) (words_lack words (All-tail (λ w. w < 2 ^ 32) word words all))
+      or_from _ _ (lacks_separators 10 (omega arith) (word_digits word) word reads) (words_lack words (All-tail (λ w. w < 2 ^ 32) word words all))
 
 -- what a text says whose lines say this
 from_lines : (text first second : List ℕ) (rest : List (List ℕ)) (input : WordsInput) → lines_of text ≡ first ∷ second ∷ rest → harts_of first ≡ Some input.harts → steps_of second ≡ Some input.steps → words_from 3 rest ≡ Ok input.words → input_of text ≡ Ok input
 unfolding input_of
 from_lines text first second rest input lines harts steps words = rw (lines, harts, steps, words) refl
 
-pub read_back : DecimalIsReadBack → WordIsReadBack → LinesAreReadBack → InputIsReadBack
+pub read_back : DecimalIsReadBack → DecimalLacksSeparators → WordIsReadBack → WordLacksSeparators → LinesAreReadBack → PiecesAreCut → InputIsReadBack
 unfolding text_of
-read_back decimals words_back lines_back input writable =
+read_back decimals decimal_lacks words_back word_lacks lines_back cut input writable =
     let limits = writable.limits in
     let first = codes "harts " ++ decimal input.harts in
     let second = codes "steps" ++ flat_map (λ step. 32 ∷ decimal step) input.steps in
     let rest = map word_digits input.words in
     let harts_fit : input.harts < 2 ^ 64 = omega (arith, limits.harts) in
     let first_lacks : has_line_feed first ≡ false = decimal_lacks 10 (omega arith) (decimal input.harts) input.harts (decimals input.harts harts_fit) in
-    let second_lacks : has_line_feed second ≡ false = steps_lack decimals input.steps writable.steps in
-    let lack : list_any has_line_feed (first ∷ second ∷ rest) ≡ false = or_from _ _ first_lacks (or_from _ _ second_lacks (words_lack words_back input.words writable.words)) in
+    let second_lacks : has_line_feed second ≡ false = steps_lack decimals decimal_lacks cut input.steps writable.steps in
+    let lack : list_any has_line_feed (first ∷ second ∷ rest) ≡ false = or_from _ _ first_lacks (or_from _ _ second_lacks (words_lack words_back word_lacks input.words writable.words)) in
     from_lines (text_of input) first second rest input (lines_back (first ∷ second ∷ rest) lack)
-    (harts_read decimals input.harts limits.some_hart limits.harts)
-    (steps_read decimals input.steps limits.steps writable.steps)
-    (words_read words_back 3 input.words (omega (arith, limits.words)) writable.words)
+    (harts_read decimals decimal_lacks cut input.harts limits.some_hart limits.harts)
+    (steps_read decimals decimal_lacks cut input.steps limits.steps writable.steps)
+    (words_read words_back word_lacks 3 input.words (omega (arith, limits.words)) writable.words)
