@@ -3,8 +3,10 @@
 ghost use Rattle.rv_words.specs.StepsLaw.{StepsAreTheRun};
 ghost use Rattle.rv_words.specs.WordsText.{InputIsReadBack};
 
-use rv_text::laws::{decimal_is_read_back, decimal_lacks_separators, lines_are_read_back};
-use rv_text::laws::{pieces_are_cut, word_is_read_back, word_lacks_separators};
+use rv_text::laws::{
+    decimal_is_read_back, decimal_lacks_separators, lines_are_read_back, pieces_are_cut,
+    word_is_read_back, word_lacks_separators,
+};
 
 /// An input that is written, line by line, is what that text says.
 pub fn input_is_read_back()
