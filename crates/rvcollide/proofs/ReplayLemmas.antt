@@ -2,24 +2,21 @@
 use Rattle.std.proofs.Common.{◌≡◌, ℕ, ◌+◌, Bool, true, false, List, [], ◌∷◌, ◌++◌, Option, Some, None, Result, Ok, Err, take, refl, sym, ap, subst, ◌∙◌}
 use Rattle.std.specs.Prelude.{◌||◌, IfSome, IsOkAnd, OnOk, if◌then◌else◌, slice_get, length}
 use Rattle.std.specs.Io.KnownBytes.{Appends, Keeps}
-use Rattle.std.proofs.KnownBytes.{Appends-kept}
-use Rattle.std.proofs.lemmas.Option.{slice_get_within, get_or_from_slice_get}
+use Rattle.std.proofs.KnownBytes.{Appends-kept, Appends-trans}
 use Rattle.rv_collide.specs.ScheduleRead.{Schedule, schedule_of}
 use Rattle.rv_collide.specs.Replays.{IsReplayFault}
 use Rattle.rv_collide.specs.Stored.{Stored, setting_of, stored}
-use Rattle.rv_collide.specs.Texts.{ending_line, ending_lines}
+use Rattle.rv_collide.specs.Texts.{OneEndingMore, ending_line, endings_text}
 use Rattle.rv_collide.specs.declared.ending.Ending.{Ending}
 use Rattle.rv_collide.specs.declared.replay.ReplayFault.{ReplayFault}
 use Rattle.rv_collide.specs.declared.replay.ReplayFault.TheVariants as replay
 use Rattle.rv_collide.specs.declared.replay.Why.{Why}
 use Rattle.rv_collide.specs.declared.schedule.fault.ScheduleFault.{ScheduleFault}
-use Rattle.rv_collide.proofs.EndingLemmas.{lines_next}
 use Rattle.rv_elf.specs.Contents.{Contents}
 use Rattle.rv_elf.specs.Loaded.{loaded}
 use Rattle.rv_elf.specs.declared.fault.LoadFault.{LoadFault}
 use Rattle.rv_memory.specs.Chain.{◌>>=◌}
 use Rattle.rv_memory.specs.declared.flagged.TheConstants.{INPUT_LIMIT}
-use Rattle.rv_text.specs.Lines.{text_of_lines}
 use Rattle.rvcollide.specs.Fault.{IsToldFault, fault_of_replay}
 use Rattle.rvcollide.specs.Images.{image_of, told_load}
 use Rattle.rvcollide.specs.Replay.{IfKnown, IsReplayRefusal, IsShown, run_of, told_schedule}
@@ -114,10 +111,9 @@ entry_refused (Some i) (Some s) contents said given fault is says told same =
 -- ---- what is written
 
 -- one ending more
-pub endings_next : (es : List Ending) (n : ℕ) (e : Ending) (a b c : Option (List ℕ)) → slice_get es n ≡ Some e → Appends a b (text_of_lines (ending_lines 0 (take n es))) → Appends b c (ending_line n e ++ 10 ∷ []) → Appends a c (text_of_lines (ending_lines 0 (take (n + 1) es)))
-endings_next es n e a b c is before next =
-    lines_next es n e a b c (slice_get_within es n e is) before
-    (subst (λ (x : Ending). Appends b c (ending_line n x ++ 10 ∷ [])) (sym (get_or_from_slice_get es n e e is)) next)
+pub endings_next : OneEndingMore → (es : List Ending) (n : ℕ) (e : Ending) (a b c : Option (List ℕ)) → slice_get es n ≡ Some e → Appends a b (endings_text (take n es)) → Appends b c (ending_line n e ++ 10 ∷ []) → Appends a c (endings_text (take (n + 1) es))
+endings_next more es n e a b c is before next =
+    subst (Appends a c) (sym (more es n e is)) (Appends-trans a b c (endings_text (take n es)) (ending_line n e ++ 10 ∷ []) before next)
 
 pub shown : (run : Stored) (a b d : Option (List ℕ)) → IsShown run (Appends a b) → Keeps b d → IsShown run (Appends a d)
 shown run a b d is kept = record { legal = is.legal; end = is.end; reached = is.reached; written = Appends-kept a b d _ is.written kept }

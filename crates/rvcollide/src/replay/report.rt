@@ -7,6 +7,7 @@ ghost use Rattle.rv_collide.specs.Verdict.{endings};
 ghost use Rattle.rvcollide.specs.Replay as spec;
 
 use rv_collide::collider::Collider;
+use rv_collide::laws::one_ending_more;
 use rv_collide::texts::write_ending;
 use rv_hart::texts::write_state;
 use rv_memory::flagged::WriteFault;
@@ -20,6 +21,7 @@ fn write_endings<O: Output>(writer: &mut O, run: &Collider<Flat>) -> Result<(), 
         (endings_text (endings (setting_of run.now).start run.now.entries))) }
     ensures failed { O.has_failed writer.new ≡ (O.has_failed writer.old || is_err result) }
 {
+    one_ending_more();
     for n in 0..run.endings() {
         write_ending(writer, u64::from(n), &run.ending(n))?;
     }
