@@ -4,11 +4,11 @@ use Rattle.std.specs.Option.{option_or}
 use Rattle.std.specs.List.{find}
 use Rattle.std.specs.Str.{bytes_eq}
 use Rattle.rv_isa.specs.declared.op.Op.{Op}
-use Rattle.rv_isa.specs.declared.op.Op.TheVariants.{Lui, Auipc, Jal, Jalr, Beq, Bne, Blt, Bge, Bltu, Bgeu, Lb, Lh, Lw, Lbu, Lhu, Sb, Sh, Sw, Addi, Slti, Sltiu, Xori, Ori, Andi, Slli, Srli, Srai, Add, Sub, Sll, Slt, Sltu, Xor, Srl, Sra, Or, And, Fence, Ecall, Ebreak, LrW, ScW, AmoswapW, AmoaddW, AmoxorW, AmoandW, AmoorW, AmominW, AmomaxW, AmominuW, AmomaxuW}
+use Rattle.rv_isa.specs.declared.op.Op.TheVariants.{Lui, Auipc, Jal, Jalr, Beq, Bne, Blt, Bge, Bltu, Bgeu, Lb, Lh, Lw, Lbu, Lhu, Sb, Sh, Sw, Addi, Slti, Sltiu, Xori, Ori, Andi, Slli, Srli, Srai, Add, Sub, Sll, Slt, Sltu, Xor, Srl, Sra, Or, And, Fence, Ecall, Ebreak, Mul, Mulh, Mulhsu, Mulhu, Div, Divu, Rem, Remu, LrW, ScW, AmoswapW, AmoaddW, AmoxorW, AmoandW, AmoorW, AmominW, AmomaxW, AmominuW, AmomaxuW}
 use Rattle.rv_asm.specs.declared.reading.mnemonic.TheConstants.{OPS, ATOMICS}
 use Rattle.rv_asm.specs.declared.reading.mnemonic.Mnemonic.{Mnemonic}
 
--- The mnemonics. (RISC-V Unprivileged ISA, instruction listings of RV32I and RV32A.)
+-- The mnemonics. (RISC-V Unprivileged ISA, instruction listings of RV32I, RV32M and RV32A.)
 abbrev pub mnemonic_of : Op → List ℕ
 mnemonic_of Lui = codes "lui"
 mnemonic_of Auipc = codes "auipc"
@@ -50,6 +50,14 @@ mnemonic_of And = codes "and"
 mnemonic_of Fence = codes "fence"
 mnemonic_of Ecall = codes "ecall"
 mnemonic_of Ebreak = codes "ebreak"
+mnemonic_of Mul = codes "mul"
+mnemonic_of Mulh = codes "mulh"
+mnemonic_of Mulhsu = codes "mulhsu"
+mnemonic_of Mulhu = codes "mulhu"
+mnemonic_of Div = codes "div"
+mnemonic_of Divu = codes "divu"
+mnemonic_of Rem = codes "rem"
+mnemonic_of Remu = codes "remu"
 mnemonic_of LrW = codes "lr.w"
 mnemonic_of ScW = codes "sc.w"
 mnemonic_of AmoswapW = codes "amoswap.w"

@@ -1,4 +1,4 @@
-//! The assembler and the listing of RV32IA.
+//! The assembler and the listing of RV32IMA.
 //!
 //! To the layers above, the image that a source describes, or its first fault, is `specs/Assembled.antt`, a
 //! word's line in a listing is `specs/Line.antt`, and what a line of source says is `specs/SourceLine.antt`; each

@@ -1,4 +1,4 @@
-//! ELF32 images for RV32IA guests: read, tested, written and read back.
+//! ELF32 images for RV32IMA guests: read, tested, written and read back.
 //!
 //! To the layer above, an `Image` is its entry, its segments and its symbols, with every fact that
 //! `load` tests (`specs/Contents.antt`), and `load` is `loaded` of the file's bytes

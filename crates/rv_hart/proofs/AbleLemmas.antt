@@ -13,7 +13,7 @@ use Rattle.rv_hart.specs.declared.hart.Hart.{Hart}
 use Rattle.rv_isa.specs.Decoded.{decoded}
 use Rattle.rv_isa.specs.declared.instr.Instr.{Instr}
 use Rattle.rv_isa.specs.declared.op.Op.{Op}
-use Rattle.rv_isa.specs.declared.op.Op.TheVariants.{Lui, Auipc, Jal, Jalr, Beq, Bne, Blt, Bge, Bltu, Bgeu, Lb, Lh, Lw, Lbu, Lhu, Sb, Sh, Sw, Addi, Slti, Sltiu, Xori, Ori, Andi, Slli, Srli, Srai, Add, Sub, Sll, Slt, Sltu, Xor, Srl, Sra, Or, And, Fence, Ecall, Ebreak, LrW, ScW, AmoswapW, AmoaddW, AmoxorW, AmoandW, AmoorW, AmominW, AmomaxW, AmominuW, AmomaxuW}
+use Rattle.rv_isa.specs.declared.op.Op.TheVariants.{Jal, Jalr, Beq, Bne, Blt, Bge, Bltu, Bgeu, Lb, Lh, Lw, Lbu, Lhu, Sb, Sh, Sw, Ecall}
 use Rattle.rv_memory.specs.Memory.{Memory, IsSize, load, permits}
 use Rattle.rv_memory.specs.MemoryLaws.{PermittedIsThere}
 use Rattle.rv_memory.specs.declared.store.Need.{Need}
@@ -47,8 +47,6 @@ sized_call hart =
     sized_call_at (get hart.registers 17 == 93) (get hart.registers 17 == 1) (get hart.registers 10) (get hart.registers 10 % 256)
 
 sized_act : (op : Op) (i : Instr) (hart : Hart) → HasSize (act op i hart)
-sized_act Lui i hart = tt
-sized_act Auipc i hart = tt
 sized_act Jal i hart = sized_jump i hart (arithmetic.plus hart.pc (immediate i))
 sized_act Jalr i hart = sized_jump i hart (address i hart - address i hart % 2)
 sized_act Beq i hart = sized_branch i hart (source_1 i hart == source_2 i hart)
@@ -65,39 +63,8 @@ sized_act Lhu i hart = inr (inl refl)
 sized_act Sb i hart = inl refl
 sized_act Sh i hart = inr (inl refl)
 sized_act Sw i hart = inr (inr refl)
-sized_act Addi i hart = tt
-sized_act Slti i hart = tt
-sized_act Sltiu i hart = tt
-sized_act Xori i hart = tt
-sized_act Ori i hart = tt
-sized_act Andi i hart = tt
-sized_act Slli i hart = tt
-sized_act Srli i hart = tt
-sized_act Srai i hart = tt
-sized_act Add i hart = tt
-sized_act Sub i hart = tt
-sized_act Sll i hart = tt
-sized_act Slt i hart = tt
-sized_act Sltu i hart = tt
-sized_act Xor i hart = tt
-sized_act Srl i hart = tt
-sized_act Sra i hart = tt
-sized_act Or i hart = tt
-sized_act And i hart = tt
-sized_act Fence i hart = tt
 sized_act Ecall i hart = sized_call hart
-sized_act Ebreak i hart = tt
-sized_act LrW i hart = tt
-sized_act ScW i hart = tt
-sized_act AmoswapW i hart = tt
-sized_act AmoaddW i hart = tt
-sized_act AmoxorW i hart = tt
-sized_act AmoandW i hart = tt
-sized_act AmoorW i hart = tt
-sized_act AmominW i hart = tt
-sized_act AmomaxW i hart = tt
-sized_act AmominuW i hart = tt
-sized_act AmomaxuW i hart = tt
+sized_act _ i hart = tt
 
 sized_word : (o : Option Instr) (hart : Hart) → HasSize (action_at_word o hart)
 sized_word None hart = tt

@@ -40,7 +40,7 @@ right a amount =
 shifted_fits : (z : ℤ) (m : ℕ) → SFits w32 z → SFits w32 (shr_z z m)
 shifted_fits z m f = record { sfits = omega (arith, mag_shr z m, f.sfits) }
 
-integer_fits : (a : ℕ) → a < 2 ^ 32 → SFits w32 (integer a)
+pub integer_fits : (a : ℕ) → a < 2 ^ 32 → SFits w32 (integer a)
 integer_fits a low = let small : mag (integer a) < 2 ^ 31 = grind (arith, ints, nat_tests) in record { sfits = small }
 
 right_signed : (a amount : ℕ) → a < 2 ^ 32 → integer (shift_right_signed a amount) ≡ int_shr (integer a) amount

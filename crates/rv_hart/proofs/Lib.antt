@@ -6,6 +6,7 @@ pub mod HartsLemmas
 pub mod LawLemmas
 pub mod NextLemmas
 pub mod OutputLemmas
+pub mod ProductLemmas
 pub mod QuickLemmas
 pub mod RegisterLemmas
 pub mod ReservationLemmas

@@ -16,7 +16,7 @@ use Rattle.rv_isa.specs.Decoded.{op_at, with_operands, decoded}
 use Rattle.rv_isa.specs.Shape.{shape_of}
 use Rattle.rv_isa.specs.declared.instr.Instr.{Instr}
 use Rattle.rv_isa.specs.declared.op.Op.{Op}
-use Rattle.rv_isa.specs.declared.op.Op.TheVariants.{Lui, Auipc, Jal, Jalr, Beq, Bne, Blt, Bge, Bltu, Bgeu, Lb, Lh, Lw, Lbu, Lhu, Sb, Sh, Sw, Addi, Slti, Sltiu, Xori, Ori, Andi, Slli, Srli, Srai, Add, Sub, Sll, Slt, Sltu, Xor, Srl, Sra, Or, And, Fence, Ecall, Ebreak, LrW, ScW, AmoswapW, AmoaddW, AmoxorW, AmoandW, AmoorW, AmominW, AmomaxW, AmominuW, AmomaxuW}
+use Rattle.rv_isa.specs.declared.op.Op.TheVariants.{Jal, Jalr, Beq, Bne, Blt, Bge, Bltu, Bgeu, Ecall}
 use Rattle.rv_memory.specs.Memory.{Memory, load, permits}
 use Rattle.rv_memory.specs.declared.store.Need.{Need}
 use Rattle.rv_memory.specs.declared.store.Need.TheVariants as need
@@ -77,8 +77,6 @@ call_at false true code byte = refl
 call_at false false code byte = refl
 
 plain_op : (op : Op) (i : Instr) (hart : Hart) → acts_plainly (act op i hart) ≡ is_plain (shape_of op)
-plain_op Lui i hart = refl
-plain_op Auipc i hart = refl
 plain_op Jal i hart = plain_jump i hart (arithmetic.plus hart.pc (immediate i))
 plain_op Jalr i hart = plain_jump i hart (address i hart - address i hart % 2)
 plain_op Beq i hart = plain_branch i hart (source_1 i hart == source_2 i hart)
@@ -87,47 +85,8 @@ plain_op Blt i hart = plain_branch i hart (arithmetic.less_signed (source_1 i ha
 plain_op Bge i hart = plain_branch i hart (not (arithmetic.less_signed (source_1 i hart) (source_2 i hart)))
 plain_op Bltu i hart = plain_branch i hart (nat_lt (source_1 i hart) (source_2 i hart))
 plain_op Bgeu i hart = plain_branch i hart (not (nat_lt (source_1 i hart) (source_2 i hart)))
-plain_op Lb i hart = refl
-plain_op Lh i hart = refl
-plain_op Lw i hart = refl
-plain_op Lbu i hart = refl
-plain_op Lhu i hart = refl
-plain_op Sb i hart = refl
-plain_op Sh i hart = refl
-plain_op Sw i hart = refl
-plain_op Addi i hart = refl
-plain_op Slti i hart = refl
-plain_op Sltiu i hart = refl
-plain_op Xori i hart = refl
-plain_op Ori i hart = refl
-plain_op Andi i hart = refl
-plain_op Slli i hart = refl
-plain_op Srli i hart = refl
-plain_op Srai i hart = refl
-plain_op Add i hart = refl
-plain_op Sub i hart = refl
-plain_op Sll i hart = refl
-plain_op Slt i hart = refl
-plain_op Sltu i hart = refl
-plain_op Xor i hart = refl
-plain_op Srl i hart = refl
-plain_op Sra i hart = refl
-plain_op Or i hart = refl
-plain_op And i hart = refl
-plain_op Fence i hart = refl
 plain_op Ecall i hart = call_at (get hart.registers 17 == 93) (get hart.registers 17 == 1) (get hart.registers 10) (get hart.registers 10 % 256)
-plain_op Ebreak i hart = refl
-plain_op LrW i hart = refl
-plain_op ScW i hart = refl
-plain_op AmoswapW i hart = refl
-plain_op AmoaddW i hart = refl
-plain_op AmoxorW i hart = refl
-plain_op AmoandW i hart = refl
-plain_op AmoorW i hart = refl
-plain_op AmominW i hart = refl
-plain_op AmomaxW i hart = refl
-plain_op AmominuW i hart = refl
-plain_op AmomaxuW i hart = refl
+plain_op _ i hart = refl
 
 abbrev SameAccess : Bool → Hart → Action → Type 0
 SameAccess plain hart action = cond plain (access_of hart action) None ≡ plain_access hart action

@@ -1,7 +1,7 @@
 -- What each operation does with the registers and the pc, before its access is tested.
-use Rattle.std.specs.Prelude.{ℕ, ◌-◌, ◌%◌, Bool, true, false, not, ◌==◌, nat_lt, if◌then◌else◌, bit_and, bit_or, bit_xor}
+use Rattle.std.specs.Prelude.{ℕ, pos, ◌-◌, ◌%◌, ◌*ℤ◌, Bool, true, false, not, ◌==◌, nat_lt, if◌then◌else◌, bit_and, bit_or, bit_xor}
 use Rattle.rv_hart.specs.Registers.{get}
-use Rattle.rv_hart.specs.Arithmetic.{plus, minus, word, flag, less_signed, shift_left, shift_right, shift_right_signed}
+use Rattle.rv_hart.specs.Arithmetic.{plus, minus, word, integer, flag, less_signed, shift_left, shift_right, shift_right_signed, low_half, high_half, quotient, quotient_signed, remainder, remainder_signed}
 use Rattle.rv_hart.specs.declared.action.Action.{Action}
 use Rattle.rv_hart.specs.declared.action.Action.TheVariants.{Trap, Set, Load, Store, Reserve, Conditional, Replace, Print, Exit}
 use Rattle.rv_hart.specs.declared.action.Combine.{Combine}
@@ -10,7 +10,7 @@ use Rattle.rv_hart.specs.declared.hart.Cause.TheVariants.{TargetMisaligned, Brea
 use Rattle.rv_hart.specs.declared.hart.Hart.{Hart}
 use Rattle.rv_isa.specs.declared.instr.Instr.{Instr}
 use Rattle.rv_isa.specs.declared.op.Op.{Op}
-use Rattle.rv_isa.specs.declared.op.Op.TheVariants.{Lui, Auipc, Jal, Jalr, Beq, Bne, Blt, Bge, Bltu, Bgeu, Lb, Lh, Lw, Lbu, Lhu, Sb, Sh, Sw, Addi, Slti, Sltiu, Xori, Ori, Andi, Slli, Srli, Srai, Add, Sub, Sll, Slt, Sltu, Xor, Srl, Sra, Or, And, Fence, Ecall, Ebreak, LrW, ScW, AmoswapW, AmoaddW, AmoxorW, AmoandW, AmoorW, AmominW, AmomaxW, AmominuW, AmomaxuW}
+use Rattle.rv_isa.specs.declared.op.Op.TheVariants.{Lui, Auipc, Jal, Jalr, Beq, Bne, Blt, Bge, Bltu, Bgeu, Lb, Lh, Lw, Lbu, Lhu, Sb, Sh, Sw, Addi, Slti, Sltiu, Xori, Ori, Andi, Slli, Srli, Srai, Add, Sub, Sll, Slt, Sltu, Xor, Srl, Sra, Or, And, Fence, Ecall, Ebreak, Mul, Mulh, Mulhsu, Mulhu, Div, Divu, Rem, Remu, LrW, ScW, AmoswapW, AmoaddW, AmoxorW, AmoandW, AmoorW, AmominW, AmomaxW, AmominuW, AmomaxuW}
 
 -- the address of the following word
 abbrev pub following : Hart → ℕ
@@ -52,7 +52,7 @@ environment_call hart =
     if get hart.registers 17 == 93 then Exit (get hart.registers 10)
     else (if get hart.registers 17 == 1 then Print (get hart.registers 10 % 256) else Trap UnknownCall)
 
--- What each operation does, before its access is tested. (RISC-V Unprivileged ISA, chapters RV32I and A.)
+-- What each operation does, before its access is tested. (RISC-V Unprivileged ISA, chapters RV32I, M and A.)
 abbrev pub act : Op → Instr → Hart → Action
 act Lui i hart = result_is i hart (shift_left (immediate i) 12)
 act Auipc i hart = result_is i hart (plus hart.pc (shift_left (immediate i) 12))
@@ -94,6 +94,14 @@ act And i hart = result_is i hart (bit_and (source_1 i hart) (source_2 i hart))
 act Fence i hart = Set 0 0 (following hart)
 act Ecall i hart = environment_call hart
 act Ebreak i hart = Trap Breakpoint
+act Mul i hart = result_is i hart (low_half (integer (source_1 i hart) *ℤ integer (source_2 i hart)))
+act Mulh i hart = result_is i hart (high_half (integer (source_1 i hart) *ℤ integer (source_2 i hart)))
+act Mulhsu i hart = result_is i hart (high_half (integer (source_1 i hart) *ℤ pos (source_2 i hart)))
+act Mulhu i hart = result_is i hart (high_half (pos (source_1 i hart) *ℤ pos (source_2 i hart)))
+act Div i hart = result_is i hart (quotient_signed (source_1 i hart) (source_2 i hart))
+act Divu i hart = result_is i hart (quotient (source_1 i hart) (source_2 i hart))
+act Rem i hart = result_is i hart (remainder_signed (source_1 i hart) (source_2 i hart))
+act Remu i hart = result_is i hart (remainder (source_1 i hart) (source_2 i hart))
 act LrW i hart = Reserve i.rd (source_1 i hart)
 act ScW i hart = Conditional i.rd (source_1 i hart) (source_2 i hart)
 act AmoswapW i hart = replace i hart combine.Swap

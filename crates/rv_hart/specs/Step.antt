@@ -180,6 +180,6 @@ step_of_hart s h None = None
 step_of_hart s h (Some hart) = if is_running hart.status then Some (step_by s h hart (action_at s.memory hart)) else None
 
 -- What one step of hart h does: its event and the state after it, where h is a running hart, and else
--- none. (RISC-V Unprivileged ISA, chapters RV32I and A; all steps stand in one order.)
+-- none. (RISC-V Unprivileged ISA, chapters RV32I, M and A; all steps stand in one order.)
 unfoldable pub step_of : State → ℕ → Option (Event × State)
 step_of s h = step_of_hart s h (slice_get s.harts h)

@@ -1,6 +1,7 @@
 -- What a step of each class of instructions changes, and what stays.
-use Rattle.std.specs.Prelude.{◌≡◌, ◌≢◌, ℕ, ◌+◌, ◌*◌, ◌^◌, ◌<◌, ◌≤◌, ◌<ℤ◌, ◌↔◌, Bool, true, false, ◌&&◌, nat_le, nat_lt, IsTrue, Option, Some, None, List, [], ◌∷◌, ◌++◌, length, map, slice_get, slice_set}
-use Rattle.std.specs.Int.{int_shr}
+use Rattle.std.specs.Prelude.{◌≡◌, ◌≢◌, ℕ, ℤ, pos, ◌+ℤ◌, ◌*ℤ◌, ◌+◌, ◌-◌, ◌*◌, ◌^◌, ◌<◌, ◌≤◌, ◌<ℤ◌, ◌↔◌, Bool, false, ◌&&◌, nat_le, nat_lt, IsTrue, Option, Some, None, List, [], ◌∷◌, ◌++◌, length, map, slice_get, slice_set}
+use Rattle.std.specs.Int.{int_shr, w32, w64}
+use Rattle.std.specs.Int.RustNames.{FitsSigned, int_div}
 use Rattle.rv_hart.specs.Act.{following}
 use Rattle.rv_hart.specs.SomeHart.{SomeHart}
 use Rattle.rv_hart.specs.NextAccess.{accessed}
@@ -8,7 +9,7 @@ use Rattle.rv_hart.specs.Refusals.{IsIdle}
 use Rattle.rv_hart.specs.Registers.{get, set}
 use Rattle.rv_hart.specs.State.{State, is_running}
 use Rattle.rv_hart.specs.Step.{step_of, action_at, seen_by, reads, writes, both, write}
-use Rattle.rv_hart.specs.Arithmetic.{integer, less_signed, shift_left, shift_right, shift_right_signed, combined, extended}
+use Rattle.rv_hart.specs.Arithmetic.{integer, less_signed, shift_left, shift_right, shift_right_signed, low_half, high_half, quotient, quotient_signed, remainder, remainder_signed, combined, extended}
 use Rattle.rv_hart.specs.declared.access.Access.{Access}
 use Rattle.rv_hart.specs.declared.access.Event.{Event}
 use Rattle.rv_hart.specs.declared.access.Event.TheVariants as event
@@ -140,3 +141,15 @@ pub record ArithmeticLaw : Type 0 where
   pub left : (a amount : ℕ) → (carried : ℕ) × (a * 2 ^ amount ≡ shift_left a amount + carried * 2 ^ 32)
   pub right : (a amount : ℕ) → (lost : ℕ) × (lost < 2 ^ amount) × (a ≡ shift_right a amount * 2 ^ amount + lost)
   pub right_signed : (a amount : ℕ) → a < 2 ^ 32 → integer (shift_right_signed a amount) ≡ int_shr (integer a) amount
+
+-- The halves of a product are the product, and the low one is the same however the factors are read. Quotient and
+-- remainder make up the dividend, where the quotient is a word's number; the rest is the manual's table of special
+-- cases. (RISC-V Unprivileged ISA, "Multiplication Operations", "Division Operations".)
+pub record ProductLaw : Type 0 where
+  pub whole : (a b : ℕ) → a < 2 ^ 32 → b < 2 ^ 32 → high_half (pos a *ℤ pos b) * 2 ^ 32 + low_half (pos a *ℤ pos b) ≡ a * b
+  pub whole_signed : (z : ℤ) → FitsSigned w64 z → integer (high_half z) *ℤ pos (2 ^ 32) +ℤ pos (low_half z) ≡ z
+  pub same_low : (a b : ℕ) → a < 2 ^ 32 → b < 2 ^ 32 → low_half (integer a *ℤ integer b) ≡ low_half (pos a *ℤ pos b)
+  pub made_up : (a b : ℕ) → 0 < b → (quotient a b * b + remainder a b ≡ a) × (remainder a b < b)
+  pub made_up_signed : (a b : ℕ) → 0 < b → FitsSigned w32 (int_div (integer a) (integer b)) → a < 2 ^ 32 → b < 2 ^ 32 → integer (quotient_signed a b) *ℤ integer b +ℤ integer (remainder_signed a b) ≡ integer a
+  pub by_zero : (a : ℕ) → (quotient a 0 ≡ 2 ^ 32 - 1) × (quotient_signed a 0 ≡ 2 ^ 32 - 1) × (remainder a 0 ≡ a) × (remainder_signed a 0 ≡ a)
+  pub overflow : (quotient_signed (2 ^ 31) (2 ^ 32 - 1) ≡ 2 ^ 31) × (remainder_signed (2 ^ 31) (2 ^ 32 - 1) ≡ 0)

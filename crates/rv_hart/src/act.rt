@@ -1,4 +1,4 @@
-ghost use Rattle.std.specs.Prelude.{◌≡◌, ◌<◌, ◌^◌};
+ghost use Rattle.std.specs.Prelude.{◌≡◌, ◌<◌, ◌^◌, pos, ◌*ℤ◌};
 ghost use Rattle.rv_memory.specs.Memory.{IsSize};
 ghost use Rattle.rv_hart.specs.Act as spec;
 ghost use Rattle.rv_hart.specs.Registers.{get};
@@ -72,6 +72,14 @@ pub fn act(instr: &Instr, hart: &Hart) -> Action
         Op::Fence => proceed(hart),
         Op::Ecall => environment_call(hart),
         Op::Ebreak => Action::Trap(Cause::Breakpoint),
+        Op::Mul => set(instr, hart, low_half(a, b)),
+        Op::Mulh => set(instr, hart, high_half_signed(a, b)),
+        Op::Mulhsu => set(instr, hart, high_half_signed_by_unsigned(a, b)),
+        Op::Mulhu => set(instr, hart, high_half(a, b)),
+        Op::Div => set(instr, hart, quotient_signed(a, b)),
+        Op::Divu => set(instr, hart, quotient(a, b)),
+        Op::Rem => set(instr, hart, remainder_signed(a, b)),
+        Op::Remu => set(instr, hart, remainder(a, b)),
         Op::LrW => reserve(instr, a),
         Op::ScW => conditional(instr, a, b),
         Op::AmoswapW => replace(instr, a, Combine::Swap, b),
@@ -160,6 +168,90 @@ fn shift_right_signed(a: u32, amount: u32) -> u32
     ensures { result ≡ arithmetic.shift_right_signed a amount }
 {
     a.cast_signed().wrapping_shr(amount).cast_unsigned()
+}
+
+/// The low half of the product, which is the same however the factors are read.
+#[inline(always)]
+fn low_half(a: u32, b: u32) -> u32
+    ensures { result ≡ arithmetic.low_half (arithmetic.integer a *ℤ arithmetic.integer b) }
+{
+    a.wrapping_mul(b)
+}
+
+/// The high half of the product of two words read as signed.
+#[inline(always)]
+fn high_half_signed(a: u32, b: u32) -> u32
+    ensures { result ≡ arithmetic.high_half (arithmetic.integer a *ℤ arithmetic.integer b) }
+{
+    high_of(i64::from(a.cast_signed()) * i64::from(b.cast_signed()))
+}
+
+/// The high half of the product of a word read as signed and one read as unsigned.
+#[inline(always)]
+fn high_half_signed_by_unsigned(a: u32, b: u32) -> u32
+    ensures { result ≡ arithmetic.high_half (arithmetic.integer a *ℤ pos b) }
+{
+    high_of(i64::from(a.cast_signed()) * i64::from(b))
+}
+
+/// The high half of the product of two words read as unsigned.
+#[inline(always)]
+fn high_half(a: u32, b: u32) -> u32
+    ensures { result ≡ arithmetic.high_half (pos a *ℤ pos b) }
+{
+    ((u64::from(a) * u64::from(b)) >> 32) as u32
+}
+
+/// The upper 32 bits of 64.
+#[inline(always)]
+fn high_of(product: i64) -> u32
+    ensures { result ≡ arithmetic.high_half product }
+{
+    (product.cast_unsigned() >> 32) as u32
+}
+
+/// The quotient of two words read as unsigned.
+#[inline(always)]
+fn quotient(a: u32, b: u32) -> u32
+    ensures { result ≡ arithmetic.quotient a b }
+{
+    if b == 0 { u32::MAX } else { a / b }
+}
+
+/// The quotient of two words read as signed, rounded towards zero.
+#[inline(always)]
+fn quotient_signed(a: u32, b: u32) -> u32
+    ensures { result ≡ arithmetic.quotient_signed a b }
+{
+    if b == 0 {
+        u32::MAX
+    } else {
+        a.cast_signed()
+            .wrapping_div(b.cast_signed())
+            .cast_unsigned()
+    }
+}
+
+/// The remainder of two words read as unsigned.
+#[inline(always)]
+fn remainder(a: u32, b: u32) -> u32
+    ensures { result ≡ arithmetic.remainder a b }
+{
+    if b == 0 { a } else { a % b }
+}
+
+/// The remainder of two words read as signed, with the dividend's sign.
+#[inline(always)]
+fn remainder_signed(a: u32, b: u32) -> u32
+    ensures { result ≡ arithmetic.remainder_signed a b }
+{
+    if b == 0 {
+        a
+    } else {
+        a.cast_signed()
+            .wrapping_rem(b.cast_signed())
+            .cast_unsigned()
+    }
 }
 
 #[inline(always)]

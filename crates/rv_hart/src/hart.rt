@@ -5,7 +5,7 @@ ghost use Rattle.rv_hart.specs.State as state;
 use crate::registers::Registers;
 
 /// Why a hart stopped. The numbers, in this order from 0, are this project's own; what a hart does to be
-/// stopped so is the RISC-V Unprivileged ISA's "exception" of the chapters RV32I and A.
+/// stopped so is the RISC-V Unprivileged ISA's "exception" of the chapters RV32I, M and A.
 #[derive(Clone, Copy, Debug, PartialEq, Eq)]
 pub enum Cause {
     /// A taken branch or a jump to an address that is no multiple of 4.

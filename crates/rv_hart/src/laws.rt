@@ -19,7 +19,7 @@ pub fn actions_by_the_table()
 }
 
 /// What a step of each class of instruction changes; all else stays. (RISC-V Unprivileged ISA, chapters
-/// RV32I and A.)
+/// RV32I, M and A.)
 pub fn steps_by_class()
     ensures trap { law.TrapLaw }
     ensures exit { law.ExitLaw }
@@ -60,8 +60,10 @@ pub fn reservations_and_accesses()
     ensures sizes { reservation.SizesOfAccesses }
 {}
 
-/// Register x0 is read as 0; compares and shifts agree with the numbers that the words stand for.
+/// Register x0 is read as 0; compares, shifts, products and quotients agree with the numbers that the words stand
+/// for.
 pub fn registers_and_arithmetic()
     ensures registers { law.RegistersLaw }
     ensures arithmetic { law.ArithmeticLaw }
+    ensures products { law.ProductLaw }
 {}

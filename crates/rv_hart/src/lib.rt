@@ -1,4 +1,4 @@
-//! The machine: harts that execute RV32IA over one memory, one atomic step at a time.
+//! The machine: harts that execute RV32IMA over one memory, one atomic step at a time.
 //!
 //! To the layer above, `Machine::step` is the relation of `specs/Step.antt`, which knows no breakpoint,
 //! no sampler and no pause; a refused step changes nothing.

@@ -128,19 +128,19 @@ fn dispatched<S: ByteStore>(
         0x60 => if is_plain {
             set_by(store, hart, Op::Add, word, access)
         } else {
-            set_by(store, hart, Op::Sub, word, access)
+            set_by_either(store, hart, Op::Sub, Op::Mul, word, access)
         },
-        0x61 => set_by(store, hart, Op::Sll, word, access),
-        0x62 => set_by(store, hart, Op::Slt, word, access),
-        0x63 => set_by(store, hart, Op::Sltu, word, access),
-        0x64 => set_by(store, hart, Op::Xor, word, access),
+        0x61 => set_by_either(store, hart, Op::Sll, Op::Mulh, word, access),
+        0x62 => set_by_either(store, hart, Op::Slt, Op::Mulhsu, word, access),
+        0x63 => set_by_either(store, hart, Op::Sltu, Op::Mulhu, word, access),
+        0x64 => set_by_either(store, hart, Op::Xor, Op::Div, word, access),
         0x65 => if is_plain {
             set_by(store, hart, Op::Srl, word, access)
         } else {
-            set_by(store, hart, Op::Sra, word, access)
+            set_by_either(store, hart, Op::Sra, Op::Divu, word, access)
         },
-        0x66 => set_by(store, hart, Op::Or, word, access),
-        0x67 => set_by(store, hart, Op::And, word, access),
+        0x66 => set_by_either(store, hart, Op::Or, Op::Rem, word, access),
+        0x67 => set_by_either(store, hart, Op::And, Op::Remu, word, access),
         0x68..=0x6f => set_by(store, hart, Op::Lui, word, access),
         0xc0 => set_by(store, hart, Op::Beq, word, access),
         0xc1 => set_by(store, hart, Op::Bne, word, access),
@@ -207,6 +207,25 @@ fn set_by<S: ByteStore>(
     match begun(store, hart, op, word) {
         Some(action) => set(store, hart, action, access),
         None => Attempt::Nothing,
+    }
+}
+
+/// Takes the step of a word of one of two operations, which set a register. The first is tried first.
+#[inline(always)]
+fn set_by_either<S: ByteStore>(
+    store: &mut S,
+    hart: &mut Hart,
+    first: Op,
+    second: Op,
+    word: u32,
+    access: &mut Access,
+) -> Attempt
+    requires fetches { Fetches (S.memory store.old) word hart.old }
+    ensures { Tried hart.old hart.new (S.memory store.old) (S.memory store.new) (event_of_attempt result access.new) }
+{
+    match begun(store, hart, first, word) {
+        Some(action) => set(store, hart, action, access),
+        None => set_by(store, hart, second, word, access),
     }
 }
 

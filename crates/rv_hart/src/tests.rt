@@ -15,8 +15,10 @@ use std::test::Fail;
 
 mod atomics;
 mod causes;
+mod corners;
 mod edges;
 mod operations;
+mod products;
 
 /// What was found is what is wanted. (Each assertion that a test writes out costs the check a second, and a call of
 /// this one next to nothing.)

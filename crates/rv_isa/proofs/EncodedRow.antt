@@ -11,7 +11,7 @@ use Rattle.rv_isa.specs.declared.form.Form.{Form}
 use Rattle.rv_isa.specs.declared.form.Form.TheVariants as form
 use Rattle.rv_isa.specs.declared.instr.Instr.{Instr}
 use Rattle.rv_isa.specs.declared.op.Op.{Op}
-use Rattle.rv_isa.specs.declared.op.Op.TheVariants.{Lui, Auipc, Jal, Jalr, Beq, Bne, Blt, Bge, Bltu, Bgeu, Lb, Lh, Lw, Lbu, Lhu, Sb, Sh, Sw, Addi, Slti, Sltiu, Xori, Ori, Andi, Slli, Srli, Srai, Add, Sub, Sll, Slt, Sltu, Xor, Srl, Sra, Or, And, Fence, Ecall, Ebreak, LrW, ScW, AmoswapW, AmoaddW, AmoxorW, AmoandW, AmoorW, AmominW, AmomaxW, AmominuW, AmomaxuW}
+use Rattle.rv_isa.specs.declared.op.Op.TheVariants.{Lui, Auipc, Jal, Jalr, Beq, Bne, Blt, Bge, Bltu, Bgeu, Lb, Lh, Lw, Lbu, Lhu, Sb, Sh, Sw, Addi, Slti, Sltiu, Xori, Ori, Andi, Slli, Srli, Srai, Add, Sub, Sll, Slt, Sltu, Xor, Srl, Sra, Or, And, Fence, Ecall, Ebreak, Mul, Mulh, Mulhsu, Mulhu, Div, Divu, Rem, Remu, LrW, ScW, AmoswapW, AmoaddW, AmoxorW, AmoandW, AmoorW, AmominW, AmomaxW, AmominuW, AmomaxuW}
 use Rattle.rv_isa.proofs.EncodeLemmas.{and_opcode, and_funct3, and_funct5, and_funct7, and_lr, and_all, signed_12_bits, signed_13_bits, signed_21_bits}
 use Rattle.rv_isa.proofs.ReadsBack.{reads_back}
 
@@ -79,6 +79,14 @@ fixed_within And = refl
 fixed_within Fence = refl
 fixed_within Ecall = refl
 fixed_within Ebreak = refl
+fixed_within Mul = refl
+fixed_within Mulh = refl
+fixed_within Mulhsu = refl
+fixed_within Mulhu = refl
+fixed_within Div = refl
+fixed_within Divu = refl
+fixed_within Rem = refl
+fixed_within Remu = refl
 fixed_within LrW = refl
 fixed_within ScW = refl
 fixed_within AmoswapW = refl

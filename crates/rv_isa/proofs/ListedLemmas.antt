@@ -3,7 +3,7 @@ use Rattle.std.proofs.Common.{◌≡◌, ℕ, zero, suc, ◌<◌, Bool, true, fa
 use Rattle.std.specs.List.{find, slice_index_or}
 use Rattle.rv_isa.specs.TableLaws.{EachOperationIsListed}
 use Rattle.rv_isa.specs.declared.op.Op.{Op}
-use Rattle.rv_isa.specs.declared.op.Op.TheVariants.{Lui, Auipc, Jal, Jalr, Beq, Bne, Blt, Bge, Bltu, Bgeu, Lb, Lh, Lw, Lbu, Lhu, Sb, Sh, Sw, Addi, Slti, Sltiu, Xori, Ori, Andi, Slli, Srli, Srai, Add, Sub, Sll, Slt, Sltu, Xor, Srl, Sra, Or, And, Fence, Ecall, Ebreak, LrW, ScW, AmoswapW, AmoaddW, AmoxorW, AmoandW, AmoorW, AmominW, AmomaxW, AmominuW, AmomaxuW}
+use Rattle.rv_isa.specs.declared.op.Op.TheVariants.{Lui, Auipc, Jal, Jalr, Beq, Bne, Blt, Bge, Bltu, Bgeu, Lb, Lh, Lw, Lbu, Lhu, Sb, Sh, Sw, Addi, Slti, Sltiu, Xori, Ori, Andi, Slli, Srli, Srai, Add, Sub, Sll, Slt, Sltu, Xor, Srl, Sra, Or, And, Fence, Ecall, Ebreak, Mul, Mulh, Mulhsu, Mulhu, Div, Divu, Rem, Remu, LrW, ScW, AmoswapW, AmoaddW, AmoxorW, AmoandW, AmoorW, AmominW, AmomaxW, AmominuW, AmomaxuW}
 
 found_at : (p : Op → Bool) (b : Bool) (first op : Op) (later : Option Op) → p first ≡ b → (later ≡ Some op → p op ≡ true) → cond b (Some first) later ≡ Some op → p op ≡ true
 found_at p true first op later passes rest found = let same : first ≡ op = cc in subst (λ (o : Op). p o ≡ true) same passes
@@ -65,14 +65,22 @@ each_listed And = (36, lit< tt, refl)
 each_listed Fence = (37, lit< tt, refl)
 each_listed Ecall = (38, lit< tt, refl)
 each_listed Ebreak = (39, lit< tt, refl)
-each_listed LrW = (40, lit< tt, refl)
-each_listed ScW = (41, lit< tt, refl)
-each_listed AmoswapW = (42, lit< tt, refl)
-each_listed AmoaddW = (43, lit< tt, refl)
-each_listed AmoxorW = (44, lit< tt, refl)
-each_listed AmoandW = (45, lit< tt, refl)
-each_listed AmoorW = (46, lit< tt, refl)
-each_listed AmominW = (47, lit< tt, refl)
-each_listed AmomaxW = (48, lit< tt, refl)
-each_listed AmominuW = (49, lit< tt, refl)
-each_listed AmomaxuW = (50, lit< tt, refl)
+each_listed Mul = (40, lit< tt, refl)
+each_listed Mulh = (41, lit< tt, refl)
+each_listed Mulhsu = (42, lit< tt, refl)
+each_listed Mulhu = (43, lit< tt, refl)
+each_listed Div = (44, lit< tt, refl)
+each_listed Divu = (45, lit< tt, refl)
+each_listed Rem = (46, lit< tt, refl)
+each_listed Remu = (47, lit< tt, refl)
+each_listed LrW = (48, lit< tt, refl)
+each_listed ScW = (49, lit< tt, refl)
+each_listed AmoswapW = (50, lit< tt, refl)
+each_listed AmoaddW = (51, lit< tt, refl)
+each_listed AmoxorW = (52, lit< tt, refl)
+each_listed AmoandW = (53, lit< tt, refl)
+each_listed AmoorW = (54, lit< tt, refl)
+each_listed AmominW = (55, lit< tt, refl)
+each_listed AmomaxW = (56, lit< tt, refl)
+each_listed AmominuW = (57, lit< tt, refl)
+each_listed AmomaxuW = (58, lit< tt, refl)

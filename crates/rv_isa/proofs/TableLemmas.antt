@@ -6,7 +6,7 @@ use Rattle.rv_isa.specs.Fields.{field, funct3, funct7, rs2}
 use Rattle.rv_isa.specs.internal.Candidate.{candidate, by_fields}
 use Rattle.rv_isa.specs.Table.{Matches}
 use Rattle.rv_isa.specs.declared.op.Op.{Op}
-use Rattle.rv_isa.specs.declared.op.Op.TheVariants.{Lui, Auipc, Jal, Jalr, Beq, Bne, Blt, Bge, Bltu, Bgeu, Lb, Lh, Lw, Lbu, Lhu, Sb, Sh, Sw, Addi, Slti, Sltiu, Xori, Ori, Andi, Slli, Srli, Srai, Add, Sub, Sll, Slt, Sltu, Xor, Srl, Sra, Or, And, Fence, Ecall, Ebreak, LrW, ScW, AmoswapW, AmoaddW, AmoxorW, AmoandW, AmoorW, AmominW, AmomaxW, AmominuW, AmomaxuW}
+use Rattle.rv_isa.specs.declared.op.Op.TheVariants.{Lui, Auipc, Jal, Jalr, Beq, Bne, Blt, Bge, Bltu, Bgeu, Lb, Lh, Lw, Lbu, Lhu, Sb, Sh, Sw, Addi, Slti, Sltiu, Xori, Ori, Andi, Slli, Srli, Srai, Add, Sub, Sll, Slt, Sltu, Xor, Srl, Sra, Or, And, Fence, Ecall, Ebreak, Mul, Mulh, Mulhsu, Mulhu, Div, Divu, Rem, Remu, LrW, ScW, AmoswapW, AmoaddW, AmoxorW, AmoandW, AmoorW, AmominW, AmomaxW, AmominuW, AmomaxuW}
 
 -- Where a mask is all ones in a field, the masked word has the word's field.
 field-from_mask : (low width w m v : ℕ) → field low width m ≡ 2 ^ width - 1 → bit_and w m ≡ v → field low width w ≡ field low width v
@@ -83,6 +83,14 @@ candidate_is w And h = by_funct7 w 0x00007033 h
 candidate_is w Fence h = by_opcode_3 w 0x0000000f h
 candidate_is w Ecall h = by_all w 0x00000073 h
 candidate_is w Ebreak h = by_all w 0x00100073 h
+candidate_is w Mul h = by_funct7 w 0x02000033 h
+candidate_is w Mulh h = by_funct7 w 0x02001033 h
+candidate_is w Mulhsu h = by_funct7 w 0x02002033 h
+candidate_is w Mulhu h = by_funct7 w 0x02003033 h
+candidate_is w Div h = by_funct7 w 0x02004033 h
+candidate_is w Divu h = by_funct7 w 0x02005033 h
+candidate_is w Rem h = by_funct7 w 0x02006033 h
+candidate_is w Remu h = by_funct7 w 0x02007033 h
 candidate_is w LrW h = by_lr w 0x1000202f h
 candidate_is w ScW h = by_funct5 w 0x1800202f h
 candidate_is w AmoswapW h = by_funct5 w 0x0800202f h

@@ -2,7 +2,7 @@
 use Rattle.rv_isa.specs.declared.shape.Shape.{Shape}
 use Rattle.rv_isa.specs.declared.shape.Shape.TheVariants as shape
 use Rattle.rv_isa.specs.declared.op.Op.{Op}
-use Rattle.rv_isa.specs.declared.op.Op.TheVariants.{Lui, Auipc, Jal, Jalr, Beq, Bne, Blt, Bge, Bltu, Bgeu, Lb, Lh, Lw, Lbu, Lhu, Sb, Sh, Sw, Addi, Slti, Sltiu, Xori, Ori, Andi, Slli, Srli, Srai, Add, Sub, Sll, Slt, Sltu, Xor, Srl, Sra, Or, And, Fence, Ecall, Ebreak, LrW, ScW, AmoswapW, AmoaddW, AmoxorW, AmoandW, AmoorW, AmominW, AmomaxW, AmominuW, AmomaxuW}
+use Rattle.rv_isa.specs.declared.op.Op.TheVariants.{Lui, Auipc, Jal, Jalr, Beq, Bne, Blt, Bge, Bltu, Bgeu, Lb, Lh, Lw, Lbu, Lhu, Sb, Sh, Sw, Addi, Slti, Sltiu, Xori, Ori, Andi, Slli, Srli, Srai, Add, Sub, Sll, Slt, Sltu, Xor, Srl, Sra, Or, And, Fence, Ecall, Ebreak, Mul, Mulh, Mulhsu, Mulhu, Div, Divu, Rem, Remu, LrW, ScW, AmoswapW, AmoaddW, AmoxorW, AmoandW, AmoorW, AmominW, AmomaxW, AmominuW, AmomaxuW}
 
 -- how an operation accesses memory, if it does, with the access's size in bytes
 abbrev pub shape_of : Op → Shape
@@ -57,3 +57,11 @@ shape_of And = shape.Other
 shape_of Fence = shape.Other
 shape_of Ecall = shape.Other
 shape_of Ebreak = shape.Other
+shape_of Mul = shape.Other
+shape_of Mulh = shape.Other
+shape_of Mulhsu = shape.Other
+shape_of Mulhu = shape.Other
+shape_of Div = shape.Other
+shape_of Divu = shape.Other
+shape_of Rem = shape.Other
+shape_of Remu = shape.Other

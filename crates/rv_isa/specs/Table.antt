@@ -4,7 +4,7 @@ use Rattle.rv_isa.specs.Form.{mask_of}
 use Rattle.rv_isa.specs.declared.form.Form.{Form}
 use Rattle.rv_isa.specs.declared.form.Form.TheVariants as form
 use Rattle.rv_isa.specs.declared.op.Op.{Op}
-use Rattle.rv_isa.specs.declared.op.Op.TheVariants.{Lui, Auipc, Jal, Jalr, Beq, Bne, Blt, Bge, Bltu, Bgeu, Lb, Lh, Lw, Lbu, Lhu, Sb, Sh, Sw, Addi, Slti, Sltiu, Xori, Ori, Andi, Slli, Srli, Srai, Add, Sub, Sll, Slt, Sltu, Xor, Srl, Sra, Or, And, Fence, Ecall, Ebreak, LrW, ScW, AmoswapW, AmoaddW, AmoxorW, AmoandW, AmoorW, AmominW, AmomaxW, AmominuW, AmomaxuW}
+use Rattle.rv_isa.specs.declared.op.Op.TheVariants.{Lui, Auipc, Jal, Jalr, Beq, Bne, Blt, Bge, Bltu, Bgeu, Lb, Lh, Lw, Lbu, Lhu, Sb, Sh, Sw, Addi, Slti, Sltiu, Xori, Ori, Andi, Slli, Srli, Srai, Add, Sub, Sll, Slt, Sltu, Xor, Srl, Sra, Or, And, Fence, Ecall, Ebreak, Mul, Mulh, Mulhsu, Mulhu, Div, Divu, Rem, Remu, LrW, ScW, AmoswapW, AmoaddW, AmoxorW, AmoandW, AmoorW, AmominW, AmomaxW, AmominuW, AmomaxuW}
 
 -- A row: an operation's format, and what the format's fixed bits are.
 pub record TableRow : Type 0 where
@@ -14,7 +14,7 @@ pub record TableRow : Type 0 where
 abbrev row : Form → ℕ → TableRow
 row f bits = record { form = f; fixed = bits }
 
--- The instruction table. (RISC-V Unprivileged ISA, instruction listings of RV32I and RV32A.)
+-- The instruction table. (RISC-V Unprivileged ISA, instruction listings of RV32I, RV32M and RV32A.)
 abbrev pub row_of : Op → TableRow
 row_of Lui = row form.U 0x00000037
 row_of Auipc = row form.U 0x00000017
@@ -56,6 +56,14 @@ row_of And = row form.R 0x00007033
 row_of Fence = row form.Fence 0x0000000f
 row_of Ecall = row form.Plain 0x00000073
 row_of Ebreak = row form.Plain 0x00100073
+row_of Mul = row form.R 0x02000033
+row_of Mulh = row form.R 0x02001033
+row_of Mulhsu = row form.R 0x02002033
+row_of Mulhu = row form.R 0x02003033
+row_of Div = row form.R 0x02004033
+row_of Divu = row form.R 0x02005033
+row_of Rem = row form.R 0x02006033
+row_of Remu = row form.R 0x02007033
 row_of LrW = row form.Lr 0x1000202f
 row_of ScW = row form.Amo 0x1800202f
 row_of AmoswapW = row form.Amo 0x0800202f
@@ -81,6 +89,7 @@ operations =
     Slli ∷ Srli ∷ Srai ∷
     Add ∷ Sub ∷ Sll ∷ Slt ∷ Sltu ∷ Xor ∷ Srl ∷ Sra ∷ Or ∷ And ∷
     Fence ∷ Ecall ∷ Ebreak ∷
+    Mul ∷ Mulh ∷ Mulhsu ∷ Mulhu ∷ Div ∷ Divu ∷ Rem ∷ Remu ∷
     LrW ∷ ScW ∷ AmoswapW ∷ AmoaddW ∷ AmoxorW ∷ AmoandW ∷ AmoorW ∷ AmominW ∷ AmomaxW ∷ AmominuW ∷ AmomaxuW ∷ []
 
 abbrev pub form_of : Op → Form

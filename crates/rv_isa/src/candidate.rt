@@ -94,6 +94,9 @@ fn immediate(funct3: u32, funct7: u32) -> Op
 fn register(funct3: u32, funct7: u32) -> Op
     ensures { result ≡ spec.register funct3 funct7 }
 {
+    if funct7 == 1 {
+        return multiply(funct3);
+    }
     match funct3 {
         0 => if funct7 == 0 { Op::Add } else { Op::Sub },
         1 => Op::Sll,
@@ -103,6 +106,22 @@ fn register(funct3: u32, funct7: u32) -> Op
         5 => if funct7 == 0 { Op::Srl } else { Op::Sra },
         6 => Op::Or,
         _ => Op::And,
+    }
+}
+
+#[inline(always)]
+fn multiply(funct3: u32) -> Op
+    ensures { result ≡ spec.multiply funct3 }
+{
+    match funct3 {
+        0 => Op::Mul,
+        1 => Op::Mulh,
+        2 => Op::Mulhsu,
+        3 => Op::Mulhu,
+        4 => Op::Div,
+        5 => Op::Divu,
+        6 => Op::Rem,
+        _ => Op::Remu,
     }
 }
 

@@ -3,7 +3,7 @@ ghost use Rattle.rv_isa.specs.Table as spec;
 
 use crate::form::Form;
 
-/// The operations of RV32I and of the extension A (RISC-V Unprivileged ISA, "RV32/64G Instruction Set
+/// The operations of RV32I and of the extensions M and A (RISC-V Unprivileged ISA, "RV32/64G Instruction Set
 /// Listings"), but for FENCE.I, which is none of them.
 #[derive(Clone, Copy, Debug, PartialEq, Eq)]
 pub enum Op {
@@ -47,6 +47,14 @@ pub enum Op {
     Fence,
     Ecall,
     Ebreak,
+    Mul,
+    Mulh,
+    Mulhsu,
+    Mulhu,
+    Div,
+    Divu,
+    Rem,
+    Remu,
     LrW,
     ScW,
     AmoswapW,
@@ -93,7 +101,15 @@ impl Op {
             | Op::Srl
             | Op::Sra
             | Op::Or
-            | Op::And => Form::R,
+            | Op::And
+            | Op::Mul
+            | Op::Mulh
+            | Op::Mulhsu
+            | Op::Mulhu
+            | Op::Div
+            | Op::Divu
+            | Op::Rem
+            | Op::Remu => Form::R,
             Op::Fence => Form::Fence,
             Op::Ecall | Op::Ebreak => Form::Plain,
             Op::LrW => Form::Lr,
@@ -156,6 +172,14 @@ impl Op {
             Op::Fence => 0x0000_000f,
             Op::Ecall => 0x0000_0073,
             Op::Ebreak => 0x0010_0073,
+            Op::Mul => 0x0200_0033,
+            Op::Mulh => 0x0200_1033,
+            Op::Mulhsu => 0x0200_2033,
+            Op::Mulhu => 0x0200_3033,
+            Op::Div => 0x0200_4033,
+            Op::Divu => 0x0200_5033,
+            Op::Rem => 0x0200_6033,
+            Op::Remu => 0x0200_7033,
             Op::LrW => 0x1000_202f,
             Op::ScW => 0x1800_202f,
             Op::AmoswapW => 0x0800_202f,

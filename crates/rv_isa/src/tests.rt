@@ -99,6 +99,23 @@ fn base_formats(rt: HostRuntime) {
     are(&rt, &BASE_FORMATS);
 }
 
+/// Multiplications and divisions, as GNU as encodes them.
+const PRODUCTS_AND_QUOTIENTS: [Row; 8] = [
+    (0x0262_83b3, Op::Mul, (7, 5, 6), 0),
+    (0x0273_12b3, Op::Mulh, (5, 6, 7), 0),
+    (0x03ff_afb3, Op::Mulhsu, (31, 31, 31), 0),
+    (0x0200_b0b3, Op::Mulhu, (1, 1, 0), 0),
+    (0x0262_c3b3, Op::Div, (7, 5, 6), 0),
+    (0x0262_d3b3, Op::Divu, (7, 5, 6), 0),
+    (0x0262_e3b3, Op::Rem, (7, 5, 6), 0),
+    (0x0262_f3b3, Op::Remu, (7, 5, 6), 0),
+];
+
+#[test]
+fn products_and_quotients(rt: HostRuntime) {
+    are(&rt, &PRODUCTS_AND_QUOTIENTS);
+}
+
 const MEMORY_AND_REGISTERS: [Row; 29] = [
     (0x0013_4283, Op::Lbu, (5, 6, 0), 1),
     (0xfff3_0283, Op::Lb, (5, 6, 0), -1),
@@ -137,7 +154,7 @@ fn memory_and_registers(rt: HostRuntime) {
 }
 
 /// All zeros and all ones; slli with bit 25 set; lr.w with an rs2; ecall with an rd; a load and a
-/// branch of no such width; FENCE.I; a multiplication; amo.d.
+/// branch of no such width; FENCE.I; an addition with funct7 2; amo.d.
 const ILLEGAL: [u32; 11] = [
     0,
     0xffff_ffff,
@@ -147,7 +164,7 @@ const ILLEGAL: [u32; 11] = [
     0x0003_3283,
     0x0000_2063,
     0x0000_100f,
-    0x0262_83b3,
+    0x0462_83b3,
     0x0073_32af,
     0x0020_0073,
 ];

@@ -173,7 +173,7 @@ fn program<'a>(alloc: Global) -> Result<Command<'a>, AllocError>
 {
     let program = Command::new(alloc, "rvcollide")
         .version("0.1.0")
-        .about("Hunts data races in RV32IA programs.")
+        .about("Hunts data races in RV32IMA programs.")
         .subcommand_required(true);
     with_subcommands(alloc, program, &COMMANDS)
 }

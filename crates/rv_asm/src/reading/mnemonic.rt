@@ -15,7 +15,7 @@ pub struct Mnemonic {
 }
 
 /// The operations.
-pub const OPS: [Op; 51] = [
+pub const OPS: [Op; 59] = [
     Op::Lui,
     Op::Auipc,
     Op::Jal,
@@ -56,6 +56,14 @@ pub const OPS: [Op; 51] = [
     Op::Fence,
     Op::Ecall,
     Op::Ebreak,
+    Op::Mul,
+    Op::Mulh,
+    Op::Mulhsu,
+    Op::Mulhu,
+    Op::Div,
+    Op::Divu,
+    Op::Rem,
+    Op::Remu,
     Op::LrW,
     Op::ScW,
     Op::AmoswapW,
@@ -129,6 +137,14 @@ pub(crate) fn mnemonic_of(op: Op) -> &'static str
         Op::Fence => "fence",
         Op::Ecall => "ecall",
         Op::Ebreak => "ebreak",
+        Op::Mul => "mul",
+        Op::Mulh => "mulh",
+        Op::Mulhsu => "mulhsu",
+        Op::Mulhu => "mulhu",
+        Op::Div => "div",
+        Op::Divu => "divu",
+        Op::Rem => "rem",
+        Op::Remu => "remu",
         Op::LrW => "lr.w",
         Op::ScW => "sc.w",
         Op::AmoswapW => "amoswap.w",

@@ -148,6 +148,14 @@ const LISTING: &str = "\
     00010224: a75ea0af amomax.w.aqrl x1, x21, (x29)\n\
     00010228: c61c2e2f amominu.w.aqrl x28, x1, (x24)\n\
     0001022c: e7222aaf amomaxu.w.aqrl x21, x18, (x4)\n\
+    00010230: 026283b3 mul x7, x5, x6\n\
+    00010234: 027312b3 mulh x5, x6, x7\n\
+    00010238: 03e0afb3 mulhsu x31, x1, x30\n\
+    0001023c: 020fb633 mulhu x12, x31, x0\n\
+    00010240: 0262c3b3 div x7, x5, x6\n\
+    00010244: 023150b3 divu x1, x2, x3\n\
+    00010248: 0394ea33 rem x20, x9, x25\n\
+    0001024c: 026271b3 remu x3, x4, x6\n\
 ";
 
 /// Asserts that the line's word is listed so, and read back.
@@ -169,6 +177,6 @@ fn agrees_with_another_assembler(rt: HostRuntime) -> Result<(), Fail> {
         assert_agrees(&rt, rt.alloc(), line)?;
         seen = seen.wrapping_add(1);
     }
-    assert_is(&rt, seen, 140, "how many lines");
+    assert_is(&rt, seen, 148, "how many lines");
     Ok(())
 }

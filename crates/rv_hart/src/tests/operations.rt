@@ -1,7 +1,7 @@
 use super::*;
 
 /// `lui x8, 0x20`, `lw x5, 0(x8)`, `lw x6, 4(x8)`, then the word, which sets x7.
-fn result(rt: &impl Abort, alloc: Global, word: u32, a: u32, b: u32) -> Result<u32, Fail> {
+pub fn result(rt: &impl Abort, alloc: Global, word: u32, a: u32, b: u32) -> Result<u32, Fail> {
     let words = [0x0002_0437, 0x0004_2283, 0x0044_2303, word];
     let mut machine = machine(rt, alloc, &words, &[a, b, 0x8180_7f01], 1)?;
     run(rt, &mut machine, &[0, 0, 0, 0]);

@@ -1,7 +1,7 @@
 use Rattle.std.specs.Prelude.{ℕ, ◌==◌, if◌then◌else◌}
 use Rattle.rv_isa.specs.Fields.{field, opcode, funct3, funct7, rs2}
 use Rattle.rv_isa.specs.declared.op.Op.{Op}
-use Rattle.rv_isa.specs.declared.op.Op.TheVariants.{Lui, Auipc, Jal, Jalr, Beq, Bne, Blt, Bge, Bltu, Bgeu, Lb, Lh, Lw, Lbu, Lhu, Sb, Sh, Sw, Addi, Slti, Sltiu, Xori, Ori, Andi, Slli, Srli, Srai, Add, Sub, Sll, Slt, Sltu, Xor, Srl, Sra, Or, And, Fence, Ecall, Ebreak, LrW, ScW, AmoswapW, AmoaddW, AmoxorW, AmoandW, AmoorW, AmominW, AmomaxW, AmominuW, AmomaxuW}
+use Rattle.rv_isa.specs.declared.op.Op.TheVariants.{Lui, Auipc, Jal, Jalr, Beq, Bne, Blt, Bge, Bltu, Bgeu, Lb, Lh, Lw, Lbu, Lhu, Sb, Sh, Sw, Addi, Slti, Sltiu, Xori, Ori, Andi, Slli, Srli, Srai, Add, Sub, Sll, Slt, Sltu, Xor, Srl, Sra, Or, And, Fence, Ecall, Ebreak, Mul, Mulh, Mulhsu, Mulhu, Div, Divu, Rem, Remu, LrW, ScW, AmoswapW, AmoaddW, AmoxorW, AmoandW, AmoorW, AmominW, AmomaxW, AmominuW, AmomaxuW}
 
 -- The one operation whose row a word may have, found by opcode, funct3, funct7, funct5 and rs2. That no
 -- other row matches is the contract of the code's `candidate`.
@@ -40,16 +40,28 @@ immediate f3 f7 =
     else (if f3 == 6 then Ori
     else Andi))))))
 
+abbrev pub multiply : ℕ → Op
+multiply f3 =
+    if f3 == 0 then Mul
+    else (if f3 == 1 then Mulh
+    else (if f3 == 2 then Mulhsu
+    else (if f3 == 3 then Mulhu
+    else (if f3 == 4 then Div
+    else (if f3 == 5 then Divu
+    else (if f3 == 6 then Rem
+    else Remu))))))
+
 abbrev pub register : ℕ → ℕ → Op
 register f3 f7 =
-    if f3 == 0 then (if f7 == 0 then Add else Sub)
+    if f7 == 1 then multiply f3
+    else (if f3 == 0 then (if f7 == 0 then Add else Sub)
     else (if f3 == 1 then Sll
     else (if f3 == 2 then Slt
     else (if f3 == 3 then Sltu
     else (if f3 == 4 then Xor
     else (if f3 == 5 then (if f7 == 0 then Srl else Sra)
     else (if f3 == 6 then Or
-    else And))))))
+    else And)))))))
 
 abbrev pub atomic : ℕ → Op
 atomic f5 =
