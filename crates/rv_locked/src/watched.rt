@@ -148,6 +148,14 @@ impl Watched {
         self.driver.due().is_some()
     }
 
+    /// Whether the pause of a hart is due to end.
+    pub(crate) fn is_due(&self, h: u8) -> bool
+        requires { h < self.now.core.plan.harts }
+        ensures { result ≡ is_due (setting_of self.now.core) self.now.core.entries h }
+    {
+        self.driver.is_due(h)
+    }
+
     /// The core.
     pub fn collider(&self) -> &Collider<Flat>
         ensures { result.now ≡ self.now.core }

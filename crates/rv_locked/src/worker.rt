@@ -1,29 +1,21 @@
 //! The workers: one a hart, each in a thread of its own.
 ghost use Rattle.std.specs.Prelude.{IfErr, IfSome};
 
+use crate::seats::{PATIENCE, Pace, Seats};
 use crate::watched::{Taken, Watched};
 use rv_drive::gate::Gate;
 use rv_hart::access::Event;
 use rv_memory::store::NoMemory;
 use std::alloc::Global;
 use std::marker::Model;
-use std::sync::atomic::AtomicU64;
-use std::sync::{Condvar, Mutex, MutexGuard, Wait};
-use std::time::Duration;
+use std::sync::{Mutex, MutexGuard, Wait};
 
-/// How often a worker that finds the lock taken sleeps a short time, before it queues for the lock.
-const NAPS: u32 = 8;
-
-/// How long it sleeps, in nanoseconds.
-const NAP: u64 = 50_000;
-
-/// What the workers share: the locked value, what wakes those whose pause is due, and where each of them
-/// leaves its record.
+/// What the workers share: the locked value, the seats in which they stand aside, and where each of them leaves its
+/// record.
 #[derive(Drop)]
 pub(crate) struct Shared<G: Gate> {
     watched: Mutex<Watched>,
-    changed: Condvar,
-    idle: AtomicU64,
+    seats: Seats,
     records: Vec<Mutex<Option<Record<G>>>>,
 }
 
@@ -109,11 +101,11 @@ fn empty_records<G: Gate>(
 impl<G: Gate> Shared<G> {
     /// What a number of workers share. All room is made here.
     pub fn new(alloc: Global, watched: Watched, harts: u8) -> Result<Shared<G>, NoMemory> {
+        let seats = Seats::new(alloc, harts)?;
         let records = empty_records(alloc, harts)?;
         Ok(Shared {
             watched: Mutex::new(watched),
-            changed: Condvar::new(),
-            idle: AtomicU64::new(0),
+            seats,
             records,
         })
     }
@@ -121,8 +113,7 @@ impl<G: Gate> Shared<G> {
     pub fn into_left(self) -> Left<G> {
         let Shared {
             watched,
-            changed: _,
-            idle: _,
+            seats: _,
             records,
         } = self;
         Left {
@@ -136,44 +127,107 @@ impl<G: Gate> Shared<G> {
         let mut guard = self.watched.lock(rt);
         guard.break_off();
         drop(guard);
-        self.changed.notify_all();
+        self.seats.call_all();
     }
 
-    /// The lock. Speed: a worker that finds it taken sleeps, so that its holder makes many turns in a row, and
-    /// queues only after some tries.
-    fn lock<R: Wait>(&self, rt: &R) -> MutexGuard<'_, Watched> {
-        for _ in 0..NAPS {
-            if let Some(guard) = self.watched.try_lock() {
-                return guard;
-            }
-            self.idle.park_timeout(rt, 0, Duration::from_nanos(NAP));
+    /// Workers begin one after the other, hart 0's first.
+    fn begin<R: Wait>(&self, rt: &R, h: u8, pace: &mut Pace) {
+        if h != 0 {
+            self.seats.stand(rt, h, pace);
         }
+    }
+
+    /// Calls another worker and stands aside, unless none stands aside and none is coming.
+    fn hand_over<R: Wait>(&self, rt: &R, h: u8, pace: &mut Pace) {
+        self.seats.sit(h);
+        let is_called = self.seats.call_next(h);
+        if is_called || (pace.is_patient() && self.seats.is_another_coming(h)) {
+            self.seats.stand(rt, h, pace);
+        } else {
+            self.seats.rise(h);
+            pace.renew();
+        }
+    }
+
+    /// The lock. A worker whose turns in a row are spent lets another go on first, and so does one that finds the lock
+    /// taken: its holder goes on.
+    fn lock<R: Wait>(&self, rt: &R, h: u8, pace: &mut Pace) -> MutexGuard<'_, Watched> {
+        if pace.is_spent() {
+            self.hand_over(rt, h, pace);
+        }
+        if let Some(guard) = self.watched.try_lock() {
+            return guard;
+        }
+        self.seats.sit(h);
+        // The holder may have looked for one to call before this worker sat.
+        if let Some(guard) = self.watched.try_lock() {
+            self.seats.rise(h);
+            return guard;
+        }
+        self.seats.stand(rt, h, pace);
         self.watched.lock(rt)
     }
 
-    /// One turn of a hart under the lock. Whoever waits is woken where a pause is due by then: no other change
-    /// lets a waiter go on.
-    fn turn<R: Wait>(&self, rt: &R, h: u8, places: &mut Vec<u32>) -> Next {
-        let mut guard = self.lock(rt);
+    /// The lock at a moment when no pause is due, unless the worker of one that is due doesn't come.
+    fn lock_for_turn<R: Wait>(&self, rt: &R, h: u8, pace: &mut Pace) -> MutexGuard<'_, Watched> {
+        let mut guard = self.lock(rt, h, pace);
+        for _ in 0..PATIENCE {
+            if !guard.is_any_due() || guard.broken_off() || !pace.is_patient() {
+                return guard;
+            }
+            self.seats.sit(h);
+            drop(guard);
+            self.seats.stand(rt, h, pace);
+            guard = self.watched.lock(rt);
+        }
+        guard
+    }
+
+    /// One turn of a hart under the lock. Where a pause is due by then its worker is called, and else, where this one
+    /// doesn't go on, the next.
+    fn turn<R: Wait>(&self, rt: &R, h: u8, pace: &mut Pace, places: &mut Vec<u32>) -> Next {
+        let mut guard = self.lock_for_turn(rt, h, pace);
+        pace.count();
         let next = taken(&mut guard, h, places);
         let is_due = guard.is_any_due();
-        drop(guard);
         if is_due {
-            self.changed.notify_all();
+            self.call_due(&guard);
+        }
+        drop(guard);
+        if next == Next::End {
+            self.seats.end(h);
+        }
+        if is_due {
+            self.seats.wake_called();
+        } else if next != Next::Enter {
+            self.seats.call_next(h);
         }
         next
     }
 
+    /// Calls the workers whose pauses are due.
+    #[cold]
+    fn call_due(&self, watched: &Watched) {
+        for h in 0..watched.collider().plan().harts {
+            if watched.is_due(h) {
+                self.seats.call_paused(h);
+            }
+        }
+    }
+
     /// Waits until the hart's pause is due, and ends it.
-    fn wait<R: Wait>(&self, rt: &R, h: u8, places: &mut Vec<u32>) -> Next {
-        let mut guard = self.watched.lock(rt);
+    fn wait<R: Wait>(&self, rt: &R, h: u8, pace: &mut Pace, places: &mut Vec<u32>) -> Next {
         for _ in rt.forever() {
+            let mut guard = self.watched.lock(rt);
             if let Some(next) = ended(&mut guard, h, places) {
-                drop(guard);
-                self.changed.notify_all();
+                self.seats.rise(h);
+                pace.renew();
                 return next;
             }
-            guard = self.changed.wait(rt, guard);
+            // Under the lock: no turn makes the pause due before its worker can be called.
+            self.seats.pause(h);
+            drop(guard);
+            self.seats.wait(rt, h);
         }
         unreachable!()
     }
@@ -237,15 +291,17 @@ fn turns<R: Wait, G: Gate>(
     places: Vec<u32>,
 ) -> Record<G> {
     let mut places = places;
+    let mut pace = Pace::new();
+    shared.begin(rt, h, &mut pace);
     for _ in rt.forever() {
         if let Err(shut) = gate.enter(h) {
             shared.break_off(rt);
             return Record::refused(h, places, shut);
         }
-        let next = shared.turn(rt, h, &mut places);
+        let next = shared.turn(rt, h, &mut pace, &mut places);
         gate.leave(h);
         let next = match next {
-            Next::Wait => shared.wait(rt, h, &mut places),
+            Next::Wait => shared.wait(rt, h, &mut pace, &mut places),
             Next::Enter | Next::End => next,
         };
         if next == Next::End {
