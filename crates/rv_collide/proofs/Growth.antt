@@ -278,7 +278,7 @@ slots_by : (start : State) (xs : List Entry) (e : Entry) (seen : Option Seen) �
 slots_by start xs e None same is = slots_quiet start xs e same is
 slots_by start xs e (Some seen) same is = slots_shown start xs e seen same is
 
-grown : OutputLaw → (s t : State) (h : ℕ) (event : Event) (n : ℕ) → step_of s h ≡ Some (event, t) → length s.output ≤ n → length t.output ≤ n + 1
+pub grown : OutputLaw → (s t : State) (h : ℕ) (event : Event) (n : ℕ) → step_of s h ≡ Some (event, t) → length s.output ≤ n → length t.output ≤ n + 1
 grown law s t h event n step le =
     let g = law s t h event step in
     let size = ap length g.2 ∙ length-append s.output g.0 in

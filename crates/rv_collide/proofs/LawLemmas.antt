@@ -149,12 +149,12 @@ unfolding forced
 turn_runs setting entries hart e h =
     (wanted (runs_at setting.start entries (length entries) hart) _ _ e (wanted (nat_lt hart setting.plan.harts) _ _ e h).1).0
 
-record StepTo (s : State) (hart : ℕ) : Type 0 where
+pub record StepTo (s : State) (hart : ℕ) : Type 0 where
   pub event : Event
   pub after : State
   pub is : step_of s hart ≡ Some (event, after)
 
-step_to : (s : State) (hart : ℕ) (o : Option (Event × State)) → step_of s hart ≡ o → is_some o ≡ true → StepTo s hart
+pub step_to : (s : State) (hart : ℕ) (o : Option (Event × State)) → step_of s hart ≡ o → is_some o ≡ true → StepTo s hart
 step_to s hart None e h = cc
 step_to s hart (Some (event, after)) e h = record { event = event; after = after; is = e }
 

@@ -39,6 +39,7 @@ pub mod Slots
 pub mod SpellLemmas
 pub mod StepFaults
 pub mod ToldLemmas
-pub mod Writable
 pub mod Until
 pub mod Unwatched
+pub mod WalkLemmas
+pub mod Writable

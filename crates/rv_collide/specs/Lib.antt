@@ -23,4 +23,5 @@ pub mod Stored
 pub mod Texts
 pub mod Told
 pub mod Verdict
+pub mod WalkLaws
 pub mod internal

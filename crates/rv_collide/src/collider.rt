@@ -36,6 +36,8 @@ use std::alloc::Global;
 use std::marker::Model;
 use std::snapshot::Snapshot;
 
+mod sharing;
+
 /// What an accepted turn was: a step of the hart, or its pause with the slot that watches it, if one was
 /// free.
 #[derive(Clone, Copy, Debug, PartialEq, Eq)]

@@ -21,3 +21,4 @@ pub mod schedule;
 mod tests;
 pub mod texts;
 pub mod told;
+pub mod walk_laws;

@@ -1,11 +1,12 @@
 //! A stored schedule is told again.
-ghost use Rattle.std.specs.Prelude.{◌≡◌, ◌≢◌, ◌⊎◌, [], IfOk, IfErr, OnOk};
+ghost use Rattle.std.specs.Prelude.{◌≡◌, ◌≢◌, ◌⊎◌, ◌≤◌, [], IfOk, IfErr, OnOk, length, take};
 ghost use Rattle.rv_collide.specs.Answers as answer;
 ghost use Rattle.rv_collide.specs.Forced.{forced, Turn, Resume, Arm, Disarm};
 ghost use Rattle.rv_collide.specs.Legal.{IsLegal, call_of};
 ghost use Rattle.rv_collide.specs.Numbers.{numbers};
 ghost use Rattle.rv_collide.specs.Replays.{IsReplayFault, IsWhy, turned_entry};
 ghost use Rattle.rv_collide.specs.Stored.{setting_of, stored};
+ghost use Rattle.rv_collide.specs.Told.{IsToldUpTo};
 
 use crate::collider::{Collider, Turned};
 use crate::entry::Entry;
@@ -49,13 +50,32 @@ pub fn replay<S: ByteStore>(
         Ok(collider) => collider,
         Err(_) => return Err(ReplayFault::NoMemory),
     };
-    for i in 0..entries.len() {
+    replay_up_to(&mut collider, entries, entries.len())?;
+    collider.facts();
+    Ok(collider)
+}
+
+/// Goes on with the calls of a list of entries, up to a place, where each of them is what its call adds. The core was
+/// told the entries before another place. Where it answers a fault, the entries before that fault were told.
+pub fn replay_up_to<S: ByteStore>(
+    collider: &mut Collider<S>,
+    entries: &[Entry],
+    until: usize,
+) -> Result<(), ReplayFault>
+    requires here { IsToldUpTo collider.old entries.now (length collider.old.entries) }
+    requires forwards { length collider.old.entries ≤ until }
+    requires within { until ≤ length entries.now }
+    ensures ok { OnOk result (collider.new ≡ stored collider.old.image collider.old.plan (take until entries.now)) }
+    ensures err { IfErr result (λ fault. IsReplayFault (setting_of collider.old) entries.now fault) }
+{
+    for i in collider.entries() as usize..until {
+        collider.facts();
         let place = collider.entries();
-        if let Err(why) = again(&mut collider, entries[i]) {
+        if let Err(why) = again(collider, entries[i]) {
             return Err(fault_at(place, why));
         }
     }
-    Ok(collider)
+    Ok(())
 }
 
 /// The fault of a place, where memory was not refused.

@@ -28,6 +28,8 @@ use rv_memory::store::{ByteStore, MemFault, Need};
 use std::alloc::Global;
 use std::marker::Model;
 
+mod share;
+
 /// The most harts of a machine.
 pub const MOST_HARTS: u8 = 16;
 

@@ -1,0 +1,23 @@
+//! A second machine over the pages of the core's own.
+ghost use Rattle.std.specs.Prelude.{◌≡◌, Some, IfOk, length};
+ghost use Rattle.rv_collide.specs.StateAt.{state_at};
+ghost use Rattle.rv_collide.specs.Stored.{setting_of};
+
+use super::Collider;
+use rv_hart::machine::Machine;
+use rv_memory::paged::Paged;
+use rv_memory::store::NoMemory;
+
+impl Collider<Paged> {
+    /// A second machine as the core's own is now, which has no room to print more. The core stays as it is, also where
+    /// memory is refused.
+    pub fn share_machine(&mut self) -> Result<Machine<Paged>, NoMemory>
+        ensures same { self.new ≡ self.old }
+        ensures equal { IfOk result (λ copy.
+            state_at (setting_of self.old).start self.old.entries (length self.old.entries) ≡ Some copy.state) }
+    {
+        let _plan = self.plan;
+        let printed = self.machine.output().len() as u32;
+        self.machine.share(printed)
+    }
+}
