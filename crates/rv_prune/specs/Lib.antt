@@ -1,4 +1,5 @@
 pub mod Class
 pub mod ClassLaws
 pub mod Code
+pub mod Ordered
 pub mod Ranges

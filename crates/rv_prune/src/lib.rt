@@ -9,7 +9,9 @@ pub mod class;
 mod code;
 pub mod laws;
 pub mod names;
+pub mod ordered;
 pub mod pruning;
+pub mod role;
 mod rules;
 #[cfg(test)]
 mod tests;

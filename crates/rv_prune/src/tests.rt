@@ -13,6 +13,7 @@ use std::test::Fail;
 
 mod boundaries;
 mod named;
+mod ordered;
 mod rows;
 
 /// What was found is what is wanted. (Each assertion that a test writes out costs the check a second, and a call of

@@ -1,0 +1,109 @@
+//! Each part that an access has in an order, just met and just missed. The words are the manual's own encodings.
+use super::*;
+use crate::ordered::{is_ordered, role_at};
+use crate::role::Role;
+
+const SW: u32 = 0x0063_a023;
+
+const LW: u32 = 0x0003_a303;
+
+/// `lui x5,1`
+const LUI: u32 = 0x0000_12b7;
+
+/// `amoswap.w.rl x0,x6,(x7)`
+const SWAP: u32 = 0x0a63_a02f;
+
+/// `lr.w.aq x5,(x7)`
+const LR: u32 = 0x1403_a2af;
+
+/// `beq x0,x0,8`
+const BRANCH: u32 = 0x0000_0463;
+
+const ECALL: u32 = 0x0000_0073;
+
+/// FENCE.I has no row.
+const NONE: u32 = 0x0000_100f;
+
+const FENCE_RW_W: u32 = 0x0310_000f;
+
+const FENCE_R_RW: u32 = 0x0230_000f;
+
+const FENCE_RW_RW: u32 = 0x0330_000f;
+
+const FENCE_W_W: u32 = 0x0110_000f;
+
+const FENCE_R_R: u32 = 0x0220_000f;
+
+const FENCE_TSO: u32 = 0x8330_000f;
+
+/// FENCE with an fm that is reserved.
+const FENCE_ODD: u32 = 0x4330_000f;
+
+/// Six words from 00010000 on, which of them is asked for, and its part.
+static PARTS: [([u32; 6], u32, Role); 24] = [
+    ([FENCE_RW_W, SW, 0, 0, 0, 0], 1, Role::Release),
+    ([FENCE_RW_RW, SW, 0, 0, 0, 0], 1, Role::Release),
+    ([FENCE_TSO, SW, 0, 0, 0, 0], 1, Role::Release),
+    ([FENCE_ODD, SW, 0, 0, 0, 0], 1, Role::Plain),
+    ([FENCE_W_W, SW, 0, 0, 0, 0], 1, Role::Plain),
+    ([FENCE_R_RW, SW, 0, 0, 0, 0], 1, Role::Plain),
+    ([FENCE_RW_W, LUI, LUI, LUI, SW, 0], 4, Role::Release),
+    ([FENCE_RW_W, LUI, LUI, LUI, LUI, SW], 5, Role::Plain),
+    ([FENCE_RW_W, FENCE_W_W, SW, 0, 0, 0], 2, Role::Plain),
+    ([FENCE_W_W, FENCE_RW_W, SW, 0, 0, 0], 2, Role::Release),
+    ([FENCE_RW_W, BRANCH, SW, 0, 0, 0], 2, Role::Plain),
+    ([FENCE_RW_W, ECALL, SW, 0, 0, 0], 2, Role::Plain),
+    ([FENCE_RW_W, NONE, SW, 0, 0, 0], 2, Role::Plain),
+    ([SW, FENCE_RW_RW, 0, 0, 0, 0], 0, Role::Plain),
+    ([LW, FENCE_R_RW, 0, 0, 0, 0], 0, Role::Acquire),
+    ([LW, FENCE_RW_RW, 0, 0, 0, 0], 0, Role::Acquire),
+    ([LW, FENCE_TSO, 0, 0, 0, 0], 0, Role::Acquire),
+    ([LW, FENCE_R_R, 0, 0, 0, 0], 0, Role::Load),
+    ([LW, LUI, LUI, LUI, FENCE_R_RW, 0], 0, Role::Acquire),
+    ([LW, LUI, LUI, LUI, LUI, FENCE_R_RW], 0, Role::Load),
+    ([LW, BRANCH, FENCE_R_RW, 0, 0, 0], 0, Role::Load),
+    ([SWAP, 0, 0, 0, 0, 0], 0, Role::Atomic),
+    ([LR, 0, 0, 0, 0, 0], 0, Role::Atomic),
+    ([LUI, 0, 0, 0, 0, 0], 0, Role::Plain),
+];
+
+#[test]
+fn the_part_of_an_access(rt: HostRuntime) -> Result<(), Fail> {
+    for (words, place, wanted) in &PARTS {
+        let image = image(&rt, rt.alloc(), words)?;
+        let found = role_at(&image, 0x10000 + 4 * *place);
+        assert_is(&rt, found, *wanted, "the part");
+    }
+    let image = image(&rt, rt.alloc(), &[SW])?;
+    assert_is(&rt, role_at(&image, 0x2_0000), Role::Plain, "no file byte");
+    Ok(())
+}
+
+/// A release at 00010004, an acquire at 00010008, an AMO at 00010010, plain accesses at 00010014 and 00010018.
+const PROGRAM: [u32; 7] = [FENCE_RW_W, SW, LW, FENCE_R_RW, SWAP, SW, LW];
+
+/// The two instructions whose accesses met, and whether they are ordered.
+static PAIRS: [(u32, u32, bool); 9] = [
+    (0x10004, 0x10008, true),
+    (0x10008, 0x10004, true),
+    (0x10004, 0x10010, true),
+    (0x10010, 0x10018, true),
+    (0x10018, 0x10010, true),
+    (0x10010, 0x10014, false),
+    (0x10004, 0x10018, false),
+    (0x10014, 0x10008, false),
+    (0x10014, 0x10018, false),
+];
+
+#[test]
+fn two_that_order(rt: HostRuntime) -> Result<(), Fail> {
+    let image = image(&rt, rt.alloc(), &PROGRAM)?;
+    for (paused, met, wanted) in &PAIRS {
+        let ending = hit(loads(*paused, 4), *met, 0, 1);
+        assert_is(&rt, is_ordered(&image, &ending), *wanted, "the pair");
+    }
+    let mut changed = hit(loads(0x10008, 4), 0x10004, 0, 1);
+    changed.verdict = Verdict::Changed;
+    assert_is(&rt, is_ordered(&image, &changed), false, "no hit");
+    Ok(())
+}
