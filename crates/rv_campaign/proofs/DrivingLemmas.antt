@@ -1,18 +1,17 @@
 -- How a seeded run goes on, entry by entry.
-use Rattle.std.proofs.Common.{◌≡◌, ℕ, zero, suc, ◌+◌, ◌-◌, ◌≤◌, ◌<◌, inl, inr, true, false, cond, List, [], ◌∷◌, ◌++◌, length, take, Option, Some, None, Ok, Err, Result, refl, sym, ap, subst, ◌∙◌, arith, length-append, ◌%◌}
-use Rattle.std.specs.Prelude.{slice_get, option_and_then, option_map, count_by}
+use Rattle.std.proofs.Common.{◌≡◌, ℕ, zero, suc, ◌+◌, ◌-◌, ◌≤◌, ◌<◌, inl, inr, true, false, cond, List, [], ◌∷◌, ◌++◌, length, take, Option, Some, None, Ok, refl, sym, ap, subst, ◌∙◌, arith, length-append, ◌%◌}
+use Rattle.std.specs.Prelude.{slice_get, option_and_then, option_map}
 use Rattle.std.specs.Result.{result_ok}
 use Rattle.std.specs.Option.{option_or, option_to_list}
 use Rattle.std.proofs.lemmas.Bool.{cases_lt}
-use Rattle.std.proofs.lemmas.List.{append-nil, take-append-le, take_all, length-take-le}
-use Rattle.std.proofs.lemmas.List.Sums.{sum_by-append}
-use Rattle.std.proofs.lemmas.Option.{slice_get_past, slice_get_within}
+use Rattle.std.proofs.lemmas.List.{append-nil, take-append-le, take_all}
+use Rattle.std.proofs.lemmas.Option.{slice_get_past}
 use Rattle.rv_campaign.specs.internal.Driving.{IsDriving}
 use Rattle.rv_drive.specs.Able.{able, due}
 use Rattle.rv_drive.specs.Drawn.{IsDrawn, driven, picked_hart, turn_drawn, turns_and_resumptions}
 use Rattle.rv_drive.specs.DriverLaws.{AddsItsKind, DrawsGoOn}
-use Rattle.rv_drive.specs.Draws.{Sampling, draw, draw_after, draws, first_draws, is_resumed, next_index, owed}
-use Rattle.rv_collide.specs.Forced.{Setting, Turn, Arm, forced}
+use Rattle.rv_drive.specs.Draws.{Sampling, draw, draws, first_draws, is_resumed, next_index, owed}
+use Rattle.rv_collide.specs.Forced.{Setting, Turn, forced}
 use Rattle.rv_collide.specs.Legal.{call_of}
 use Rattle.rv_collide.specs.declared.entry.Entry.{Entry}
 use Rattle.rv_collide.specs.declared.entry.Entry.TheVariants.{Stepped, Paused, Resumed, Armed, Disarmed}
@@ -93,27 +92,6 @@ due_driven setting sampling xs hart paid is =
     or_second (owed setting sampling turns_and_resumptions xs) _ paid
     ∙ ap (λ o. option_or (option_map Resumed o) (turn_drawn setting sampling xs)) is
 
-then_some : {X Y : Type 0} → (f : X → Option Y) (o : Option X) (y : Y) → option_and_then f o ≡ Some y → (x : X) × (o ≡ Some x) × (f x ≡ Some y)
-then_some f None y h = cc
-then_some f (Some x) y h = (x, refl, h)
-
-ok_of : {E : Type 0} → (r : Result Entry E) (e : Entry) → result_ok r ≡ Some e → r ≡ Ok e
-ok_of (Ok x) e h = cc
-ok_of (Err x) e h = cc
-
-is_armed : (e : Entry) (a : ℕ) → call_of e ≡ Arm a → (turns_and_resumptions e ≡ false) × (is_resumed e ≡ false)
-is_armed (Stepped h) a is = cc
-is_armed (Paused h slot) a is = cc
-is_armed (Resumed h) a is = cc
-is_armed (Armed b) a is = (refl, refl)
-is_armed (Disarmed b) a is = cc
-
-drawn_is_armed : AddsItsKind → (setting : Setting) (sampling : Sampling) (xs : List Entry) (index : ℕ) (e : Entry) → draw setting sampling xs index ≡ Some e → (turns_and_resumptions e ≡ false) × (is_resumed e ≡ false)
-unfolding draw
-drawn_is_armed kind setting sampling xs index e h =
-    let site = then_some (λ a. result_ok (forced setting xs (Arm a))) (sampling.site_of (sampling.word_at index)) e h in
-    is_armed e site.0 (kind setting xs (Arm site.0) e (ok_of (forced setting xs (Arm site.0)) e site.2))
-
 drawn_first : (setting : Setting) (sampling : Sampling) (xs : List Entry) (e : Entry) → owed setting sampling turns_and_resumptions xs ≡ Some e → driven setting sampling xs ≡ Some e
 unfolding driven
 drawn_first setting sampling xs e owes = ap (λ o. option_or o (option_or (option_map Resumed (due setting xs)) (turn_drawn setting sampling xs))) owes
@@ -121,24 +99,24 @@ drawn_first setting sampling xs e owes = ap (λ o. option_or o (option_or (optio
 plus_none : (n : ℕ) → n + 0 ≡ n
 plus_none n = omega arith
 
-after_draw : DrawsGoOn → AddsItsKind → (setting : Setting) (sampling : Sampling) (xs : List Entry) (taken : ℕ) (d : Option Entry) → ((place : ℕ) → place < length xs → slice_get xs place ≡ driven setting sampling (take place xs)) → owed setting sampling turns_and_resumptions xs ≡ d → (index : ℕ) → draw setting sampling xs index ≡ d → taken ≡ next_index turns_and_resumptions xs → length (draws setting sampling first_draws) ≤ length xs → IsDriving setting sampling (xs ++ option_to_list d) taken
-after_draw go kind setting sampling xs taken None so_far owes index adds are past =
+after_draw : DrawsGoOn → (setting : Setting) (sampling : Sampling) (xs : List Entry) (taken : ℕ) (d : Option Entry) → ((place : ℕ) → place < length xs → slice_get xs place ≡ driven setting sampling (take place xs)) → owed setting sampling turns_and_resumptions xs ≡ d → (index : ℕ) → draw setting sampling xs index ≡ d → taken ≡ next_index turns_and_resumptions xs → length (draws setting sampling first_draws) ≤ length xs → IsDriving setting sampling (xs ++ option_to_list d) taken
+after_draw go setting sampling xs taken None so_far owes index adds are past =
     subst (λ (ys : List Entry). IsDriving setting sampling ys taken) (sym (append-nil xs)) (record { so_far = so_far; paid = owes; taken_are = are })
-after_draw go kind setting sampling xs taken (Some e) so_far owes index adds are past =
-    let armed = drawn_is_armed kind setting sampling xs index e adds in
+after_draw go setting sampling xs taken (Some e) so_far owes index adds are past =
+    let arms = go.arm setting sampling xs index e adds in
     record {
       so_far = so_far_more setting sampling xs e so_far (drawn_first setting sampling xs e owes);
-      paid = go.owed setting sampling turns_and_resumptions xs e past ∙ ap (λ b. cond b (draw setting sampling (xs ++ e ∷ []) (next_index turns_and_resumptions xs)) None) armed.1;
-      taken_are = are ∙ sym (go.index turns_and_resumptions xs e ∙ ap (λ b. next_index turns_and_resumptions xs + cond b 1 0) armed.0 ∙ plus_none (next_index turns_and_resumptions xs));
+      paid = go.owed setting sampling turns_and_resumptions xs e past ∙ ap (λ b. cond b (draw setting sampling (xs ++ e ∷ []) (next_index turns_and_resumptions xs)) None) (ap is_resumed arms.1);
+      taken_are = are ∙ sym (go.index turns_and_resumptions xs e ∙ ap (λ b. next_index turns_and_resumptions xs + cond b 1 0) (ap turns_and_resumptions arms.1) ∙ plus_none (next_index turns_and_resumptions xs));
     }
 
-pub after_resumption : DrawsGoOn → AddsItsKind → (setting : Setting) (sampling : Sampling) (xs : List Entry) (taken hart : ℕ) → IsDriving setting sampling xs taken → due setting xs ≡ Some hart → IsDriving setting sampling ((xs ++ Resumed hart ∷ []) ++ option_to_list (draw setting sampling (xs ++ Resumed hart ∷ []) taken)) (taken + 1)
-after_resumption go kind setting sampling xs taken hart d is =
+pub after_resumption : DrawsGoOn → (setting : Setting) (sampling : Sampling) (xs : List Entry) (taken hart : ℕ) → IsDriving setting sampling xs taken → due setting xs ≡ Some hart → IsDriving setting sampling ((xs ++ Resumed hart ∷ []) ++ option_to_list (draw setting sampling (xs ++ Resumed hart ∷ []) taken)) (taken + 1)
+after_resumption go setting sampling xs taken hart d is =
     let ys = xs ++ Resumed hart ∷ [] in
     let all = draws setting sampling first_draws in
     let past = go.past setting sampling turns_and_resumptions xs d.paid in
     let more = one_longer xs (Resumed hart) in
-    after_draw go kind setting sampling (xs ++ Resumed hart ∷ []) (taken + 1) (draw setting sampling (xs ++ Resumed hart ∷ []) taken)
+    after_draw go setting sampling (xs ++ Resumed hart ∷ []) (taken + 1) (draw setting sampling (xs ++ Resumed hart ∷ []) taken)
     (so_far_more setting sampling xs (Resumed hart) d.so_far (due_driven setting sampling xs hart d.paid is))
     (owed_more go setting sampling xs (Resumed hart) d.paid ∙ ap (draw setting sampling (xs ++ Resumed hart ∷ [])) (sym d.taken_are))
     taken refl
@@ -163,86 +141,16 @@ run_over setting sampling xs taken d undue none =
 
 -- ---- the first draws
 
-no_entry : (e : Entry) → None ≡ Some e → ⊥
-no_entry e h = cc
+draws_driven : DrawsGoOn → (setting : Setting) (sampling : Sampling) (place : ℕ) → place < length (draws setting sampling first_draws) → slice_get (draws setting sampling first_draws) place ≡ driven setting sampling (take place (draws setting sampling first_draws))
+draws_driven go setting sampling place below =
+    let first = go.first setting sampling turns_and_resumptions place below in
+    first.1 ∙ sym (drawn_first setting sampling (take place (draws setting sampling first_draws)) (Armed first.0) first.2)
 
-same_entry : (x e : Entry) → Some x ≡ Some e → x ≡ e
-same_entry x e h = cc
-
-in_last : AddsItsKind → (setting : Setting) (sampling : Sampling) (n i : ℕ) (e : Entry) (d : Option Entry) → draw setting sampling (draws setting sampling n) n ≡ d → length (draws setting sampling n) ≤ i → slice_get (draws setting sampling n ++ option_to_list d) i ≡ Some e → is_resumed e ≡ false
-in_last kind setting sampling n i e None gives past there =
-    absurd (no_entry e (sym (slice_get_past (draws setting sampling n) i past) ∙ ap (λ xs. slice_get xs i) (sym (append-nil (draws setting sampling n))) ∙ there))
-in_last kind setting sampling n i e (Some x) gives past there =
-    let all = draws setting sampling n in
-    let within = slice_get_within (all ++ x ∷ []) i e there in
-    let more = one_longer all x in
-    let here : i ≡ length all = omega arith in
-    let same : x ≡ e = same_entry x e (sym (last all x) ∙ ap (slice_get (all ++ x ∷ [])) (sym here) ∙ there) in
-    ap is_resumed (sym same) ∙ (drawn_is_armed kind setting sampling all n x gives).1
-
-nothing_at : (i : ℕ) (e : Entry) → slice_get [] i ≡ Some e → ⊥
-nothing_at i e h = cc
-
-none_resumed : AddsItsKind → (setting : Setting) (sampling : Sampling) (n i : ℕ) (e : Entry) → slice_get (draws setting sampling n) i ≡ Some e → is_resumed e ≡ false
-unfolding draws
-none_resumed kind setting sampling zero i e there = absurd (nothing_at i e there)
-none_resumed kind setting sampling (suc n) i e there =
-    let d = draw setting sampling (draws setting sampling n) n in
-    elim (cases_lt i (length (draws setting sampling n))) [
-      | inl lt ↦ none_resumed kind setting sampling n i e (sym (front (draws setting sampling n) (option_to_list d) i lt) ∙ there)
-      | inr past ↦ in_last kind setting sampling n i e d refl past there
-    ]
-
-takes_none : AddsItsKind → (setting : Setting) (sampling : Sampling) (n : ℕ) (d : Option Entry) → draw setting sampling (draws setting sampling n) n ≡ d → count_by turns_and_resumptions (option_to_list d) ≡ 0
-takes_none kind setting sampling n None gives = refl
-takes_none kind setting sampling n (Some e) gives = ap (λ b. 0 + cond b 1 0) (drawn_is_armed kind setting sampling (draws setting sampling n) n e gives).0
-
-none_taken : AddsItsKind → (setting : Setting) (sampling : Sampling) (n : ℕ) → count_by turns_and_resumptions (draws setting sampling n) ≡ 0
-unfolding draws
-none_taken kind setting sampling zero = refl
-none_taken kind setting sampling (suc n) =
-    let d = draw setting sampling (draws setting sampling n) n in
-    let both = sum_by-append (λ x. cond (turns_and_resumptions x) 1 0) (draws setting sampling n) (option_to_list d) in
-    let before = none_taken kind setting sampling n in
-    let added = takes_none kind setting sampling n d refl in
-    omega (arith, both, before, added)
-
-last_stays : (setting : Setting) (sampling : Sampling) (xs : List Entry) (o : Option Entry) → slice_get xs (length xs - 1) ≡ o → ((e : Entry) → o ≡ Some e → is_resumed e ≡ false) → draw_after setting sampling turns_and_resumptions xs ≡ None
-unfolding draw_after
-last_stays setting sampling xs None at stays = ap (option_and_then (λ last. cond (is_resumed last) (draw setting sampling xs (next_index turns_and_resumptions (take (length xs - 1) xs))) None)) at
-last_stays setting sampling xs (Some e) at stays =
-    ap (option_and_then (λ last. cond (is_resumed last) (draw setting sampling xs (next_index turns_and_resumptions (take (length xs - 1) xs))) None)) at
-    ∙ ap (λ b. cond b (draw setting sampling xs (next_index turns_and_resumptions (take (length xs - 1) xs))) None) (stays e refl)
-
-some_at : (xs : List Entry) (n : ℕ) → n < length xs → (x : Entry) × (slice_get xs n ≡ Some x)
-some_at [] n below = absurd (omega arith)
-some_at (x ∷ xs) zero below = (x, refl)
-some_at (x ∷ xs) (suc n) below = some_at xs n (omega arith)
-
-first_or : (a b c : Option Entry) (x : Entry) → a ≡ Some x → option_or (option_or a b) c ≡ a
-first_or None b c x h = cc
-first_or (Some y) b c x h = refl
-
-draws_driven : (setting : Setting) (sampling : Sampling) (place : ℕ) → place < length (draws setting sampling first_draws) → slice_get (draws setting sampling first_draws) place ≡ driven setting sampling (take place (draws setting sampling first_draws))
-unfolding driven owed
-draws_driven setting sampling place below =
-    let all = draws setting sampling first_draws in
-    let there = some_at all place below in
-    let long : length (take place all) ≡ place = length-take-le place all (omega arith) in
-    sym (first_or (slice_get all (length (take place all))) (draw_after setting sampling turns_and_resumptions (take place all)) (option_or (option_map Resumed (due setting (take place all))) (turn_drawn setting sampling (take place all))) there.0 (ap (slice_get all) long ∙ there.1) ∙ ap (slice_get all) long)
-
-all_paid : AddsItsKind → (setting : Setting) (sampling : Sampling) → owed setting sampling turns_and_resumptions (draws setting sampling first_draws) ≡ None
-unfolding owed
-all_paid kind setting sampling =
-    let all = draws setting sampling first_draws in
-    ap (λ o. option_or o (draw_after setting sampling turns_and_resumptions all)) (slice_get_past all (length all) (omega arith))
-    ∙ last_stays setting sampling all (slice_get all (length all - 1)) refl (λ e at. none_resumed kind setting sampling first_draws (length all - 1) e at)
-
-pub after_draws : AddsItsKind → (setting : Setting) (sampling : Sampling) (xs : List Entry) (taken : ℕ) → xs ≡ draws setting sampling first_draws → taken ≡ first_draws → IsDriving setting sampling xs taken
-after_draws kind setting sampling xs taken are count =
-    let none = none_taken kind setting sampling first_draws in
+pub after_draws : DrawsGoOn → (setting : Setting) (sampling : Sampling) (xs : List Entry) (taken : ℕ) → xs ≡ draws setting sampling first_draws → taken ≡ first_draws → IsDriving setting sampling xs taken
+after_draws go setting sampling xs taken are count =
+    let paid = go.paid setting sampling turns_and_resumptions (λ address. refl) in
     subst (λ (ys : List Entry). IsDriving setting sampling ys taken) (sym are) (record {
-      so_far = draws_driven setting sampling;
-      paid = all_paid kind setting sampling;
-      taken_are = omega (arith, none, count);
+      so_far = draws_driven go setting sampling;
+      paid = paid.0;
+      taken_are = count ∙ sym paid.1;
     })

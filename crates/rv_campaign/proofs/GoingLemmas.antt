@@ -24,16 +24,16 @@ use Rattle.rv_drive.specs.Sampling.{begun}
 use Rattle.rv_sample.specs.Generator.{Given, word_at}
 use Rattle.rv_campaign.proofs.DrivingLemmas.{after_draws, after_resumption, after_turn, whole_run}
 
-pub opened_drives : AddsItsKind → (driver : Stored) (image : Contents) (plan : Numbers) (sites : List ℕ) (before after : Given) → driver ≡ begun image plan (sampling_of sites before.seed before.stream) → after ≡ record before { taken = first_draws } → IsDriving (setting_of driver) (sampling_of sites after.seed after.stream) driver.entries after.taken
-opened_drives kind driver image plan sites before after is words =
+pub opened_drives : DrawsGoOn → (driver : Stored) (image : Contents) (plan : Numbers) (sites : List ℕ) (before after : Given) → driver ≡ begun image plan (sampling_of sites before.seed before.stream) → after ≡ record before { taken = first_draws } → IsDriving (setting_of driver) (sampling_of sites after.seed after.stream) driver.entries after.taken
+opened_drives go driver image plan sites before after is words =
     let sampling = sampling_of sites before.seed before.stream in
-    let core = after_draws kind (setting_of (stored image plan [])) sampling (draws (setting_of (stored image plan [])) sampling first_draws) first_draws refl refl in
+    let core = after_draws go (setting_of (stored image plan [])) sampling (draws (setting_of (stored image plan [])) sampling first_draws) first_draws refl refl in
     let at_driver = subst (λ (s : Stored). IsDriving (setting_of s) sampling s.entries first_draws) (sym is) core in
     subst (λ (w : Given). IsDriving (setting_of driver) (sampling_of sites w.seed w.stream) driver.entries w.taken) (sym words) at_driver
 
-pub resumed_on : DrawsGoOn → AddsItsKind → (old mid new : Stored) (sites : List ℕ) (before after : Given) (hart : ℕ) → IsDriving (setting_of old) (sampling_of sites before.seed before.stream) old.entries before.taken → due (setting_of old) old.entries ≡ Some hart → mid ≡ added old (Resumed hart) → new ≡ record mid { entries = mid.entries ++ option_to_list (draw (setting_of mid) (sampling_of sites before.seed before.stream) mid.entries before.taken) } → after ≡ record before { taken = before.taken + 1 } → IsDriving (setting_of new) (sampling_of sites after.seed after.stream) new.entries after.taken
-resumed_on go kind old mid new sites before after hart d is resumes gives words =
-    let core = after_resumption go kind (setting_of old) (sampling_of sites before.seed before.stream) old.entries before.taken hart d is in
+pub resumed_on : DrawsGoOn → (old mid new : Stored) (sites : List ℕ) (before after : Given) (hart : ℕ) → IsDriving (setting_of old) (sampling_of sites before.seed before.stream) old.entries before.taken → due (setting_of old) old.entries ≡ Some hart → mid ≡ added old (Resumed hart) → new ≡ record mid { entries = mid.entries ++ option_to_list (draw (setting_of mid) (sampling_of sites before.seed before.stream) mid.entries before.taken) } → after ≡ record before { taken = before.taken + 1 } → IsDriving (setting_of new) (sampling_of sites after.seed after.stream) new.entries after.taken
+resumed_on go old mid new sites before after hart d is resumes gives words =
+    let core = after_resumption go (setting_of old) (sampling_of sites before.seed before.stream) old.entries before.taken hart d is in
     let at_mid = subst (λ (s : Stored). IsDriving (setting_of s) (sampling_of sites before.seed before.stream) (s.entries ++ option_to_list (draw (setting_of s) (sampling_of sites before.seed before.stream) s.entries before.taken)) (before.taken + 1)) (sym resumes) core in
     let at_new = subst (λ (s : Stored). IsDriving (setting_of s) (sampling_of sites before.seed before.stream) s.entries (before.taken + 1)) (sym gives) at_mid in
     subst (λ (w : Given). IsDriving (setting_of new) (sampling_of sites w.seed w.stream) new.entries w.taken) (sym words) at_new

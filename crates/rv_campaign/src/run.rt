@@ -47,7 +47,7 @@ pub(crate) fn run_sampled(
 ) -> Result<Finished, NoMemory>
     ensures { IfOk result (λ told. IsRunOver image.now (numbers plan) sampler.now seed run told) }
 {
-    accepted_calls();
+    draws_owed();
     let mut words = Generator::new(seed, u64::from(run));
     let mut driver = Driver::open(alloc, image, plan, sampler, &mut words)?;
     while go_on(&mut driver, &mut words, sampler) {}

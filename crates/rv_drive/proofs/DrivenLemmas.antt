@@ -109,12 +109,12 @@ turn_forced setting xs hart e h =
 
 -- ---- draws
 
-record IsArming (setting : Setting) (xs : List Entry) (e : Entry) : Type 0 where
-  address : ℕ
-  is : e ≡ Armed address
-  accepted : forced setting xs (Arm address) ≡ Ok e
+pub record IsArming (setting : Setting) (xs : List Entry) (e : Entry) : Type 0 where
+  pub address : ℕ
+  pub is : e ≡ Armed address
+  pub accepted : forced setting xs (Arm address) ≡ Ok e
 
-draw_arms : (setting : Setting) (sampling : Sampling) (xs : List Entry) (index : ℕ) (e : Entry) → draw setting sampling xs index ≡ Some e → IsArming setting xs e
+pub draw_arms : (setting : Setting) (sampling : Sampling) (xs : List Entry) (index : ℕ) (e : Entry) → draw setting sampling xs index ≡ Some e → IsArming setting xs e
 unfolding draw
 draw_arms setting sampling xs index e h =
     let site = then_some (λ a. result_ok (forced setting xs (Arm a))) (sampling.site_of (sampling.word_at index)) e h in
@@ -122,10 +122,10 @@ draw_arms setting sampling xs index e h =
     record { address = site.0; is = arm_forced setting xs site.0 e ok; accepted = ok }
 
 -- an entry of the first draws is what a draw adds to those before it
-record IsFirstDraw (setting : Setting) (sampling : Sampling) (all : List Entry) (place : ℕ) (e : Entry) : Type 0 where
-  number : ℕ
-  before : take place all ≡ draws setting sampling number
-  adds : draw setting sampling (draws setting sampling number) number ≡ Some e
+pub record IsFirstDraw (setting : Setting) (sampling : Sampling) (all : List Entry) (place : ℕ) (e : Entry) : Type 0 where
+  pub number : ℕ
+  pub before : take place all ≡ draws setting sampling number
+  pub adds : draw setting sampling (draws setting sampling number) number ≡ Some e
 
 nothing_there : (place : ℕ) (e : Entry) → slice_get [] place ≡ Some e → ⊥
 nothing_there place e h = cc
@@ -146,7 +146,7 @@ last_draw setting sampling n place e (Some x) gives past there =
       adds = gives ∙ ap Some same;
     }
 
-in_draws : (setting : Setting) (sampling : Sampling) (n place : ℕ) (e : Entry) → slice_get (draws setting sampling n) place ≡ Some e → IsFirstDraw setting sampling (draws setting sampling n) place e
+pub in_draws : (setting : Setting) (sampling : Sampling) (n place : ℕ) (e : Entry) → slice_get (draws setting sampling n) place ≡ Some e → IsFirstDraw setting sampling (draws setting sampling n) place e
 unfolding draws
 in_draws setting sampling zero place e h = absurd (nothing_there place e h)
 in_draws setting sampling (suc n) place e h =

@@ -8,3 +8,4 @@ pub mod KeptLemmas
 pub mod OwedLemmas
 pub mod RowLemmas
 pub mod RunsLemmas
+pub mod FirstDraws

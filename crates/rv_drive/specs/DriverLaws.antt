@@ -1,5 +1,5 @@
 -- What follows of the rules of drivers and of a seeded run, in a user's words.
-use Rattle.std.specs.Prelude.{◌≡◌, ℕ, ◌+◌, ◌<◌, ◌≤◌, ◌==◌, true, is_ok, Ok, ◌⊎◌, Bool, false, not, Option, Some, None, if◌then◌else◌, List, [], ◌∷◌, ◌++◌, length}
+use Rattle.std.specs.Prelude.{◌≡◌, ℕ, ◌+◌, ◌<◌, ◌≤◌, ◌==◌, true, is_ok, Ok, ◌⊎◌, Bool, false, not, Option, Some, None, if◌then◌else◌, List, [], ◌∷◌, ◌++◌, length, slice_get, take}
 use Rattle.std.specs.Option.{option_map_or}
 use Rattle.rv_drive.specs.Able.{IsLong, HasEnded, due, is_able, others_steps}
 use Rattle.rv_drive.specs.Drawn.{IsDrawn, turns_and_resumptions}
@@ -9,7 +9,7 @@ use Rattle.rv_collide.specs.Forced.{Setting, Call, Resume, Turn, forced}
 use Rattle.rv_collide.specs.Legal.{IsLegal, call_of}
 use Rattle.rv_collide.specs.Pause.{Opening, opening_of}
 use Rattle.rv_collide.specs.declared.entry.Entry.{Entry}
-use Rattle.rv_collide.specs.declared.entry.Entry.TheVariants.{Paused, Resumed}
+use Rattle.rv_collide.specs.declared.entry.Entry.TheVariants.{Armed, Paused, Resumed}
 
 -- An image, a plan, words and sites make one run at most.
 abbrev pub OneRunAtMost : Type 0
@@ -81,8 +81,26 @@ abbrev pub IndexGoesOn : Type 0
 IndexGoesOn =
     (takes : Entry → Bool) (entries : List Entry) (entry : Entry) → next_index takes (entries ++ entry ∷ []) ≡ next_index takes entries + (if takes entry then 1 else 0)
 
--- These three together: what one more entry does to what the draws owe.
+-- What a draw adds arms an address.
+abbrev pub DrawsArm : Type 0
+DrawsArm =
+    (setting : Setting) (sampling : Sampling) (entries : List Entry) (index : ℕ) (entry : Entry) → draw setting sampling entries index ≡ Some entry → (address : ℕ) × (entry ≡ Armed address)
+
+-- Each entry of the first draws arms an address, and is what is owed at its place.
+abbrev pub FirstDrawsAreOwed : Type 0
+FirstDrawsAreOwed =
+    (setting : Setting) (sampling : Sampling) (takes : Entry → Bool) (place : ℕ) → place < length (draws setting sampling first_draws) → (address : ℕ) × (slice_get (draws setting sampling first_draws) place ≡ Some (Armed address)) × (owed setting sampling takes (take place (draws setting sampling first_draws)) ≡ Some (Armed address))
+
+-- Once they are made nothing is owed. Where what they add takes no word of its own, the next word is the one after theirs.
+abbrev pub FirstDrawsArePaid : Type 0
+FirstDrawsArePaid =
+    (setting : Setting) (sampling : Sampling) (takes : Entry → Bool) → ((address : ℕ) → takes (Armed address) ≡ false) → (owed setting sampling takes (draws setting sampling first_draws) ≡ None) × (next_index takes (draws setting sampling first_draws) ≡ first_draws)
+
+-- These together: what the draws owe, at first and after one more entry.
 pub record DrawsGoOn : Type 0 where
+  pub arm : DrawsArm
+  pub first : FirstDrawsAreOwed
+  pub paid : FirstDrawsArePaid
   pub past : PaidIsPastFirst
   pub owed : OwedAfterOneMore
   pub index : IndexGoesOn

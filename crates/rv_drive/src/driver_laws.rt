@@ -30,8 +30,8 @@ pub fn accepted_calls()
     ensures able { law.AbleTakesTurn }
 {}
 
-/// What is owed after one more entry: once the first draws stand in the list, the draw that a resumption asks
-/// for, and nothing else. Entries that take words count them.
+/// What the draws owe: at first what the first draws add, each of which arms an address; once they stand in the
+/// list, the draw that a resumption asks for, and nothing else. Entries that take words count them.
 pub fn draws_owed()
     ensures { law.DrawsGoOn }
 {}

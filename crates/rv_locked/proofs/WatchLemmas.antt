@@ -3,7 +3,7 @@ use Rattle.std.proofs.Common.{◌≡◌, ℕ, ◌+◌, true, false, cond, List, 
 use Rattle.std.specs.Prelude.{IsTrue, not}
 use Rattle.rv_drive.specs.Able.{is_due}
 use Rattle.rv_collide.specs.Answers.{Turns}
-use Rattle.rv_drive.specs.DriverLaws.{AddsItsKind, DrawsGoOn}
+use Rattle.rv_drive.specs.DriverLaws.{DrawsGoOn}
 use Rattle.rv_drive.specs.Draws.{arms_or_disarms, draws, first_draws, is_resumed, next_index}
 use Rattle.rv_collide.specs.Plan.{Numbers}
 use Rattle.rv_collide.specs.Stored.{Stored, added, setting_of, stored}
@@ -55,9 +55,9 @@ drew_on old mid new h among words image seed w resumes draws =
     ∙ ap (λ (xs : List ℕ). drew (sampling_of xs seed 0) (next_index is_resumed old.entries) mid) w.sites_are
     ∙ ap (drew (sampling old.image seed) (next_index is_resumed old.entries)) resumes
 
-pub ended_on : DrawsGoOn → AddsItsKind → (old new : Stored) (h : ℕ) (among : List ℕ) (words after : Given) (image : Contents) (seed : ℕ) → IsWatching old among words image seed → is_due (setting_of old) old.entries h ≡ true → new ≡ drew (sampling old.image seed) (next_index is_resumed old.entries) (added old (Resumed h)) → after ≡ record words { taken = words.taken + 1 } → IsWatching new among after image seed
-ended_on go kind old new h among words after image seed w due is one_more =
-    let drawn = after_resumption go kind (setting_of old) (sampling old.image seed) old.entries h w.long w.arms due in
+pub ended_on : DrawsGoOn → (old new : Stored) (h : ℕ) (among : List ℕ) (words after : Given) (image : Contents) (seed : ℕ) → IsWatching old among words image seed → is_due (setting_of old) old.entries h ≡ true → new ≡ drew (sampling old.image seed) (next_index is_resumed old.entries) (added old (Resumed h)) → after ≡ record words { taken = words.taken + 1 } → IsWatching new among after image seed
+ended_on go old new h among words after image seed w due is one_more =
+    let drawn = after_resumption go (setting_of old) (sampling old.image seed) old.entries h w.long w.arms due in
     subst (λ (s : Stored). IsWatching s among after image seed) (sym is)
     (record {
       long = drawn.long;
@@ -75,9 +75,9 @@ opened_is new image plan seed among words are sites_are gives =
     ∙ ap (λ (g : Given). begun image plan (sampling_of among g.seed g.stream)) are
     ∙ ap (λ (xs : List ℕ). begun image plan (sampling_of xs seed 0)) sites_are
 
-pub opened_watches : AddsItsKind → (new : Stored) (image copy : Contents) (plan : Numbers) (seed : ℕ) (among : List ℕ) (words after : Given) → new ≡ opened image plan seed → words ≡ given seed 0 → after ≡ record words { taken = first_draws } → among ≡ sites image [] → copy ≡ image → IsWatching new among after copy seed
-opened_watches kind new image copy plan seed among words after is are more sites_are same =
-    let drawn = after_draws kind (setting_of (stored image plan [])) (sampling image seed) in
+pub opened_watches : DrawsGoOn → (new : Stored) (image copy : Contents) (plan : Numbers) (seed : ℕ) (among : List ℕ) (words after : Given) → new ≡ opened image plan seed → words ≡ given seed 0 → after ≡ record words { taken = first_draws } → among ≡ sites image [] → copy ≡ image → IsWatching new among after copy seed
+opened_watches go new image copy plan seed among words after is are more sites_are same =
+    let drawn = after_draws go (setting_of (stored image plan [])) (sampling image seed) in
     subst (λ (s : Stored). IsWatching s among after copy seed) (sym is)
     (record {
       long = drawn.long;

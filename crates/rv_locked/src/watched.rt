@@ -13,7 +13,7 @@ use rv_collide::collider::{Collider, Finished, Turned};
 use rv_collide::ending::Ending;
 use rv_collide::plan::Plan;
 use rv_drive::driver::Driver;
-use rv_drive::driver_laws::{accepted_calls, draws_owed};
+use rv_drive::driver_laws::draws_owed;
 use rv_elf::Image;
 use rv_hart::access::Event;
 use rv_memory::flat::Flat;
@@ -67,7 +67,7 @@ impl Watched {
     pub fn new(alloc: Global, image: &Image, plan: Plan, seed: u64) -> Result<Watched, NoMemory>
         ensures { IfOk result (λ w. w ≡ watch (opened image.now (numbers plan) seed) seed false) }
     {
-        accepted_calls();
+        draws_owed();
         let sampler = Sampler::sites(alloc, image, &[])?;
         let mut words = Generator::new(seed, 0);
         let driver = Driver::open(alloc, image, plan, &sampler, &mut words)?;
@@ -115,7 +115,6 @@ impl Watched {
         ensures seed { self.new.seed ≡ self.old.seed }
         ensures flag { self.new.broken_off ≡ self.old.broken_off }
     {
-        accepted_calls();
         draws_owed();
         self.driver.collider().facts();
         let _plan = self.driver.collider().plan();

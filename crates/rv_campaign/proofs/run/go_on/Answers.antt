@@ -7,7 +7,7 @@ use Rattle.rv_campaign.proofs.run.go_on.Goals as goal
 
 pub returns-in-Some-clause-driving : goal.returns-in-Some-clause-driving
 returns-in-Some-clause-driving c =
-    resumed_on c.draws_owed.ensures c.accepted_calls.ensures.kind c.args.driver.now c.resume.new.self c.draw.new.self c.args.sampler.now c.args.words.now c.draw.new.words c.in-Some.h c.requires.driving (sym c.due.ensures.value ∙ c.in-Some.is) c.resume.ensures.adds.is_added c.draw.ensures.core c.draw.ensures.words
+    resumed_on c.draws_owed.ensures c.args.driver.now c.resume.new.self c.draw.new.self c.args.sampler.now c.args.words.now c.draw.new.words c.in-Some.h c.requires.driving (sym c.due.ensures.value ∙ c.in-Some.is) c.resume.ensures.adds.is_added c.draw.ensures.core c.draw.ensures.words
 
 pub returns-then-count-eq0-clause-over : goal.returns-then-count-eq0-clause-over
 returns-then-count-eq0-clause-over c = λ _.

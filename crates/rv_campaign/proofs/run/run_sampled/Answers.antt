@@ -9,7 +9,7 @@ use Rattle.rv_campaign.proofs.run.run_sampled.Goals as goal
 
 pub loop-words-init : goal.loop-words-init
 loop-words-init c = record {
-  driving = opened_drives c.accepted_calls.ensures.kind c.in_ok-driver.driver c.args.image.now (numbers c.args.plan) c.args.sampler.now c.new-words.result c.open.new.words c.in_ok-driver.ensures.core c.in_ok-driver.ensures.words;
+  driving = opened_drives c.draws_owed.ensures c.in_ok-driver.driver c.args.image.now (numbers c.args.plan) c.args.sampler.now c.new-words.result c.open.new.words c.in_ok-driver.ensures.core c.in_ok-driver.ensures.words;
   image = ap (λ (s : Stored). s.image) c.in_ok-driver.ensures.core;
   plan = ap (λ (s : Stored). s.plan) c.in_ok-driver.ensures.core;
   seed = ap (λ (w : Given). w.seed) c.in_ok-driver.ensures.words ∙ ap (λ (w : Given). w.seed) c.new-words.ensures;
