@@ -266,106 +266,62 @@ pub const ATOMICS: [Op; 32] = [
     Op::AmoaddW,
 ];
 
-/// A row of the table: the format of an operation's words, their fixed bits in their places, and the mnemonic.
-#[derive(Clone, Copy)]
-pub struct Row {
-    pub form: Form,
-    pub fixed: u32,
-    pub mnemonic: &'static str,
-}
-
-impl Row {
-    #[inline(always)]
-    fn new(form: Form, fixed: u32, mnemonic: &'static str) -> Row
-        ensures form { result.form ≡ form }
-        ensures fixed { result.fixed ≡ fixed }
-        ensures mnemonic { result.mnemonic.now ≡ mnemonic.now }
-    {
-        Row {
-            form,
-            fixed,
-            mnemonic,
-        }
-    }
-}
-
 impl Op {
-    /// The operation's row of the table.
-    #[inline(always)]
-    pub fn row(self) -> Row
-        ensures form { result.form ≡ spec.form_of self }
-        ensures fixed { result.fixed ≡ spec.match_of self }
-        ensures mnemonic { result.mnemonic.now ≡ spec.mnemonic_of self }
-    {
-        match self {
-            Op::Lui => Row::new(Form::U, 0x0000_0037, "lui"),
-            Op::Auipc => Row::new(Form::U, 0x0000_0017, "auipc"),
-            Op::Jal => Row::new(Form::J, 0x0000_006f, "jal"),
-            Op::Jalr => Row::new(Form::I, 0x0000_0067, "jalr"),
-            Op::Beq => Row::new(Form::B, 0x0000_0063, "beq"),
-            Op::Bne => Row::new(Form::B, 0x0000_1063, "bne"),
-            Op::Blt => Row::new(Form::B, 0x0000_4063, "blt"),
-            Op::Bge => Row::new(Form::B, 0x0000_5063, "bge"),
-            Op::Bltu => Row::new(Form::B, 0x0000_6063, "bltu"),
-            Op::Bgeu => Row::new(Form::B, 0x0000_7063, "bgeu"),
-            Op::Lb => Row::new(Form::I, 0x0000_0003, "lb"),
-            Op::Lh => Row::new(Form::I, 0x0000_1003, "lh"),
-            Op::Lw => Row::new(Form::I, 0x0000_2003, "lw"),
-            Op::Lbu => Row::new(Form::I, 0x0000_4003, "lbu"),
-            Op::Lhu => Row::new(Form::I, 0x0000_5003, "lhu"),
-            Op::Sb => Row::new(Form::S, 0x0000_0023, "sb"),
-            Op::Sh => Row::new(Form::S, 0x0000_1023, "sh"),
-            Op::Sw => Row::new(Form::S, 0x0000_2023, "sw"),
-            Op::Addi => Row::new(Form::I, 0x0000_0013, "addi"),
-            Op::Slti => Row::new(Form::I, 0x0000_2013, "slti"),
-            Op::Sltiu => Row::new(Form::I, 0x0000_3013, "sltiu"),
-            Op::Xori => Row::new(Form::I, 0x0000_4013, "xori"),
-            Op::Ori => Row::new(Form::I, 0x0000_6013, "ori"),
-            Op::Andi => Row::new(Form::I, 0x0000_7013, "andi"),
-            Op::Slli => Row::new(Form::Shift, 0x0000_1013, "slli"),
-            Op::Srli => Row::new(Form::Shift, 0x0000_5013, "srli"),
-            Op::Srai => Row::new(Form::Shift, 0x4000_5013, "srai"),
-            Op::Add => Row::new(Form::R, 0x0000_0033, "add"),
-            Op::Sub => Row::new(Form::R, 0x4000_0033, "sub"),
-            Op::Sll => Row::new(Form::R, 0x0000_1033, "sll"),
-            Op::Slt => Row::new(Form::R, 0x0000_2033, "slt"),
-            Op::Sltu => Row::new(Form::R, 0x0000_3033, "sltu"),
-            Op::Xor => Row::new(Form::R, 0x0000_4033, "xor"),
-            Op::Srl => Row::new(Form::R, 0x0000_5033, "srl"),
-            Op::Sra => Row::new(Form::R, 0x4000_5033, "sra"),
-            Op::Or => Row::new(Form::R, 0x0000_6033, "or"),
-            Op::And => Row::new(Form::R, 0x0000_7033, "and"),
-            Op::Fence => Row::new(Form::Fence, 0x0000_000f, "fence"),
-            Op::Ecall => Row::new(Form::Plain, 0x0000_0073, "ecall"),
-            Op::Ebreak => Row::new(Form::Plain, 0x0010_0073, "ebreak"),
-            Op::Mul => Row::new(Form::R, 0x0200_0033, "mul"),
-            Op::Mulh => Row::new(Form::R, 0x0200_1033, "mulh"),
-            Op::Mulhsu => Row::new(Form::R, 0x0200_2033, "mulhsu"),
-            Op::Mulhu => Row::new(Form::R, 0x0200_3033, "mulhu"),
-            Op::Div => Row::new(Form::R, 0x0200_4033, "div"),
-            Op::Divu => Row::new(Form::R, 0x0200_5033, "divu"),
-            Op::Rem => Row::new(Form::R, 0x0200_6033, "rem"),
-            Op::Remu => Row::new(Form::R, 0x0200_7033, "remu"),
-            Op::LrW => Row::new(Form::Lr, 0x1000_202f, "lr.w"),
-            Op::ScW => Row::new(Form::Amo, 0x1800_202f, "sc.w"),
-            Op::AmoswapW => Row::new(Form::Amo, 0x0800_202f, "amoswap.w"),
-            Op::AmoaddW => Row::new(Form::Amo, 0x0000_202f, "amoadd.w"),
-            Op::AmoxorW => Row::new(Form::Amo, 0x2000_202f, "amoxor.w"),
-            Op::AmoandW => Row::new(Form::Amo, 0x6000_202f, "amoand.w"),
-            Op::AmoorW => Row::new(Form::Amo, 0x4000_202f, "amoor.w"),
-            Op::AmominW => Row::new(Form::Amo, 0x8000_202f, "amomin.w"),
-            Op::AmomaxW => Row::new(Form::Amo, 0xa000_202f, "amomax.w"),
-            Op::AmominuW => Row::new(Form::Amo, 0xc000_202f, "amominu.w"),
-            Op::AmomaxuW => Row::new(Form::Amo, 0xe000_202f, "amomaxu.w"),
-        }
-    }
-
     /// The format of the operation's words.
     #[inline(always)]
     pub fn form(self) -> Form
         ensures { result ≡ spec.form_of self }
     {
-        self.row().form
+        match self {
+            Op::Lui | Op::Auipc => Form::U,
+            Op::Jal => Form::J,
+            Op::Jalr
+            | Op::Lb
+            | Op::Lh
+            | Op::Lw
+            | Op::Lbu
+            | Op::Lhu
+            | Op::Addi
+            | Op::Slti
+            | Op::Sltiu
+            | Op::Xori
+            | Op::Ori
+            | Op::Andi => Form::I,
+            Op::Beq | Op::Bne | Op::Blt | Op::Bge | Op::Bltu | Op::Bgeu => Form::B,
+            Op::Sb | Op::Sh | Op::Sw => Form::S,
+            Op::Slli | Op::Srli | Op::Srai => Form::Shift,
+            Op::Add
+            | Op::Sub
+            | Op::Sll
+            | Op::Slt
+            | Op::Sltu
+            | Op::Xor
+            | Op::Srl
+            | Op::Sra
+            | Op::Or
+            | Op::And
+            | Op::Mul
+            | Op::Mulh
+            | Op::Mulhsu
+            | Op::Mulhu
+            | Op::Div
+            | Op::Divu
+            | Op::Rem
+            | Op::Remu => Form::R,
+            Op::Fence => Form::Fence,
+            Op::Ecall | Op::Ebreak => Form::Plain,
+            Op::LrW => Form::Lr,
+            Op::ScW
+            | Op::AmoswapW
+            | Op::AmoaddW
+            | Op::AmoxorW
+            | Op::AmoandW
+            | Op::AmoorW
+            | Op::AmominW
+            | Op::AmomaxW
+            | Op::AmominuW
+            | Op::AmomaxuW => Form::Amo,
+        }
     }
 
     /// The fixed bits of the operation's words, in their places.
@@ -373,13 +329,133 @@ impl Op {
     pub fn fixed_bits(self) -> u32
         ensures { result ≡ spec.match_of self }
     {
-        self.row().fixed
+        match self {
+            Op::Lui => 0x0000_0037,
+            Op::Auipc => 0x0000_0017,
+            Op::Jal => 0x0000_006f,
+            Op::Jalr => 0x0000_0067,
+            Op::Beq => 0x0000_0063,
+            Op::Bne => 0x0000_1063,
+            Op::Blt => 0x0000_4063,
+            Op::Bge => 0x0000_5063,
+            Op::Bltu => 0x0000_6063,
+            Op::Bgeu => 0x0000_7063,
+            Op::Lb => 0x0000_0003,
+            Op::Lh => 0x0000_1003,
+            Op::Lw => 0x0000_2003,
+            Op::Lbu => 0x0000_4003,
+            Op::Lhu => 0x0000_5003,
+            Op::Sb => 0x0000_0023,
+            Op::Sh => 0x0000_1023,
+            Op::Sw => 0x0000_2023,
+            Op::Addi => 0x0000_0013,
+            Op::Slti => 0x0000_2013,
+            Op::Sltiu => 0x0000_3013,
+            Op::Xori => 0x0000_4013,
+            Op::Ori => 0x0000_6013,
+            Op::Andi => 0x0000_7013,
+            Op::Slli => 0x0000_1013,
+            Op::Srli => 0x0000_5013,
+            Op::Srai => 0x4000_5013,
+            Op::Add => 0x0000_0033,
+            Op::Sub => 0x4000_0033,
+            Op::Sll => 0x0000_1033,
+            Op::Slt => 0x0000_2033,
+            Op::Sltu => 0x0000_3033,
+            Op::Xor => 0x0000_4033,
+            Op::Srl => 0x0000_5033,
+            Op::Sra => 0x4000_5033,
+            Op::Or => 0x0000_6033,
+            Op::And => 0x0000_7033,
+            Op::Fence => 0x0000_000f,
+            Op::Ecall => 0x0000_0073,
+            Op::Ebreak => 0x0010_0073,
+            Op::Mul => 0x0200_0033,
+            Op::Mulh => 0x0200_1033,
+            Op::Mulhsu => 0x0200_2033,
+            Op::Mulhu => 0x0200_3033,
+            Op::Div => 0x0200_4033,
+            Op::Divu => 0x0200_5033,
+            Op::Rem => 0x0200_6033,
+            Op::Remu => 0x0200_7033,
+            Op::LrW => 0x1000_202f,
+            Op::ScW => 0x1800_202f,
+            Op::AmoswapW => 0x0800_202f,
+            Op::AmoaddW => 0x0000_202f,
+            Op::AmoxorW => 0x2000_202f,
+            Op::AmoandW => 0x6000_202f,
+            Op::AmoorW => 0x4000_202f,
+            Op::AmominW => 0x8000_202f,
+            Op::AmomaxW => 0xa000_202f,
+            Op::AmominuW => 0xc000_202f,
+            Op::AmomaxuW => 0xe000_202f,
+        }
     }
 
     /// The mnemonic of the operation, without ordering bits.
     pub fn mnemonic(self) -> &'static str
         ensures { result.now ≡ spec.mnemonic_of self }
     {
-        self.row().mnemonic
+        match self {
+            Op::Lui => "lui",
+            Op::Auipc => "auipc",
+            Op::Jal => "jal",
+            Op::Jalr => "jalr",
+            Op::Beq => "beq",
+            Op::Bne => "bne",
+            Op::Blt => "blt",
+            Op::Bge => "bge",
+            Op::Bltu => "bltu",
+            Op::Bgeu => "bgeu",
+            Op::Lb => "lb",
+            Op::Lh => "lh",
+            Op::Lw => "lw",
+            Op::Lbu => "lbu",
+            Op::Lhu => "lhu",
+            Op::Sb => "sb",
+            Op::Sh => "sh",
+            Op::Sw => "sw",
+            Op::Addi => "addi",
+            Op::Slti => "slti",
+            Op::Sltiu => "sltiu",
+            Op::Xori => "xori",
+            Op::Ori => "ori",
+            Op::Andi => "andi",
+            Op::Slli => "slli",
+            Op::Srli => "srli",
+            Op::Srai => "srai",
+            Op::Add => "add",
+            Op::Sub => "sub",
+            Op::Sll => "sll",
+            Op::Slt => "slt",
+            Op::Sltu => "sltu",
+            Op::Xor => "xor",
+            Op::Srl => "srl",
+            Op::Sra => "sra",
+            Op::Or => "or",
+            Op::And => "and",
+            Op::Fence => "fence",
+            Op::Ecall => "ecall",
+            Op::Ebreak => "ebreak",
+            Op::Mul => "mul",
+            Op::Mulh => "mulh",
+            Op::Mulhsu => "mulhsu",
+            Op::Mulhu => "mulhu",
+            Op::Div => "div",
+            Op::Divu => "divu",
+            Op::Rem => "rem",
+            Op::Remu => "remu",
+            Op::LrW => "lr.w",
+            Op::ScW => "sc.w",
+            Op::AmoswapW => "amoswap.w",
+            Op::AmoaddW => "amoadd.w",
+            Op::AmoxorW => "amoxor.w",
+            Op::AmoandW => "amoand.w",
+            Op::AmoorW => "amoor.w",
+            Op::AmominW => "amomin.w",
+            Op::AmomaxW => "amomax.w",
+            Op::AmominuW => "amominu.w",
+            Op::AmomaxuW => "amomaxu.w",
+        }
     }
 }
