@@ -1,18 +1,18 @@
 -- The mnemonics of a listing, read back: a line an operation.
 use Rattle.std.proofs.Common.{◌≡◌, ℕ, Bool, true, false, cond, List, [], ◌∷◌, ◌++◌, map, Option, Some, None, Result, Ok, refl}
+use Rattle.std.specs.Prelude.{◌&&◌}
 use Rattle.std.specs.List.{find, list_all}
 use Rattle.std.specs.Str.{bytes_eq}
 use Rattle.rv_isa.specs.Form.{has_ordering}
 use Rattle.rv_isa.specs.Operands.{is_ordering}
-use Rattle.rv_isa.specs.Table.{form_of}
+use Rattle.rv_isa.specs.Table.{form_of, operations}
 use Rattle.rv_isa.specs.declared.op.Op.{Op}
 use Rattle.rv_isa.specs.declared.op.Op.TheVariants.{Lui}
 use Rattle.rv_asm.specs.Keyword.{keyword_of}
-use Rattle.rv_asm.specs.Mnemonics.{mnemonic, mnemonic_of, ordering_suffix}
+use Rattle.rv_asm.specs.Mnemonics.{may_have, mnemonic, mnemonic_of, ordering_suffix}
 use Rattle.rv_asm.specs.Text.{is_name_byte}
 use Rattle.rv_asm.specs.declared.reading.keyword.Keyword.{Keyword}
 use Rattle.rv_asm.specs.declared.reading.keyword.Keyword.TheVariants.{Instr}
-use Rattle.rv_asm.specs.declared.reading.mnemonic.TheConstants.{OPS}
 use Rattle.rv_asm.specs.declared.statement.AsmKind.{AsmKind}
 use Rattle.rv_asm.proofs.PlainLemmas.{all_append}
 
@@ -21,10 +21,10 @@ spelled op aq rl = mnemonic_of op ++ ordering_suffix aq rl
 
 -- the operation that the text spells with these ordering bits
 abbrev op_in : List Op → Bool → Bool → List ℕ → Option Op
-op_in ops aq rl text = find (λ op. bytes_eq (spelled op aq rl) text) ops
+op_in ops aq rl text = find (λ op. may_have op aq rl && bytes_eq (spelled op aq rl) text) ops
 
 -- each is found by its own mnemonic, and by no earlier one's
-found : (op : Op) → op_in OPS false false (spelled op false false) ≡ Some op
+found : (op : Op) → op_in operations false false (spelled op false false) ≡ Some op
 found Lui = refl
 found _ = refl
 
@@ -39,8 +39,8 @@ agree_at : {B : Type 0} (f g : Op → B) (p : Op → Bool) (ops : List Op) (op :
 agree_at f g p [] op same is = cc
 agree_at f g p (x ∷ ops) op same is = agree_in f g p x ops op (p x) same is (agree_at f g p ops op)
 
-agree : {B : Type 0} (f g : Op → B) → map f OPS ≡ map g OPS → (op : Op) → f op ≡ g op
-agree f g same op = agree_at f g (λ o. bytes_eq (spelled o false false) (spelled op false false)) OPS op same (found op)
+agree : {B : Type 0} (f g : Op → B) → map f operations ≡ map g operations → (op : Op) → f op ≡ g op
+agree f g same op = agree_at f g (λ o. may_have o false false && bytes_eq (spelled o false false) (spelled op false false)) operations op same (found op)
 
 -- ---- the mnemonics with ordering bits
 
@@ -59,15 +59,15 @@ reads aq rl op = read_back (has_ordering (form_of op)) op aq rl
 abbrev means : Bool → Bool → Op → Option (Result Keyword AsmKind)
 means aq rl op = meant (has_ordering (form_of op)) op aq rl
 
-acquires : map (reads true false) OPS ≡ map (means true false) OPS
+acquires : map (reads true false) operations ≡ map (means true false) operations
 unfolding keyword_of
 acquires = refl
 
-releases : map (reads false true) OPS ≡ map (means false true) OPS
+releases : map (reads false true) operations ≡ map (means false true) operations
 unfolding keyword_of
 releases = refl
 
-orders : map (reads true true) OPS ≡ map (means true true) OPS
+orders : map (reads true true) operations ≡ map (means true true) operations
 unfolding keyword_of
 orders = refl
 
@@ -97,7 +97,7 @@ suffix_bytes true false = refl
 suffix_bytes false true = refl
 suffix_bytes true true = refl
 
-all_bytes : map (λ op. list_all is_name_byte (mnemonic_of op)) OPS ≡ map (λ op. true) OPS
+all_bytes : map (λ op. list_all is_name_byte (mnemonic_of op)) operations ≡ map (λ op. true) operations
 all_bytes = refl
 
 mnemonic_bytes : (op : Op) → list_all is_name_byte (mnemonic_of op) ≡ true

@@ -101,6 +101,7 @@ fn dispatched<S: ByteStore>(
     ensures { Tried hart.old hart.new (S.memory store.old) (S.memory store.new) (event_of_attempt result access.new) }
 {
     let is_plain = (word >> 25) % 128 == 0;
+    let is_product = (word >> 25) % 128 == 1;
     match (word >> 2) % 32 * 8 + (word >> 12) % 8 {
         0x00 => load_apart::<operations::Lb, S>(store, hart, word, access),
         0x01 => load_apart::<operations::Lh, S>(store, hart, word, access),
@@ -127,20 +128,48 @@ fn dispatched<S: ByteStore>(
         0x5a => exchanged(store, hart, word, access),
         0x60 => if is_plain {
             set_by(store, hart, Op::Add, word, access)
+        } else if is_product {
+            multiplied(store, hart, word, access)
         } else {
-            set_by_either(store, hart, Op::Sub, Op::Mul, word, access)
+            set_by(store, hart, Op::Sub, word, access)
         },
-        0x61 => set_by_either(store, hart, Op::Sll, Op::Mulh, word, access),
-        0x62 => set_by_either(store, hart, Op::Slt, Op::Mulhsu, word, access),
-        0x63 => set_by_either(store, hart, Op::Sltu, Op::Mulhu, word, access),
-        0x64 => set_by_either(store, hart, Op::Xor, Op::Div, word, access),
+        0x61 => if is_product {
+            multiplied(store, hart, word, access)
+        } else {
+            set_by(store, hart, Op::Sll, word, access)
+        },
+        0x62 => if is_product {
+            multiplied(store, hart, word, access)
+        } else {
+            set_by(store, hart, Op::Slt, word, access)
+        },
+        0x63 => if is_product {
+            multiplied(store, hart, word, access)
+        } else {
+            set_by(store, hart, Op::Sltu, word, access)
+        },
+        0x64 => if is_product {
+            multiplied(store, hart, word, access)
+        } else {
+            set_by(store, hart, Op::Xor, word, access)
+        },
         0x65 => if is_plain {
             set_by(store, hart, Op::Srl, word, access)
+        } else if is_product {
+            multiplied(store, hart, word, access)
         } else {
-            set_by_either(store, hart, Op::Sra, Op::Divu, word, access)
+            set_by(store, hart, Op::Sra, word, access)
         },
-        0x66 => set_by_either(store, hart, Op::Or, Op::Rem, word, access),
-        0x67 => set_by_either(store, hart, Op::And, Op::Remu, word, access),
+        0x66 => if is_product {
+            multiplied(store, hart, word, access)
+        } else {
+            set_by(store, hart, Op::Or, word, access)
+        },
+        0x67 => if is_product {
+            multiplied(store, hart, word, access)
+        } else {
+            set_by(store, hart, Op::And, word, access)
+        },
         0x68..=0x6f => set_by(store, hart, Op::Lui, word, access),
         0xc0 => set_by(store, hart, Op::Beq, word, access),
         0xc1 => set_by(store, hart, Op::Bne, word, access),
@@ -210,22 +239,26 @@ fn set_by<S: ByteStore>(
     }
 }
 
-/// Takes the step of a word of one of two operations, which set a register. The first is tried first.
-#[inline(always)]
-fn set_by_either<S: ByteStore>(
+/// Takes the step of a word that may be a product or a quotient, which funct3 tells apart, apart from the jump.
+#[inline(never)]
+fn multiplied<S: ByteStore>(
     store: &mut S,
     hart: &mut Hart,
-    first: Op,
-    second: Op,
     word: u32,
     access: &mut Access,
 ) -> Attempt
     requires fetches { Fetches (S.memory store.old) word hart.old }
     ensures { Tried hart.old hart.new (S.memory store.old) (S.memory store.new) (event_of_attempt result access.new) }
 {
-    match begun(store, hart, first, word) {
-        Some(action) => set(store, hart, action, access),
-        None => set_by(store, hart, second, word, access),
+    match (word >> 12) % 8 {
+        0 => set_by(store, hart, Op::Mul, word, access),
+        1 => set_by(store, hart, Op::Mulh, word, access),
+        2 => set_by(store, hart, Op::Mulhsu, word, access),
+        3 => set_by(store, hart, Op::Mulhu, word, access),
+        4 => set_by(store, hart, Op::Div, word, access),
+        5 => set_by(store, hart, Op::Divu, word, access),
+        6 => set_by(store, hart, Op::Rem, word, access),
+        _ => set_by(store, hart, Op::Remu, word, access),
     }
 }
 

@@ -11,7 +11,7 @@ use Rattle.rv_isa.specs.declared.form.Form.{Form}
 use Rattle.rv_isa.specs.declared.form.Form.TheVariants as form
 use Rattle.rv_isa.specs.declared.instr.Instr.{Instr}
 use Rattle.rv_isa.specs.declared.op.Op.{Op}
-use Rattle.rv_isa.specs.declared.op.Op.TheVariants.{Lui, Auipc, Jal, Jalr, Beq, Bne, Blt, Bge, Bltu, Bgeu, Lb, Lh, Lw, Lbu, Lhu, Sb, Sh, Sw, Addi, Slti, Sltiu, Xori, Ori, Andi, Slli, Srli, Srai, Add, Sub, Sll, Slt, Sltu, Xor, Srl, Sra, Or, And, Fence, Ecall, Ebreak, Mul, Mulh, Mulhsu, Mulhu, Div, Divu, Rem, Remu, LrW, ScW, AmoswapW, AmoaddW, AmoxorW, AmoandW, AmoorW, AmominW, AmomaxW, AmominuW, AmomaxuW}
+use Rattle.rv_isa.specs.declared.op.Op.TheVariants.{Lui}
 use Rattle.rv_isa.proofs.EncodeLemmas.{and_opcode, and_funct3, and_funct5, and_funct7, and_lr, and_all, signed_12_bits, signed_13_bits, signed_21_bits}
 use Rattle.rv_isa.proofs.ReadsBack.{reads_back}
 
@@ -40,64 +40,7 @@ whole_word form.Amo w h =
 -- In each row of the table no fixed bit lies outside of the mask.
 fixed_within : (op : Op) → bit_and (match_of op) (mask_of (form_of op)) ≡ match_of op
 fixed_within Lui = refl
-fixed_within Auipc = refl
-fixed_within Jal = refl
-fixed_within Jalr = refl
-fixed_within Beq = refl
-fixed_within Bne = refl
-fixed_within Blt = refl
-fixed_within Bge = refl
-fixed_within Bltu = refl
-fixed_within Bgeu = refl
-fixed_within Lb = refl
-fixed_within Lh = refl
-fixed_within Lw = refl
-fixed_within Lbu = refl
-fixed_within Lhu = refl
-fixed_within Sb = refl
-fixed_within Sh = refl
-fixed_within Sw = refl
-fixed_within Addi = refl
-fixed_within Slti = refl
-fixed_within Sltiu = refl
-fixed_within Xori = refl
-fixed_within Ori = refl
-fixed_within Andi = refl
-fixed_within Slli = refl
-fixed_within Srli = refl
-fixed_within Srai = refl
-fixed_within Add = refl
-fixed_within Sub = refl
-fixed_within Sll = refl
-fixed_within Slt = refl
-fixed_within Sltu = refl
-fixed_within Xor = refl
-fixed_within Srl = refl
-fixed_within Sra = refl
-fixed_within Or = refl
-fixed_within And = refl
-fixed_within Fence = refl
-fixed_within Ecall = refl
-fixed_within Ebreak = refl
-fixed_within Mul = refl
-fixed_within Mulh = refl
-fixed_within Mulhsu = refl
-fixed_within Mulhu = refl
-fixed_within Div = refl
-fixed_within Divu = refl
-fixed_within Rem = refl
-fixed_within Remu = refl
-fixed_within LrW = refl
-fixed_within ScW = refl
-fixed_within AmoswapW = refl
-fixed_within AmoaddW = refl
-fixed_within AmoxorW = refl
-fixed_within AmoandW = refl
-fixed_within AmoorW = refl
-fixed_within AmominW = refl
-fixed_within AmomaxW = refl
-fixed_within AmominuW = refl
-fixed_within AmomaxuW = refl
+fixed_within _ = refl
 
 -- An instruction's word has its row.
 pub encoded_row : (i : Instr) → Row (encoded i) i

@@ -68,6 +68,204 @@ pub enum Op {
     AmomaxuW,
 }
 
+/// The operations, in the order of the manual's listing.
+pub const OPS: [Op; 59] = [
+    Op::Lui,
+    Op::Auipc,
+    Op::Jal,
+    Op::Jalr,
+    Op::Beq,
+    Op::Bne,
+    Op::Blt,
+    Op::Bge,
+    Op::Bltu,
+    Op::Bgeu,
+    Op::Lb,
+    Op::Lh,
+    Op::Lw,
+    Op::Lbu,
+    Op::Lhu,
+    Op::Sb,
+    Op::Sh,
+    Op::Sw,
+    Op::Addi,
+    Op::Slti,
+    Op::Sltiu,
+    Op::Xori,
+    Op::Ori,
+    Op::Andi,
+    Op::Slli,
+    Op::Srli,
+    Op::Srai,
+    Op::Add,
+    Op::Sub,
+    Op::Sll,
+    Op::Slt,
+    Op::Sltu,
+    Op::Xor,
+    Op::Srl,
+    Op::Sra,
+    Op::Or,
+    Op::And,
+    Op::Fence,
+    Op::Ecall,
+    Op::Ebreak,
+    Op::Mul,
+    Op::Mulh,
+    Op::Mulhsu,
+    Op::Mulhu,
+    Op::Div,
+    Op::Divu,
+    Op::Rem,
+    Op::Remu,
+    Op::LrW,
+    Op::ScW,
+    Op::AmoswapW,
+    Op::AmoaddW,
+    Op::AmoxorW,
+    Op::AmoandW,
+    Op::AmoorW,
+    Op::AmominW,
+    Op::AmomaxW,
+    Op::AmominuW,
+    Op::AmomaxuW,
+];
+
+// The operations of an opcode by funct3, or by funct5, as the manual's listing has them. Where it has none, another stands there, whose row
+// no such word has.
+
+/// LOAD by funct3.
+pub const LOADS: [Op; 8] = [
+    Op::Lb,
+    Op::Lh,
+    Op::Lw,
+    Op::Lb,
+    Op::Lbu,
+    Op::Lhu,
+    Op::Lb,
+    Op::Lb,
+];
+
+/// STORE by funct3.
+pub const STORES: [Op; 8] = [
+    Op::Sb,
+    Op::Sh,
+    Op::Sw,
+    Op::Sb,
+    Op::Sb,
+    Op::Sb,
+    Op::Sb,
+    Op::Sb,
+];
+
+/// BRANCH by funct3.
+pub const BRANCHES: [Op; 8] = [
+    Op::Beq,
+    Op::Bne,
+    Op::Beq,
+    Op::Beq,
+    Op::Blt,
+    Op::Bge,
+    Op::Bltu,
+    Op::Bgeu,
+];
+
+/// OP-IMM by funct3; a shift where its funct7 is 0.
+pub const IMMEDIATES: [Op; 8] = [
+    Op::Addi,
+    Op::Slli,
+    Op::Slti,
+    Op::Sltiu,
+    Op::Xori,
+    Op::Srli,
+    Op::Ori,
+    Op::Andi,
+];
+
+/// OP-IMM by funct3, where bit 30 tells it from those.
+pub const IMMEDIATES_ELSE: [Op; 8] = [
+    Op::Srai,
+    Op::Srai,
+    Op::Srai,
+    Op::Srai,
+    Op::Srai,
+    Op::Srai,
+    Op::Srai,
+    Op::Srai,
+];
+
+/// OP by funct3, where funct7 is 0.
+pub const REGISTERS: [Op; 8] = [
+    Op::Add,
+    Op::Sll,
+    Op::Slt,
+    Op::Sltu,
+    Op::Xor,
+    Op::Srl,
+    Op::Or,
+    Op::And,
+];
+
+/// OP by funct3, where funct7 is 1.
+pub const PRODUCTS: [Op; 8] = [
+    Op::Mul,
+    Op::Mulh,
+    Op::Mulhsu,
+    Op::Mulhu,
+    Op::Div,
+    Op::Divu,
+    Op::Rem,
+    Op::Remu,
+];
+
+/// OP by funct3, where funct7 is another.
+pub const REGISTERS_ELSE: [Op; 8] = [
+    Op::Sub,
+    Op::Sub,
+    Op::Sub,
+    Op::Sub,
+    Op::Sub,
+    Op::Sra,
+    Op::Sub,
+    Op::Sub,
+];
+
+/// AMO by funct5.
+pub const ATOMICS: [Op; 32] = [
+    Op::AmoaddW,
+    Op::AmoswapW,
+    Op::LrW,
+    Op::ScW,
+    Op::AmoxorW,
+    Op::AmoaddW,
+    Op::AmoaddW,
+    Op::AmoaddW,
+    Op::AmoorW,
+    Op::AmoaddW,
+    Op::AmoaddW,
+    Op::AmoaddW,
+    Op::AmoandW,
+    Op::AmoaddW,
+    Op::AmoaddW,
+    Op::AmoaddW,
+    Op::AmominW,
+    Op::AmoaddW,
+    Op::AmoaddW,
+    Op::AmoaddW,
+    Op::AmomaxW,
+    Op::AmoaddW,
+    Op::AmoaddW,
+    Op::AmoaddW,
+    Op::AmominuW,
+    Op::AmoaddW,
+    Op::AmoaddW,
+    Op::AmoaddW,
+    Op::AmomaxuW,
+    Op::AmoaddW,
+    Op::AmoaddW,
+    Op::AmoaddW,
+];
+
 impl Op {
     /// The format of the operation's words.
     #[inline(always)]
@@ -191,6 +389,73 @@ impl Op {
             Op::AmomaxW => 0xa000_202f,
             Op::AmominuW => 0xc000_202f,
             Op::AmomaxuW => 0xe000_202f,
+        }
+    }
+
+    /// The mnemonic of the operation, without ordering bits.
+    pub fn mnemonic(self) -> &'static str
+        ensures { result.now ≡ spec.mnemonic_of self }
+    {
+        match self {
+            Op::Lui => "lui",
+            Op::Auipc => "auipc",
+            Op::Jal => "jal",
+            Op::Jalr => "jalr",
+            Op::Beq => "beq",
+            Op::Bne => "bne",
+            Op::Blt => "blt",
+            Op::Bge => "bge",
+            Op::Bltu => "bltu",
+            Op::Bgeu => "bgeu",
+            Op::Lb => "lb",
+            Op::Lh => "lh",
+            Op::Lw => "lw",
+            Op::Lbu => "lbu",
+            Op::Lhu => "lhu",
+            Op::Sb => "sb",
+            Op::Sh => "sh",
+            Op::Sw => "sw",
+            Op::Addi => "addi",
+            Op::Slti => "slti",
+            Op::Sltiu => "sltiu",
+            Op::Xori => "xori",
+            Op::Ori => "ori",
+            Op::Andi => "andi",
+            Op::Slli => "slli",
+            Op::Srli => "srli",
+            Op::Srai => "srai",
+            Op::Add => "add",
+            Op::Sub => "sub",
+            Op::Sll => "sll",
+            Op::Slt => "slt",
+            Op::Sltu => "sltu",
+            Op::Xor => "xor",
+            Op::Srl => "srl",
+            Op::Sra => "sra",
+            Op::Or => "or",
+            Op::And => "and",
+            Op::Fence => "fence",
+            Op::Ecall => "ecall",
+            Op::Ebreak => "ebreak",
+            Op::Mul => "mul",
+            Op::Mulh => "mulh",
+            Op::Mulhsu => "mulhsu",
+            Op::Mulhu => "mulhu",
+            Op::Div => "div",
+            Op::Divu => "divu",
+            Op::Rem => "rem",
+            Op::Remu => "remu",
+            Op::LrW => "lr.w",
+            Op::ScW => "sc.w",
+            Op::AmoswapW => "amoswap.w",
+            Op::AmoaddW => "amoadd.w",
+            Op::AmoxorW => "amoxor.w",
+            Op::AmoandW => "amoand.w",
+            Op::AmoorW => "amoor.w",
+            Op::AmominW => "amomin.w",
+            Op::AmomaxW => "amomax.w",
+            Op::AmominuW => "amominu.w",
+            Op::AmomaxuW => "amomaxu.w",
         }
     }
 }

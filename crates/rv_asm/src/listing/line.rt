@@ -6,7 +6,7 @@ ghost use Rattle.rv_asm.specs.Line as spec;
 
 use crate::listing::operands::operands_text;
 use crate::listing::whole::digits_of;
-use crate::reading::mnemonic::{mnemonic_of, ordering_suffix};
+use crate::reading::mnemonic::ordering_suffix;
 use rv_isa::codec::decode;
 use rv_isa::form::Form;
 use rv_isa::instr::Instr;
@@ -27,7 +27,7 @@ fn is_written(instr: &Instr) -> bool
 fn instr_line(alloc: Global, instr: &Instr, address: u32) -> Result<String, NoMemory>
     ensures { IfOk result (λ text. string_bytes text ≡ spec.instr_line instr.now address) }
 {
-    let mnemonic = mnemonic_of(instr.op);
+    let mnemonic = instr.op.mnemonic();
     let suffix = ordering_suffix(instr.aq, instr.rl);
     match instr.op.form() {
         Form::Plain => Ok(format!(in alloc; "{mnemonic}{suffix}")?),
