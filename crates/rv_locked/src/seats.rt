@@ -79,6 +79,11 @@ impl Pace {
         self.left = BURST;
     }
 
+    /// Notes that the worker has called another, which is no longer at its gate and so will come.
+    pub fn called(&mut self) {
+        self.in_vain = 0;
+    }
+
     /// Whether the worker still waits for one that may be held up.
     pub fn is_patient(&self) -> bool {
         self.in_vain < PATIENCE
@@ -187,11 +192,13 @@ impl Seats {
         false
     }
 
-    /// Calls a worker whose pause is due, where it waits for that; `wake_called` is to follow.
-    pub fn call_paused(&self, h: u8) {
-        if self.turn(h, Seat::Paused, Seat::Called) {
+    /// Calls a worker whose pause is due, and answers whether it waits for that; `wake_called` is to follow.
+    pub fn call_paused(&self, h: u8) -> bool {
+        let is_called = self.turn(h, Seat::Paused, Seat::Called);
+        if is_called {
             self.calls.fetch_add(1, Ordering::SeqCst);
         }
+        is_called
     }
 
     /// Wakes all who were called.

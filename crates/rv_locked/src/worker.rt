@@ -141,6 +141,9 @@ impl<G: Gate> Shared<G> {
     fn hand_over<R: Wait>(&self, rt: &R, h: u8, pace: &mut Pace) {
         self.seats.sit(h);
         let is_called = self.seats.call_next(h);
+        if is_called {
+            pace.called();
+        }
         if is_called || (pace.is_patient() && self.seats.is_another_coming(h)) {
             self.seats.stand(rt, h, pace);
         } else {
@@ -191,7 +194,7 @@ impl<G: Gate> Shared<G> {
         let next = taken(&mut guard, h, places);
         let is_due = guard.is_any_due();
         if is_due {
-            self.call_due(&guard);
+            self.call_due(&guard, pace);
         }
         drop(guard);
         if next == Next::End {
@@ -207,10 +210,10 @@ impl<G: Gate> Shared<G> {
 
     /// Calls the workers whose pauses are due.
     #[cold]
-    fn call_due(&self, watched: &Watched) {
+    fn call_due(&self, watched: &Watched, pace: &mut Pace) {
         for h in 0..watched.collider().plan().harts {
-            if watched.is_due(h) {
-                self.seats.call_paused(h);
+            if watched.is_due(h) && self.seats.call_paused(h) {
+                pace.called();
             }
         }
     }
