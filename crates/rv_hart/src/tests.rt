@@ -17,6 +17,7 @@ mod atomics;
 mod causes;
 mod edges;
 mod operations;
+mod sharing;
 
 /// What was found is what is wanted. (Each assertion that a test writes out costs the check a second, and a call of
 /// this one next to nothing.)
