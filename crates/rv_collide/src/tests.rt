@@ -9,7 +9,9 @@ use rv_elf::Image;
 use rv_hart::texts::write_state;
 use rv_memory::flagged::Flagged;
 use rv_memory::flat::Flat;
+use rv_memory::paged::Paged;
 use rv_memory::region::Region;
+use rv_memory::store::ByteStore;
 use std::alloc::Global;
 use std::fmt::Debug;
 use std::process::Abort;
@@ -80,6 +82,17 @@ fn told(
     plan: Plan,
     entries: &[Entry],
 ) -> Result<Collider<Flat>, Fail> {
+    told_over(rt, alloc, words, plan, entries)
+}
+
+/// The schedule told again.
+fn told_over<S: ByteStore>(
+    rt: &impl Abort,
+    alloc: Global,
+    words: &[u32],
+    plan: Plan,
+    entries: &[Entry],
+) -> Result<Collider<S>, Fail> {
     let image = image(rt, alloc, words)?;
     Ok(replay(alloc, &image, plan, entries)?)
 }

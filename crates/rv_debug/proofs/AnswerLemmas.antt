@@ -55,10 +55,12 @@ forward_within p within =
     let test : (p.place == length p.entries) ≡ false = grind (arith, nat_tests) in
     rw test refl
 
-pub forward_past : (p : Placed) (fault : SessionFault) → fault ≡ NoPlace → length p.entries ≡ p.place → IsAnswered p (Some said.Forward) (refuses p fault)
-forward_past p fault is past =
-    let test : (p.place == length p.entries) ≡ true = grind (arith, nat_tests) in
-    inl (rw (test, is) refl)
+pub forward_past : (p : Placed) (fault : SessionFault) → p.place ≤ length p.entries → (fault ≡ NoPlace) ⊎ (fault ≡ NoMemory) → (fault ≡ NoPlace → length p.entries ≡ p.place) → (length p.entries ≡ p.place → fault ≡ NoPlace) → IsAnswered p (Some said.Forward) (refuses p fault)
+forward_past p fault within told past due =
+    elim told [
+      | inl is ↦ (let last = past is in let test : (p.place == length p.entries) ≡ true = grind (arith, nat_tests) in inl (rw (test, is) refl))
+      | inr is ↦ (let there : length p.entries ≡ p.place → ⊥ = λ last. let other = due last in cc in inr (omega arith, rw is refl))
+    ]
 
 pub back_within : (p : Placed) → (p.place ≡ 0 → ⊥) → IsAnswer p said.Back (goes (p.place - 1))
 back_within p within =

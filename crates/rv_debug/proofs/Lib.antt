@@ -1,8 +1,8 @@
 pub mod AnswerLemmas
+pub mod CheckpointLemmas
 pub mod CommandLemmas
 pub mod FindLemmas
 pub mod LineLemmas
-pub mod PlaceLemmas
 pub mod SeriesLemmas
 pub mod TalkLawLemmas
 pub mod TalkLemmas

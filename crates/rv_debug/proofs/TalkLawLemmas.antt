@@ -128,7 +128,9 @@ own_differs : (p : Placed) (command : Command) (answer : Answer) → TakesMemory
 own_differs p (said.Go n) answer takes is same =
     let within : nat_le n (length p.entries) ≡ true = grind (arith, nat_tests) in
     place_differs n (sym (ap (λ (a : Answer). a.text) (rw within at is)) ∙ same)
-own_differs p said.Forward answer takes is same = absurd takes
+own_differs p said.Forward answer takes is same =
+    let before : (p.place == length p.entries) ≡ false = grind (arith, nat_tests) in
+    place_differs _ (sym (ap (λ (a : Answer). a.text) (rw before at is)) ∙ same)
 own_differs p said.Back answer takes is same =
     let later : (p.place == 0) ≡ false = grind (arith, nat_tests) in
     place_differs _ (sym (ap (λ (a : Answer). a.text) (rw later at is)) ∙ same)

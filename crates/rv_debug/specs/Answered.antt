@@ -95,7 +95,7 @@ IsAnswer p said.Quit answer = answer ≡ shows p []
 -- over the entries gives. A fault that is told without a search takes none.
 abbrev pub TakesMemory : Placed → Command → Type 0
 TakesMemory p (said.Go n) = n ≤ length p.entries
-TakesMemory p said.Forward = ⊥
+TakesMemory p said.Forward = p.place < length p.entries
 TakesMemory p said.Back = 0 < p.place
 TakesMemory p (said.Hart h) = ⊥
 TakesMemory p (said.Bytes address len) = HasBytes p address len

@@ -79,17 +79,12 @@ fn put_lines<O: Output>(writer: &mut O, lines: &[String]) -> Result<(), WriteFau
 
 // ---- commands
 
-fn go<O: Output>(
-    alloc: Global,
-    session: &mut Session,
-    n: u32,
-    writer: &mut O,
-) -> Result<(), WriteFault>
+fn go<O: Output>(session: &mut Session, n: u32, writer: &mut O) -> Result<(), WriteFault>
     ensures ok { OnOk result (Puts session.old (Some (command_is.Go n)) session.new
         (Appends (O.written writer.old) (O.written writer.new))) }
     ensures failed { O.has_failed writer.new ≡ (O.has_failed writer.old || is_err result) }
 {
-    match session.go(alloc, n) {
+    match session.go(n) {
         Ok(()) => put_place(writer, n),
         Err(fault) => put_fault(writer, fault),
     }
@@ -100,18 +95,19 @@ fn forward<O: Output>(session: &mut Session, writer: &mut O) -> Result<(), Write
         (Appends (O.written writer.old) (O.written writer.new))) }
     ensures failed { O.has_failed writer.new ≡ (O.has_failed writer.old || is_err result) }
 {
+    session.facts();
     match session.forward() {
         Ok(()) => put_place(writer, session.place()),
         Err(fault) => put_fault(writer, fault),
     }
 }
 
-fn back<O: Output>(alloc: Global, session: &mut Session, writer: &mut O) -> Result<(), WriteFault>
+fn back<O: Output>(session: &mut Session, writer: &mut O) -> Result<(), WriteFault>
     ensures ok { OnOk result (Puts session.old (Some command_is.Back) session.new
         (Appends (O.written writer.old) (O.written writer.new))) }
     ensures failed { O.has_failed writer.new ≡ (O.has_failed writer.old || is_err result) }
 {
-    match session.back(alloc) {
+    match session.back() {
         Ok(()) => put_place(writer, session.place()),
         Err(fault) => put_fault(writer, fault),
     }
@@ -167,17 +163,12 @@ fn show_lines<O: Output>(
     }
 }
 
-fn find<O: Output>(
-    alloc: Global,
-    session: &mut Session,
-    address: u32,
-    writer: &mut O,
-) -> Result<(), WriteFault>
+fn find<O: Output>(session: &mut Session, address: u32, writer: &mut O) -> Result<(), WriteFault>
     ensures ok { OnOk result (Puts session.old (Some (command_is.Find address)) session.new
         (Appends (O.written writer.old) (O.written writer.new))) }
     ensures failed { O.has_failed writer.new ≡ (O.has_failed writer.old || is_err result) }
 {
-    match session.find(alloc, address) {
+    match session.find(address) {
         Ok(found) => put_found(writer, found),
         Err(fault) => put_fault(writer, fault),
     }
@@ -200,13 +191,13 @@ pub fn answer<O: Output>(
         None => return writer.put(b"fault 0 Command\n"),
     };
     match command {
-        Command::Go(n) => go(alloc, session, n, writer),
+        Command::Go(n) => go(session, n, writer),
         Command::Forward => forward(session, writer),
-        Command::Back => back(alloc, session, writer),
+        Command::Back => back(session, writer),
         Command::Hart(h) => show_hart(session, h, writer),
         Command::Bytes { address, len } => show_bytes(alloc, session, address, len, writer),
         Command::Lines { address, count } => show_lines(alloc, session, address, count, writer),
-        Command::Find(address) => find(alloc, session, address, writer),
+        Command::Find(address) => find(session, address, writer),
         Command::Quit => writer.put(b""),
     }
 }

@@ -1,45 +1,40 @@
 //! The next entry that touches a byte.
-ghost use Rattle.std.specs.Prelude.{◌≡◌, ◌+◌, ◌<◌, ◌≤◌, ◌↔◌, [], None, IsTrue, IsSomeAnd, IfSome, length, take};
-ghost use Rattle.rv_collide.specs.Legal.{IsLegal};
-ghost use Rattle.rv_collide.specs.Stored.{setting_of, stored};
+ghost use Rattle.std.specs.Prelude.{◌≡◌, ◌+◌, ◌<◌, ◌≤◌, ◌↔◌, None, IsTrue, IsSomeAnd, IfOk, IfSome, length};
 ghost use Rattle.rv_debug.specs.Answers as answer;
 ghost use Rattle.rv_debug.specs.Placed.{placed};
+ghost use Rattle.rv_debug.specs.internal.Session.{StandsAt};
 ghost use Rattle.rv_hart.specs.Conflict.{Touches};
 
-use rv_collide::collider::Collider;
-use rv_collide::entry::Entry;
-use rv_collide::told::advance;
+use crate::schedule::Schedule;
 use rv_hart::access::Access;
-use rv_memory::flat::Flat;
+use rv_hart::machine::Machine;
+use rv_memory::paged::Paged;
+use rv_memory::store::NoMemory;
 
-/// The least place, from one on, whose entry touches the byte; the core, which stood at that one, then
-/// stands at the place after it. `count` is how many entries there are.
+/// The least place, from one on, whose entry touches the byte; the machine, which stood at that one, then stands at
+/// the place after it.
 pub(crate) fn next_touch(
-    collider: &mut Collider<Flat>,
-    entries: &[Entry],
-    count: u32,
+    schedule: &Schedule,
+    machine: &mut Machine<Paged>,
     from: u32,
     address: u32,
-) -> Option<u32>
-    requires legal { IsLegal (setting_of (stored collider.old.image collider.old.plan [])) entries.now }
-    requires counted { count ≡ length entries.now }
-    requires within { from ≤ count }
-    requires here { collider.old ≡ stored collider.old.image collider.old.plan (take from entries.now) }
-    ensures found { IfSome result (λ place.
-        answer.IsFirstTouch (placed collider.old.image collider.old.plan entries.now from) address place) }
-    ensures below { IfSome result (λ place. place < count) }
-    ensures after { IfSome result (λ place.
-        collider.new ≡ stored collider.old.image collider.old.plan (take (place + 1) entries.now)) }
-    ensures none { (result ≡ None) →
-        answer.HasNoTouch (placed collider.old.image collider.old.plan entries.now from) address }
+) -> Result<Option<u32>, NoMemory>
+    requires within { from ≤ length schedule.now.entries }
+    requires here { StandsAt schedule.now from machine.old }
+    ensures found { IfOk result (λ found. IfSome found (λ place.
+        answer.IsFirstTouch (placed schedule.now.image schedule.now.plan schedule.now.entries from) address place)) }
+    ensures below { IfOk result (λ found. IfSome found (λ place. place < length schedule.now.entries)) }
+    ensures after { IfOk result (λ found. IfSome found (λ place. StandsAt schedule.now (place + 1) machine.new)) }
+    ensures none { IfOk result (λ found. (found ≡ None) →
+        answer.HasNoTouch (placed schedule.now.image schedule.now.plan schedule.now.entries from) address) }
 {
-    for place in from..count {
-        let access = advance(collider, entries, place);
+    for place in from..schedule.count() {
+        let access = schedule.advance(machine, place)?;
         if touches(access, address) {
-            return Some(place);
+            return Ok(Some(place));
         }
     }
-    None
+    Ok(None)
 }
 
 /// Whether there is an access, of the byte at the address or of it and others.

@@ -5,6 +5,7 @@
 #![tactic(auto)]
 
 mod answer;
+mod checkpoints;
 pub mod command;
 pub mod fault;
 mod finding;
@@ -12,6 +13,7 @@ pub mod hart_view;
 pub mod laws;
 mod lines;
 mod listing;
+mod schedule;
 pub mod session;
 mod shown;
 pub mod talk;

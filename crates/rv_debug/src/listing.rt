@@ -6,12 +6,11 @@ ghost use Rattle.rv_debug.specs.Answers as answer;
 use crate::shown::{byte_at, has_bytes};
 use rv_asm::listed;
 use rv_hart::machine::Machine;
-use rv_memory::flat::Flat;
-use rv_memory::store::NoMemory;
+use rv_memory::store::{ByteStore, NoMemory};
 use std::alloc::Global;
 
 /// Whether the address is a multiple of 4, and memory has each of the words from there on.
-pub(crate) fn has_lines(machine: &Machine<Flat>, address: u32, count: u32) -> bool
+pub(crate) fn has_lines<S: ByteStore>(machine: &Machine<S>, address: u32, count: u32) -> bool
     requires { count ≤ 64 }
     ensures { result ≡ is_some (answer.lines_from machine.now.state.memory address count) }
 {
@@ -22,9 +21,9 @@ pub(crate) fn has_lines(machine: &Machine<Flat>, address: u32, count: u32) -> bo
 }
 
 /// The lines of the words from an address on, all of which memory has.
-pub(crate) fn lines_of(
+pub(crate) fn lines_of<S: ByteStore>(
     alloc: Global,
-    machine: &Machine<Flat>,
+    machine: &Machine<S>,
     address: u32,
     count: u32,
 ) -> Result<Vec<String>, NoMemory>
@@ -43,7 +42,11 @@ pub(crate) fn lines_of(
 }
 
 /// The line of the word at an address, or None where memory lacks a byte of it.
-fn line_at(alloc: Global, machine: &Machine<Flat>, address: u64) -> Result<Option<String>, NoMemory>
+fn line_at<S: ByteStore>(
+    alloc: Global,
+    machine: &Machine<S>,
+    address: u64,
+) -> Result<Option<String>, NoMemory>
     ensures { IfOk result (λ answered. MatchOption answered
         (answer.line_at machine.now.state.memory address ≡ None)
         (λ line. answer.line_at machine.now.state.memory address ≡ Some (string_bytes line))) }
@@ -58,7 +61,7 @@ fn line_at(alloc: Global, machine: &Machine<Flat>, address: u64) -> Result<Optio
     }
 }
 
-fn word_at(machine: &Machine<Flat>, address: u32) -> Option<u32>
+fn word_at<S: ByteStore>(machine: &Machine<S>, address: u32) -> Option<u32>
     ensures { result ≡ answer.word_at machine.now.state.memory address }
 {
     let a = byte_at(machine, u64::from(address))?;

@@ -11,18 +11,19 @@ ghost use Rattle.rv_debug.specs.Answers as answer;
 ghost use Rattle.rv_debug.specs.Placed.{moved, placed, setting, state, SomeState};
 ghost use Rattle.rv_debug.specs.declared.session.SessionFault.TheVariants as fault_is;
 
+use crate::checkpoints::{checkpoints_of, machine_at};
 use crate::finding::next_touch;
 use crate::hart_view::HartView;
 use crate::listing::{has_lines, lines_of};
+use crate::schedule::Schedule;
 use crate::shown::{bytes_of, has_bytes, view_of};
-use rv_collide::collider::Collider;
 use rv_collide::entry::Entry;
 use rv_collide::plan::Plan;
-use rv_collide::replay::{ReplayFault, replay};
-use rv_collide::told::{advance, collider_at};
+use rv_collide::replay::ReplayFault;
+use rv_collide::walk_laws::steps_of_legal_schedules;
 use rv_elf::Image;
 use rv_hart::machine::Machine;
-use rv_memory::flat::Flat;
+use rv_memory::paged::Paged;
 use rv_memory::store::NoMemory;
 use std::alloc::Global;
 use std::marker::Model;
@@ -55,24 +56,23 @@ impl From<NoMemory> for SessionFault {
 /// entries, from 0 to their number. To contracts it is those four; what it shows is the state there.
 #[derive(Drop)]
 pub struct Session {
-    image: Image,
-    plan: Plan,
-    entries: Vec<Entry>,
-    count: u32,
+    schedule: Schedule,
     place: u32,
-    collider: Collider<Flat>,
+    /// The machine at the place.
+    machine: Machine<Paged>,
+    /// Machines at the places that are multiples of 1,024.
+    checkpoints: Vec<Machine<Paged>>,
 }
 
 impl Model for Session {
-    ghost use Rattle.rv_collide.specs.Numbers.{numbers};
     ghost use Rattle.rv_debug.specs.Placed.{Placed, placed};
     ghost use Rattle.rv_debug.specs.internal.Session.{IsSession};
 
     ghost Value = { Placed };
 
-    ghost view = { λ s. placed s.image (numbers s.plan) s.entries.items s.place };
+    ghost view = { λ s. placed s.schedule.image s.schedule.plan s.schedule.entries s.place };
 
-    ghost invariant = { λ s. IsSession (placed s.image (numbers s.plan) s.entries.items s.place) s.count s.collider };
+    ghost invariant = { λ s. IsSession s.schedule s.place s.machine s.checkpoints.items };
 }
 
 impl Session {
@@ -88,22 +88,17 @@ impl Session {
         ensures err { IfErr result (λ fault.
             IsReplayFault (setting_of (stored image.now (numbers plan) [])) entries.items fault) }
     {
-        let whole: Collider<Flat> = replay(alloc, image, plan, &entries)?;
-        let count = whole.entries();
-        let Ok(collider) = Collider::new(alloc, image, plan) else {
-            return Err(ReplayFault::NoMemory);
-        };
-        let Ok(image) = image.copy(alloc) else {
-            return Err(ReplayFault::NoMemory);
-        };
-        Ok(Session {
-            image,
-            plan,
-            entries,
-            count,
-            place: 0,
-            collider,
-        })
+        let (mut checkpoints, count) = checkpoints_of(alloc, image, plan, &entries)?;
+        let schedule = Schedule::new(image, plan, entries, count);
+        match machine_at(&schedule, &mut checkpoints, 0) {
+            Err(_) => Err(ReplayFault::NoMemory),
+            Ok(machine) => Ok(Session {
+                schedule,
+                place: 0,
+                machine,
+                checkpoints,
+            }),
+        }
     }
 
     /// What holds of each session: its schedule is legal, and there is a state at its place.
@@ -112,6 +107,7 @@ impl Session {
         ensures within { self.now.place ≤ length self.now.entries }
         ensures state { IsSome (state self.now) }
     {
+        self.schedule.facts();
         let _place = self.place;
         let _machine = self.machine();
     }
@@ -121,40 +117,40 @@ impl Session {
         ensures value { result ≡ self.now.place }
         ensures within { result ≤ length self.now.entries }
     {
-        let _count = self.count;
+        let _count = self.schedule.count();
         self.place
     }
 
     /// Goes to a place.
-    pub fn go(&mut self, alloc: Global, n: u32) -> Result<(), SessionFault>
+    pub fn go(&mut self, n: u32) -> Result<(), SessionFault>
         ensures ok { OnOk result (self.new ≡ moved self.old n) }
         ensures no_place { (result ≡ Err SessionFault.NoPlace) ↔ (length self.old.entries < n) }
         ensures err { IfErr result (λ fault. (fault ≡ SessionFault.NoPlace) ⊎ (fault ≡ SessionFault.NoMemory)) }
         ensures refused { OnErr result (self.new ≡ self.old) }
     {
-        if n > self.count {
+        if n > self.schedule.count() {
             return Err(SessionFault::NoPlace);
         }
-        self.put(alloc, n)
+        self.put(n)
     }
 
     /// Goes one place forwards.
     pub fn forward(&mut self) -> Result<(), SessionFault>
         ensures ok { OnOk result (self.new ≡ moved self.old (self.old.place + 1)) }
         ensures no_place { (result ≡ Err SessionFault.NoPlace) ↔ (length self.old.entries ≡ self.old.place) }
-        ensures err { IfErr result (λ fault. fault ≡ SessionFault.NoPlace) }
+        ensures err { IfErr result (λ fault. (fault ≡ SessionFault.NoPlace) ⊎ (fault ≡ SessionFault.NoMemory)) }
         ensures refused { OnErr result (self.new ≡ self.old) }
     {
-        if self.place == self.count {
+        if self.place == self.schedule.count() {
             return Err(SessionFault::NoPlace);
         }
-        let _access = advance(&mut self.collider, &self.entries, self.place);
+        let _access = self.schedule.advance(&mut self.machine, self.place)?;
         self.place += 1;
         Ok(())
     }
 
     /// Goes one place backwards.
-    pub fn back(&mut self, alloc: Global) -> Result<(), SessionFault>
+    pub fn back(&mut self) -> Result<(), SessionFault>
         ensures ok { OnOk result (self.new ≡ moved self.old (self.old.place - 1)) }
         ensures no_place { (result ≡ Err SessionFault.NoPlace) ↔ (self.old.place ≡ 0) }
         ensures err { IfErr result (λ fault. (fault ≡ SessionFault.NoPlace) ⊎ (fault ≡ SessionFault.NoMemory)) }
@@ -164,17 +160,17 @@ impl Session {
             return Err(SessionFault::NoPlace);
         }
         let before = self.place - 1;
-        self.put(alloc, before)
+        self.put(before)
     }
 
-    /// Goes to one of the schedule's places, by its entries from the first one on.
-    fn put(&mut self, alloc: Global, n: u32) -> Result<(), SessionFault>
+    /// Goes to one of the schedule's places, by its entries from the nearest checkpoint on.
+    fn put(&mut self, n: u32) -> Result<(), SessionFault>
         requires { n ≤ length self.old.entries }
         ensures ok { OnOk result (self.new ≡ moved self.old n) }
         ensures err { IfErr result (λ fault. fault ≡ SessionFault.NoMemory) }
         ensures refused { OnErr result (self.new ≡ self.old) }
     {
-        self.collider = collider_at(alloc, &self.image, self.plan, &self.entries, n)?;
+        self.machine = machine_at(&self.schedule, &mut self.checkpoints, n)?;
         self.place = n;
         Ok(())
     }
@@ -223,18 +219,20 @@ impl Session {
 
     /// The least place, from the present one on, whose entry's access touches the byte. The session goes to
     /// the place after it.
-    pub fn find(&mut self, alloc: Global, address: u32) -> Result<u32, SessionFault>
+    pub fn find(&mut self, address: u32) -> Result<u32, SessionFault>
         ensures ok { IfOk result (λ found. answer.IsFirstTouch self.old address found) }
         ensures after { IfOk result (λ found. self.new ≡ moved self.old (found + 1)) }
         ensures err { IfErr result (λ fault. (fault ≡ SessionFault.NoMemory)
             ⊎ ((fault ≡ SessionFault.NotFound) × answer.HasNoTouch self.old address)) }
         ensures refused { OnErr result (self.new ≡ self.old) }
     {
-        let mut other = collider_at(alloc, &self.image, self.plan, &self.entries, self.place)?;
-        match next_touch(&mut other, &self.entries, self.count, self.place, address) {
+        steps_of_legal_schedules();
+        self.schedule.facts();
+        let mut other = self.machine.share(self.schedule.steps())?;
+        match next_touch(&self.schedule, &mut other, self.place, address)? {
             None => Err(SessionFault::NotFound),
             Some(found) => {
-                self.collider = other;
+                self.machine = other;
                 self.place = found + 1;
                 Ok(found)
             }
@@ -242,9 +240,9 @@ impl Session {
     }
 
     /// The machine at the place.
-    pub fn machine(&self) -> &Machine<Flat>
+    pub fn machine(&self) -> &Machine<Paged>
         ensures { state self.now ≡ Some result.now.state }
     {
-        self.collider.machine()
+        &self.machine
     }
 }

@@ -6,12 +6,11 @@ ghost use Rattle.rv_memory.specs.Memory.{byte};
 
 use crate::hart_view::HartView;
 use rv_hart::machine::Machine;
-use rv_memory::flat::Flat;
-use rv_memory::store::NoMemory;
+use rv_memory::store::{ByteStore, NoMemory};
 use std::alloc::Global;
 
 /// A hart as it is shown.
-pub(crate) fn view_of(machine: &Machine<Flat>, h: u8) -> HartView
+pub(crate) fn view_of<S: ByteStore>(machine: &Machine<S>, h: u8) -> HartView
     requires { h < length machine.now.state.harts }
     ensures { SomeHart (λ hart. answer.IsView hart result) machine.now.state h }
 {
@@ -28,7 +27,7 @@ pub(crate) fn view_of(machine: &Machine<Flat>, h: u8) -> HartView
 }
 
 /// Whether memory has each of the bytes from an address on.
-pub(crate) fn has_bytes(machine: &Machine<Flat>, address: u32, len: u32) -> bool
+pub(crate) fn has_bytes<S: ByteStore>(machine: &Machine<S>, address: u32, len: u32) -> bool
     ensures { result ≡ is_some (answer.bytes_from machine.now.state.memory address len) }
 {
     for i in 0..len {
@@ -40,9 +39,9 @@ pub(crate) fn has_bytes(machine: &Machine<Flat>, address: u32, len: u32) -> bool
 }
 
 /// The bytes from an address on, all of which memory has.
-pub(crate) fn bytes_of(
+pub(crate) fn bytes_of<S: ByteStore>(
     alloc: Global,
-    machine: &Machine<Flat>,
+    machine: &Machine<S>,
     address: u32,
     len: u32,
 ) -> Result<Vec<u8>, NoMemory>
@@ -60,7 +59,7 @@ pub(crate) fn bytes_of(
 }
 
 /// The byte at an address, which may lie past the last one.
-pub(crate) fn byte_at(machine: &Machine<Flat>, address: u64) -> Option<u8>
+pub(crate) fn byte_at<S: ByteStore>(machine: &Machine<S>, address: u64) -> Option<u8>
     ensures { result ≡ byte machine.now.state.memory address }
 {
     machine.no_byte_past_the_last();

@@ -1,5 +1,6 @@
 //! What the tests share: an image, a schedule of it, and sessions of both.
 mod answer;
+mod checkpoints;
 mod command;
 mod lines;
 mod session;

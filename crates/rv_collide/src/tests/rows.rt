@@ -518,7 +518,7 @@ const RESERVATIONS: [Row; 5] = [
 ];
 
 /// What is shown of a schedule that was told again: the endings, the harts and the output.
-fn text_of(alloc: Global, collider: &Collider<Flat>) -> Result<Vec<u8>, Fail> {
+fn text_of<S: ByteStore>(alloc: Global, collider: &Collider<S>) -> Result<Vec<u8>, Fail> {
     let mut writer = Flagged::new(Vec::new(alloc));
     for number in 0..collider.endings() {
         write_ending(&mut writer, u64::from(number), &collider.ending(number))?;
@@ -527,10 +527,10 @@ fn text_of(alloc: Global, collider: &Collider<Flat>) -> Result<Vec<u8>, Fail> {
     Ok(writer.into_inner())
 }
 
-/// Asserts what a row's schedule shows, and that its entries and endings are handed out.
-fn assert_shows(rt: &impl Abort, alloc: Global, row: &Row) -> Result<(), Fail> {
+/// Asserts what a row's schedule shows over a store, and that its entries and endings are handed out.
+fn assert_shows<S: ByteStore>(rt: &impl Abort, alloc: Global, row: &Row) -> Result<(), Fail> {
     let plan = plan(row.harts, 1000, 200)?;
-    let collider = told(rt, alloc, row.words, plan, row.entries)?;
+    let collider: Collider<S> = told_over(rt, alloc, row.words, plan, row.entries)?;
     let text = text_of(alloc, &collider)?;
     assert_is(rt, text.as_slice(), row.text, row.name);
     let endings = collider.endings();
@@ -542,7 +542,8 @@ fn assert_shows(rt: &impl Abort, alloc: Global, row: &Row) -> Result<(), Fail> {
 
 fn assert_all_show(rt: &impl Abort, alloc: Global, rows: &[Row]) -> Result<(), Fail> {
     for row in rows {
-        assert_shows(rt, alloc, row)?;
+        assert_shows::<Flat>(rt, alloc, row)?;
+        assert_shows::<Paged>(rt, alloc, row)?;
     }
     Ok(())
 }

@@ -13,6 +13,7 @@ use rv_hart::machine::Machine;
 use rv_hart::texts::write_state;
 use rv_memory::flagged::Flagged;
 use rv_memory::flat::Flat;
+use rv_memory::store::ByteStore;
 use std::alloc::Global;
 use std::process::Abort;
 use std::test::Fail;
@@ -33,16 +34,12 @@ fn has_bytes(
 }
 
 /// The answer to a command that moves: the place found, where it looks for one.
-fn moved(
-    alloc: Global,
-    session: &mut Session,
-    command: Command,
-) -> Result<Option<u32>, SessionFault> {
+fn moved(session: &mut Session, command: Command) -> Result<Option<u32>, SessionFault> {
     match command {
-        Go(place) => session.go(alloc, place)?,
+        Go(place) => session.go(place)?,
         Forward => session.forward()?,
-        Back => session.back(alloc)?,
-        Find(address) => return Ok(Some(session.find(alloc, address)?)),
+        Back => session.back()?,
+        Find(address) => return Ok(Some(session.find(address)?)),
         _ => {}
     }
     Ok(None)
@@ -51,13 +48,12 @@ fn moved(
 /// Asserts what a command answers, and at which place it leaves the session.
 fn assert_moves(
     rt: &impl Abort,
-    alloc: Global,
     session: &mut Session,
     command: Command,
     answer: Result<Option<u32>, SessionFault>,
     place: u32,
 ) {
-    let answered = moved(alloc, session, command);
+    let answered = moved(session, command);
     assert_eq!(rt; (answered, session.place()), (answer, place), "{command:?}");
 }
 
@@ -87,7 +83,7 @@ const RACE: [Move; 16] = [
 fn walk_a_race(rt: &impl Abort, alloc: Global, session: &mut Session) -> Result<(), Fail> {
     assert_is(rt, session.place(), 0, "the first place");
     for (command, answer, place, stored) in &RACE {
-        assert_moves(rt, alloc, session, *command, *answer, *place);
+        assert_moves(rt, session, *command, *answer, *place);
         has_bytes(rt, alloc, session, 0x20000, &[*stored, 0, 0, 0])?;
     }
     Ok(())
@@ -101,7 +97,7 @@ fn walks_a_race(rt: HostRuntime) -> Result<(), Fail> {
 }
 
 fn see_harts(rt: &impl Abort, alloc: Global, session: &mut Session) -> Result<(), Fail> {
-    session.go(alloc, 6)?;
+    session.go(6)?;
     let one = session.registers(0)?;
     let x = one.registers;
     assert_is(rt, one.status, Status::Running, "status");
@@ -130,13 +126,13 @@ fn see_reservation_and_stop(
     alloc: Global,
     session: &mut Session,
 ) -> Result<(), Fail> {
-    session.go(alloc, 3)?;
+    session.go(3)?;
     let view = session.registers(1)?;
     let stopped = Status::Stopped(Cause::Illegal);
     assert_is(rt, view.status, stopped, "status");
     assert_is(rt, view.reservation, Some(0x20000), "reservation");
-    session.go(alloc, 0)?;
-    let found = session.find(alloc, 0x20001);
+    session.go(0)?;
+    let found = session.find(0x20001);
     assert_is(rt, found, Ok(1), "a byte of the word");
     Ok(())
 }
@@ -205,7 +201,7 @@ const KINDS: [Entry; 9] = [
     Stepped(0),
 ];
 
-fn text_of(alloc: Global, machine: &Machine<Flat>) -> Result<Vec<u8>, Fail> {
+fn text_of<S: ByteStore>(alloc: Global, machine: &Machine<S>) -> Result<Vec<u8>, Fail> {
     let mut writer = Flagged::new(Vec::new(alloc));
     write_state(&mut writer, machine)?;
     Ok(writer.into_inner())
@@ -249,20 +245,20 @@ fn agrees(rt: &impl Abort, alloc: Global, session: &Session) -> Result<(), Fail>
 fn walk_all_places(rt: &impl Abort, alloc: Global, session: &mut Session) -> Result<(), Fail> {
     agrees(rt, alloc, session)?;
     for place in 0..9u32 {
-        assert_moves(rt, alloc, session, Forward, Ok(None), place + 1);
+        assert_moves(rt, session, Forward, Ok(None), place + 1);
         agrees(rt, alloc, session)?;
     }
     for back in 0..9u32 {
-        assert_moves(rt, alloc, session, Back, Ok(None), 8 - back);
+        assert_moves(rt, session, Back, Ok(None), 8 - back);
         agrees(rt, alloc, session)?;
     }
     for n in [9, 2, 7, 0, 5, 5] {
-        assert_moves(rt, alloc, session, Go(n), Ok(None), n);
+        assert_moves(rt, session, Go(n), Ok(None), n);
         agrees(rt, alloc, session)?;
     }
-    assert_moves(rt, alloc, session, Go(0), Ok(None), 0);
-    assert_moves(rt, alloc, session, Find(0x20000), Ok(Some(5)), 6);
-    assert_moves(rt, alloc, session, Find(0x20000), Ok(Some(8)), 9);
+    assert_moves(rt, session, Go(0), Ok(None), 0);
+    assert_moves(rt, session, Find(0x20000), Ok(Some(5)), 6);
+    assert_moves(rt, session, Find(0x20000), Ok(Some(8)), 9);
     agrees(rt, alloc, session)
 }
 
@@ -357,7 +353,7 @@ fn list_overwritten_code(
     let word = "0001000c: 00000001 .word 0x00000001\n";
     let call = "0001000c: 00000073 ecall\n";
     for (command, place, line) in [(Go(1), 1, call), (Forward, 2, word), (Back, 1, call)] {
-        assert_moves(rt, alloc, session, command, Ok(None), place);
+        assert_moves(rt, session, command, Ok(None), place);
         has_lines(rt, alloc, session, 0x1000c, 1, line)?;
     }
     Ok(())

@@ -11,4 +11,4 @@ returns-in-Ok-clause-ok g c =
 pub returns-in-Err-clause-ok : goal.returns-in-Err-clause-ok
 returns-in-Err-clause-ok g c =
     let p = c.args.session.now in
-    when_put c.put_fault.result (refused p c.forward.new.self said.Forward c.in-Err.fault _ _ (forward_past p c.in-Err.fault c.in-Err.ensures.err (c.in-Err.ensures.no_place.0 (rw c.in-Err.ensures.err refl))) c.in-Err.ensures.refused) c.put_fault.ensures.ok
+    when_put c.put_fault.result (refused p c.forward.new.self said.Forward c.in-Err.fault _ _ (forward_past p c.in-Err.fault c.facts.ensures.within c.in-Err.ensures.err (λ is. c.in-Err.ensures.no_place.0 (rw is refl)) (λ last. let is = c.in-Err.ensures.no_place.1 last in cc)) c.in-Err.ensures.refused) c.put_fault.ensures.ok

@@ -7,7 +7,7 @@ use Rattle.rv_debug.proofs.SeriesLemmas.{not_both, series_end, series_more, seri
 use Rattle.rv_debug.proofs.listing.lines_of.Goals as goal
 
 pub unreachable-requires : goal.unreachable-requires
-unreachable-requires c =
+unreachable-requires g c =
     let first = c.from.ensures in
     let offset = c.from-in-loop-i.ensures in
     let lt : c.loop-i.i < c.args.count = omega arith in
@@ -21,7 +21,7 @@ unreachable-requires c =
     (subst (λ o. IsSome o) (under_test (c.args.address % 4 == 0) all c.requires) c.requires)
 
 pub loop-i-preserved : goal.loop-i-preserved
-loop-i-preserved c =
+loop-i-preserved g c =
     let first = c.from.ensures in
     let offset = c.from-in-loop-i.ensures in
     let lt : c.loop-i.i < c.args.count = omega arith in
@@ -34,7 +34,7 @@ loop-i-preserved c =
     (sym (ap (map (λ line. string_bytes line)) c.in_ok-push-in-Some.ensures.items ∙ map-append (λ line. string_bytes line) c.loop-i.lines.items (c.in-Some.line ∷ [])))
 
 pub returns : goal.returns
-returns c =
+returns g c =
     let all = series (line_at c.args.machine.now.state.memory) 4 c.args.address c.args.count in
     under_test (c.args.address % 4 == 0) all c.requires
     ∙ series_whole (line_at c.args.machine.now.state.memory) 4 _ c.loop-i.i c.args.count (map (λ line. string_bytes line) c.loop-i.lines.items) _ c.loop-i.invariant (omega arith)

@@ -6,7 +6,7 @@ use Rattle.rv_memory.specs.Memory.{byte}
 use Rattle.rv_debug.proofs.shown.has_bytes.Goals as goal
 
 pub loop-i-preserved : goal.loop-i-preserved
-loop-i-preserved c =
+loop-i-preserved g c =
     let first = c.from.ensures in
     let offset = c.from-in-loop-i.ensures in
     let lt : c.loop-i.i < c.args.len = omega arith in

@@ -5,5 +5,5 @@ use Rattle.rv_debug.specs.Answers.{bytes_from}
 use Rattle.rv_debug.proofs.shown.has_bytes.Given as goal
 
 abbrev pub invariant-loop-i : goal.invariant-loop-i
-invariant-loop-i l =
+invariant-loop-i g l =
     is_some (bytes_from l.machine.state.memory l.address l.len) ≡ is_some (bytes_from l.machine.state.memory (l.address + l.i) (l.len - l.i))

@@ -5,7 +5,7 @@ use Rattle.rv_debug.proofs.ViewLemmas.{one_more, view_is}
 use Rattle.rv_debug.proofs.shown.view_of.Goals as goal
 
 pub loop-r-preserved : goal.loop-r-preserved
-loop-r-preserved c =
+loop-r-preserved g c =
     let size = c.loop-r.invariant.size in
     let below : c.loop-r.r < length c.loop-r.registers = omega arith in
     record {
@@ -14,6 +14,6 @@ loop-r-preserved c =
     }
 
 pub returns : goal.returns
-returns c =
+returns g c =
     view_is (slice_get c.args.machine.now.state.harts c.args.h) _ c.status.ensures c.pc.ensures c.reservation.ensures
     (λ r lt. c.loop-r.invariant.shown r (omega arith))

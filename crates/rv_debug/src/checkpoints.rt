@@ -1,0 +1,116 @@
+//! Machines at some of a schedule's places, from which any other is near.
+ghost use Rattle.std.specs.Prelude.{◌≡◌, ◌⊎◌, ◌≤◌, ◌+◌, ◌*◌, ◌<◌, [], IfOk, IfErr, OnOk, length, take};
+ghost use Rattle.rv_collide.specs.Legal.{IsLegal};
+ghost use Rattle.rv_collide.specs.Numbers.{numbers};
+ghost use Rattle.rv_collide.specs.Replays.{IsReplayFault};
+ghost use Rattle.rv_collide.specs.Stored.{setting_of, stored};
+ghost use Rattle.rv_debug.specs.internal.Session.{AreCheckpoints, HasOneMore, StandsAt};
+
+use crate::schedule::Schedule;
+use rv_collide::collider::Collider;
+use rv_collide::entry::Entry;
+use rv_collide::plan::Plan;
+use rv_collide::replay::{ReplayFault, replay_up_to};
+use rv_collide::walk_laws::steps_of_legal_schedules;
+use rv_elf::Image;
+use rv_hart::machine::Machine;
+use rv_memory::paged::Paged;
+use rv_memory::store::NoMemory;
+use std::alloc::Global;
+
+/// How many entries stand between a checkpoint and the next.
+pub(crate) const CHECKPOINT_ENTRIES: u32 = 1024;
+
+/// The checkpoints of a list of entries, each of which is what its call adds; and how many entries there are.
+pub(crate) fn checkpoints_of(
+    alloc: Global,
+    image: &Image,
+    plan: Plan,
+    entries: &[Entry],
+) -> Result<(Vec<Machine<Paged>>, u32), ReplayFault>
+    ensures ok { IfOk result (λ made. AreCheckpoints (stored image.now (numbers plan) entries.now) made.0.items) }
+    ensures counted { IfOk result (λ made. made.1 ≡ length entries.now) }
+    ensures legal { OnOk result (IsLegal (setting_of (stored image.now (numbers plan) [])) entries.now) }
+    ensures err { IfErr result (λ fault. IsReplayFault (setting_of (stored image.now (numbers plan) [])) entries.now fault) }
+{
+    let count = entries.len() / CHECKPOINT_ENTRIES as usize + 1;
+    let Ok(mut collider) = Collider::new(alloc, image, plan) else {
+        return Err(ReplayFault::NoMemory);
+    };
+    let Ok(mut checkpoints) = Vec::with_capacity(alloc, count) else {
+        return Err(ReplayFault::NoMemory);
+    };
+    for c in 0..count {
+        let Ok(()) = add_checkpoint(&mut checkpoints, &mut collider) else {
+            return Err(ReplayFault::NoMemory);
+        };
+        replay_up_to(&mut collider, entries, next_checkpoint(c, entries.len()))?;
+    }
+    collider.facts();
+    Ok((checkpoints, collider.entries()))
+}
+
+/// The place of the checkpoint after one, or how many entries there are, if that is less.
+fn next_checkpoint(c: usize, entries: usize) -> usize
+    requires { CHECKPOINT_ENTRIES * c ≤ entries }
+    ensures forwards { CHECKPOINT_ENTRIES * c ≤ result }
+    ensures within { result ≤ entries }
+    ensures next { (result ≡ CHECKPOINT_ENTRIES * (c + 1)) ⊎ ((result ≡ entries) × (entries ≤ CHECKPOINT_ENTRIES * (c + 1))) }
+{
+    let every = CHECKPOINT_ENTRIES as usize;
+    let place = every * c;
+    if entries - place < every {
+        entries
+    } else {
+        place + every
+    }
+}
+
+/// Adds a checkpoint of the core as it is now.
+fn add_checkpoint(
+    checkpoints: &mut Vec<Machine<Paged>>,
+    collider: &mut Collider<Paged>,
+) -> Result<(), NoMemory>
+    ensures same { collider.new ≡ collider.old }
+    ensures added { OnOk result (HasOneMore collider.old checkpoints.old.items checkpoints.new.items) }
+{
+    let checkpoint = collider.share_machine()?;
+    checkpoints.push(checkpoint)?;
+    Ok(())
+}
+
+/// The machine at a place, from the nearest checkpoint at or before it. The checkpoints stay, also where memory is
+/// refused.
+pub(crate) fn machine_at(
+    schedule: &Schedule,
+    checkpoints: &mut Vec<Machine<Paged>>,
+    place: u32,
+) -> Result<Machine<Paged>, NoMemory>
+    requires checkpoints { AreCheckpoints schedule.now checkpoints.old.items }
+    requires within { place ≤ length schedule.now.entries }
+    ensures same { checkpoints.new.items ≡ checkpoints.old.items }
+    ensures at { IfOk result (λ machine. StandsAt schedule.now place machine) }
+{
+    let nearest = place / CHECKPOINT_ENTRIES;
+    let mut machine = second(schedule, checkpoints, nearest)?;
+    schedule.walk(&mut machine, CHECKPOINT_ENTRIES * nearest, place)?;
+    Ok(machine)
+}
+
+/// A second machine as a checkpoint is, which may print as many bytes as the plan allows steps.
+fn second(
+    schedule: &Schedule,
+    checkpoints: &mut Vec<Machine<Paged>>,
+    c: u32,
+) -> Result<Machine<Paged>, NoMemory>
+    requires checkpoints { AreCheckpoints schedule.now checkpoints.old.items }
+    requires within { CHECKPOINT_ENTRIES * c ≤ length schedule.now.entries }
+    ensures same { checkpoints.new.items ≡ checkpoints.old.items }
+    ensures at { IfOk result (λ machine. StandsAt schedule.now (CHECKPOINT_ENTRIES * c) machine) }
+{
+    steps_of_legal_schedules();
+    schedule.facts();
+    let limit = schedule.steps();
+    let checkpoint = &mut checkpoints[c as usize];
+    checkpoint.share(limit)
+}
