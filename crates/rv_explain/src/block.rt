@@ -1,0 +1,37 @@
+use crate::row::Shown;
+use rv_collide::ending::Ending;
+use rv_hart::access::Access;
+
+/// What a race counts as: the first of these that one of its reports is.
+#[derive(Clone, Copy, Debug, PartialEq, Eq)]
+pub enum RaceClass {
+    Kept,
+    Counter,
+    Flag,
+    Ordered,
+    Named,
+}
+
+/// One of the two accesses of a report: its hart, the access, the word that memory had at its instruction's
+/// address, and what the hart's x1 named where that lies in an executable segment.
+#[derive(Clone, Copy, Debug, PartialEq, Eq)]
+pub struct Side {
+    pub hart: u8,
+    pub access: Access,
+    pub word: Option<u32>,
+    pub caller: Option<u32>,
+}
+
+/// What is told of a race: how many reports it has, and one of them. That is the ending `number` of its run, with
+/// what the paused hart was about to do, what the other hart did at the place `second`, and the lines around them.
+#[derive(Debug, Drop)]
+pub struct Block {
+    pub reports: u64,
+    pub class: RaceClass,
+    pub number: u32,
+    pub ending: Ending,
+    pub paused: Side,
+    pub other: Side,
+    pub second: u32,
+    pub lines: Vec<Shown>,
+}

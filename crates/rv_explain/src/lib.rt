@@ -1,0 +1,17 @@
+//! Reports for people: the block of a race, told by names, instructions, values and what the harts did.
+//!
+//! To the layer above, what `write_block` writes of a `Block` is the text of `specs/Blocks.antt`, which knows no file;
+//! `symbol_of` is the symbol that an address is told by, `class_of` what a report counts as.
+#![tactic(auto)]
+
+pub mod block;
+pub mod blocks;
+pub mod classes;
+pub mod fault;
+pub mod names;
+mod pieces;
+pub mod row;
+mod rows;
+pub mod symbols;
+#[cfg(test)]
+mod tests;

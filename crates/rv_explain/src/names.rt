@@ -1,0 +1,94 @@
+//! How an address is written, as `specs/Names.antt` has it.
+ghost use Rattle.std.specs.Prelude.{◌≡◌, ◌≤◌, ◌++◌, IfOk, IfSome, OnOk};
+ghost use Rattle.std.specs.Option.{option_copied};
+ghost use Rattle.std.specs.String.{string_bytes};
+ghost use Rattle.rv_explain.specs.Names as spec;
+
+use crate::pieces::joined;
+use crate::symbols::symbol_of;
+use rv_elf::{Image, Symbol};
+use rv_memory::store::NoMemory;
+use rv_text::hexadecimal::{byte_digits, word_digits};
+use std::alloc::Global;
+
+fn is_hidden(byte: u8) -> bool
+    ensures { result ≡ spec.is_hidden byte }
+{
+    byte <= b' ' || byte > b'~'
+}
+
+fn add_byte(text: &mut Vec<u8>, byte: u8) -> Result<(), NoMemory>
+    ensures { OnOk result (text.new.items ≡ text.old.items ++ spec.escaped_byte byte) }
+{
+    if is_hidden(byte) {
+        text.extend_from_slice(b"\\x")?;
+        text.extend_from_slice(&byte_digits(byte))?;
+    } else if byte == b'\\' {
+        text.extend_from_slice(b"\\\\")?;
+    } else {
+        text.push(byte)?;
+    }
+    Ok(())
+}
+
+/// A name from a file, so that it cannot steer a terminal.
+fn escaped(alloc: Global, name: &[u8]) -> Result<Vec<u8>, NoMemory>
+    ensures { IfOk result (λ text. text.items ≡ spec.escaped name.now) }
+{
+    let mut text = Vec::new(alloc);
+    for byte in name {
+        add_byte(&mut text, *byte)?;
+    }
+    Ok(text)
+}
+
+/// A number in lower-case hexadecimal without leading zeros.
+fn hex(alloc: Global, number: u32) -> Result<String, NoMemory>
+    ensures { IfOk result (λ text. string_bytes text ≡ spec.hex number) }
+{
+    Ok(format!(in alloc; "0x{number:x}")?)
+}
+
+fn size_text(alloc: Global, size: u32) -> Result<Vec<u8>, NoMemory>
+    ensures { IfOk result (λ text. text.items ≡ spec.size_text size) }
+{
+    if size == 0 {
+        return Ok(Vec::new(alloc));
+    }
+    let size = hex(alloc, size)?;
+    joined(alloc, &[b"/", size.as_bytes()])
+}
+
+fn symbol_text(alloc: Global, symbol: &Symbol, address: u32) -> Result<Vec<u8>, NoMemory>
+    ensures { IfOk result (λ text. text.items ≡ spec.symbol_text symbol.now address) }
+{
+    let name = escaped(alloc, symbol.name.as_bytes())?;
+    let offset = hex(alloc, address.saturating_sub(symbol.value))?;
+    let size = size_text(alloc, symbol.size)?;
+    joined(alloc, &[&name, b"+", offset.as_bytes(), &size])
+}
+
+/// The name of an address, as `take+0x14/0x28`, or its eight digits where it has no symbol.
+#[tactic(auto, unfolding(crate::specs::Names::name_text))]
+pub fn name_text(alloc: Global, image: &Image, address: u32) -> Result<Vec<u8>, NoMemory>
+    ensures { IfOk result (λ text. text.items ≡ spec.name_text image.now address) }
+{
+    match symbol_of(image, address) {
+        Some(symbol) => symbol_text(alloc, symbol, address),
+        None => joined(alloc, &[&word_digits(address)]),
+    }
+}
+
+/// The digits of an address, and its name where it has one, as `00010074 take+0x14/0x28`.
+#[tactic(auto, unfolding(crate::specs::Names::address_text))]
+pub fn address_text(alloc: Global, image: &Image, address: u32) -> Result<Vec<u8>, NoMemory>
+    ensures { IfOk result (λ text. text.items ≡ spec.address_text image.now address) }
+{
+    match symbol_of(image, address) {
+        Some(symbol) => {
+            let name = symbol_text(alloc, symbol, address)?;
+            joined(alloc, &[&word_digits(address), b" ", &name])
+        }
+        None => joined(alloc, &[&word_digits(address)]),
+    }
+}

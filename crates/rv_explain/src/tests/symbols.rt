@@ -1,0 +1,57 @@
+//! Which symbol an address is told by: nested ones, ones without a size, two at one address, marks, and none.
+use super::*;
+
+const SYMBOLS: [Row4; 14] = [
+    ("_start", 0x10000, 0, 0),
+    ("$x", 0x10010, 0, 0),
+    (".L4", 0x10018, 8, 2),
+    ("main", 0x10020, 0x30, 2),
+    ("inner", 0x10030, 0x10, 2),
+    ("alias", 0x10030, 0x10, 2),
+    ("shorter", 0x10030, 8, 1),
+    ("_edata", 0x20000, 0x40, 0),
+    ("counter", 0x20000, 4, 1),
+    ("__bss_start", 0x20004, 0, 0),
+    ("first", 0x20004, 8, 1),
+    ("end", 0x20100, 0, 0),
+    ("last", 0x20100, 0, 1),
+    ("a\\ b\u{e9}\u{7f}", 0x20200, 4, 1),
+];
+
+static NAMES: [(u32, &str); 16] = [
+    (0x10000, "_start+0x0"),
+    (0x1001c, "_start+0x1c"),
+    (0x10020, "main+0x0/0x30"),
+    (0x1002f, "main+0xf/0x30"),
+    (0x10030, "shorter+0x0/0x8"),
+    (0x10038, "inner+0x8/0x10"),
+    (0x10040, "main+0x20/0x30"),
+    (0x10050, "00010050"),
+    (0x20000, "counter+0x0/0x4"),
+    (0x20004, "first+0x0/0x8"),
+    (0x2000c, "_edata+0xc/0x40"),
+    (0x20040, "00020040"),
+    (0x20110, "last+0x10"),
+    (0x20201, "a\\\\\\x20b\\xc3\\xa9\\x7f+0x1/0x4"),
+    (0x20204, "00020204"),
+    (0x30000, "00030000"),
+];
+
+#[test]
+fn an_address_by_its_symbol(rt: HostRuntime) -> Result<(), Fail> {
+    let image = image(rt.alloc(), &SYMBOLS)?;
+    for (address, wanted) in &NAMES {
+        let name = name_text(rt.alloc(), &image, *address)?;
+        assert_is(&rt, name.as_slice(), wanted.as_bytes(), "the name");
+    }
+    let text = address_text(rt.alloc(), &image, 0x20008)?;
+    assert_is(
+        &rt,
+        text.as_slice(),
+        b"00020008 first+0x4/0x8",
+        "with its digits",
+    );
+    let text = address_text(rt.alloc(), &image, 0x10050)?;
+    assert_is(&rt, text.as_slice(), b"00010050", "without a name");
+    Ok(())
+}
