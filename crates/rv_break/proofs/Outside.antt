@@ -1,10 +1,13 @@
 -- What lies outside of the claims' span is shown to none of them.
-use Rattle.std.proofs.Common.{◌≡◌, ◌≤◌, ◌<◌, Bool, true, false, cond, [], ◌∷◌, length, get_or, drop, Option, Some, None, refl, ap, ap₂, arith}
-use Rattle.std.specs.Prelude.{◌==◌, ◌&&◌, ◌||◌, not, is_none, IfSome}
+use Rattle.std.proofs.Common.{◌≡◌, ℕ, ◌≤◌, ◌<◌, Bool, true, false, cond, [], ◌∷◌, length, get_or, take, drop, map, ◌++◌, Option, Some, None, refl, ap, ap₂, ◌∙◌, sym, subst, arith}
+use Rattle.std.specs.Prelude.{◌==◌, ◌&&◌, ◌||◌, not, is_none, IfSome, option_map}
+use Rattle.std.proofs.Math.Seq.{take-append_seam}
 use Rattle.std.proofs.lemmas.Bool.Decides.{nat_tests}
+use Rattle.std.proofs.lemmas.List.{length-map}
 use Rattle.rv_break.specs.Slots.{Slots, claim_after, is_for, slots_after}
 use Rattle.rv_break.specs.declared.claim.Claim.{Claim}
 use Rattle.rv_break.specs.declared.claim.Seen.{Seen}
+use Rattle.rv_break.specs.declared.claim.TheConstants.{MOST_SLOTS}
 use Rattle.rv_break.specs.declared.span.Span.{Span}
 use Rattle.rv_break.specs.internal.Span.{AreIn, LiesIn, is_outside}
 use Rattle.rv_hart.specs.Conflict.{meets, end_of}
@@ -34,6 +37,17 @@ pub are_in_after : (s : Span) (seen : Seen) (slots : Slots) → AreIn s slots �
 are_in_after s seen [] inside = tt
 are_in_after s seen (None ∷ slots) inside = (tt, are_in_after s seen slots inside.1)
 are_in_after s seen (Some claim ∷ slots) inside = (inside.0, are_in_after s seen slots inside.1)
+
+-- claims that are shown an access stay as many, and within the span
+pub shown_within : (s : Span) (seen : Seen) (slots slots' : Slots) (len : ℕ) → len ≡ length slots → slots' ≡ slots_after seen slots → (length slots ≤ MOST_SLOTS) × AreIn s slots
+    → (let after : Slots = take len (slots' ++ drop (length slots') slots) in (length after ≤ MOST_SLOTS) × AreIn s after)
+shown_within s seen slots slots' len size is inside =
+    let same : length (slots_after seen slots) ≡ length slots = length-map slots (option_map (claim_after seen)) in
+    let count : len ≡ length slots' = size ∙ sym same ∙ sym (ap length is) in
+    let whole : take len (slots' ++ drop (length slots') slots) ≡ slots_after seen slots =
+    ap (λ n. take n (slots' ++ drop (length slots') slots)) count ∙ take-append_seam slots' (drop (length slots') slots) ∙ is in
+    let few : length slots ≤ MOST_SLOTS = inside.0 in
+    subst (λ (after : Slots). (length after ≤ MOST_SLOTS) × AreIn s after) (sym whole) (omega (arith, same, few), are_in_after s seen slots inside.1)
 
 outside_meets_none : (s : Span) (watched other : Access) → LiesIn s watched → is_outside s other ≡ true → meets watched other ≡ false
 outside_meets_none s watched other inside outside = let from = inside.0 in let to = inside.1 in grind (arith, nat_tests, from, to, outside)

@@ -1,18 +1,19 @@
 //! Code breakpoints and data breakpoints.
-ghost use Rattle.std.specs.Prelude.{◌≡◌, ◌<◌, ◌≤◌, ◌&&◌, ◌==◌, not, nat_lt, IfOk, IfSome, IfNone, IsTrue, ◌↔◌, Some, None, slice_set, if◌then◌else◌};
+ghost use Rattle.std.specs.Prelude.{◌≡◌, ◌<◌, ◌≤◌, ◌&&◌, ◌==◌, not, nat_lt, IfOk, IfSome, IfNone, IsTrue, ◌↔◌, Some, None, slice_set, length, if◌then◌else◌};
 ghost use Rattle.std.specs.FinSet as set;
 ghost use Rattle.rv_break.specs.Breakpoints.{no_breaks};
 ghost use Rattle.rv_break.specs.Slots as spec;
 
 use crate::armed::Armed;
-use crate::claim::{ARMED_LIMIT, SLOTS, Seen};
+use crate::claim::{ARMED_LIMIT, MOST_SLOTS, Seen};
 use crate::slots::Slots;
 use rv_hart::access::Access;
 use rv_memory::store::NoMemory;
 use std::alloc::Global;
 use std::marker::Model;
 
-/// At most `ARMED_LIMIT` armed addresses, and `SLOTS` data breakpoints. Takes no memory after `new`.
+/// At most `ARMED_LIMIT` armed addresses, and as many data breakpoints as `new` is
+/// told, at most `MOST_SLOTS`. Takes no memory after `new`.
 #[derive(Drop)]
 pub struct Breakpoints {
     armed: Armed,
@@ -40,12 +41,13 @@ impl Model for Breakpoints {
 
 impl Breakpoints {
     /// No address is armed, and each data breakpoint is free.
-    pub fn new(alloc: Global) -> Result<Breakpoints, NoMemory>
-        ensures { IfOk result (λ b. b ≡ no_breaks) }
+    pub fn new(alloc: Global, slots: u8) -> Result<Breakpoints, NoMemory>
+        requires { slots ≤ MOST_SLOTS }
+        ensures { IfOk result (λ b. b ≡ no_breaks slots) }
     {
         Ok(Breakpoints {
             armed: Armed::new(alloc)?,
-            slots: Slots::new(alloc)?,
+            slots: Slots::new(alloc, slots)?,
         })
     }
 
@@ -96,7 +98,7 @@ impl Breakpoints {
     /// unchanged, where none is free.
     pub fn claim(&mut self, hart: u8, access: Access) -> Option<u8>
         ensures slot { result ≡ spec.free_slot self.old.slots }
-        ensures within { IfSome result (λ slot. slot < SLOTS) }
+        ensures within { IfSome result (λ slot. slot < length self.old.slots) }
         ensures claimed { IfSome result (λ slot. self.new ≡ record self.old {
           slots = slice_set self.old.slots slot (Some (record { hart = hart; access = access; seen = None }));
         }) }

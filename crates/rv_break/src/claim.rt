@@ -1,7 +1,7 @@
 use rv_hart::access::Access;
 
-/// How many data breakpoints there are.
-pub const SLOTS: u8 = 4;
+/// The most data breakpoints that there can be.
+pub const MOST_SLOTS: u8 = 8;
 
 /// The most addresses that are armed at once.
 pub const ARMED_LIMIT: u32 = 64;

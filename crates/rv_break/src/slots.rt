@@ -1,8 +1,8 @@
 //! The data breakpoints.
-ghost use Rattle.std.specs.Prelude.{◌≡◌, ◌<◌, IfOk, IfSome, IfNone, IsTrue, ◌↔◌, Some, None, replicate, slice_set, slice_get, map, option_map, is_none, position};
+ghost use Rattle.std.specs.Prelude.{◌≡◌, ◌<◌, ◌≤◌, IfOk, IfSome, IfNone, IsTrue, ◌↔◌, Some, None, replicate, length, slice_set, slice_get, map, option_map, is_none, position};
 ghost use Rattle.rv_break.specs.Slots as spec;
 
-use crate::claim::{Claim, SLOTS, Seen};
+use crate::claim::{Claim, MOST_SLOTS, Seen};
 use crate::span::{Span, span_of};
 use rv_hart::access::Access;
 use rv_memory::store::NoMemory;
@@ -17,8 +17,8 @@ pub struct Slots {
 }
 
 impl Model for Slots {
-    ghost use Rattle.std.specs.Prelude.{◌≡◌, length};
-    ghost use Rattle.rv_break.specs.declared.claim.TheConstants.{SLOTS};
+    ghost use Rattle.std.specs.Prelude.{◌≤◌, length};
+    ghost use Rattle.rv_break.specs.declared.claim.TheConstants.{MOST_SLOTS};
     ghost use Rattle.rv_break.specs.Slots as spec;
     ghost use Rattle.rv_break.specs.internal.Span.{AreIn};
 
@@ -26,15 +26,16 @@ impl Model for Slots {
 
     ghost view = { λ s. s.claims.items };
 
-    ghost invariant = { λ s. (length s.claims.items ≡ SLOTS) × AreIn s.watched s.claims.items };
+    ghost invariant = { λ s. (length s.claims.items ≤ MOST_SLOTS) × AreIn s.watched s.claims.items };
 }
 
 impl Slots {
-    /// All of them, free.
-    pub fn new(alloc: Global) -> Result<Slots, NoMemory>
-        ensures { IfOk result (λ slots. slots ≡ replicate SLOTS None) }
+    /// So many, free.
+    pub fn new(alloc: Global, count: u8) -> Result<Slots, NoMemory>
+        requires { count ≤ MOST_SLOTS }
+        ensures { IfOk result (λ slots. slots ≡ replicate count None) }
     {
-        let claims = vec![in alloc; None; SLOTS as usize]?;
+        let claims = vec![in alloc; None; count as usize]?;
         let watched = span_of(&claims);
         Ok(Slots { claims, watched })
     }
@@ -42,7 +43,7 @@ impl Slots {
     /// Claims the free one with the least number, if there is one.
     pub fn claim(&mut self, hart: u8, access: Access) -> Option<u8>
         ensures slot { result ≡ spec.free_slot self.old }
-        ensures within { IfSome result (λ slot. slot < SLOTS) }
+        ensures within { IfSome result (λ slot. slot < length self.old) }
         ensures claimed { IfSome result (λ slot. self.new
             ≡ slice_set self.old slot (Some (record { hart = hart; access = access; seen = None }))) }
         ensures none { IfNone result (self.new ≡ self.old) }
@@ -69,7 +70,6 @@ impl Slots {
 
     /// The same, where each claim is looked at.
     #[inline(never)]
-    #[tactic(auto, using(crate::proofs::Outside::are_in_after))]
     fn see_apart(&mut self, seen: Seen)
         ensures { self.new ≡ spec.slots_after seen self.old }
     {

@@ -1,5 +1,5 @@
 use crate::breakpoints::Breakpoints;
-use crate::claim::{ARMED_LIMIT, SLOTS, Seen};
+use crate::claim::{ARMED_LIMIT, MOST_SLOTS, Seen};
 use rv_hart::access::Access;
 use std::test::Fail;
 
@@ -25,7 +25,7 @@ fn store(pc: u32, first: u32, size: u8) -> Access {
 
 #[test]
 fn arms_and_disarms(rt: HostRuntime) -> Result<(), Fail> {
-    let mut breaks = Breakpoints::new(rt.alloc())?;
+    let mut breaks = Breakpoints::new(rt.alloc(), 4)?;
     assert!(rt; !breaks.is_armed(0x10004));
     assert!(rt; breaks.arm(0x10004));
     assert!(rt; !breaks.arm(0x10004));
@@ -44,7 +44,7 @@ fn arms_and_disarms(rt: HostRuntime) -> Result<(), Fail> {
 
 #[test]
 fn arms_sixty_four(rt: HostRuntime) -> Result<(), Fail> {
-    let mut breaks = Breakpoints::new(rt.alloc())?;
+    let mut breaks = Breakpoints::new(rt.alloc(), 4)?;
     for i in 0..ARMED_LIMIT {
         assert!(rt; breaks.arm(4 * i));
     }
@@ -61,18 +61,20 @@ fn arms_sixty_four(rt: HostRuntime) -> Result<(), Fail> {
 
 #[test]
 fn claims_the_least_free_one(rt: HostRuntime) -> Result<(), Fail> {
-    let mut breaks = Breakpoints::new(rt.alloc())?;
     let watched = load(0x10004, 0x20000, 4);
-    for slot in 0..SLOTS {
-        assert_eq!(rt; breaks.claim(slot, watched), Some(slot));
+    for slots in [1, 4, MOST_SLOTS] {
+        let mut breaks = Breakpoints::new(rt.alloc(), slots)?;
+        for slot in 0..slots {
+            assert_eq!(rt; breaks.claim(slot, watched), Some(slot));
+        }
+        assert_eq!(rt; breaks.claim(9, watched), None);
     }
-    assert_eq!(rt; breaks.claim(9, watched), None);
     Ok(())
 }
 
 #[test]
 fn holds_the_first_conflicting_access_of_another_hart(rt: HostRuntime) -> Result<(), Fail> {
-    let mut breaks = Breakpoints::new(rt.alloc())?;
+    let mut breaks = Breakpoints::new(rt.alloc(), 4)?;
     assert!(rt; !breaks.is_claimed(0));
     assert_eq!(rt; breaks.claim(1, load(0x10004, 0x20001, 1)), Some(0));
     // the own hart's, another byte's, and another load are passed over
@@ -113,7 +115,7 @@ const BESIDE: [(u32, u8, bool, bool); 10] = [
 
 #[test]
 fn shows_each_claim_its_bytes_alone(rt: HostRuntime) -> Result<(), Fail> {
-    let mut breaks = Breakpoints::new(rt.alloc())?;
+    let mut breaks = Breakpoints::new(rt.alloc(), 4)?;
     for (first, size, one, other) in BESIDE {
         assert_eq!(rt; breaks.claim(0, load(0x10004, 0x20004, 4)), Some(0));
         assert_eq!(rt; breaks.claim(1, load(0x10004, 0xfffffffc, 4)), Some(1));
@@ -129,7 +131,7 @@ fn shows_each_claim_its_bytes_alone(rt: HostRuntime) -> Result<(), Fail> {
 
 #[test]
 fn shows_a_claim_of_two_words_both(rt: HostRuntime) -> Result<(), Fail> {
-    let mut breaks = Breakpoints::new(rt.alloc())?;
+    let mut breaks = Breakpoints::new(rt.alloc(), 4)?;
     for (first, is_for) in [
         (0x20000, false),
         (0x20003, true),

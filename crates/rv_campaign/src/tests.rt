@@ -56,7 +56,7 @@ fn image(rt: &impl Abort, alloc: Global, words: &[u32]) -> Result<Image, Fail> {
 }
 
 fn plan(harts: u8, steps: u32, arms: u32, pause: u32) -> Result<Plan, Fail> {
-    Ok(Plan::new(harts, steps, arms, pause).ok_or("a plan")?)
+    Ok(Plan::new(harts, steps, arms, pause, 4).ok_or("a plan")?)
 }
 
 /// A run's schedule is replayed to the same endings and output.

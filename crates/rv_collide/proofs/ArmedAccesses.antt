@@ -89,14 +89,14 @@ module _ (c : Stored) (s : State) (h pc : ℕ) (at : state_at (setting_of c).sta
   by_plain : (o : Option Access) → contains (armed (setting_of c).start c.entries) pc ≡ false → next_plain s h ≡ o → turn_entry (setting_of c) c.entries h o ≡ Stepped h
   by_plain None absent is = refl
   by_plain (Some access) absent is =
-      ap (λ b. cond b (Paused h (least_free c.entries)) (Stepped h)) (ap (contains (armed (setting_of c).start c.entries)) (next_pc s h pc access (plain_next s h access is) there) ∙ absent)
+      ap (λ b. cond b (Paused h (least_free c.plan.slots c.entries)) (Stepped h)) (ap (contains (armed (setting_of c).start c.entries)) (next_pc s h pc access (plain_next s h access is) there) ∙ absent)
 
   pub not_armed : contains (armed (setting_of c).start c.entries) pc ≡ false → turn_entry (setting_of c) c.entries h (plain (setting_of c).start c.entries (length c.entries) h) ≡ Stepped h
   not_armed absent =
       ap (turn_entry (setting_of c) c.entries h) (plain_now (setting_of c).start s c.entries (length c.entries) h at)
       ∙ by_plain (next_plain s h) absent refl
 
-pub armed_turn : (c : Stored) (h : ℕ) (a : Access) → IsArmedAccess c h a → turn_entry (setting_of c) c.entries h (plain (setting_of c).start c.entries (length c.entries) h) ≡ Paused h (least_free c.entries)
+pub armed_turn : (c : Stored) (h : ℕ) (a : Access) → IsArmedAccess c h a → turn_entry (setting_of c) c.entries h (plain (setting_of c).start c.entries (length c.entries) h) ≡ Paused h (least_free c.plan.slots c.entries)
 armed_turn c h a is =
     ap (turn_entry (setting_of c) c.entries h) is.is_plain
-    ∙ ap (λ b. cond b (Paused h (least_free c.entries)) (Stepped h)) is.is_armed
+    ∙ ap (λ b. cond b (Paused h (least_free c.plan.slots c.entries)) (Stepped h)) is.is_armed

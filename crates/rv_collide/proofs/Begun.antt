@@ -1,8 +1,11 @@
 -- What the core keeps before its first entry.
-use Rattle.std.proofs.Common.{◌≡◌, [], length, Some, refl, sym, ap, ◌∙◌, arith, zero-le}
+use Rattle.std.proofs.Common.{◌≡◌, ℕ, zero, suc, ◌+◌, [], ◌∷◌, length, map, Some, None, refl, sym, ap, ◌∙◌, arith, zero-le}
 use Rattle.std.specs.FinSet.{len-empty}
 use Rattle.std.specs.Ordering.{nat_cmp}
+use Rattle.std.specs.List.{range_with_len}
+use Rattle.std.specs.Prelude.{replicate}
 use Rattle.rv_break.specs.Breakpoints.{Breaks, no_breaks}
+use Rattle.rv_break.specs.Slots.{Slots}
 use Rattle.rv_collide.specs.Armed.{armed, last_armed, mentions}
 use Rattle.rv_collide.specs.Entries.{places, steps}
 use Rattle.rv_collide.specs.Forced.{Setting}
@@ -12,7 +15,12 @@ use Rattle.rv_collide.specs.Verdict.{endings}
 use Rattle.rv_collide.specs.internal.Core.{IsCore, slot_at, slots_of}
 use Rattle.rv_hart.specs.State.{Guest, State}
 
-pub core_new : (setting : Setting) (m : Guest) (b : Breaks) → m.state ≡ setting.start → length setting.start.harts ≡ setting.plan.harts → m.limit ≡ setting.plan.steps → setting.start.output ≡ [] → b ≡ no_breaks → IsCore setting [] m b [] [] 0 0
+none_claimed : (start : State) (first count : ℕ) → replicate count None ≡ map (slot_at start []) (range_with_len first count)
+unfolding slot_at openings openings_from
+none_claimed start first zero = refl
+none_claimed start first (suc count) = ap (λ (claims : Slots). None ∷ claims) (none_claimed start (first + 1) count)
+
+pub core_new : (setting : Setting) (m : Guest) (b : Breaks) → m.state ≡ setting.start → length setting.start.harts ≡ setting.plan.harts → m.limit ≡ setting.plan.steps → setting.start.output ≡ [] → b ≡ no_breaks setting.plan.slots → IsCore setting [] m b [] [] 0 0
 unfolding state_at steps armed mentions places last_armed slots_of slot_at openings openings_from endings
 core_new setting m b is harts limit output none =
     record {
@@ -24,7 +32,7 @@ core_new setting m b is harts limit output none =
       counted = refl;
       arms_counted = refl;
       armed_are = ap (λ (x : Breaks). x.armed) none;
-      slots_are = ap (λ (x : Breaks). x.slots) none;
+      slots_are = ap (λ (x : Breaks). x.slots) none ∙ none_claimed setting.start 0 setting.plan.slots;
       openings_are = refl;
       kept = tt;
       apart = tt;

@@ -10,9 +10,9 @@ use Rattle.std.proofs.lemmas.Bool.Decides.{nat_tests}
 use Rattle.std.proofs.lemmas.List.{take_all, take-append-drop, length-take-le}
 use Rattle.rv_memory.specs.Chain.{◌>>=◌, want}
 use Rattle.rv_text.specs.Pieces.{pieces_of}
-use Rattle.rv_collide.specs.Grammar.{end_line, header_line}
+use Rattle.rv_collide.specs.Grammar.{end_line}
 use Rattle.rv_collide.specs.Plan.{Numbers, most_entries}
-use Rattle.rv_collide.specs.ScheduleRead.{Schedule, IsToldFault, entries_from, entry_of, first_line, header_in, is_over, is_plan, numbers_of, plan_in, plan_of, schedule_in, schedule_of, words_of}
+use Rattle.rv_collide.specs.ScheduleRead.{Schedule, IsToldFault, entries_from, entry_of, first_line, format_of, header_in, is_over, is_plan, numbers_of, plan_in, plan_of, schedule_in, schedule_of, words_of}
 use Rattle.rv_collide.specs.declared.entry.Entry.{Entry}
 use Rattle.rv_collide.specs.declared.schedule.fault.ScheduleFault.{ScheduleFault}
 use Rattle.rv_collide.specs.declared.schedule.fault.ScheduleKind.{ScheduleKind}
@@ -21,6 +21,7 @@ use Rattle.rv_collide.specs.internal.Before.{entries_before}
 use Rattle.rv_collide.proofs.CutLemmas.{Lacks, cut_line, cut_rest, front_long, over_where_empty}
 use Rattle.rv_collide.proofs.EntriesLemmas.{no_line, at_end, after_end, no_entry, too_many, one_more}
 use Rattle.rv_collide.proofs.ScheduleLemmas.{header_fault, plan_fault, whole_fault, whole_read}
+use Rattle.rv_collide.specs.declared.schedule.format.Format.{Format}
 
 -- ---- the first LF
 
@@ -127,8 +128,8 @@ first_same n text enough = by_length (nat_le (length text) n) refl (cut_of text)
 -- ---- and its entries
 
 -- the entries of a front and of the text are the same
-abbrev SameEntries : ℕ → ℕ → ℕ → List ℕ → Type 0
-SameEntries number room n text = entries_from number room (pieces_of 10 (take n text)) ≡ entries_from number room (pieces_of 10 text)
+abbrev SameEntries : Format → ℕ → ℕ → ℕ → List ℕ → Type 0
+SameEntries format number room n text = entries_from format number room (pieces_of 10 (take n text)) ≡ entries_from format number room (pieces_of 10 text)
 
 over_same : (n : ℕ) (text : List ℕ) → 1 ≤ n → is_over (pieces_of 10 (take n text)) ≡ is_over (pieces_of 10 text)
 over_same n text some = over_where_empty (take n text) ∙ same n text some ∙ sym (over_where_empty text)
@@ -141,56 +142,56 @@ over_same n text some = over_where_empty (take n text) ∙ same n text some ∙ 
         let whole : (length (b ∷ text) == 0) ≡ false = grind (arith, nat_tests) in
         front ∙ sym whole
 
-module _ (number room n : ℕ) (text : List ℕ) (same : SameLine n text) (more : 1 ≤ same.left) where
+module _ (format : Format) (number room n : ℕ) (text : List ℕ) (same : SameLine n text) (more : 1 ≤ same.left) where
   front_pieces : List (List ℕ)
   front_pieces = pieces_of 10 (take same.left same.rest)
 
-  by_end : (end over : Bool) (entry : Option Entry) (some : Bool) → bytes_eq same.line end_line ≡ end → is_over (pieces_of 10 same.rest) ≡ over → entry_of same.line ≡ entry → nat_lt 0 room ≡ some
-      → (nat_lt 0 room ≡ true → SameEntries (number + 1) (room - 1) same.left same.rest) → SameEntries number room n text
+  by_end : (end over : Bool) (entry : Option Entry) (some : Bool) → bytes_eq same.line end_line ≡ end → is_over (pieces_of 10 same.rest) ≡ over → entry_of format same.line ≡ entry → nat_lt 0 room ≡ some
+      → (nat_lt 0 room ≡ true → SameEntries format (number + 1) (room - 1) same.left same.rest) → SameEntries format number room n text
   by_end true true entry some end over is fits later =
-      at_end number room (pieces_of 10 (take n text)) same.line (pieces_of 10 (take same.left same.rest)) same.front_cut same.front_line end (over_same same.left same.rest more ∙ over)
-      ∙ sym (at_end number room (pieces_of 10 text) same.line (pieces_of 10 same.rest) same.whole_cut same.whole_line end over)
+      at_end format number room (pieces_of 10 (take n text)) same.line (pieces_of 10 (take same.left same.rest)) same.front_cut same.front_line end (over_same same.left same.rest more ∙ over)
+      ∙ sym (at_end format number room (pieces_of 10 text) same.line (pieces_of 10 same.rest) same.whole_cut same.whole_line end over)
   by_end true false entry some end over is fits later =
-      after_end number room (pieces_of 10 (take n text)) same.line (pieces_of 10 (take same.left same.rest)) same.front_cut same.front_line end (over_same same.left same.rest more ∙ over)
-      ∙ sym (after_end number room (pieces_of 10 text) same.line (pieces_of 10 same.rest) same.whole_cut same.whole_line end over)
+      after_end format number room (pieces_of 10 (take n text)) same.line (pieces_of 10 (take same.left same.rest)) same.front_cut same.front_line end (over_same same.left same.rest more ∙ over)
+      ∙ sym (after_end format number room (pieces_of 10 text) same.line (pieces_of 10 same.rest) same.whole_cut same.whole_line end over)
   by_end false over None some end at is fits later =
-      no_entry number room (pieces_of 10 (take n text)) same.line (pieces_of 10 (take same.left same.rest)) same.front_cut same.front_line end is
-      ∙ sym (no_entry number room (pieces_of 10 text) same.line (pieces_of 10 same.rest) same.whole_cut same.whole_line end is)
+      no_entry format number room (pieces_of 10 (take n text)) same.line (pieces_of 10 (take same.left same.rest)) same.front_cut same.front_line end is
+      ∙ sym (no_entry format number room (pieces_of 10 text) same.line (pieces_of 10 same.rest) same.whole_cut same.whole_line end is)
   by_end false over (Some e) false end at is fits later =
-      too_many number room (pieces_of 10 (take n text)) same.line (pieces_of 10 (take same.left same.rest)) same.front_cut same.front_line e end is fits
-      ∙ sym (too_many number room (pieces_of 10 text) same.line (pieces_of 10 same.rest) same.whole_cut same.whole_line e end is fits)
+      too_many format number room (pieces_of 10 (take n text)) same.line (pieces_of 10 (take same.left same.rest)) same.front_cut same.front_line e end is fits
+      ∙ sym (too_many format number room (pieces_of 10 text) same.line (pieces_of 10 same.rest) same.whole_cut same.whole_line e end is fits)
   by_end false over (Some e) true end at is fits later =
-      one_more number room (pieces_of 10 (take n text)) same.line (pieces_of 10 (take same.left same.rest)) same.front_cut same.front_line e end is fits
+      one_more format number room (pieces_of 10 (take n text)) same.line (pieces_of 10 (take same.left same.rest)) same.front_cut same.front_line e end is fits
       ∙ ap (entries_before (e ∷ [])) (later fits)
-      ∙ sym (one_more number room (pieces_of 10 text) same.line (pieces_of 10 same.rest) same.whole_cut same.whole_line e end is fits)
+      ∙ sym (one_more format number room (pieces_of 10 text) same.line (pieces_of 10 same.rest) same.whole_cut same.whole_line e end is fits)
 
-same_step : (number room n : ℕ) (text : List ℕ) → 65 * (room + 1) + 1 ≤ n → ((m : ℕ) (rest : List ℕ) → nat_lt 0 room ≡ true → n ≤ m + 65 → SameEntries (number + 1) (room - 1) m rest)
-    → SameEntries number room n text
-same_step number room n text enough later = by_first (first_same n text (omega arith))
+same_step : (format : Format) (number room n : ℕ) (text : List ℕ) → 65 * (room + 1) + 1 ≤ n → ((m : ℕ) (rest : List ℕ) → nat_lt 0 room ≡ true → n ≤ m + 65 → SameEntries format (number + 1) (room - 1) m rest)
+    → SameEntries format number room n text
+same_step format number room n text enough later = by_first (first_same n text (omega arith))
   where
-    by_first : (take n text ≡ text) ⊎ (SameFault n text ⊎ SameLine n text) → SameEntries number room n text
-    by_first (inl whole) = ap (λ t. entries_from number room (pieces_of 10 t)) whole
+    by_first : (take n text ≡ text) ⊎ (SameFault n text ⊎ SameLine n text) → SameEntries format number room n text
+    by_first (inl whole) = ap (λ t. entries_from format number room (pieces_of 10 t)) whole
     by_first (inr (inl fault)) =
-        no_line number room (pieces_of 10 (take n text)) fault.kind fault.front ∙ sym (no_line number room (pieces_of 10 text) fault.kind fault.whole)
+        no_line format number room (pieces_of 10 (take n text)) fault.kind fault.front ∙ sym (no_line format number room (pieces_of 10 text) fault.kind fault.whole)
     by_first (inr (inr same)) =
-        by_end number room n text same (omega (arith, same.enough, enough)) (bytes_eq same.line end_line) (is_over (pieces_of 10 same.rest)) (entry_of same.line) (nat_lt 0 room) refl refl refl refl
+        by_end format number room n text same (omega (arith, same.enough, enough)) (bytes_eq same.line end_line) (is_over (pieces_of 10 same.rest)) (entry_of format same.line) (nat_lt 0 room) refl refl refl refl
         (λ some. later same.left same.rest some same.enough)
 
-entries_same : (fuel number room n : ℕ) (text : List ℕ) → room ≤ fuel → 65 * (room + 1) + 1 ≤ n → SameEntries number room n text
-entries_same zero number room n text few enough =
-    same_step number room n text enough (λ m rest some within. let more : 0 < room = grind (arith, nat_tests) in absurd (omega (arith, more, few)))
-entries_same (suc fuel) number room n text few enough =
-    same_step number room n text enough
+entries_same : (format : Format) (fuel number room n : ℕ) (text : List ℕ) → room ≤ fuel → 65 * (room + 1) + 1 ≤ n → SameEntries format number room n text
+entries_same format zero number room n text few enough =
+    same_step format number room n text enough (λ m rest some within. let more : 0 < room = grind (arith, nat_tests) in absurd (omega (arith, more, few)))
+entries_same format (suc fuel) number room n text few enough =
+    same_step format number room n text enough
     (λ m rest some within.
     let more : 0 < room = grind (arith, nat_tests) in
-    entries_same fuel (number + 1) (room - 1) m rest (omega (arith, more, few)) (omega (arith, more, enough, within)))
+    entries_same format fuel (number + 1) (room - 1) m rest (omega (arith, more, few)) (omega (arith, more, enough, within)))
 
 -- ---- the whole
 
 -- a plan that is read has room for so many
-room_of_plan : (line : List ℕ) (n : Numbers) → plan_of line ≡ Ok n → most_entries n ≤ 1_016_384
+room_of_plan : (format : Format) (line : List ℕ) (n : Numbers) → plan_of format line ≡ Ok n → most_entries n ≤ 1_016_384
 unfolding plan_of
-room_of_plan line n read = by_numbers (numbers_of (words_of line)) read
+room_of_plan format line n read = by_numbers (numbers_of format (words_of line)) read
   where
     by_range : (m : Numbers) (fits : Bool) → is_plan m ≡ fits → (want fits kind.PlanRange >>= λ _. Ok m) ≡ Ok n → most_entries n ≤ 1_016_384
     by_range m true fits is =
@@ -205,13 +206,13 @@ room_of_plan line n read = by_numbers (numbers_of (words_of line)) read
     by_numbers (Some m) is = by_range m (is_plan m) refl is
 
 header_same : (n : ℕ) (text : List ℕ) → SameLine n text → header_in (pieces_of 10 (take n text)) ≡ header_in (pieces_of 10 text)
-header_same n text same = ap (λ r. r >>= λ line. want (bytes_eq line header_line) kind.Header) (same.front_line ∙ sym same.whole_line)
+header_same n text same = ap (λ r. r >>= format_of) (same.front_line ∙ sym same.whole_line)
 
-plan_same : (n : ℕ) (text : List ℕ) → SameLine n text → plan_in (pieces_of 10 (take n text)) ≡ plan_in (pieces_of 10 text)
-plan_same n text same = ap (λ r. r >>= plan_of) (same.front_line ∙ sym same.whole_line)
+plan_same : (format : Format) (n : ℕ) (text : List ℕ) → SameLine n text → plan_in format (pieces_of 10 (take n text)) ≡ plan_in format (pieces_of 10 text)
+plan_same format n text same = ap (λ r. r >>= plan_of format) (same.front_line ∙ sym same.whole_line)
 
-plan_line_in : (lines : List (List ℕ)) (line : List ℕ) (n : Numbers) → first_line lines ≡ Ok line → plan_in lines ≡ Ok n → plan_of line ≡ Ok n
-plan_line_in lines line n is read = sym (ap (λ r. r >>= plan_of) is) ∙ read
+plan_line_in : (format : Format) (lines : List (List ℕ)) (line : List ℕ) (n : Numbers) → first_line lines ≡ Ok line → plan_in format lines ≡ Ok n → plan_of format line ≡ Ok n
+plan_line_in format lines line n is read = sym (ap (λ r. r >>= plan_of format) is) ∙ read
 
 -- the lines after the first
 after_first : (lines : List (List ℕ)) (line : List ℕ) (more : List (List ℕ)) → lines ≡ line ∷ more → more ≡ drop 1 lines
@@ -225,8 +226,8 @@ schedule_same n text enough = by_first (first_same n text (omega arith))
     by_first : (take n text ≡ text) ⊎ (SameFault n text ⊎ SameLine n text) → schedule_of (take n text) ≡ schedule_of text
     by_first (inl whole) = ap schedule_of whole
     by_first (inr (inl fault)) =
-        let front = ap (λ r. r >>= λ line. want (bytes_eq line header_line) kind.Header) fault.front in
-        let whole = ap (λ r. r >>= λ line. want (bytes_eq line header_line) kind.Header) fault.whole in
+        let front = ap (λ r. r >>= format_of) fault.front in
+        let whole = ap (λ r. r >>= format_of) fault.whole in
         header_fault (take n text) fault.kind front ∙ sym (header_fault text fault.kind whole)
     by_first (inr (inr same)) = by_header (header_in (pieces_of 10 text)) refl
       where
@@ -236,46 +237,46 @@ schedule_same n text enough = by_first (first_same n text (omega arith))
         whole_rest : pieces_of 10 same.rest ≡ drop 1 (pieces_of 10 text)
         whole_rest = after_first (pieces_of 10 text) same.line (pieces_of 10 same.rest) same.whole_cut
 
-        by_entries : (p : Numbers) (second : SameLine same.left same.rest) (r : Result (List Entry) ScheduleFault) → header_in (pieces_of 10 text) ≡ Ok tt → plan_in (pieces_of 10 same.rest) ≡ Ok p
-            → entries_from 3 (most_entries p) (pieces_of 10 second.rest) ≡ r → schedule_of (take n text) ≡ schedule_of text
-        by_entries p second r header plan entries =
-            let few = room_of_plan second.line p (plan_line_in (pieces_of 10 same.rest) second.line p second.whole_line plan) in
+        by_entries : (format : Format) (p : Numbers) (second : SameLine same.left same.rest) (r : Result (List Entry) ScheduleFault) → header_in (pieces_of 10 text) ≡ Ok format → plan_in format (pieces_of 10 same.rest) ≡ Ok p
+            → entries_from format 3 (most_entries p) (pieces_of 10 second.rest) ≡ r → schedule_of (take n text) ≡ schedule_of text
+        by_entries format p second r header plan entries =
+            let few = room_of_plan format second.line p (plan_line_in format (pieces_of 10 same.rest) second.line p second.whole_line plan) in
             let left : 65 * (most_entries p + 1) + 1 ≤ second.left = omega (arith, few, enough, same.enough, second.enough) in
-            let there = entries_same (most_entries p) 3 (most_entries p) second.left second.rest (omega arith) left in
+            let there = entries_same format (most_entries p) 3 (most_entries p) second.left second.rest (omega arith) left in
             let front_header = header_same n text same ∙ header in
-            let front_plan = plan_same same.left same.rest second ∙ plan in
+            let front_plan = plan_same format same.left same.rest second ∙ plan in
             let front_more = after_first (pieces_of 10 (take same.left same.rest)) second.line (pieces_of 10 (take second.left second.rest)) second.front_cut in
             let whole_more = after_first (pieces_of 10 same.rest) second.line (pieces_of 10 second.rest) second.whole_cut in
             by_answer r entries there front_header front_plan front_more whole_more
           where
-            by_answer : (r : Result (List Entry) ScheduleFault) → entries_from 3 (most_entries p) (pieces_of 10 second.rest) ≡ r
-                → entries_from 3 (most_entries p) (pieces_of 10 (take second.left second.rest)) ≡ entries_from 3 (most_entries p) (pieces_of 10 second.rest)
-                → header_in (pieces_of 10 (take n text)) ≡ Ok tt → plan_in (pieces_of 10 (take same.left same.rest)) ≡ Ok p
+            by_answer : (r : Result (List Entry) ScheduleFault) → entries_from format 3 (most_entries p) (pieces_of 10 second.rest) ≡ r
+                → entries_from format 3 (most_entries p) (pieces_of 10 (take second.left second.rest)) ≡ entries_from format 3 (most_entries p) (pieces_of 10 second.rest)
+                → header_in (pieces_of 10 (take n text)) ≡ Ok format → plan_in format (pieces_of 10 (take same.left same.rest)) ≡ Ok p
                 → pieces_of 10 (take second.left second.rest) ≡ drop 1 (pieces_of 10 (take same.left same.rest)) → pieces_of 10 second.rest ≡ drop 1 (pieces_of 10 same.rest)
                 → schedule_of (take n text) ≡ schedule_of text
             by_answer (Err fault) is there front_header front_plan front_more whole_more =
-                whole_fault (take n text) (pieces_of 10 (take same.left same.rest)) (pieces_of 10 (take second.left second.rest)) p front_header front_rest front_plan front_more (most_entries p) fault refl (there ∙ is)
-                ∙ sym (whole_fault text (pieces_of 10 same.rest) (pieces_of 10 second.rest) p header whole_rest plan whole_more (most_entries p) fault refl is)
+                whole_fault format (take n text) (pieces_of 10 (take same.left same.rest)) (pieces_of 10 (take second.left second.rest)) p front_header front_rest front_plan front_more (most_entries p) fault refl (there ∙ is)
+                ∙ sym (whole_fault format text (pieces_of 10 same.rest) (pieces_of 10 second.rest) p header whole_rest plan whole_more (most_entries p) fault refl is)
             by_answer (Ok all) is there front_header front_plan front_more whole_more =
-                whole_read (take n text) (pieces_of 10 (take same.left same.rest)) (pieces_of 10 (take second.left second.rest)) p front_header front_rest front_plan front_more (most_entries p) all refl (there ∙ is)
-                ∙ sym (whole_read text (pieces_of 10 same.rest) (pieces_of 10 second.rest) p header whole_rest plan whole_more (most_entries p) all refl is)
+                whole_read format (take n text) (pieces_of 10 (take same.left same.rest)) (pieces_of 10 (take second.left second.rest)) p front_header front_rest front_plan front_more (most_entries p) all refl (there ∙ is)
+                ∙ sym (whole_read format text (pieces_of 10 same.rest) (pieces_of 10 second.rest) p header whole_rest plan whole_more (most_entries p) all refl is)
 
-        by_plan : (r : Result Numbers ScheduleKind) (second : SameLine same.left same.rest) → header_in (pieces_of 10 text) ≡ Ok tt → plan_in (pieces_of 10 same.rest) ≡ r → schedule_of (take n text) ≡ schedule_of text
-        by_plan (Ok p) second header plan = by_entries p second (entries_from 3 (most_entries p) (pieces_of 10 second.rest)) header plan refl
-        by_plan (Err k) second header plan =
-            plan_fault (take n text) (pieces_of 10 (take same.left same.rest)) k (header_same n text same ∙ header) front_rest (plan_same same.left same.rest second ∙ plan)
-            ∙ sym (plan_fault text (pieces_of 10 same.rest) k header whole_rest plan)
+        by_plan : (format : Format) (r : Result Numbers ScheduleKind) (second : SameLine same.left same.rest) → header_in (pieces_of 10 text) ≡ Ok format → plan_in format (pieces_of 10 same.rest) ≡ r → schedule_of (take n text) ≡ schedule_of text
+        by_plan format (Ok p) second header plan = by_entries format p second (entries_from format 3 (most_entries p) (pieces_of 10 second.rest)) header plan refl
+        by_plan format (Err k) second header plan =
+            plan_fault format (take n text) (pieces_of 10 (take same.left same.rest)) k (header_same n text same ∙ header) front_rest (plan_same format same.left same.rest second ∙ plan)
+            ∙ sym (plan_fault format text (pieces_of 10 same.rest) k header whole_rest plan)
 
-        by_second : header_in (pieces_of 10 text) ≡ Ok tt → (take same.left same.rest ≡ same.rest) ⊎ (SameFault same.left same.rest ⊎ SameLine same.left same.rest) → schedule_of (take n text) ≡ schedule_of text
-        by_second header (inl whole) =
+        by_second : (format : Format) → header_in (pieces_of 10 text) ≡ Ok format → (take same.left same.rest ≡ same.rest) ⊎ (SameFault same.left same.rest ⊎ SameLine same.left same.rest) → schedule_of (take n text) ≡ schedule_of text
+        by_second format header (inl whole) =
             ap schedule_in (same.front_cut ∙ ap (λ t. same.line ∷ pieces_of 10 t) whole ∙ sym same.whole_cut)
-        by_second header (inr (inl fault)) =
-            plan_fault (take n text) (pieces_of 10 (take same.left same.rest)) fault.kind (header_same n text same ∙ header) front_rest (ap (λ r. r >>= plan_of) fault.front)
-            ∙ sym (plan_fault text (pieces_of 10 same.rest) fault.kind header whole_rest (ap (λ r. r >>= plan_of) fault.whole))
-        by_second header (inr (inr second)) = by_plan (plan_in (pieces_of 10 same.rest)) second header refl
+        by_second format header (inr (inl fault)) =
+            plan_fault format (take n text) (pieces_of 10 (take same.left same.rest)) fault.kind (header_same n text same ∙ header) front_rest (ap (λ r. r >>= plan_of format) fault.front)
+            ∙ sym (plan_fault format text (pieces_of 10 same.rest) fault.kind header whole_rest (ap (λ r. r >>= plan_of format) fault.whole))
+        by_second format header (inr (inr second)) = by_plan format (plan_in format (pieces_of 10 same.rest)) second header refl
 
-        by_header : (r : Result (Unit {0}) ScheduleKind) → header_in (pieces_of 10 text) ≡ r → schedule_of (take n text) ≡ schedule_of text
-        by_header (Ok u) header = by_second header (first_same same.left same.rest (omega (arith, enough, same.enough)))
+        by_header : (r : Result Format ScheduleKind) → header_in (pieces_of 10 text) ≡ r → schedule_of (take n text) ≡ schedule_of text
+        by_header (Ok format) header = by_second format header (first_same same.left same.rest (omega (arith, enough, same.enough)))
         by_header (Err k) header = header_fault (take n text) k (header_same n text same ∙ header) ∙ sym (header_fault text k header)
 
 -- ---- what was read says what the text says

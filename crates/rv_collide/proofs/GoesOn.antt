@@ -56,7 +56,7 @@ step_forced c s h p at count goes made =
 by_access : (c : Stored) (h : ℕ) (o : Option Access) → len (armed (setting_of c).start c.entries) ≡ 0 → turn_entry (setting_of c) c.entries h o ≡ Stepped h
 by_access c h None none = refl
 by_access c h (Some access) none =
-    ap (λ b. cond b (Paused h (least_free c.entries)) (Stepped h)) (ap (λ s. contains s access.pc) (empty_of_len (armed (setting_of c).start c.entries) none) ∙ contains-empty nat_cmp access.pc)
+    ap (λ b. cond b (Paused h (least_free c.plan.slots c.entries)) (Stepped h)) (ap (λ s. contains s access.pc) (empty_of_len (armed (setting_of c).start c.entries) none) ∙ contains-empty nat_cmp access.pc)
 
 is_zero : (n : ℕ) → (n == 0) ≡ true → n ≡ 0
 is_zero n h = grind (arith, nat_tests)

@@ -2,7 +2,7 @@
 use Rattle.std.proofs.Common.{◌≡◌, Result, Ok, refl, ap, ◌∙◌, sym}
 use Rattle.rv_text.specs.Decimal.{DecimalIsReadBack, DecimalHasOneSpelling}
 use Rattle.rv_text.specs.Hexadecimal.{WordIsReadBack}
-use Rattle.rv_collide.specs.Grammar.{Grammar}
+use Rattle.rv_collide.specs.Grammar.{Grammar, GrammarIn}
 use Rattle.rv_collide.specs.GrammarLaws.{ReadsTheGrammar, TextHasOneSchedule, ScheduleHasOneText, ScheduleHasText}
 use Rattle.rv_collide.specs.Numbers.{numbers}
 use Rattle.rv_collide.specs.ScheduleRead.{schedule_of}
@@ -15,10 +15,10 @@ reads_the_grammar decimals one words text plan entries = (back, forth)
     back : schedule_of text ≡ Ok (record { numbers = numbers plan; entries = entries }) → Grammar text plan entries
     back is =
         let said = schedule_back one text (record { numbers = numbers plan; entries = entries }) plan.in_range is in
-        record { writable = said.writable; addresses = said.addresses; spelled = said.spelled }
+        (said.0, record { writable = said.1.writable; addresses = said.1.addresses; spelled = said.1.spelled })
 
     forth : Grammar text plan entries → schedule_of text ≡ Ok (record { numbers = numbers plan; entries = entries })
-    forth g = ap schedule_of g.spelled ∙ schedule_read decimals words (numbers plan) entries plan.in_range g.writable g.addresses
+    forth (format, g) = ap schedule_of g.spelled ∙ schedule_read decimals words format (numbers plan) entries plan.in_range g.writable g.addresses
 
 same_ok : {A E : Type 0} (r : Result A E) (a b : A) → r ≡ Ok a → r ≡ Ok b → a ≡ b
 same_ok r a b here there = cc
@@ -30,7 +30,7 @@ text_has_one reads text plan other entries others here there =
     (ap (λ s. s.numbers) same, ap (λ s. s.entries) same)
 
 pub schedule_has_one : ScheduleHasOneText
-schedule_has_one text other plan entries here there = here.spelled ∙ sym there.spelled
+schedule_has_one format text other plan entries here there = here.spelled ∙ sym there.spelled
 
 pub schedule_has_some : ScheduleHasText
-schedule_has_some plan entries writable addresses = record { writable = writable; addresses = addresses; spelled = refl }
+schedule_has_some format plan entries writable addresses = record { writable = writable; addresses = addresses; spelled = refl }

@@ -15,7 +15,6 @@ use Rattle.std.proofs.lemmas.List.{take-append-le}
 use Rattle.rv_break.specs.Breakpoints.{Breaks}
 use Rattle.rv_break.specs.Slots.{Slots}
 use Rattle.rv_break.specs.declared.claim.Seen.{Seen}
-use Rattle.rv_break.specs.declared.claim.TheConstants.{SLOTS}
 use Rattle.rv_collide.specs.Armed.{armed, arms}
 use Rattle.rv_collide.specs.Entries.{steps, stepped_at}
 use Rattle.rv_collide.specs.First.{seen_at}
@@ -69,8 +68,8 @@ legal_push setting xs e legal ok place entry there =
 
 -- ---- what is kept of open pauses
 
-kept_one : (start : State) (xs : List Entry) (e : Entry) (p : OpenPause) → IsKept start xs p → IsKept start (xs ++ e ∷ []) p
-kept_one start xs e p k =
+kept_one : (slot_count : ℕ) (start : State) (xs : List Entry) (e : Entry) (p : OpenPause) → IsKept slot_count start xs p → IsKept slot_count start (xs ++ e ∷ []) p
+kept_one slot_count start xs e p k =
     let lt = k.before in
     record {
       before = (let size = length-append xs (e ∷ []) in omega arith);
@@ -79,25 +78,25 @@ kept_one start xs e p k =
       within = k.within;
     }
 
-pub kept_push : (start : State) (xs : List Entry) (e : Entry) (ps : List OpenPause) → AreKept start xs ps → AreKept start (xs ++ e ∷ []) ps
-kept_push start xs e [] kept = tt
-kept_push start xs e (p ∷ ps) kept = (kept_one start xs e p kept.0, kept_push start xs e ps kept.1)
+pub kept_push : (slot_count : ℕ) (start : State) (xs : List Entry) (e : Entry) (ps : List OpenPause) → AreKept slot_count start xs ps → AreKept slot_count start (xs ++ e ∷ []) ps
+kept_push slot_count start xs e [] kept = tt
+kept_push slot_count start xs e (p ∷ ps) kept = (kept_one slot_count start xs e p kept.0, kept_push slot_count start xs e ps kept.1)
 
-kept_append : (start : State) (xs : List Entry) (ps : List OpenPause) (p : OpenPause) → AreKept start xs ps → IsKept start xs p → AreKept start xs (ps ++ p ∷ [])
-kept_append start xs [] p kept one = (one, tt)
-kept_append start xs (q ∷ ps) p kept one = (kept.0, kept_append start xs ps p kept.1 one)
+kept_append : (slot_count : ℕ) (start : State) (xs : List Entry) (ps : List OpenPause) (p : OpenPause) → AreKept slot_count start xs ps → IsKept slot_count start xs p → AreKept slot_count start xs (ps ++ p ∷ [])
+kept_append slot_count start xs [] p kept one = (one, tt)
+kept_append slot_count start xs (q ∷ ps) p kept one = (kept.0, kept_append slot_count start xs ps p kept.1 one)
 
-kept_filter : (start : State) (xs : List Entry) (t : OpenPause → Bool) (ps : List OpenPause) → AreKept start xs ps → AreKept start xs (filter t ps)
-kept_filter start xs t [] kept = tt
-kept_filter start xs t (p ∷ ps) kept =
-    elim (t p) as (λ b. AreKept start xs (cond b (p ∷ filter t ps) (filter t ps))) [ true ↦ (kept.0, kept_filter start xs t ps kept.1) | false ↦ kept_filter start xs t ps kept.1 ]
+kept_filter : (slot_count : ℕ) (start : State) (xs : List Entry) (t : OpenPause → Bool) (ps : List OpenPause) → AreKept slot_count start xs ps → AreKept slot_count start xs (filter t ps)
+kept_filter slot_count start xs t [] kept = tt
+kept_filter slot_count start xs t (p ∷ ps) kept =
+    elim (t p) as (λ b. AreKept slot_count start xs (cond b (p ∷ filter t ps) (filter t ps))) [ true ↦ (kept.0, kept_filter slot_count start xs t ps kept.1) | false ↦ kept_filter slot_count start xs t ps kept.1 ]
 
-pub kept_found : (start : State) (xs : List Entry) (t : OpenPause → Bool) (ps : List OpenPause) (p : OpenPause) → AreKept start xs ps → find t ps ≡ Some p → IsKept start xs p
-kept_found start xs t [] p kept found = cc
-kept_found start xs t (q ∷ ps) p kept found =
-    elim (t q) as (λ b. cond b (Some q) (find t ps) ≡ Some p → IsKept start xs p) [
-      | true ↦ λ e. subst (λ (r : OpenPause). IsKept start xs r) (some_same q p e) kept.0
-      | false ↦ λ e. kept_found start xs t ps p kept.1 e
+pub kept_found : (slot_count : ℕ) (start : State) (xs : List Entry) (t : OpenPause → Bool) (ps : List OpenPause) (p : OpenPause) → AreKept slot_count start xs ps → find t ps ≡ Some p → IsKept slot_count start xs p
+kept_found slot_count start xs t [] p kept found = cc
+kept_found slot_count start xs t (q ∷ ps) p kept found =
+    elim (t q) as (λ b. cond b (Some q) (find t ps) ≡ Some p → IsKept slot_count start xs p) [
+      | true ↦ λ e. subst (λ (r : OpenPause). IsKept slot_count start xs r) (some_same q p e) kept.0
+      | false ↦ λ e. kept_found slot_count start xs t ps p kept.1 e
     ] found
 
 opening_filter : (h : ℕ) (ps : List OpenPause) → map opening (filter (λ (p : OpenPause). not (p.hart == h)) ps) ≡ without_hart h (map opening ps)
@@ -224,9 +223,9 @@ core_arm setting xs m b b' opened told sm am a c ok armed_now slots_now =
       counted = c.counted ∙ sym (ap length same_steps);
       arms_counted = ap (λ n. n + 1) c.arms_counted ∙ sym count;
       armed_are = armed_now ∙ ap (λ s. insert s a) c.armed_are ∙ sym set_now;
-      slots_are = slots_now ∙ c.slots_are ∙ sym (slots_quiet setting.start xs (Armed a) same_openings (seen_none setting.start xs (Armed a) refl));
+      slots_are = slots_now ∙ c.slots_are ∙ sym (slots_quiet setting.plan.slots setting.start xs (Armed a) same_openings (seen_none setting.start xs (Armed a) refl));
       openings_are = c.openings_are ∙ sym same_openings;
-      kept = kept_push setting.start xs (Armed a) opened c.kept;
+      kept = kept_push setting.plan.slots setting.start xs (Armed a) opened c.kept;
       apart = subst AreApart (sym same_openings) c.apart;
       endings_are = c.endings_are ∙ sym (endings_stay setting.start xs (Armed a) refl);
       room = (
@@ -254,9 +253,9 @@ core_disarm setting xs m b b' opened told sm am a c ok armed_now slots_now =
       counted = c.counted ∙ sym (ap length same_steps);
       arms_counted = c.arms_counted ∙ sym count;
       armed_are = armed_now ∙ ap (λ s. remove s a) c.armed_are ∙ sym set_now;
-      slots_are = slots_now ∙ c.slots_are ∙ sym (slots_quiet setting.start xs (Disarmed a) same_openings (seen_none setting.start xs (Disarmed a) refl));
+      slots_are = slots_now ∙ c.slots_are ∙ sym (slots_quiet setting.plan.slots setting.start xs (Disarmed a) same_openings (seen_none setting.start xs (Disarmed a) refl));
       openings_are = c.openings_are ∙ sym same_openings;
-      kept = kept_push setting.start xs (Disarmed a) opened c.kept;
+      kept = kept_push setting.plan.slots setting.start xs (Disarmed a) opened c.kept;
       apart = subst AreApart (sym same_openings) c.apart;
       endings_are = c.endings_are ∙ sym (endings_stay setting.start xs (Disarmed a) refl);
       room = (
@@ -274,9 +273,9 @@ unfolding seen_at made stepped_at next
 seen_step next_is start s t xs h event at step =
     rw (get_last xs (Stepped h), state_front start xs (Stepped h ∷ []) (length xs) (omega arith), at, next_is s t h event step) refl
 
-slots_by : (start : State) (xs : List Entry) (e : Entry) (seen : Option Seen) → openings (xs ++ e ∷ []) ≡ openings xs → seen_at start (xs ++ e ∷ []) (length xs) ≡ seen → slots_of start (xs ++ e ∷ []) ≡ slots_seen seen (slots_of start xs)
-slots_by start xs e None same is = slots_quiet start xs e same is
-slots_by start xs e (Some seen) same is = slots_shown start xs e seen same is
+slots_by : (slot_count : ℕ) (start : State) (xs : List Entry) (e : Entry) (seen : Option Seen) → openings (xs ++ e ∷ []) ≡ openings xs → seen_at start (xs ++ e ∷ []) (length xs) ≡ seen → slots_of slot_count start (xs ++ e ∷ []) ≡ slots_seen seen (slots_of slot_count start xs)
+slots_by slot_count start xs e None same is = slots_quiet slot_count start xs e same is
+slots_by slot_count start xs e (Some seen) same is = slots_shown slot_count start xs e seen same is
 
 pub grown : OutputLaw → (s t : State) (h : ℕ) (event : Event) (n : ℕ) → step_of s h ≡ Some (event, t) → length s.output ≤ n → length t.output ≤ n + 1
 grown law s t h event n step le =
@@ -303,9 +302,9 @@ core_step next_is output_law setting xs m m' b b' opened told sm am h event c ok
       counted = ap (λ n. n + 1) c.counted ∙ sym more_steps;
       arms_counted = c.arms_counted ∙ sym count;
       armed_are = armed_now ∙ c.armed_are ∙ sym set_now;
-      slots_are = slots_now ∙ ap (slots_seen (option_map (λ access. record { place = length xs; hart = h; access = access }) (accessed event))) c.slots_are ∙ sym (slots_by setting.start xs (Stepped h) _ same_openings seen);
+      slots_are = slots_now ∙ ap (slots_seen (option_map (λ access. record { place = length xs; hart = h; access = access }) (accessed event))) c.slots_are ∙ sym (slots_by setting.plan.slots setting.start xs (Stepped h) _ same_openings seen);
       openings_are = c.openings_are ∙ sym same_openings;
-      kept = kept_push setting.start xs (Stepped h) opened c.kept;
+      kept = kept_push setting.plan.slots setting.start xs (Stepped h) opened c.kept;
       apart = subst AreApart (sym same_openings) c.apart;
       endings_are = c.endings_are ∙ sym (endings_stay setting.start xs (Stepped h) refl);
       room = (
@@ -322,23 +321,23 @@ abbrev pub slots_claimed : Option ℕ → ℕ → Access → Slots → Slots
 slots_claimed None h access slots = slots
 slots_claimed (Some slot) h access slots = set slots slot (Some (record { hart = h; access = access; seen = None }))
 
-free_is : (xs : List Entry) (slot : ℕ) → least_free xs ≡ Some slot → not (is_taken xs slot) ≡ true
+free_is : (slot_count : ℕ) (xs : List Entry) (slot : ℕ) → least_free slot_count xs ≡ Some slot → not (is_taken xs slot) ≡ true
 unfolding least_free
-free_is xs slot found = (find_within (λ s. not (is_taken xs s)) 0 SLOTS slot found).passes
+free_is slot_count xs slot found = (find_within (λ s. not (is_taken xs s)) 0 slot_count slot found).passes
 
-slots_pause_any : (start : State) (xs : List Entry) (h : ℕ) (slot : Option ℕ) (access : Access) → next start xs (length xs) h ≡ Some access → least_free xs ≡ slot → slots_of start (xs ++ Paused h slot ∷ []) ≡ slots_claimed slot h access (slots_of start xs)
-slots_pause_any start xs h None access would free = slots_pause_none start xs h
-slots_pause_any start xs h (Some slot) access would free = slots_pause start xs h slot access would (free_is xs slot free)
+slots_pause_any : (slot_count : ℕ) (start : State) (xs : List Entry) (h : ℕ) (slot : Option ℕ) (access : Access) → next start xs (length xs) h ≡ Some access → least_free slot_count xs ≡ slot → slots_of slot_count start (xs ++ Paused h slot ∷ []) ≡ slots_claimed slot h access (slots_of slot_count start xs)
+slots_pause_any slot_count start xs h None access would free = slots_pause_none slot_count start xs h
+slots_pause_any slot_count start xs h (Some slot) access would free = slots_pause slot_count start xs h slot access would (free_is slot_count xs slot free)
 
-pub free_within : (xs : List Entry) (slot : Option ℕ) → least_free xs ≡ slot → IfSome slot (λ s. s < SLOTS)
+pub free_within : (slot_count : ℕ) (xs : List Entry) (slot : Option ℕ) → least_free slot_count xs ≡ slot → IfSome slot (λ s. s < slot_count)
 unfolding least_free
-free_within xs None free = tt
-free_within xs (Some slot) free = let w = find_within (λ s. not (is_taken xs s)) 0 SLOTS slot free in let below = w.below in omega arith
+free_within slot_count xs None free = tt
+free_within slot_count xs (Some slot) free = let w = find_within (λ s. not (is_taken xs s)) 0 slot_count slot free in let below = w.below in omega arith
 
-not_taken : (xs : List Entry) (slot : Option ℕ) → least_free xs ≡ slot → is_in slot (openings xs) ≡ false
+not_taken : (slot_count : ℕ) (xs : List Entry) (slot : Option ℕ) → least_free slot_count xs ≡ slot → is_in slot (openings xs) ≡ false
 unfolding is_taken
-not_taken xs None free = refl
-not_taken xs (Some slot) free = not_false (list_any (is_at slot) (openings xs)) (free_is xs slot free)
+not_taken slot_count xs None free = refl
+not_taken slot_count xs (Some slot) free = not_false (list_any (is_at slot) (openings xs)) (free_is slot_count xs slot free)
 
 no_hart_open : (xs : List Entry) (h : ℕ) → is_some (opening_of xs h) ≡ false → list_any (λ (o : Opening). o.hart == h) (openings xs) ≡ false
 unfolding opening_of
@@ -350,7 +349,7 @@ named h hart n place slot own here = rw (own, here) refl
 abbrev after_mention : Option Access → FinSet nat_cmp → FinSet nat_cmp
 after_mention would s = armed_after (option_map (λ (access : Access). record { address = access.pc; arms = false }) would) s
 
-pub core_pause : (setting : Setting) (xs : List Entry) (m : Guest) (b b' : Breaks) (opened : List OpenPause) (told : List Ending) (sm am h : ℕ) (p : OpenPause) → IsCore setting xs m b opened told sm am → forced setting xs (Turn h) ≡ Ok (Paused h p.slot) → least_free xs ≡ p.slot → p.hart ≡ h → p.place ≡ length xs → next setting.start xs (length xs) h ≡ Some p.access → contains (armed setting.start xs) p.access.pc ≡ true → p.old ≡ bytes_at setting.start xs (length xs) p.access → b'.armed ≡ remove b.armed p.access.pc → b'.slots ≡ slots_claimed p.slot h p.access b.slots → IsCore setting (xs ++ Paused h p.slot ∷ []) m b' (opened ++ p ∷ []) told sm am
+pub core_pause : (setting : Setting) (xs : List Entry) (m : Guest) (b b' : Breaks) (opened : List OpenPause) (told : List Ending) (sm am h : ℕ) (p : OpenPause) → IsCore setting xs m b opened told sm am → forced setting xs (Turn h) ≡ Ok (Paused h p.slot) → least_free setting.plan.slots xs ≡ p.slot → p.hart ≡ h → p.place ≡ length xs → next setting.start xs (length xs) h ≡ Some p.access → contains (armed setting.start xs) p.access.pc ≡ true → p.old ≡ bytes_at setting.start xs (length xs) p.access → b'.armed ≡ remove b.armed p.access.pc → b'.slots ≡ slots_claimed p.slot h p.access b.slots → IsCore setting (xs ++ Paused h p.slot ∷ []) m b' (opened ++ p ∷ []) told sm am
 core_pause setting xs m b b' opened told sm am h p c ok free own here would there old armed_now slots_now =
     let parts = turn_parts setting xs h (Paused h p.slot) ok in
     let count = count_push xs (Paused h p.slot) 0 refl ∙ add-zero (count_by arms xs) in
@@ -358,11 +357,11 @@ core_pause setting xs m b b' opened told sm am h p c ok free own here would ther
     let one : openings (xs ++ Paused h p.slot ∷ []) ≡ openings xs ++ opening p ∷ [] = openings_pause xs h p.slot ∙ ap (λ (o : Opening). openings xs ++ o ∷ []) (named h p.hart (length xs) p.place p.slot own here) in
     let set_now : armed setting.start (xs ++ Paused h p.slot ∷ []) ≡ remove (armed setting.start xs) p.access.pc = armed_push setting.start xs (Paused h p.slot) ∙ ap (λ a. after_mention a (armed setting.start xs)) would in
     let size = ap (λ (s : FinSet nat_cmp). len s + 1) set_now ∙ len_without (armed setting.start xs) p.access.pc there in
-    let kept_p : IsKept setting.start (xs ++ Paused h p.slot ∷ []) p = record {
+    let kept_p : IsKept setting.plan.slots setting.start (xs ++ Paused h p.slot ∷ []) p = record {
       before = (let n = size_push xs (Paused h p.slot) in omega arith);
       access = next_front setting.start xs (Paused h p.slot ∷ []) p.place p.hart (omega arith) ∙ ap (λ k. next setting.start xs k p.hart) here ∙ ap (next setting.start xs (length xs)) own ∙ would;
       old = old ∙ ap (λ k. bytes_at setting.start xs k p.access) (sym here) ∙ sym (bytes_front setting.start xs (Paused h p.slot ∷ []) p.place p.access (omega arith));
-      within = free_within xs p.slot free;
+      within = free_within setting.plan.slots xs p.slot free;
     } in
     record {
       legal = legal_push setting xs (Paused h p.slot) c.legal ok;
@@ -373,10 +372,10 @@ core_pause setting xs m b b' opened told sm am h p c ok free own here would ther
       counted = c.counted ∙ sym (ap length same_steps);
       arms_counted = c.arms_counted ∙ sym count;
       armed_are = armed_now ∙ ap (λ s. remove s p.access.pc) c.armed_are ∙ sym set_now;
-      slots_are = slots_now ∙ ap (slots_claimed p.slot h p.access) c.slots_are ∙ sym (slots_pause_any setting.start xs h p.slot p.access would free);
+      slots_are = slots_now ∙ ap (slots_claimed p.slot h p.access) c.slots_are ∙ sym (slots_pause_any setting.plan.slots setting.start xs h p.slot p.access would free);
       openings_are = map-append opening opened (p ∷ []) ∙ ap (λ os. os ++ opening p ∷ []) c.openings_are ∙ sym one;
-      kept = kept_append setting.start (xs ++ Paused h p.slot ∷ []) opened p (kept_push setting.start xs (Paused h p.slot) opened c.kept) kept_p;
-      apart = subst AreApart (sym one) (apart_push (openings xs) (opening p) c.apart (ap (λ k. list_any (λ (o : Opening). o.hart == k) (openings xs)) own ∙ no_hart_open xs h parts.not_open) (not_taken xs p.slot free));
+      kept = kept_append setting.plan.slots setting.start (xs ++ Paused h p.slot ∷ []) opened p (kept_push setting.plan.slots setting.start xs (Paused h p.slot) opened c.kept) kept_p;
+      apart = subst AreApart (sym one) (apart_push (openings xs) (opening p) c.apart (ap (λ k. list_any (λ (o : Opening). o.hart == k) (openings xs)) own ∙ no_hart_open xs h parts.not_open) (not_taken setting.plan.slots xs p.slot free));
       endings_are = c.endings_are ∙ sym (endings_stay setting.start xs (Paused h p.slot) refl);
       room = (
           let r = c.room in
@@ -388,9 +387,9 @@ core_pause setting xs m b b' opened told sm am h p c ok free own here would ther
 
 -- ---- a resumption
 
-slots_resume_any : (start : State) (xs : List Entry) (h : ℕ) (o : Opening) (slot : Option ℕ) → AreApart (openings xs) → opening_of xs h ≡ Some o → o.slot ≡ slot → slots_of start (xs ++ Resumed h ∷ []) ≡ slots_freed slot (slots_of start xs)
-slots_resume_any start xs h o None apart found is = slots_resume_none start xs h o apart found is
-slots_resume_any start xs h o (Some slot) apart found is = slots_resume start xs h slot o apart found is
+slots_resume_any : (slot_count : ℕ) (start : State) (xs : List Entry) (h : ℕ) (o : Opening) (slot : Option ℕ) → AreApart (openings xs) → opening_of xs h ≡ Some o → o.slot ≡ slot → slots_of slot_count start (xs ++ Resumed h ∷ []) ≡ slots_freed slot (slots_of slot_count start xs)
+slots_resume_any slot_count start xs h o None apart found is = slots_resume_none slot_count start xs h o apart found is
+slots_resume_any slot_count start xs h o (Some slot) apart found is = slots_resume slot_count start xs h slot o apart found is
 
 no_more : (h : ℕ) (os : List Opening) → length (without_hart h os) ≤ length os
 no_more h [] = omega arith
@@ -415,7 +414,7 @@ fewer_open xs h o found = fewer h (openings xs) o found
 pub core_resume : (setting : Setting) (xs : List Entry) (m : Guest) (b b' : Breaks) (opened : List OpenPause) (told : List Ending) (sm am h : ℕ) (p : OpenPause) (told' : Ending) → IsCore setting xs m b opened told sm am → forced setting xs (Resume h) ≡ Ok (Resumed h) → find (λ (q : OpenPause). q.hart == h) opened ≡ Some p → b'.armed ≡ b.armed → b'.slots ≡ slots_freed p.slot b.slots → told' ≡ ending setting.start xs (ended (length xs) (opening p)) p.access → IsCore setting (xs ++ Resumed h ∷ []) m b' (filter (λ (q : OpenPause). not (q.hart == h)) opened) (told ++ told' ∷ []) sm am
 core_resume setting xs m b b' opened told sm am h p told' c ok found armed_now slots_now told_is =
     let of_h : opening_of xs h ≡ Some (opening p) = opening_kept xs opened h c.openings_are ∙ ap (option_map opening) found in
-    let k = kept_found setting.start xs (λ (q : OpenPause). q.hart == h) opened p c.kept found in
+    let k = kept_found setting.plan.slots setting.start xs (λ (q : OpenPause). q.hart == h) opened p c.kept found in
     let count = count_push xs (Resumed h) 0 refl ∙ add-zero (count_by arms xs) in
     let same_steps = steps_quiet xs (Resumed h) refl in
     let one : openings (xs ++ Resumed h ∷ []) ≡ without_hart h (openings xs) = openings_after xs h in
@@ -429,9 +428,9 @@ core_resume setting xs m b b' opened told sm am h p told' c ok found armed_now s
       counted = c.counted ∙ sym (ap length same_steps);
       arms_counted = c.arms_counted ∙ sym count;
       armed_are = armed_now ∙ c.armed_are ∙ sym set_now;
-      slots_are = slots_now ∙ ap (slots_freed p.slot) c.slots_are ∙ sym (slots_resume_any setting.start xs h (opening p) p.slot c.apart of_h refl);
+      slots_are = slots_now ∙ ap (slots_freed p.slot) c.slots_are ∙ sym (slots_resume_any setting.plan.slots setting.start xs h (opening p) p.slot c.apart of_h refl);
       openings_are = opening_filter h opened ∙ ap (without_hart h) c.openings_are ∙ sym one;
-      kept = kept_filter setting.start (xs ++ Resumed h ∷ []) (λ (q : OpenPause). not (q.hart == h)) opened (kept_push setting.start xs (Resumed h) opened c.kept);
+      kept = kept_filter setting.plan.slots setting.start (xs ++ Resumed h ∷ []) (λ (q : OpenPause). not (q.hart == h)) opened (kept_push setting.plan.slots setting.start xs (Resumed h) opened c.kept);
       apart = subst AreApart (sym one) (apart_filter (λ (o : Opening). not (o.hart == h)) (openings xs) c.apart);
       endings_are = ap (λ es. es ++ told' ∷ []) c.endings_are ∙ ap (λ e. endings setting.start xs ++ e ∷ []) told_is ∙ sym (endings_resume setting.start xs h (opening p) p.access of_h k.access);
       room = (

@@ -8,7 +8,6 @@ use Rattle.rv_break.specs.Slots.{Slots, IsClaimed, free_slot, seen_by}
 use Rattle.rv_break.specs.Slots as slots
 use Rattle.rv_break.specs.declared.claim.Claim.{Claim}
 use Rattle.rv_break.specs.declared.claim.Seen.{Seen}
-use Rattle.rv_break.specs.declared.claim.TheConstants.{SLOTS}
 use Rattle.rv_collide.specs.First.{first, seen_at}
 use Rattle.rv_collide.specs.Forced.{is_taken, least_free}
 use Rattle.rv_collide.specs.Next.{next}
@@ -48,27 +47,27 @@ claim_some : (start : State) (xs : List Entry) (o : Opening) (a : Access) → ne
 unfolding claim_of
 claim_some start xs o a would = rw would refl
 
-kept_claims : (start : State) (xs : List Entry) (t : Opening → Bool) (ps : List OpenPause) → AreKept start xs ps → is_none (option_and_then (claim_of start xs) (find t (map opening ps))) ≡ not (is_some (find t (map opening ps)))
-kept_claims start xs t [] kept = refl
-kept_claims start xs t (p ∷ ps) kept =
+kept_claims : (slot_count : ℕ) (start : State) (xs : List Entry) (t : Opening → Bool) (ps : List OpenPause) → AreKept slot_count start xs ps → is_none (option_and_then (claim_of start xs) (find t (map opening ps))) ≡ not (is_some (find t (map opening ps)))
+kept_claims slot_count start xs t [] kept = refl
+kept_claims slot_count start xs t (p ∷ ps) kept =
     elim (t (opening p)) as (λ b. is_none (option_and_then (claim_of start xs) (cond b (Some (opening p)) (find t (map opening ps)))) ≡ not (is_some (cond b (Some (opening p)) (find t (map opening ps))))) [
       | true ↦ (let k = kept.0 in claim_some start xs (opening p) p.access k.access)
-      | false ↦ kept_claims start xs t ps kept.1
+      | false ↦ kept_claims slot_count start xs t ps kept.1
     ]
 
-free_if : (start : State) (xs : List Entry) (opened : List OpenPause) (slot : ℕ) → AreKept start xs opened → map opening opened ≡ openings xs → is_none (slot_at start xs slot) ≡ not (is_taken xs slot)
+free_if : (slot_count : ℕ) (start : State) (xs : List Entry) (opened : List OpenPause) (slot : ℕ) → AreKept slot_count start xs opened → map opening opened ≡ openings xs → is_none (slot_at start xs slot) ≡ not (is_taken xs slot)
 unfolding slot_at is_taken
-free_if start xs opened slot kept are =
+free_if slot_count start xs opened slot kept are =
     ap (λ os. is_none (option_and_then (claim_of start xs) (find (is_at slot) os))) (sym are)
-    ∙ kept_claims start xs (is_at slot) opened kept
+    ∙ kept_claims slot_count start xs (is_at slot) opened kept
     ∙ ap (λ os. not (is_some (find (is_at slot) os))) are
     ∙ ap not (sym (any_is_some (is_at slot) (openings xs)))
 
-pub least_is_free : (start : State) (xs : List Entry) (opened : List OpenPause) → AreKept start xs opened → map opening opened ≡ openings xs → free_slot (slots_of start xs) ≡ least_free xs
+pub least_is_free : (slot_count : ℕ) (start : State) (xs : List Entry) (opened : List OpenPause) → AreKept slot_count start xs opened → map opening opened ≡ openings xs → free_slot (slots_of slot_count start xs) ≡ least_free slot_count xs
 unfolding slots_of least_free
-least_is_free start xs opened kept are =
-    first_free is_none (slot_at start xs) SLOTS
-    ∙ find_range (λ slot. is_none (slot_at start xs slot)) (λ slot. not (is_taken xs slot)) 0 SLOTS (λ i lo hi. free_if start xs opened i kept are)
+least_is_free slot_count start xs opened kept are =
+    first_free is_none (slot_at start xs) slot_count
+    ∙ find_range (λ slot. is_none (slot_at start xs slot)) (λ slot. not (is_taken xs slot)) 0 slot_count (λ i lo hi. free_if slot_count start xs opened i kept are)
 
 pub record Claimed (slot : Option ℕ) (h : ℕ) (a : Access) (b b' : Breaks) : Type 0 where
   pub armed : b'.armed ≡ b.armed
@@ -95,9 +94,9 @@ get_range f a zero i lt = absurd (omega arith)
 get_range f a (suc n) zero lt = ap (λ k. Some (f k)) (sym (add-zero a))
 get_range f a (suc n) (suc i) lt = get_range f (a + 1) n i (omega arith) ∙ ap (λ k. Some (f k)) (shift a i)
 
-get_slot : (start : State) (xs : List Entry) (slot : ℕ) → slot < SLOTS → slice_get (slots_of start xs) slot ≡ Some (slot_at start xs slot)
+get_slot : (slot_count : ℕ) (start : State) (xs : List Entry) (slot : ℕ) → slot < slot_count → slice_get (slots_of slot_count start xs) slot ≡ Some (slot_at start xs slot)
 unfolding slots_of
-get_slot start xs slot lt = get_range (slot_at start xs) 0 SLOTS slot lt ∙ ap (λ k. Some (slot_at start xs k)) (zero-add slot)
+get_slot slot_count start xs slot lt = get_range (slot_at start xs) 0 slot_count slot lt ∙ ap (λ k. Some (slot_at start xs k)) (zero-add slot)
 
 abbrev the_claim : State → List Entry → Opening → Access → Claim
 the_claim start xs o a = record { hart = o.hart; access = a; seen = option_and_then (seen_at start xs) (first start xs (ended (length xs) o)) }
@@ -106,21 +105,21 @@ claim_is : (start : State) (xs : List Entry) (o : Opening) (a : Access) → next
 unfolding claim_of
 claim_is start xs o a would = rw would refl
 
-slot_is : (start : State) (xs : List Entry) (h slot : ℕ) (o : Opening) (a : Access) → AreApart (openings xs) → opening_of xs h ≡ Some o → o.slot ≡ Some slot → slot < SLOTS → next start xs o.place o.hart ≡ Some a → slice_get (slots_of start xs) slot ≡ Some (Some (the_claim start xs o a))
-slot_is start xs h slot o a apart found is lt would =
-    get_slot start xs slot lt ∙ ap Some (claimed start xs h slot o apart found is ∙ claim_is start xs o a would)
+slot_is : (slot_count : ℕ) (start : State) (xs : List Entry) (h slot : ℕ) (o : Opening) (a : Access) → AreApart (openings xs) → opening_of xs h ≡ Some o → o.slot ≡ Some slot → slot < slot_count → next start xs o.place o.hart ≡ Some a → slice_get (slots_of slot_count start xs) slot ≡ Some (Some (the_claim start xs o a))
+slot_is slot_count start xs h slot o a apart found is lt would =
+    get_slot slot_count start xs slot lt ∙ ap Some (claimed start xs h slot o apart found is ∙ claim_is start xs o a would)
 
 module _ (start : State) (xs : List Entry) (h : ℕ) (o : Opening) (a : Access) (apart : AreApart (openings xs)) (found : opening_of xs h ≡ Some o) (would : next start xs o.place o.hart ≡ Some a) where
-  pub slot_claimed : (slot : Option ℕ) → o.slot ≡ slot → IfSome slot (λ s. s < SLOTS) → IfSome slot (λ s. IsClaimed (slots_of start xs) s)
-  slot_claimed None is lt = tt
-  slot_claimed (Some slot) is lt =
-      subst (λ (c : Option (Option Claim)). IsSomeAnd c IsSome) (sym (slot_is start xs h slot o a apart found is lt would)) refl
+  pub slot_claimed : (slot_count : ℕ) (slot : Option ℕ) → o.slot ≡ slot → IfSome slot (λ s. s < slot_count) → IfSome slot (λ s. IsClaimed (slots_of slot_count start xs) s)
+  slot_claimed slot_count None is lt = tt
+  slot_claimed slot_count (Some slot) is lt =
+      subst (λ (c : Option (Option Claim)). IsSomeAnd c IsSome) (sym (slot_is slot_count start xs h slot o a apart found is lt would)) refl
 
-  pub slot_seen : (slot : Option ℕ) → o.slot ≡ slot → IfSome slot (λ s. s < SLOTS) → option_and_then (slots.seen_at (slots_of start xs)) slot ≡ watched start xs (ended (length xs) o)
+  pub slot_seen : (slot_count : ℕ) (slot : Option ℕ) → o.slot ≡ slot → IfSome slot (λ s. s < slot_count) → option_and_then (slots.seen_at (slots_of slot_count start xs)) slot ≡ watched start xs (ended (length xs) o)
   unfolding watched
-  slot_seen None is lt = ap (λ s. cond (is_some s) (option_and_then (seen_at start xs) (first start xs (ended (length xs) o))) None) (sym is)
-  slot_seen (Some slot) is lt =
-      ap (option_and_then seen_by) (slot_is start xs h slot o a apart found is lt would)
+  slot_seen slot_count None is lt = ap (λ s. cond (is_some s) (option_and_then (seen_at start xs) (first start xs (ended (length xs) o))) None) (sym is)
+  slot_seen slot_count (Some slot) is lt =
+      ap (option_and_then seen_by) (slot_is slot_count start xs h slot o a apart found is lt would)
       ∙ ap (λ s. cond (is_some s) (option_and_then (seen_at start xs) (first start xs (ended (length xs) o))) None) (sym is)
 
 -- what is told of a pause is its ending

@@ -5,7 +5,6 @@ use Rattle.std.specs.List.{list_any}
 use Rattle.std.specs.Option.{option_map_or}
 use Rattle.std.proofs.lemmas.Bool.Decides.{nat_tests}
 use Rattle.std.proofs.lemmas.List.Folds.{list_any-append}
-use Rattle.rv_break.specs.declared.claim.TheConstants.{SLOTS}
 use Rattle.rv_collide.specs.Pause.{Opening, opening_of, openings}
 use Rattle.rv_collide.specs.declared.entry.Entry.{Entry}
 use Rattle.rv_collide.specs.declared.entry.Entry.TheVariants.{Resumed}
@@ -109,10 +108,10 @@ resumed_slot start xs h j o apart found =
           ∙ map_none (option_and_then (claim_of start xs) (find (is_at j) (openings xs)))
     ]
 
-pub slots_resume_none : (start : State) (xs : List Entry) (h : ℕ) (o : Opening) → AreApart (openings xs) → opening_of xs h ≡ Some o → o.slot ≡ None → slots_of start (xs ++ Resumed h ∷ []) ≡ slots_of start xs
+pub slots_resume_none : (slot_count : ℕ) (start : State) (xs : List Entry) (h : ℕ) (o : Opening) → AreApart (openings xs) → opening_of xs h ≡ Some o → o.slot ≡ None → slots_of slot_count start (xs ++ Resumed h ∷ []) ≡ slots_of slot_count start xs
 unfolding slots_of
-slots_resume_none start xs h o apart found none =
-    map_range_all (slot_at start (xs ++ Resumed h ∷ [])) (slot_at start xs) 0 SLOTS
+slots_resume_none slot_count start xs h o apart found none =
+    map_range_all (slot_at start (xs ++ Resumed h ∷ [])) (slot_at start xs) 0 slot_count
     (λ j. resumed_slot start xs h j o apart found ∙ ap (λ s. cond (option_map_or (λ other. other == j) s false) None (slot_at start xs j)) none)
 
 eq_itself : (a : ℕ) → (a == a) ≡ true
@@ -121,10 +120,10 @@ eq_itself a = grind (arith, nat_tests)
 eq_other : (a b : ℕ) → b ≢ a → (a == b) ≡ false
 eq_other a b ne = grind (arith, nat_tests)
 
-pub slots_resume : (start : State) (xs : List Entry) (h slot : ℕ) (o : Opening) → AreApart (openings xs) → opening_of xs h ≡ Some o → o.slot ≡ Some slot → slots_of start (xs ++ Resumed h ∷ []) ≡ set (slots_of start xs) slot None
+pub slots_resume : (slot_count : ℕ) (start : State) (xs : List Entry) (h slot : ℕ) (o : Opening) → AreApart (openings xs) → opening_of xs h ≡ Some o → o.slot ≡ Some slot → slots_of slot_count start (xs ++ Resumed h ∷ []) ≡ set (slots_of slot_count start xs) slot None
 unfolding slots_of
-slots_resume start xs h slot o apart found is =
-    sym (set_range (slot_at start xs) (slot_at start (xs ++ Resumed h ∷ [])) 0 SLOTS slot None
+slots_resume slot_count start xs h slot o apart found is =
+    sym (set_range (slot_at start xs) (slot_at start (xs ++ Resumed h ∷ [])) 0 slot_count slot None
     (ap (slot_at start (xs ++ Resumed h ∷ [])) (zero-add slot) ∙ resumed_slot start xs h slot o apart found
     ∙ ap (λ s. cond (option_map_or (λ other. other == slot) s false) None (slot_at start xs slot)) is ∙ ap (λ b. cond b None (slot_at start xs slot)) (eq_itself slot))
     (λ j ne. resumed_slot start xs h j o apart found

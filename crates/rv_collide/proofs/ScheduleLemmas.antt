@@ -8,6 +8,7 @@ use Rattle.rv_collide.specs.declared.entry.Entry.{Entry}
 use Rattle.rv_collide.specs.declared.schedule.fault.ScheduleFault.{ScheduleFault}
 use Rattle.rv_collide.specs.declared.schedule.fault.ScheduleKind.{ScheduleKind}
 use Rattle.rv_collide.specs.declared.schedule.fault.ScheduleKind.TheVariants as kind
+use Rattle.rv_collide.specs.declared.schedule.format.Format.{Format}
 
 pub told : (b : Bool) (P : Type 0) → P → MatchBool b P ⊤
 told true P p = p
@@ -22,11 +23,11 @@ pub header_fault : (text : List ℕ) (k : ScheduleKind) → header_in (pieces_of
 unfolding schedule_of schedule_in
 header_fault text k header = rw header refl
 
-pub plan_fault : (text : List ℕ) (lines : List (List ℕ)) (k : ScheduleKind) → header_in (pieces_of 10 text) ≡ Ok tt → lines ≡ drop 1 (pieces_of 10 text) → plan_in lines ≡ Err k
+pub plan_fault : (format : Format) (text : List ℕ) (lines : List (List ℕ)) (k : ScheduleKind) → header_in (pieces_of 10 text) ≡ Ok format → lines ≡ drop 1 (pieces_of 10 text) → plan_in format lines ≡ Err k
     → schedule_of text ≡ Err (record { line = 2; kind = k })
 unfolding schedule_of schedule_in
-plan_fault text lines k header rest plan =
-    let at : plan_in (drop 1 (pieces_of 10 text)) ≡ Err k = ap plan_in (sym rest) ∙ plan in
+plan_fault format text lines k header rest plan =
+    let at : plan_in format (drop 1 (pieces_of 10 text)) ≡ Err k = ap (plan_in format) (sym rest) ∙ plan in
     rw (header, at) refl
 
 -- ---- where reading is broken off
@@ -41,38 +42,38 @@ taking_there taken line kind.Read is = is
 taking_there taken line kind.NoMemory is = inl is
 taking_there taken line _ is = tt
 
-pub entry_there : (taken : List ℕ) (line : ℕ) (k : ScheduleKind) → is_read k ≡ false → (is_of_text k ≡ false → AreEntriesTo (drop 2 (pieces_of 10 taken)) line) → IsBrokenOff taken line k
-entry_there taken line kind.Read reads entries = cc
-entry_there taken line kind.NoMemory reads entries = inr (entries refl)
-entry_there taken line _ reads entries = tt
+pub entry_there : (format : Format) (taken : List ℕ) (line : ℕ) (k : ScheduleKind) → header_in (pieces_of 10 taken) ≡ Ok format → is_read k ≡ false → (is_of_text k ≡ false → AreEntriesTo format (drop 2 (pieces_of 10 taken)) line) → IsBrokenOff taken line k
+entry_there format taken line kind.Read header reads entries = cc
+entry_there format taken line kind.NoMemory header reads entries = inr (record { format = format; of_format = header; entries = entries refl })
+entry_there format taken line _ header reads entries = tt
 
 -- the entries' lines after the plan's
 pub after_plan : (text : List ℕ) (second third : List (List ℕ)) → second ≡ drop 1 (pieces_of 10 text) → third ≡ drop 1 second → third ≡ drop 2 (pieces_of 10 text)
 after_plan text second third rest more = more ∙ ap (drop 1) rest ∙ drop_twice (pieces_of 10 text)
 
-module _ (text : List ℕ) (second third : List (List ℕ)) (n : Numbers) (header : header_in (pieces_of 10 text) ≡ Ok tt) (rest : second ≡ drop 1 (pieces_of 10 text)) (plan : plan_in second ≡ Ok n)
+module _ (format : Format) (text : List ℕ) (second third : List (List ℕ)) (n : Numbers) (header : header_in (pieces_of 10 text) ≡ Ok format) (rest : second ≡ drop 1 (pieces_of 10 text)) (plan : plan_in format second ≡ Ok n)
     (more : third ≡ drop 1 second) where
-  plan_at : plan_in (drop 1 (pieces_of 10 text)) ≡ Ok n
-  plan_at = ap plan_in (sym rest) ∙ plan
+  plan_at : plan_in format (drop 1 (pieces_of 10 text)) ≡ Ok n
+  plan_at = ap (plan_in format) (sym rest) ∙ plan
 
-  pub whole_fault : (room : ℕ) (fault : ScheduleFault) → room ≡ most_entries n → entries_from 3 room third ≡ Err fault → schedule_of text ≡ Err fault
+  pub whole_fault : (room : ℕ) (fault : ScheduleFault) → room ≡ most_entries n → entries_from format 3 room third ≡ Err fault → schedule_of text ≡ Err fault
   unfolding schedule_of schedule_in
   whole_fault room fault is entries =
-      let there : entries_from 3 (most_entries n) (drop 2 (pieces_of 10 text)) ≡ Err fault =
-      ap (λ r. entries_from 3 r (drop 2 (pieces_of 10 text))) (sym is) ∙ ap (entries_from 3 room) (sym (after_plan text second third rest more)) ∙ entries in
+      let there : entries_from format 3 (most_entries n) (drop 2 (pieces_of 10 text)) ≡ Err fault =
+      ap (λ r. entries_from format 3 r (drop 2 (pieces_of 10 text))) (sym is) ∙ ap (entries_from format 3 room) (sym (after_plan text second third rest more)) ∙ entries in
       rw (header, plan_at, there) refl
 
-  pub whole_read : (room : ℕ) (entries : List Entry) → room ≡ most_entries n → entries_from 3 room third ≡ Ok entries → schedule_of text ≡ Ok (record { numbers = n; entries = entries })
+  pub whole_read : (room : ℕ) (entries : List Entry) → room ≡ most_entries n → entries_from format 3 room third ≡ Ok entries → schedule_of text ≡ Ok (record { numbers = n; entries = entries })
   unfolding schedule_of schedule_in
   whole_read room entries is read =
-      let there : entries_from 3 (most_entries n) (drop 2 (pieces_of 10 text)) ≡ Ok entries =
-      ap (λ r. entries_from 3 r (drop 2 (pieces_of 10 text))) (sym is) ∙ ap (entries_from 3 room) (sym (after_plan text second third rest more)) ∙ read in
+      let there : entries_from format 3 (most_entries n) (drop 2 (pieces_of 10 text)) ≡ Ok entries =
+      ap (λ r. entries_from format 3 r (drop 2 (pieces_of 10 text))) (sym is) ∙ ap (entries_from format 3 room) (sym (after_plan text second third rest more)) ∙ read in
       rw (header, plan_at, there) refl
 
   -- a fault that is told of the entries is told of the whole
-  pub whole_told : (room : ℕ) (fault : ScheduleFault) → room ≡ most_entries n → IsToldFault (entries_from 3 room third) fault → IsToldFault (schedule_of text) fault
+  pub whole_told : (room : ℕ) (fault : ScheduleFault) → room ≡ most_entries n → IsToldFault (entries_from format 3 room third) fault → IsToldFault (schedule_of text) fault
   whole_told room fault is entries = by_kind (is_of_text fault.kind) entries
     where
-      by_kind : (b : Bool) → MatchBool b (entries_from 3 room third ≡ Err fault) ⊤ → MatchBool b (schedule_of text ≡ Err fault) ⊤
+      by_kind : (b : Bool) → MatchBool b (entries_from format 3 room third ≡ Err fault) ⊤ → MatchBool b (schedule_of text ≡ Err fault) ⊤
       by_kind true entries = whole_fault room fault is entries
       by_kind false entries = tt

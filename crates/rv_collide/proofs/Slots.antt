@@ -8,7 +8,6 @@ use Rattle.std.proofs.lemmas.List.Folds.{find-append}
 use Rattle.rv_break.specs.Slots.{slots_after}
 use Rattle.rv_break.specs.declared.claim.Claim.{Claim}
 use Rattle.rv_break.specs.declared.claim.Seen.{Seen}
-use Rattle.rv_break.specs.declared.claim.TheConstants.{SLOTS}
 use Rattle.rv_collide.specs.Entries.{stepped_hart, stepped_at}
 use Rattle.rv_collide.specs.First.{first, seen_at}
 use Rattle.rv_collide.specs.Forced.{is_taken}
@@ -77,21 +76,21 @@ map_none None = refl
 map_none (Some c) = refl
 
 -- an entry that neither pauses nor resumes a hart
-pub slots_stay : (start : State) (xs : List Entry) (e : Entry) → openings (xs ++ e ∷ []) ≡ openings xs → slots_of start (xs ++ e ∷ []) ≡ map (option_map (shown (seen_at start (xs ++ e ∷ []) (length xs)))) (slots_of start xs)
+pub slots_stay : (slot_count : ℕ) (start : State) (xs : List Entry) (e : Entry) → openings (xs ++ e ∷ []) ≡ openings xs → slots_of slot_count start (xs ++ e ∷ []) ≡ map (option_map (shown (seen_at start (xs ++ e ∷ []) (length xs)))) (slots_of slot_count start xs)
 unfolding slots_of slot_at
-slots_stay start xs e same =
-    map_range_all (λ slot. option_and_then (claim_of start (xs ++ e ∷ [])) (find (is_at slot) (openings (xs ++ e ∷ [])))) (λ slot. option_map (shown (seen_at start (xs ++ e ∷ []) (length xs))) (slot_at start xs slot)) 0 SLOTS
+slots_stay slot_count start xs e same =
+    map_range_all (λ slot. option_and_then (claim_of start (xs ++ e ∷ [])) (find (is_at slot) (openings (xs ++ e ∷ [])))) (λ slot. option_map (shown (seen_at start (xs ++ e ∷ []) (length xs))) (slot_at start xs slot)) 0 slot_count
     (λ slot. ap (λ os. option_and_then (claim_of start (xs ++ e ∷ [])) (find (is_at slot) os)) same ∙ found_push start xs e (is_at slot))
-    ∙ sym (map_twice (option_map (shown (seen_at start (xs ++ e ∷ []) (length xs)))) (slot_at start xs) (range_with_len 0 SLOTS))
+    ∙ sym (map_twice (option_map (shown (seen_at start (xs ++ e ∷ []) (length xs)))) (slot_at start xs) (range_with_len 0 slot_count))
 
 -- and shows the claims nothing
-pub slots_quiet : (start : State) (xs : List Entry) (e : Entry) → openings (xs ++ e ∷ []) ≡ openings xs → seen_at start (xs ++ e ∷ []) (length xs) ≡ None → slots_of start (xs ++ e ∷ []) ≡ slots_of start xs
-slots_quiet start xs e same none =
-    slots_stay start xs e same ∙ ap (λ s. map (option_map (shown s)) (slots_of start xs)) none ∙ map_same (option_map (shown None)) (slots_of start xs) map_none
+pub slots_quiet : (slot_count : ℕ) (start : State) (xs : List Entry) (e : Entry) → openings (xs ++ e ∷ []) ≡ openings xs → seen_at start (xs ++ e ∷ []) (length xs) ≡ None → slots_of slot_count start (xs ++ e ∷ []) ≡ slots_of slot_count start xs
+slots_quiet slot_count start xs e same none =
+    slots_stay slot_count start xs e same ∙ ap (λ s. map (option_map (shown s)) (slots_of slot_count start xs)) none ∙ map_same (option_map (shown None)) (slots_of slot_count start xs) map_none
 
-pub slots_shown : (start : State) (xs : List Entry) (e : Entry) (seen : Seen) → openings (xs ++ e ∷ []) ≡ openings xs → seen_at start (xs ++ e ∷ []) (length xs) ≡ Some seen → slots_of start (xs ++ e ∷ []) ≡ slots_after seen (slots_of start xs)
-slots_shown start xs e seen same is =
-    slots_stay start xs e same ∙ ap (λ s. map (option_map (shown s)) (slots_of start xs)) is
+pub slots_shown : (slot_count : ℕ) (start : State) (xs : List Entry) (e : Entry) (seen : Seen) → openings (xs ++ e ∷ []) ≡ openings xs → seen_at start (xs ++ e ∷ []) (length xs) ≡ Some seen → slots_of slot_count start (xs ++ e ∷ []) ≡ slots_after seen (slots_of slot_count start xs)
+slots_shown slot_count start xs e seen same is =
+    slots_stay slot_count start xs e same ∙ ap (λ s. map (option_map (shown s)) (slots_of slot_count start xs)) is
 
 -- ---- a pause
 
@@ -132,19 +131,19 @@ slot_else start xs h taken slot other =
     ∙ ap (λ s. option_map (shown s) (option_and_then (claim_of start xs) (find (is_at slot) (openings xs)))) (seen_none start xs (Paused h taken) refl)
     ∙ map_none (option_and_then (claim_of start xs) (find (is_at slot) (openings xs)))
 
-pub slots_pause_none : (start : State) (xs : List Entry) (h : ℕ) → slots_of start (xs ++ Paused h None ∷ []) ≡ slots_of start xs
+pub slots_pause_none : (slot_count : ℕ) (start : State) (xs : List Entry) (h : ℕ) → slots_of slot_count start (xs ++ Paused h None ∷ []) ≡ slots_of slot_count start xs
 unfolding slots_of
-slots_pause_none start xs h = map_range_all (slot_at start (xs ++ Paused h None ∷ [])) (slot_at start xs) 0 SLOTS (λ slot. slot_else start xs h None slot refl)
+slots_pause_none slot_count start xs h = map_range_all (slot_at start (xs ++ Paused h None ∷ [])) (slot_at start xs) 0 slot_count (λ slot. slot_else start xs h None slot refl)
 
 not_found : (t : Opening → Bool) (os : List Opening) → not (list_any t os) ≡ true → find t os ≡ None
 not_found t [] h = refl
 not_found t (o ∷ os) h =
     elim (t o) as (λ b. not (b || list_any t os) ≡ true → cond b (Some o) (find t os) ≡ None) [ true ↦ λ e. cc | false ↦ λ e. not_found t os e ] h
 
-pub slots_pause : (start : State) (xs : List Entry) (h slot : ℕ) (access : Access) → next start xs (length xs) h ≡ Some access → not (is_taken xs slot) ≡ true → slots_of start (xs ++ Paused h (Some slot) ∷ []) ≡ set (slots_of start xs) slot (Some (record { hart = h; access = access; seen = None }))
+pub slots_pause : (slot_count : ℕ) (start : State) (xs : List Entry) (h slot : ℕ) (access : Access) → next start xs (length xs) h ≡ Some access → not (is_taken xs slot) ≡ true → slots_of slot_count start (xs ++ Paused h (Some slot) ∷ []) ≡ set (slots_of slot_count start xs) slot (Some (record { hart = h; access = access; seen = None }))
 unfolding slots_of is_taken
-slots_pause start xs h slot access would free =
-    sym (set_range (slot_at start xs) (slot_at start (xs ++ Paused h (Some slot) ∷ [])) 0 SLOTS slot (Some (record { hart = h; access = access; seen = None }))
+slots_pause slot_count start xs h slot access would free =
+    sym (set_range (slot_at start xs) (slot_at start (xs ++ Paused h (Some slot) ∷ [])) 0 slot_count slot (Some (record { hart = h; access = access; seen = None }))
     (ap (slot_at start (xs ++ Paused h (Some slot) ∷ [])) (zero-add slot) ∙ slot_now start xs h (Some slot) slot
     ∙ ap (λ b. option_and_then (claim_of start (xs ++ Paused h (Some slot) ∷ [])) (option_or (find (is_at slot) (openings xs)) (cond b (Some (record { hart = h; slot = Some slot; place = length xs })) None))) (eq_itself slot)
     ∙ ap (λ f. option_and_then (claim_of start (xs ++ Paused h (Some slot) ∷ [])) (option_or f (Some (record { hart = h; slot = Some slot; place = length xs })))) (not_found (is_at slot) (openings xs) free)

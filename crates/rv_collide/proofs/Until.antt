@@ -15,8 +15,8 @@ use Rattle.rv_collide.specs.internal.Core.{IsUntil, opening}
 use Rattle.rv_collide.specs.internal.GoesOn.{GoesOn}
 use Rattle.rv_collide.proofs.GoesOn.{unarmed}
 
-pub until_new : (most : ℕ) (b : Breaks) (opened : List OpenPause) → b ≡ no_breaks → opened ≡ [] → IsUntil most b opened most
-until_new most b opened is none =
+pub until_new : (most slots : ℕ) (b : Breaks) (opened : List OpenPause) → b ≡ no_breaks slots → opened ≡ [] → IsUntil most b opened most
+until_new most slots b opened is none =
     inr (refl, none, ap (λ (x : Breaks). len x.armed == 0) is ∙ ap (λ n. n == 0) (len-empty nat_cmp))
 
 pub until_kept : (most until : ℕ) (b after : Breaks) (opened : List OpenPause) → after.armed ≡ b.armed → IsUntil most b opened until → IsUntil most after opened until

@@ -5,7 +5,6 @@ use Rattle.std.specs.FinSet.{FinSet, contains, insert, remove, len, len-empty}
 use Rattle.std.specs.Ordering.{nat_cmp}
 use Rattle.std.proofs.lemmas.List.Elements.{All-push}
 use Rattle.std.proofs.Math.Seq.{take-length}
-use Rattle.rv_break.specs.declared.claim.TheConstants.{SLOTS}
 use Rattle.rv_collide.specs.Armed.{armed, arms, last_armed, mentions}
 use Rattle.rv_collide.specs.Entries.{places, steps}
 use Rattle.rv_collide.specs.Forced.{Setting, Turn, Resume, Arm, Disarm, forced, turn_entry, least_free}
@@ -18,6 +17,7 @@ use Rattle.rv_collide.specs.Plan.{IsPlan}
 use Rattle.rv_collide.specs.StateAt.{state_at}
 use Rattle.rv_collide.specs.declared.entry.Entry.{Entry}
 use Rattle.rv_collide.specs.declared.entry.Entry.TheVariants.{Stepped, Paused, Resumed, Armed, Disarmed}
+use Rattle.rv_collide.specs.declared.schedule.format.Format.TheVariants.{Second}
 use Rattle.rv_hart.specs.NextAccess.{next_access, next_plain}
 use Rattle.rv_hart.specs.State.{State}
 use Rattle.rv_hart.specs.declared.access.Access.{Access}
@@ -34,7 +34,7 @@ record IsRoomy (setting : Setting) (xs : List Entry) : Type 0 where
   pub steps_left : length (steps xs) ≤ setting.plan.steps
   pub arms_left : count_by arms xs ≤ setting.plan.arms
   pub few : length xs + 2 * len (armed setting.start xs) + length (openings xs) ≤ length (steps xs) + 3 * count_by arms xs
-  pub reach : All IsInReach xs
+  pub reach : All (IsInReach Second) xs
 
 -- ---- a hart that a call names
 
@@ -52,7 +52,7 @@ record Takes (setting : Setting) (xs : List Entry) (h : ℕ) (slot : Option ℕ)
   pub access : Access
   pub would : next setting.start xs (length xs) h ≡ Some access
   pub there : contains (armed setting.start xs) access.pc ≡ true
-  pub free : least_free xs ≡ slot
+  pub free : least_free setting.plan.slots xs ≡ slot
 
 next_of_plain : (h : ℕ) (o : Option State) (a : Access) → option_and_then (λ t. next_plain t h) o ≡ Some a → option_and_then (λ t. next_access t h) o ≡ Some a
 next_of_plain h None a would = cc
@@ -62,7 +62,7 @@ plain_is_next : (start : State) (xs : List Entry) (n h : ℕ) (a : Access) → p
 unfolding plain next
 plain_is_next start xs n h a would = next_of_plain h (state_at start xs n) a would
 
-takes_by : (setting : Setting) (xs : List Entry) (h : ℕ) (slot : Option ℕ) (a : Access) (b : Bool) → next setting.start xs (length xs) h ≡ Some a → contains (armed setting.start xs) a.pc ≡ b → cond b (Paused h (least_free xs)) (Stepped h) ≡ Paused h slot → Takes setting xs h slot
+takes_by : (setting : Setting) (xs : List Entry) (h : ℕ) (slot : Option ℕ) (a : Access) (b : Bool) → next setting.start xs (length xs) h ≡ Some a → contains (armed setting.start xs) a.pc ≡ b → cond b (Paused h (least_free setting.plan.slots xs)) (Stepped h) ≡ Paused h slot → Takes setting xs h slot
 takes_by setting xs h slot a true would there is = record { access = a; would = would; there = there; free = cc }
 takes_by setting xs h slot a false would there is = cc
 
@@ -70,9 +70,9 @@ takes_of : (setting : Setting) (xs : List Entry) (h : ℕ) (slot : Option ℕ) (
 takes_of setting xs h slot None would is = cc
 takes_of setting xs h slot (Some a) would is = takes_by setting xs h slot a (contains (armed setting.start xs) a.pc) (plain_is_next setting.start xs (length xs) h a would) refl is
 
-slot_in_reach : (slot : Option ℕ) → IfSome slot (λ s. s < SLOTS) → IfSome slot (λ s. s ≤ 3)
-slot_in_reach None below = tt
-slot_in_reach (Some slot) below = omega arith
+slot_in_reach : (slot_count : ℕ) → slot_count ≤ 8 → (slot : Option ℕ) → IfSome slot (λ s. s < slot_count) → IfSome slot (λ s. s ≤ 7)
+slot_in_reach slot_count most None below = tt
+slot_in_reach slot_count most (Some slot) below = omega arith
 
 opening_found : (xs : List Entry) (h : ℕ) (o : Option Opening) → opening_of xs h ≡ o → is_some o ≡ true → length (without_hart h (openings xs)) + 1 ≤ length (openings xs)
 opening_found xs h None found some = cc
@@ -92,7 +92,7 @@ module _ (setting : Setting) (plan : IsPlan setting.plan) (xs : List Entry) (r :
       let set_now : armed setting.start (xs ++ Armed a ∷ []) ≡ insert (armed setting.start xs) a = armed_push setting.start xs (Armed a) in
       let size = ap len set_now ∙ len_with (armed setting.start xs) a parts.absent in
       let r1 = r.steps_left in let r2 = r.arms_left in let r3 = r.few in
-      record { steps_left = omega arith; arms_left = omega arith; few = omega arith; reach = All-push IsInReach xs (Armed a) r.reach tt }
+      record { steps_left = omega arith; arms_left = omega arith; few = omega arith; reach = All-push (IsInReach Second) xs (Armed a) r.reach tt }
 
   with_disarm : (a : ℕ) → forced setting xs (Disarm a) ≡ Ok (Disarmed a) → IsRoomy setting (xs ++ Disarmed a ∷ [])
   with_disarm a ok =
@@ -104,7 +104,7 @@ module _ (setting : Setting) (plan : IsPlan setting.plan) (xs : List Entry) (r :
       let set_now : armed setting.start (xs ++ Disarmed a ∷ []) ≡ remove (armed setting.start xs) a = armed_push setting.start xs (Disarmed a) in
       let size = ap (λ (s : FinSet nat_cmp). len s + 1) set_now ∙ len_without (armed setting.start xs) a there in
       let r1 = r.steps_left in let r2 = r.arms_left in let r3 = r.few in
-      record { steps_left = omega arith; arms_left = omega arith; few = omega arith; reach = All-push IsInReach xs (Disarmed a) r.reach tt }
+      record { steps_left = omega arith; arms_left = omega arith; few = omega arith; reach = All-push (IsInReach Second) xs (Disarmed a) r.reach tt }
 
   with_step : (h : ℕ) → forced setting xs (Turn h) ≡ Ok (Stepped h) → IsRoomy setting (xs ++ Stepped h ∷ [])
   with_step h ok =
@@ -119,7 +119,7 @@ module _ (setting : Setting) (plan : IsPlan setting.plan) (xs : List Entry) (r :
       let set_now : armed setting.start (xs ++ Stepped h ∷ []) ≡ armed setting.start xs = armed_push setting.start xs (Stepped h) in
       let size = ap len set_now in
       let r1 = r.steps_left in let r2 = r.arms_left in let r3 = r.few in
-      record { steps_left = omega arith; arms_left = omega arith; few = omega arith; reach = All-push IsInReach xs (Stepped h) r.reach (omega arith) }
+      record { steps_left = omega arith; arms_left = omega arith; few = omega arith; reach = All-push (IsInReach Second) xs (Stepped h) r.reach (omega arith) }
 
   with_pause : (h : ℕ) (slot : Option ℕ) → forced setting xs (Turn h) ≡ Ok (Paused h slot) → IsRoomy setting (xs ++ Paused h slot ∷ [])
   with_pause h slot ok =
@@ -135,7 +135,7 @@ module _ (setting : Setting) (plan : IsPlan setting.plan) (xs : List Entry) (r :
       armed_push setting.start xs (Paused h slot) ∙ ap (λ (would : Option Access). armed_after (option_map (λ (access : Access). record { address = access.pc; arms = false }) would) (armed setting.start xs)) taken.would in
       let size = ap (λ (s : FinSet nat_cmp). len s + 1) set_now ∙ len_without (armed setting.start xs) taken.access.pc taken.there in
       let r1 = r.steps_left in let r2 = r.arms_left in let r3 = r.few in
-      record { steps_left = omega arith; arms_left = omega arith; few = omega arith; reach = All-push IsInReach xs (Paused h slot) r.reach (omega arith, slot_in_reach slot (free_within xs slot taken.free)) }
+      record { steps_left = omega arith; arms_left = omega arith; few = omega arith; reach = All-push (IsInReach Second) xs (Paused h slot) r.reach (omega arith, slot_in_reach setting.plan.slots plan.slots slot (free_within setting.plan.slots xs slot taken.free)) }
 
   with_resume : (h : ℕ) → forced setting xs (Resume h) ≡ Ok (Resumed h) → IsRoomy setting (xs ++ Resumed h ∷ [])
   with_resume h ok =
@@ -149,7 +149,7 @@ module _ (setting : Setting) (plan : IsPlan setting.plan) (xs : List Entry) (r :
       let set_now : armed setting.start (xs ++ Resumed h ∷ []) ≡ armed setting.start xs = armed_push setting.start xs (Resumed h) in
       let size = ap len set_now in
       let r1 = r.steps_left in let r2 = r.arms_left in let r3 = r.few in
-      record { steps_left = omega arith; arms_left = omega arith; few = omega arith; reach = All-push IsInReach xs (Resumed h) r.reach (omega arith) }
+      record { steps_left = omega arith; arms_left = omega arith; few = omega arith; reach = All-push (IsInReach Second) xs (Resumed h) r.reach (omega arith) }
 
   with_entry : (e : Entry) → forced setting xs (call_of e) ≡ Ok e → IsRoomy setting (xs ++ e ∷ [])
   with_entry (Stepped h) ok = with_step h ok
@@ -176,4 +176,4 @@ pub legal_is_writable : LegalIsWritable
 legal_is_writable setting entries plan legal =
     let r = subst (λ (ys : List Entry). IsRoomy setting ys) (take-length entries) (front setting entries plan legal (length entries) (omega arith)) in
     let r1 = r.steps_left in let r2 = r.arms_left in let r3 = r.few in
-    record { each = r.reach; few = omega arith }
+    record { plan = tt; each = r.reach; few = omega arith }

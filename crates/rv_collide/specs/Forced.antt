@@ -3,7 +3,7 @@ use Rattle.std.specs.Prelude.{ℕ, ◌%◌, ◌==◌, Bool, false, not, nat_lt, 
 use Rattle.std.specs.FinSet.{contains, len}
 use Rattle.std.specs.List.{list_any, range_with_len}
 use Rattle.std.specs.Option.{option_map_or}
-use Rattle.rv_break.specs.declared.claim.TheConstants.{ARMED_LIMIT, SLOTS}
+use Rattle.rv_break.specs.declared.claim.TheConstants.{ARMED_LIMIT}
 use Rattle.rv_collide.specs.Armed.{armed, arms}
 use Rattle.rv_collide.specs.Entries.{steps}
 use Rattle.rv_collide.specs.Next.{runs_at, plain}
@@ -33,16 +33,16 @@ pub data Call : Type 0 where
 unfoldable pub is_taken : List Entry → ℕ → Bool
 is_taken entries slot = list_any (λ (o : Opening). option_map_or (λ other. other == slot) o.slot false) (openings entries)
 
--- the least slot that watches no open pause, if there is one
-unfoldable pub least_free : List Entry → Option ℕ
-least_free entries = find (λ slot. not (is_taken entries slot)) (range_with_len 0 SLOTS)
+-- the least of so many slots that watches no open pause, if there is one
+unfoldable pub least_free : ℕ → List Entry → Option ℕ
+least_free slots entries = find (λ slot. not (is_taken entries slot)) (range_with_len 0 slots)
 
 -- A turn pauses its hart where it stands at an armed address and would make a plain load or store; else the
 -- hart makes a step.
 abbrev pub turn_entry : Setting → List Entry → ℕ → Option Access → Entry
 turn_entry setting entries hart None = entry.Stepped hart
 turn_entry setting entries hart (Some access) =
-    if contains (armed setting.start entries) access.pc then entry.Paused hart (least_free entries) else entry.Stepped hart
+    if contains (armed setting.start entries) access.pc then entry.Paused hart (least_free setting.plan.slots entries) else entry.Stepped hart
 
 abbrev pub forced_turn : Setting → List Entry → ℕ → Result Entry Refused
 forced_turn setting entries hart =

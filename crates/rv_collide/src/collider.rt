@@ -96,7 +96,7 @@ impl<S: ByteStore> Collider<S> {
         ensures { IfOk result (λ c. c ≡ stored image.now (numbers plan) []) }
     {
         let machine = machine_of(alloc, image, plan)?;
-        let breaks = Breakpoints::new(alloc)?;
+        let breaks = Breakpoints::new(alloc, plan.slots)?;
         let openings = Vec::with_capacity(alloc, plan.arms as usize)?;
         let entries = Vec::with_capacity(alloc, plan.most_entries() as usize)?;
         let endings = Vec::with_capacity(alloc, plan.arms as usize)?;
@@ -327,8 +327,8 @@ impl<S: ByteStore> Collider<S> {
     #[inline(never)]
     fn pause(&mut self, h: u8, access: Access) -> Option<u8>
         requires armed { answer.IsArmedAccess self.old h access }
-        requires forced { forced (setting_of self.old) self.old.entries (Turn h) ≡ Ok (Entry.Paused h (least_free self.old.entries)) }
-        ensures slot { result ≡ least_free self.old.entries }
+        requires forced { forced (setting_of self.old) self.old.entries (Turn h) ≡ Ok (Entry.Paused h (least_free self.old.plan.slots self.old.entries)) }
+        ensures slot { result ≡ least_free self.old.plan.slots self.old.entries }
         ensures after { self.new ≡ added self.old (Entry.Paused h result) }
     {
         reservations_and_accesses();
@@ -570,7 +570,8 @@ fn show(breaks: &mut Breakpoints, is_watched: bool, place: u32, h: u8, event: Ev
     }
 }
 
-/// Whether one of the open pauses is the hart's. With a pause for each data breakpoint no loop is run.
+/// Whether one of the open pauses is the hart's. With four pauses, one for each slot of most plans,
+/// no loop is run.
 fn is_one_of(openings: &[OpenPause], h: u8) -> bool
     ensures { result ≡ list_any (λ p. p.hart == h) openings.now }
 {

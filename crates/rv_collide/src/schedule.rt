@@ -2,6 +2,7 @@
 
 mod entry_line;
 mod fault;
+mod format;
 pub mod laws;
 mod line;
 mod plan_line;
@@ -9,6 +10,7 @@ mod reading;
 pub(crate) mod writing;
 
 pub use fault::{ScheduleFault, ScheduleKind};
+pub use format::Format;
 pub use reading::read_schedule;
 pub use writing::write_schedule;
 

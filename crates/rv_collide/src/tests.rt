@@ -71,7 +71,12 @@ fn image(rt: &impl Abort, alloc: Global, words: &[u32]) -> Result<Image, Fail> {
 }
 
 fn plan(harts: u8, steps: u32, arms: u32) -> Result<Plan, Fail> {
-    Ok(Plan::new(harts, steps, arms, 10).ok_or("a plan")?)
+    slotted(harts, steps, arms, 4)
+}
+
+/// The plan with so many slots.
+fn slotted(harts: u8, steps: u32, arms: u32, slots: u8) -> Result<Plan, Fail> {
+    Ok(Plan::new(harts, steps, arms, 10, slots).ok_or("a plan")?)
 }
 
 /// The schedule told again over the flat store.

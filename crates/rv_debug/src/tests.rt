@@ -65,7 +65,7 @@ pub fn image(rt: &impl Abort, alloc: Global, words: &[u32]) -> Result<Image, Fai
 }
 
 pub fn ample(harts: u8) -> Result<Plan, Fail> {
-    Ok(Plan::new(harts, 100, 20, 10).ok_or("a plan")?)
+    Ok(Plan::new(harts, 100, 20, 10, 4).ok_or("a plan")?)
 }
 
 pub fn session_of(

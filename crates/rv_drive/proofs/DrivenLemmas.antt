@@ -92,7 +92,7 @@ record IsTurn (e : Entry) (hart : ℕ) : Type 0 where
 entry_is_turn : (setting : Setting) (xs : List Entry) (hart : ℕ) (o : Option Access) → IsTurn (turn_entry setting xs hart o) hart
 entry_is_turn setting xs hart None = record { call = refl; quiet = refl; stays = refl }
 entry_is_turn setting xs hart (Some access) =
-    elim (contains (armed setting.start xs) access.pc) as (λ b. IsTurn (cond b (Paused hart (least_free xs)) (Stepped hart)) hart) [
+    elim (contains (armed setting.start xs) access.pc) as (λ b. IsTurn (cond b (Paused hart (least_free setting.plan.slots xs)) (Stepped hart)) hart) [
       | true ↦ record { call = refl; quiet = refl; stays = refl }
       | false ↦ record { call = refl; quiet = refl; stays = refl }
     ]

@@ -134,7 +134,7 @@ fn assert_one_site_of(
     sampler: &Sampler,
     seed: u64,
 ) -> Result<(), Fail> {
-    let plan = Plan::new(1, 3, 2, 5).ok_or("a plan")?;
+    let plan = Plan::new(1, 3, 2, 5, 4).ok_or("a plan")?;
     let mut generator = Generator::new(seed, 0);
     let mut driver = Driver::open(alloc, image, plan, sampler, &mut generator)?;
     assert_one_site(rt, &mut driver, sampler, &mut generator);

@@ -59,5 +59,6 @@ pub(crate) fn same_plan(one: Plan, other: Plan) -> bool
     ensures { IsTrue result ↔ (numbers one ≡ numbers other) }
 {
     let same_machine = one.harts == other.harts && one.steps == other.steps;
-    same_machine && one.arms == other.arms && one.pause == other.pause
+    let same_pauses = one.pause == other.pause && one.slots == other.slots;
+    same_machine && one.arms == other.arms && same_pauses
 }

@@ -6,8 +6,11 @@ use Rattle.std.proofs.KnownBytes.{Appends-trans}
 use Rattle.std.proofs.lemmas.Grind.{flat_map-append}
 use Rattle.std.proofs.lemmas.List.{map-append}
 use Rattle.rv_collide.specs.Texts.{values_text}
+use Rattle.rv_hart.specs.Texts.{access_text}
+use Rattle.rv_report.specs.ExhibitText.{exhibit_text, harts_text}
 use Rattle.rv_report.specs.Races.{Table}
 use Rattle.rv_report.specs.TableText.{key_text, count_text, verdict_name, row_line, races_line, pruned_line, table_text}
+use Rattle.rv_report.specs.declared.exhibit.Exhibit.{Exhibit}
 use Rattle.rv_report.specs.declared.key.Key.{Key}
 use Rattle.rv_report.specs.declared.row.Row.{Row}
 use Rattle.rv_text.specs.Lines.{text_of_lines}
@@ -61,3 +64,25 @@ table_written table (Err fault) a b c d races rows pruned = tt
 table_written table (Ok value) a b c d races rows pruned =
     let front = Appends-trans a b c (races_line (length table.rows) ++ 10 ∷ []) (text_of_lines (map row_line table.rows)) races rows in
     subst (Appends a d) (table_is table) (Appends-trans a c d _ _ front pruned)
+
+-- a line of two texts, piece by piece
+pub line_written : {T E : Type 0} (word text : List ℕ) (r : Result T E) (a b c d : Option (List ℕ)) → Appends a b word → Appends b c text → OnOk r (Appends c d (codes "\n"))
+    → OnOk r (Appends a d ((word ++ text) ++ 10 ∷ []))
+line_written word text (Err fault) a b c d first second feed = tt
+line_written word text (Ok value) a b c d first second feed = Appends-trans a c d (word ++ text) (codes "\n") (Appends-trans a b c word text first second) feed
+
+-- an exhibit in the order of writing
+exhibit_is : (shown : Exhibit)
+    → ((codes "first " ++ access_text shown.first) ++ 10 ∷ []) ++ (((codes "second " ++ access_text shown.second) ++ 10 ∷ []) ++ ((codes "steps" ++ harts_text shown.harts.items) ++ 10 ∷ [])) ≡ exhibit_text shown
+unfolding exhibit_text
+exhibit_is shown =
+    ap (λ steps. ((codes "first " ++ access_text shown.first) ++ 10 ∷ []) ++ (((codes "second " ++ access_text shown.second) ++ 10 ∷ []) ++ steps))
+    (sym (append-nil ((codes "steps" ++ harts_text shown.harts.items) ++ 10 ∷ [])))
+
+pub exhibit_written : {T E : Type 0} (shown : Exhibit) (r : Result T E) (a b c d e f : Option (List ℕ)) → Appends a b ((codes "first " ++ access_text shown.first) ++ 10 ∷ [])
+    → Appends b c ((codes "second " ++ access_text shown.second) ++ 10 ∷ []) → Appends c d (codes "steps") → Appends d e (harts_text shown.harts.items) → OnOk r (Appends e f (codes "\n"))
+    → OnOk r (Appends a f (exhibit_text shown))
+exhibit_written shown (Err fault) a b c d e f first second steps harts feed = tt
+exhibit_written shown (Ok value) a b c d e f first second steps harts feed =
+    let list = Appends-trans c e f _ _ (Appends-trans c d e _ _ steps harts) feed in
+    subst (Appends a f) (exhibit_is shown) (Appends-trans a b f _ _ first (Appends-trans b c f _ _ second list))

@@ -1,4 +1,5 @@
 pub mod Exhibit
+pub mod ExhibitText
 pub mod Races
 pub mod SideBySide
 pub mod TableText

@@ -8,7 +8,6 @@ use Rattle.rv_break.specs.Breakpoints.{Breaks}
 use Rattle.rv_break.specs.Slots.{Slots, slots_after}
 use Rattle.rv_break.specs.declared.claim.Claim.{Claim}
 use Rattle.rv_break.specs.declared.claim.Seen.{Seen}
-use Rattle.rv_break.specs.declared.claim.TheConstants.{SLOTS}
 use Rattle.rv_collide.specs.Armed.{armed, arms}
 use Rattle.rv_collide.specs.Entries.{steps}
 use Rattle.rv_collide.specs.First.{first, seen_at}
@@ -28,16 +27,16 @@ use Rattle.rv_hart.specs.State.{State, Guest}
 abbrev pub opening : OpenPause → Opening
 opening p = record { hart = p.hart; slot = p.slot; place = p.place }
 
--- what is kept of an open pause is what the schedule says of it; its slot is one of the data breakpoints
-pub record IsKept (start : State) (entries : List Entry) (p : OpenPause) : Type 0 where
+-- what is kept of an open pause is what the schedule says of it; its slot is one of the plan's
+pub record IsKept (slot_count : ℕ) (start : State) (entries : List Entry) (p : OpenPause) : Type 0 where
   pub before : p.place < length entries
   pub access : next start entries p.place p.hart ≡ Some p.access
   pub old : p.old ≡ bytes_at start entries p.place p.access
-  pub within : IfSome p.slot (λ slot. slot < SLOTS)
+  pub within : IfSome p.slot (λ slot. slot < slot_count)
 
-abbrev pub AreKept : State → List Entry → List OpenPause → Type 0
-AreKept start entries [] = ⊤
-AreKept start entries (p ∷ ps) = IsKept start entries p × AreKept start entries ps
+abbrev pub AreKept : ℕ → State → List Entry → List OpenPause → Type 0
+AreKept slot_count start entries [] = ⊤
+AreKept slot_count start entries (p ∷ ps) = IsKept slot_count start entries p × AreKept slot_count start entries ps
 
 abbrev pub is_at : ℕ → Opening → Bool
 is_at slot o = option_map_or (λ other. other == slot) o.slot false
@@ -62,8 +61,8 @@ claim_of start entries o =
 unfoldable pub slot_at : State → List Entry → ℕ → Option Claim
 slot_at start entries slot = option_and_then (claim_of start entries) (find (is_at slot) (openings entries))
 
-unfoldable pub slots_of : State → List Entry → Slots
-slots_of start entries = map (slot_at start entries) (range_with_len 0 SLOTS)
+unfoldable pub slots_of : ℕ → State → List Entry → Slots
+slots_of slot_count start entries = map (slot_at start entries) (range_with_len 0 slot_count)
 
 -- the slots after what an entry shows them, if it shows them something
 abbrev pub slots_seen : Option Seen → Slots → Slots
@@ -93,9 +92,9 @@ pub record IsCore (setting : Setting) (entries : List Entry) (machine : Guest) (
   pub counted : steps_made ≡ length (steps entries)
   pub arms_counted : arms_made ≡ count_by arms entries
   pub armed_are : breaks.armed ≡ armed setting.start entries
-  pub slots_are : breaks.slots ≡ slots_of setting.start entries
+  pub slots_are : breaks.slots ≡ slots_of setting.plan.slots setting.start entries
   pub openings_are : map opening opened ≡ openings entries
-  pub kept : AreKept setting.start entries opened
+  pub kept : AreKept setting.plan.slots setting.start entries opened
   pub apart : AreApart (openings entries)
   pub endings_are : told ≡ endings setting.start entries
   pub room : HasRoom setting entries (length told)

@@ -3,15 +3,13 @@ ghost use Rattle.std.specs.Prelude.{◌≡◌};
 ghost use Rattle.rv_collide.specs.ScheduleRead as spec;
 
 use crate::entry::Entry;
+use crate::schedule::format::Format;
 use rv_text::decimal::read_decimal;
 use rv_text::hexadecimal::{read_word, word_digits};
 use rv_text::pieces::Pieces;
 
 /// The greatest number of a hart.
 const LAST_HART: u32 = 15;
-
-/// The greatest number of a slot.
-const LAST_SLOT: u32 = 3;
 
 fn read_hart(word: &[u8]) -> Option<u8>
     ensures { result ≡ spec.hart_of word.now }
@@ -20,13 +18,13 @@ fn read_hart(word: &[u8]) -> Option<u8>
 }
 
 /// A slot's number, or no slot for `-`.
-fn read_slot(word: &[u8]) -> Option<Option<u8>>
-    ensures { result ≡ spec.slot_of word.now }
+fn read_slot(format: Format, word: &[u8]) -> Option<Option<u8>>
+    ensures { result ≡ spec.slot_of format word.now }
 {
     if word == b"-".as_slice() {
         return Some(None);
     }
-    Some(Some(read_decimal(word, LAST_SLOT)? as u8))
+    Some(Some(read_decimal(word, format.last_slot())? as u8))
 }
 
 /// An address in eight digits, none of which is a capital letter.
@@ -55,19 +53,19 @@ fn read_short(name: &[u8], word: &[u8]) -> Option<Entry>
 }
 
 /// An entry of three words.
-fn read_pause(name: &[u8], hart: &[u8], slot: &[u8]) -> Option<Entry>
-    ensures { result ≡ spec.pause_entry name.now hart.now slot.now }
+fn read_pause(format: Format, name: &[u8], hart: &[u8], slot: &[u8]) -> Option<Entry>
+    ensures { result ≡ spec.pause_entry format name.now hart.now slot.now }
 {
     match name {
-        b"p" => Some(Entry::Paused(read_hart(hart)?, read_slot(slot)?)),
+        b"p" => Some(Entry::Paused(read_hart(hart)?, read_slot(format, slot)?)),
         _ => None,
     }
 }
 
 /// The entry that a line says. None where the line is another, or a number in it is out of its range.
 #[tactic(auto, unfolding(crate::specs::ScheduleRead::entry_of))]
-pub(crate) fn read_entry(line: &[u8]) -> Option<Entry>
-    ensures { result ≡ spec.entry_of line.now }
+pub(crate) fn read_entry(format: Format, line: &[u8]) -> Option<Entry>
+    ensures { result ≡ spec.entry_of format line.now }
 {
     let mut words = Pieces::of(line, b' ');
     let name = words.next_piece()?;
@@ -75,6 +73,6 @@ pub(crate) fn read_entry(line: &[u8]) -> Option<Entry>
     match words.next_piece() {
         None => read_short(name, first),
         Some(_) if words.next_piece().is_some() => None,
-        Some(slot) => read_pause(name, first, slot),
+        Some(slot) => read_pause(format, name, first, slot),
     }
 }

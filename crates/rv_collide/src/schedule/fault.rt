@@ -17,7 +17,7 @@ pub enum ScheduleKind {
     /// The reader failed.
     #[error("Read")]
     Read,
-    /// The first line is another than the format's.
+    /// The first line names no format that is read.
     #[error("Header")]
     Header,
     /// The second line has not the plan's shape.

@@ -13,8 +13,8 @@ pub fn reads_the_grammar()
     word_is_read_back();
 }
 
-/// A schedule has one spelling: a text is of one schedule at most, a schedule has one text at most, and
-/// one where it can be written.
+/// A schedule has one spelling: a text is of one schedule at most, and a schedule has in each format one text at
+/// most, and one where it can be written in it.
 pub fn one_spelling()
     ensures text { TextHasOneSchedule }
     ensures schedule { ScheduleHasOneText }

@@ -12,54 +12,62 @@ use crate::entry::Entry;
 use crate::plan::Plan;
 use crate::schedule::entry_line::read_entry;
 use crate::schedule::fault::{ScheduleFault, ScheduleKind};
+use crate::schedule::format::Format;
 use crate::schedule::line::first_line;
 use crate::schedule::plan_line::read_plan;
 use rv_memory::flagged::{Flagged, INPUT_LIMIT};
 use std::alloc::Global;
 use std::io::Read;
 
-/// Reads the first line, and gives the text after it.
-fn read_header(text: &[u8]) -> Result<&[u8], ScheduleKind>
-    ensures ok { IfOk result (λ _. spec.header_in (pieces_of 10 text.now) ≡ Ok tt) }
-    ensures rest { IfOk result (λ rest. pieces_of 10 rest.now ≡ drop 1 (pieces_of 10 text.now)) }
+/// Reads the format in the first line, and gives the text after it too.
+fn read_header(text: &[u8]) -> Result<(Format, &[u8]), ScheduleKind>
+    ensures ok { IfOk result (λ said. spec.header_in (pieces_of 10 text.now) ≡ Ok said.0) }
+    ensures rest { IfOk result (λ said. pieces_of 10 said.1.now ≡ drop 1 (pieces_of 10 text.now)) }
     ensures err { IfErr result (λ kind. spec.header_in (pieces_of 10 text.now) ≡ Err kind) }
     ensures told { IfErr result (λ kind. spec.is_of_text kind ≡ true) }
 {
     let (line, rest) = first_line(text)?;
     if line == b"rvcollide schedule 1".as_slice() {
-        Ok(rest)
+        Ok((Format::First, rest))
+    } else if line == b"rvcollide schedule 2".as_slice() {
+        Ok((Format::Second, rest))
     } else {
         Err(ScheduleKind::Header)
     }
 }
 
 /// Reads the line of the plan, and gives the text after it too.
-fn read_plan_line(text: &[u8]) -> Result<(Plan, &[u8]), ScheduleKind>
-    ensures ok { IfOk result (λ said. spec.plan_in (pieces_of 10 text.now) ≡ Ok (numbers said.0)) }
+fn read_plan_line(format: Format, text: &[u8]) -> Result<(Plan, &[u8]), ScheduleKind>
+    ensures ok { IfOk result (λ said. spec.plan_in format (pieces_of 10 text.now) ≡ Ok (numbers said.0)) }
     ensures rest { IfOk result (λ said. pieces_of 10 said.1.now ≡ drop 1 (pieces_of 10 text.now)) }
-    ensures err { IfErr result (λ kind. spec.plan_in (pieces_of 10 text.now) ≡ Err kind) }
+    ensures err { IfErr result (λ kind. spec.plan_in format (pieces_of 10 text.now) ≡ Err kind) }
     ensures told { IfErr result (λ kind. spec.is_of_text kind ≡ true) }
 {
     let (line, rest) = first_line(text)?;
-    let plan = read_plan(line)?;
+    let plan = read_plan(format, line)?;
     Ok((plan, rest))
 }
 
 /// Reads the next entry, from the line of that number, and gives the text after it too. None where the
 /// line is `end`, after which nothing may stand. There is room for so many entries.
-fn next_entry(text: &[u8], number: u32, room: u32) -> Result<Option<(Entry, &[u8])>, ScheduleFault>
+fn next_entry(
+    format: Format,
+    text: &[u8],
+    number: u32,
+    room: u32,
+) -> Result<Option<(Entry, &[u8])>, ScheduleFault>
     requires { number < 2 ^ 31 }
     ensures end { IfOk result (λ next. IfNone next
-        (spec.entries_from number room (pieces_of 10 text.now) ≡ Ok [])) }
+        (spec.entries_from format number room (pieces_of 10 text.now) ≡ Ok [])) }
     ensures more { IfOk result (λ next. IfSome next (λ said.
-        spec.entries_from number room (pieces_of 10 text.now)
-        ≡ entries_before (said.0 ∷ []) (spec.entries_from (number + 1) (room - 1) (pieces_of 10 said.1.now)))) }
+        spec.entries_from format number room (pieces_of 10 text.now)
+        ≡ entries_before (said.0 ∷ []) (spec.entries_from format (number + 1) (room - 1) (pieces_of 10 said.1.now)))) }
     ensures room { IfOk result (λ next. OnSome next (0 < room)) }
     ensures line { IfOk result (λ next. IfSome next (λ said. (line : List ℕ)
-        × (pieces_of 10 text.now ≡ line ∷ pieces_of 10 said.1.now) × (spec.entry_of line ≡ Some said.0))) }
+        × (pieces_of 10 text.now ≡ line ∷ pieces_of 10 said.1.now) × (spec.entry_of format line ≡ Some said.0))) }
     ensures shorter { IfOk result (λ next. IfSome next (λ said. length said.1.now < length text.now)) }
     ensures err { IfErr result (λ fault.
-        spec.entries_from number room (pieces_of 10 text.now) ≡ Err fault) }
+        spec.entries_from format number room (pieces_of 10 text.now) ≡ Err fault) }
     ensures told { IfErr result (λ fault. spec.is_of_text fault.kind ≡ true) }
 {
     let (line, rest) = match first_line(text) {
@@ -73,7 +81,7 @@ fn next_entry(text: &[u8], number: u32, room: u32) -> Result<Option<(Entry, &[u8
             Err(ScheduleKind::AfterEnd.at(number + 1))
         };
     }
-    match read_entry(line) {
+    match read_entry(format, line) {
         None => Err(ScheduleKind::Entry.at(number)),
         Some(_) if room == 0 => Err(ScheduleKind::TooMany.at(number)),
         Some(entry) => Ok(Some((entry, rest))),
@@ -81,20 +89,26 @@ fn next_entry(text: &[u8], number: u32, room: u32) -> Result<Option<(Entry, &[u8
 }
 
 /// The entries of the text, which begins with line 3. There is room for so many.
-fn read_entries(alloc: Global, text: &[u8], room: u32) -> Result<Vec<Entry>, ScheduleFault>
+fn read_entries(
+    alloc: Global,
+    format: Format,
+    text: &[u8],
+    room: u32,
+) -> Result<Vec<Entry>, ScheduleFault>
     requires { room ≤ 2_000_000 }
     ensures ok { IfOk result (λ entries.
-        spec.entries_from 3 room (pieces_of 10 text.now) ≡ Ok entries.items) }
-    ensures err { IfErr result (spec.IsToldFault (spec.entries_from 3 room (pieces_of 10 text.now))) }
+        spec.entries_from format 3 room (pieces_of 10 text.now) ≡ Ok entries.items) }
+    ensures err { IfErr result (spec.IsToldFault (spec.entries_from format 3 room (pieces_of 10 text.now))) }
     ensures reader { spec.fails_reading result ≡ false }
     ensures memory { IfErr result (λ fault. spec.is_of_text fault.kind ≡ false
-        → spec.AreEntriesTo (pieces_of 10 text.now) fault.line) }
+        → spec.AreEntriesTo format (pieces_of 10 text.now) fault.line) }
 {
     let mut entries = Vec::new(alloc);
     let mut rest = text;
     'lines: loop {
         let number = 3 + entries.len() as u32;
-        let Some((entry, after)) = next_entry(rest, number, room - entries.len() as u32)? else {
+        let Some((entry, after)) = next_entry(format, rest, number, room - entries.len() as u32)?
+        else {
             return Ok(entries);
         };
         if entries.push(entry).is_err() {
@@ -112,15 +126,15 @@ fn read_text(alloc: Global, text: &[u8]) -> Result<(Plan, Vec<Entry>), ScheduleF
     ensures reader { spec.fails_reading result ≡ false }
     ensures place { IfErr result (λ fault. spec.IsBrokenOff text.now fault.line fault.kind) }
 {
-    let after_header = match read_header(text) {
-        Ok(rest) => rest,
+    let (format, after_header) = match read_header(text) {
+        Ok(parts) => parts,
         Err(kind) => return Err(kind.at(1)),
     };
-    let (plan, after_plan) = match read_plan_line(after_header) {
+    let (plan, after_plan) = match read_plan_line(format, after_header) {
         Ok(parts) => parts,
         Err(kind) => return Err(kind.at(2)),
     };
-    let entries = read_entries(alloc, after_plan, plan.most_entries())?;
+    let entries = read_entries(alloc, format, after_plan, plan.most_entries())?;
     Ok((plan, entries))
 }
 
@@ -165,7 +179,7 @@ fn read_front<R: Read>(alloc: Global, reader: &mut Flagged<R>) -> Result<Vec<u8>
 }
 
 /// Reads a plan and its entries: what the text says, or its first line with a fault (`specs/ScheduleRead.antt`).
-/// The texts that are read are those of `specs/Grammar.antt` (`laws::reads_the_grammar`). Where the reader
+/// Both formats are read. The texts that are read are those of `specs/Grammar.antt` (`laws::reads_the_grammar`). Where the reader
 /// fails, that is told before any fault of the text. Whether a machine can make the entries is not tested
 /// here.
 ///

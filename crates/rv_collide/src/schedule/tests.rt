@@ -12,7 +12,18 @@ use std::process::Abort;
 use std::test::Fail;
 
 /// A text with every kind of entry.
-const TEXT: &[u8] = b"rvcollide schedule 1\n\
+const TEXT: &[u8] = b"rvcollide schedule 2\n\
+    harts 2 steps 100 arms 4 pause 10 slots 4\n\
+    a 00010004\n\
+    s 0\n\
+    p 0 0\n\
+    p 1 -\n\
+    r 0\n\
+    d 00010004\n\
+    end\n";
+
+/// The same in format 1.
+const FIRST_TEXT: &[u8] = b"rvcollide schedule 1\n\
     harts 2 steps 100 arms 4 pause 10\n\
     a 00010004\n\
     s 0\n\
@@ -74,11 +85,25 @@ fn assert_written(rt: &impl Abort, alloc: Global, plan: &Plan, entries: &[Entry]
 }
 
 /// The greatest numbers, a line of 64 bytes not being one of them.
-const LIMITS: &[u8] = b"rvcollide schedule 1\n\
+const LIMITS: &[u8] = b"rvcollide schedule 2\n\
+    harts 16 steps 1000000 arms 4096 pause 65535 slots 8\n\
+    s 15\np 15 7\np 10 -\nr 15\na ffffffff\nd 00000000\nend\n";
+
+const GREATEST: [Entry; 6] = [
+    Entry::Stepped(15),
+    Entry::Paused(15, Some(7)),
+    Entry::Paused(10, None),
+    Entry::Resumed(15),
+    Entry::Armed(u32::MAX),
+    Entry::Disarmed(0),
+];
+
+/// The same of format 1.
+const FIRST_LIMITS: &[u8] = b"rvcollide schedule 1\n\
     harts 16 steps 1000000 arms 4096 pause 65535\n\
     s 15\np 15 3\np 10 -\nr 15\na ffffffff\nd 00000000\nend\n";
 
-const GREATEST: [Entry; 6] = [
+const FIRST_GREATEST: [Entry; 6] = [
     Entry::Stepped(15),
     Entry::Paused(15, Some(3)),
     Entry::Paused(10, None),
@@ -88,23 +113,36 @@ const GREATEST: [Entry; 6] = [
 ];
 
 /// No entries at all.
-const NONE: &[u8] = b"rvcollide schedule 1\nharts 1 steps 1 arms 0 pause 1\nend\n";
+const NONE: &[u8] = b"rvcollide schedule 2\nharts 1 steps 1 arms 0 pause 1 slots 1\nend\n";
 
 #[test]
 fn reads_schedules(rt: HostRuntime) -> Result<(), Fail> {
     let alloc = rt.alloc();
     let plan = read_to(&rt, alloc, TEXT, &ENTRIES)?;
-    let numbers = (plan.harts, plan.steps, plan.arms, plan.pause);
-    assert_is(&rt, numbers, (2, 100, 4, 10), "a plan");
+    let numbers = (plan.harts, plan.steps, plan.arms, plan.pause, plan.slots);
+    assert_is(&rt, numbers, (2, 100, 4, 10, 4), "a plan");
     let most = read_to(&rt, alloc, LIMITS, &GREATEST)?;
-    assert_is(&rt, most.most_entries(), 1_016_384, "the most entries");
+    let numbers = (most.most_entries(), most.slots);
+    assert_is(&rt, numbers, (1_016_384, 8), "the most entries");
+    Ok(())
+}
+
+/// A text of format 1 is of four slots.
+#[test]
+fn reads_the_first_format(rt: HostRuntime) -> Result<(), Fail> {
+    let alloc = rt.alloc();
+    let plan = read_to(&rt, alloc, FIRST_TEXT, &ENTRIES)?;
+    assert_is(&rt, plan, read_to(&rt, alloc, TEXT, &ENTRIES)?, "a plan");
+    let most = read_to(&rt, alloc, FIRST_LIMITS, &FIRST_GREATEST)?;
+    let numbers = (most.most_entries(), most.slots);
+    assert_is(&rt, numbers, (1_016_384, 4), "the most entries");
     Ok(())
 }
 
 #[test]
 fn writes_schedules(rt: HostRuntime) -> Result<(), Fail> {
     let alloc = rt.alloc();
-    let plan = Plan::new(2, 100, 4, 10).ok_or("no plan")?;
+    let plan = Plan::new(2, 100, 4, 10, 4).ok_or("no plan")?;
     assert_written(&rt, alloc, &plan, &ENTRIES, TEXT);
     let least = read_to(&rt, alloc, NONE, &[])?;
     assert_written(&rt, alloc, &least, &[], NONE);
@@ -132,9 +170,12 @@ fn tells_a_text_that_is_cut(rt: HostRuntime) {
 }
 
 /// Texts whose first line is refused, the longest lines of 64 and of 65 bytes.
-const FIRST_LINES: [(&[u8], ScheduleKind); 12] = [
+const FIRST_LINES: [(&[u8], ScheduleKind); 15] = [
     (b"\n", ScheduleKind::Header),
-    (b"rvcollide schedule 2\nend\n", ScheduleKind::Header),
+    (b"rvcollide schedule 3\nend\n", ScheduleKind::Header),
+    (b"rvcollide schedule 0\nend\n", ScheduleKind::Header),
+    (b"rvcollide schedule 12\nend\n", ScheduleKind::Header),
+    (b"rvcollide schedule 2 \nend\n", ScheduleKind::Header),
     (b"rvcollide schedule 1 \nend\n", ScheduleKind::Header),
     (b"rvcollide schedule 1\r\nend\n", ScheduleKind::Header),
     (b" rvcollide schedule 1\nend\n", ScheduleKind::Header),
@@ -167,10 +208,14 @@ fn tells_the_fault_of_the_first_line(rt: HostRuntime) {
     }
 }
 
-/// The text with this second line and one entry.
-fn with_plan(alloc: Global, line: &[u8]) -> Option<(u32, ScheduleKind)> {
+const FIRST: &[u8] = b"rvcollide schedule 1\n";
+
+const SECOND: &[u8] = b"rvcollide schedule 2\n";
+
+/// The text with these first and second lines and one entry.
+fn with_plan(alloc: Global, header: &[u8], line: &[u8]) -> Option<(u32, ScheduleKind)> {
     let mut text = Vec::new(alloc);
-    text.extend_from_slice(b"rvcollide schedule 1\n").ok()?;
+    text.extend_from_slice(header).ok()?;
     text.extend_from_slice(line).ok()?;
     text.extend_from_slice(b"\ns 0\nend\n").ok()?;
     fault_of(alloc, &text)
@@ -195,6 +240,18 @@ const SHAPES: [&[u8]; 15] = [
     b"end",
 ];
 
+/// The same in format 2.
+const SECOND_SHAPES: [&[u8]; 8] = [
+    b"harts 2 steps 1 arms 0 pause 1",
+    b"harts 2 steps 1 arms 0 pause 1 slots",
+    b"harts 2 steps 1 arms 0 pause 1 slots ",
+    b"harts 2 steps 1 arms 0 pause 1 slots 04",
+    b"harts 2 steps 1 arms 0 pause 1 slots 4 ",
+    b"harts 2 steps 1 arms 0 pause 1 slots 4 4",
+    b"harts 2 steps 1 arms 0 slots 4 pause 1",
+    b"harts 2 steps 1 arms 0 pause 1 slot 4",
+];
+
 #[test]
 fn tells_the_shape_of_the_plan(rt: HostRuntime) {
     let alloc = rt.alloc();
@@ -202,7 +259,15 @@ fn tells_the_shape_of_the_plan(rt: HostRuntime) {
         assert_told(
             &rt,
             line,
-            with_plan(alloc, line),
+            with_plan(alloc, FIRST, line),
+            Some((2, ScheduleKind::PlanLine)),
+        );
+    }
+    for line in &SECOND_SHAPES {
+        assert_told(
+            &rt,
+            line,
+            with_plan(alloc, SECOND, line),
             Some((2, ScheduleKind::PlanLine)),
         );
     }
@@ -210,7 +275,7 @@ fn tells_the_shape_of_the_plan(rt: HostRuntime) {
     assert_told(
         &rt,
         long,
-        with_plan(alloc, long),
+        with_plan(alloc, FIRST, long),
         Some((2, ScheduleKind::TooLong)),
     );
 }
@@ -230,6 +295,15 @@ const RANGES: [&[u8]; 11] = [
     b"harts 9 steps 99999999999999999999999999999999 arms 0 pause 1",
 ];
 
+/// The same in format 2.
+const SECOND_RANGES: [&[u8]; 5] = [
+    b"harts 2 steps 1 arms 0 pause 1 slots 0",
+    b"harts 2 steps 1 arms 0 pause 1 slots 9",
+    b"harts 2 steps 1 arms 0 pause 1 slots 260",
+    b"harts 2 steps 1 arms 0 pause 1 slots 4294967300",
+    b"harts 0 steps 1 arms 0 pause 1 slots 4",
+];
+
 #[test]
 fn tells_the_range_of_the_plan(rt: HostRuntime) {
     let alloc = rt.alloc();
@@ -237,12 +311,22 @@ fn tells_the_range_of_the_plan(rt: HostRuntime) {
         assert_told(
             &rt,
             line,
-            with_plan(alloc, line),
+            with_plan(alloc, FIRST, line),
+            Some((2, ScheduleKind::PlanRange)),
+        );
+    }
+    for line in &SECOND_RANGES {
+        assert_told(
+            &rt,
+            line,
+            with_plan(alloc, SECOND, line),
             Some((2, ScheduleKind::PlanRange)),
         );
     }
     let least = b"harts 1 steps 1 arms 0 pause 1";
-    assert_told(&rt, least, with_plan(alloc, least), None);
+    assert_told(&rt, least, with_plan(alloc, FIRST, least), None);
+    let least = b"harts 1 steps 1 arms 0 pause 1 slots 1";
+    assert_told(&rt, least, with_plan(alloc, SECOND, least), None);
 }
 
 /// The text with these lines after the plan.
@@ -301,6 +385,45 @@ fn tells_a_line_that_is_no_entry(rt: HostRuntime) {
             with_lines(alloc, lines),
             Some((3, ScheduleKind::Entry)),
         );
+    }
+}
+
+/// Slots of pauses in either format, and whether they are in its range.
+const SLOTS: [(&[u8], bool, bool); 6] = [
+    (b"p 0 -", true, true),
+    (b"p 0 0", true, true),
+    (b"p 0 3", true, true),
+    (b"p 0 4", false, true),
+    (b"p 0 7", false, true),
+    (b"p 0 8", false, false),
+];
+
+#[test]
+fn tells_the_slots_of_a_format(rt: HostRuntime) -> Result<(), Fail> {
+    let alloc = rt.alloc();
+    for (entry, in_first, in_second) in &SLOTS {
+        let first = format!(in alloc;
+            "harts 1 steps 1 arms 0 pause 1\n{}",
+            str::from_utf8(entry)?
+        )?;
+        let second = format!(in alloc;
+            "harts 1 steps 1 arms 0 pause 1 slots 1\n{}",
+            str::from_utf8(entry)?
+        )?;
+        let told = with_plan(alloc, FIRST, first.as_bytes());
+        assert_told(&rt, entry, told, fault_unless(*in_first));
+        let told = with_plan(alloc, SECOND, second.as_bytes());
+        assert_told(&rt, entry, told, fault_unless(*in_second));
+    }
+    Ok(())
+}
+
+/// What is told of a pause: its own line, or that there is no room for the entry after it.
+fn fault_unless(is_entry: bool) -> Option<(u32, ScheduleKind)> {
+    if is_entry {
+        Some((4, ScheduleKind::TooMany))
+    } else {
+        Some((3, ScheduleKind::Entry))
     }
 }
 
@@ -505,7 +628,7 @@ fn assert_write_fails(
 
 #[test]
 fn tells_a_writer_that_fails(rt: HostRuntime) -> Result<(), Fail> {
-    let plan = Plan::new(2, 100, 4, 10).ok_or("no plan")?;
+    let plan = Plan::new(2, 100, 4, 10, 4).ok_or("no plan")?;
     let calls = TEXT.len() as u64;
     for fails_at in 1..calls + 1 {
         assert_write_fails(&rt, rt.alloc(), &plan, &ENTRIES, fails_at, true);

@@ -7,15 +7,16 @@ ghost use Rattle.rv_collide.specs.Numbers.{numbers};
 
 use crate::entry::Entry;
 use crate::plan::Plan;
+use crate::schedule::format::Format;
 use rv_memory::flagged::WriteFault;
 use rv_memory::output::{Output, put_pieces};
 use rv_text::decimal::Decimal;
 use rv_text::hexadecimal::word_digits;
 
-#[tactic(auto, unfolding(crate::specs::Grammar::plan_line))]
+#[tactic(auto, unfolding(crate::specs::Grammar::numbers_line))]
 fn write_plan<O: Output>(writer: &mut O, plan: &Plan) -> Result<(), WriteFault>
     ensures ok { OnOk result (Appends (O.written writer.old) (O.written writer.new)
-        (spec.plan_line (numbers plan.now) ++ 10 ∷ [])) }
+        (spec.plan_line Format.Second (numbers plan.now) ++ 10 ∷ [])) }
     ensures failed { O.has_failed writer.new ≡ (O.has_failed writer.old || is_err result) }
 {
     let harts = Decimal::new(u64::from(plan.harts));
@@ -28,14 +29,10 @@ fn write_plan<O: Output>(writer: &mut O, plan: &Plan) -> Result<(), WriteFault>
     let pause = Decimal::new(u64::from(plan.pause));
     put_pieces(
         writer,
-        &[
-            b" arms ",
-            arms.as_bytes(),
-            b" pause ",
-            pause.as_bytes(),
-            b"\n",
-        ],
-    )
+        &[b" arms ", arms.as_bytes(), b" pause ", pause.as_bytes()],
+    )?;
+    let slots = Decimal::new(u64::from(plan.slots));
+    put_pieces(writer, &[b" slots ", slots.as_bytes(), b"\n"])
 }
 
 /// Writes a slot's number, or `-` where there is none.
@@ -87,8 +84,8 @@ fn write_entries<O: Output>(writer: &mut O, entries: &[Entry]) -> Result<(), Wri
     Ok(())
 }
 
-/// Writes the text of a plan and its entries (`specs/Grammar.antt`). The caller sees to it that the
-/// entries' harts are at most 15 and their slots at most 3, and that there are at most
+/// Writes the text of a plan and its entries in format 2 (`specs/Grammar.antt`). The caller sees to it that the
+/// entries' harts are at most 15 and their slots at most 7, and that there are at most
 /// `plan.most_entries()` of them. It takes no memory.
 pub fn write_schedule<O: Output>(
     plan: &Plan,
@@ -100,7 +97,7 @@ pub fn write_schedule<O: Output>(
         (spec.schedule_text (numbers plan.now) entries.now)) }
     ensures failed { O.has_failed writer.new ≡ (O.has_failed writer.old || is_err result) }
 {
-    writer.put(b"rvcollide schedule 1\n")?;
+    writer.put(b"rvcollide schedule 2\n")?;
     write_plan(writer, plan)?;
     write_entries(writer, entries)?;
     writer.put(b"end\n")

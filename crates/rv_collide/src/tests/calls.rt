@@ -149,6 +149,26 @@ fn at(place: u32, why: Why) -> Option<ReplayFault> {
     Some(ReplayFault::Entry { place, why })
 }
 
+/// Harts 1 to 5 are paused at their stores, the last one unwatched.
+const UNWATCHED: [Entry; 16] = [
+    Stepped(0),
+    Stepped(1),
+    Stepped(2),
+    Stepped(3),
+    Stepped(4),
+    Stepped(5),
+    Armed(0x10004),
+    Paused(1, Some(0)),
+    Armed(0x10004),
+    Paused(2, Some(1)),
+    Armed(0x10004),
+    Paused(3, Some(2)),
+    Armed(0x10004),
+    Paused(4, Some(3)),
+    Armed(0x10004),
+    Paused(5, None),
+];
+
 #[test]
 fn tells_the_first_entry_that_no_call_adds(rt: HostRuntime) -> Result<(), Fail> {
     let alloc = rt.alloc();
@@ -160,5 +180,7 @@ fn tells_the_first_entry_that_no_call_adds(rt: HostRuntime) -> Result<(), Fail> 
     assert_is(&rt, fault, wanted, "hart 3 of two");
     let fault = fault_of(&rt, alloc, P, plan(2, 100, 0)?, &[Paused(0, None)])?;
     assert_is(&rt, fault, at(0, Why::Differs), "no address is armed");
+    let fault = fault_of(&rt, alloc, P, slotted(6, 100, 8, 5)?, &UNWATCHED)?;
+    assert_is(&rt, fault, at(15, Why::Differs), "a fifth slot is free");
     Ok(())
 }

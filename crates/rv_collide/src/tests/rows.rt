@@ -517,6 +517,98 @@ const RESERVATIONS: [Row; 5] = [
     },
 ];
 
+/// The fifth pause where there are five slots.
+const FIVE_SLOTS: [Row; 1] = [Row {
+    name: "a fifth slot watches a fifth pause",
+    words: P,
+    harts: 6,
+    entries: &[
+        Stepped(0),
+        Stepped(1),
+        Stepped(2),
+        Stepped(3),
+        Stepped(4),
+        Stepped(5),
+        Armed(0x10004),
+        Paused(1, Some(0)),
+        Armed(0x10004),
+        Paused(2, Some(1)),
+        Armed(0x10004),
+        Paused(3, Some(2)),
+        Armed(0x10004),
+        Paused(4, Some(3)),
+        Armed(0x10004),
+        Paused(5, Some(4)),
+        Stepped(0),
+        Resumed(1),
+        Resumed(2),
+        Resumed(3),
+        Resumed(4),
+        Resumed(5),
+    ],
+    text: b"ending 0 hart 1 pc 00010004 store 00020000 4 slot 0 \
+            hit 16 hart 0 pc 00010004 store 00020000 4 old 00000000 new 00000000\n\
+            ending 1 hart 2 pc 00010004 store 00020000 4 slot 1 \
+            hit 16 hart 0 pc 00010004 store 00020000 4 old 00000000 new 00000000\n\
+            ending 2 hart 3 pc 00010004 store 00020000 4 slot 2 \
+            hit 16 hart 0 pc 00010004 store 00020000 4 old 00000000 new 00000000\n\
+            ending 3 hart 4 pc 00010004 store 00020000 4 slot 3 \
+            hit 16 hart 0 pc 00010004 store 00020000 4 old 00000000 new 00000000\n\
+            ending 4 hart 5 pc 00010004 store 00020000 4 slot 4 \
+            hit 16 hart 0 pc 00010004 store 00020000 4 old 00000000 new 00000000\n\
+            hart 0 running pc 00010008 x2 c0010000 x6 00020000 x11 00000006\n\
+            hart 1 running pc 00010004 x2 c0020000 x6 00020000 x10 00000001 x11 00000006\n\
+            hart 2 running pc 00010004 x2 c0030000 x6 00020000 x10 00000002 x11 00000006\n\
+            hart 3 running pc 00010004 x2 c0040000 x6 00020000 x10 00000003 x11 00000006\n\
+            hart 4 running pc 00010004 x2 c0050000 x6 00020000 x10 00000004 x11 00000006\n\
+            hart 5 running pc 00010004 x2 c0060000 x6 00020000 x10 00000005 x11 00000006\n\
+            out\n",
+}];
+
+/// The pauses where there is one slot.
+const ONE_SLOT: [Row; 1] = [Row {
+    name: "one slot watches one pause",
+    words: P,
+    harts: 6,
+    entries: &[
+        Stepped(0),
+        Stepped(1),
+        Stepped(2),
+        Stepped(3),
+        Stepped(4),
+        Stepped(5),
+        Armed(0x10004),
+        Paused(1, Some(0)),
+        Armed(0x10004),
+        Paused(2, None),
+        Armed(0x10004),
+        Paused(3, None),
+        Armed(0x10004),
+        Paused(4, None),
+        Armed(0x10004),
+        Paused(5, None),
+        Stepped(0),
+        Resumed(1),
+        Resumed(2),
+        Resumed(3),
+        Resumed(4),
+        Resumed(5),
+    ],
+    text: b"ending 0 hart 1 pc 00010004 store 00020000 4 slot 0 \
+            hit 16 hart 0 pc 00010004 store 00020000 4 old 00000000 new 00000000\n\
+            ending 1 hart 2 pc 00010004 store 00020000 4 slot - quiet old 00000000 new 00000000\n\
+            ending 2 hart 3 pc 00010004 store 00020000 4 slot - quiet old 00000000 new 00000000\n\
+            ending 3 hart 4 pc 00010004 store 00020000 4 slot - quiet old 00000000 new 00000000\n\
+            ending 4 hart 5 pc 00010004 store 00020000 4 slot - quiet old 00000000 new 00000000\n\
+            hart 0 running pc 00010008 x2 c0010000 x6 00020000 x11 00000006\n\
+            hart 1 running pc 00010004 x2 c0020000 x6 00020000 x10 00000001 x11 00000006\n\
+            hart 2 running pc 00010004 x2 c0030000 x6 00020000 x10 00000002 x11 00000006\n\
+            hart 3 running pc 00010004 x2 c0040000 x6 00020000 x10 00000003 x11 00000006\n\
+            hart 4 running pc 00010004 x2 c0050000 x6 00020000 x10 00000004 x11 00000006\n\
+            hart 5 running pc 00010004 x2 c0060000 x6 00020000 x10 00000005 x11 00000006\n\
+            out\n",
+}];
+
 /// What is shown of a schedule that was told again: the endings, the harts and the output.
 fn text_of<S: ByteStore>(alloc: Global, collider: &Collider<S>) -> Result<Vec<u8>, Fail> {
     let mut writer = Flagged::new(Vec::new(alloc));
@@ -527,9 +619,9 @@ fn text_of<S: ByteStore>(alloc: Global, collider: &Collider<S>) -> Result<Vec<u8
     Ok(writer.into_inner())
 }
 
-/// Asserts what a row's schedule shows over a store, and that its entries and endings are handed out.
-fn assert_shows<S: ByteStore>(rt: &impl Abort, alloc: Global, row: &Row) -> Result<(), Fail> {
-    let plan = plan(row.harts, 1000, 200)?;
+/// Asserts what a row's schedule shows over a store with so many slots, and that its entries and endings are handed out.
+fn assert_shows<S: ByteStore>(rt: &impl Abort, alloc: Global, row: &Row, slots: u8) -> Result<(), Fail> {
+    let plan = slotted(row.harts, 1000, 200, slots)?;
     let collider: Collider<S> = told_over(rt, alloc, row.words, plan, row.entries)?;
     let text = text_of(alloc, &collider)?;
     assert_is(rt, text.as_slice(), row.text, row.name);
@@ -540,30 +632,36 @@ fn assert_shows<S: ByteStore>(rt: &impl Abort, alloc: Global, row: &Row) -> Resu
     Ok(())
 }
 
-fn assert_all_show(rt: &impl Abort, alloc: Global, rows: &[Row]) -> Result<(), Fail> {
+fn assert_all_show(rt: &impl Abort, alloc: Global, rows: &[Row], slots: u8) -> Result<(), Fail> {
     for row in rows {
-        assert_shows::<Flat>(rt, alloc, row)?;
-        assert_shows::<Paged>(rt, alloc, row)?;
+        assert_shows::<Flat>(rt, alloc, row, slots)?;
+        assert_shows::<Paged>(rt, alloc, row, slots)?;
     }
     Ok(())
 }
 
 #[test]
 fn shows_stores(rt: HostRuntime) -> Result<(), Fail> {
-    assert_all_show(&rt, rt.alloc(), &STORES)
+    assert_all_show(&rt, rt.alloc(), &STORES, 4)
 }
 
 #[test]
 fn shows_overlaps(rt: HostRuntime) -> Result<(), Fail> {
-    assert_all_show(&rt, rt.alloc(), &OVERLAPS)
+    assert_all_show(&rt, rt.alloc(), &OVERLAPS, 4)
 }
 
 #[test]
 fn shows_conflicts(rt: HostRuntime) -> Result<(), Fail> {
-    assert_all_show(&rt, rt.alloc(), &CONFLICTS)
+    assert_all_show(&rt, rt.alloc(), &CONFLICTS, 4)
 }
 
 #[test]
 fn shows_reservations(rt: HostRuntime) -> Result<(), Fail> {
-    assert_all_show(&rt, rt.alloc(), &RESERVATIONS)
+    assert_all_show(&rt, rt.alloc(), &RESERVATIONS, 4)
+}
+
+#[test]
+fn shows_as_many_slots_as_there_are(rt: HostRuntime) -> Result<(), Fail> {
+    assert_all_show(&rt, rt.alloc(), &FIVE_SLOTS, 5)?;
+    assert_all_show(&rt, rt.alloc(), &ONE_SLOT, 1)
 }

@@ -71,7 +71,7 @@ fn counts_turns(rt: HostRuntime) -> Result<(), Fail> {
         entries.push(entry)?;
     }
     let told = Finished {
-        plan: Plan::new(2, 10, 2, 5).ok_or("a plan")?,
+        plan: Plan::new(2, 10, 2, 5, 4).ok_or("a plan")?,
         entries,
         endings: Vec::new(alloc),
         output: Vec::new(alloc),

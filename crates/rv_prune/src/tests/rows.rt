@@ -8,7 +8,7 @@ use rv_memory::flat::Flat;
 
 /// The ending of the schedule, told again for two harts that run the words.
 fn told(rt: &impl Abort, alloc: Global, words: &[u32], entries: &[Entry]) -> Result<Ending, Fail> {
-    let plan = Plan::new(2, 1000, 200, 10).ok_or("a plan")?;
+    let plan = Plan::new(2, 1000, 200, 10, 4).ok_or("a plan")?;
     let image = image(rt, alloc, words)?;
     let collider: Collider<Flat> = replay(alloc, &image, plan, entries)?;
     let finished = collider.finish();

@@ -10,6 +10,7 @@ use rv_collide::replay::Why;
 use rv_elf::Image;
 use rv_hart::access::{Access, Event};
 use rv_hart::machine::Machine;
+use rv_memory::flagged::Flagged;
 use rv_memory::flat::Flat;
 use rv_memory::region::Region;
 use std::alloc::Global;
@@ -32,6 +33,41 @@ const OVERWRITES_LATER: &[u32] = &[
     0x00a3_2023,
     0x00a3_a423,
     0x0000_0073,
+];
+
+/// `lui x6,0x20`, `lui x7,0x10`, for hart 0 on to the last store; `sw x10,20(x7)`, `sw x10,0(x6)` and `sw x10,0(x6)`: the
+/// first store is to the last's word.
+const OVERWRITES_ANOTHER: &[u32] = &[
+    0x0002_0337,
+    0x0001_03b7,
+    0x0005_0663,
+    0x00a3_aa23,
+    0x00a3_2023,
+    0x00a3_2023,
+    0x0000_0073,
+];
+
+/// The same with `lw x8,24(x7)` and `sw x8,24(x7)` for the first store, which leave the last's word as it was.
+const WRITES_IT_AGAIN: &[u32] = &[
+    0x0002_0337,
+    0x0001_03b7,
+    0x0005_0863,
+    0x0183_a403,
+    0x0083_ac23,
+    0x00a3_2023,
+    0x00a3_2023,
+    0x0000_0073,
+];
+
+/// `lui x6,0x20`, `lui x7,0x10`, `lw x8,20(x7)`, `sw x8,16(x7)`, `ecall`, `sw x10,0(x6)`: the last word is put in the
+/// place of the `ecall`.
+const MAKES_ITS_STORE: &[u32] = &[
+    0x0002_0337,
+    0x0001_03b7,
+    0x0143_a403,
+    0x0083_a823,
+    0x0000_0073,
+    0x00a3_2023,
 ];
 
 /// After the `lui`: `beq x10,x0,0x00010010`, `sw x10,0(x6)`, `ecall`, `lr.w x5,(x6)`, `sc.w x7,x5,(x6)`, `ecall`.
@@ -314,6 +350,94 @@ const ACCESSES: [Row; 6] = [
     },
 ];
 
+const TEXTS: [Row; 4] = [
+    Row {
+        name: "an instruction that another hart writes over before its access",
+        words: OVERWRITES_ANOTHER,
+        harts: 2,
+        entries: &[
+            Stepped(0),
+            Stepped(0),
+            Stepped(0),
+            Stepped(1),
+            Stepped(1),
+            Stepped(1),
+            Armed(0x10014),
+            Paused(0, Some(0)),
+            Stepped(1),
+            Stepped(1),
+            Resumed(0),
+        ],
+        n: 0,
+        list: &[],
+        fault: Some(TextChanged),
+    },
+    Row {
+        name: "an instruction that another hart writes again as it is",
+        words: WRITES_IT_AGAIN,
+        harts: 2,
+        entries: &[
+            Stepped(0),
+            Stepped(0),
+            Stepped(0),
+            Stepped(1),
+            Stepped(1),
+            Stepped(1),
+            Armed(0x10018),
+            Paused(0, Some(0)),
+            Stepped(1),
+            Stepped(1),
+            Stepped(1),
+            Resumed(0),
+        ],
+        n: 0,
+        list: &[0, 0, 0, 1, 1, 1, 1, 1, 1, 0],
+        fault: None,
+    },
+    Row {
+        name: "an instruction that its own hart has written",
+        words: MAKES_ITS_STORE,
+        harts: 2,
+        entries: &[
+            Stepped(0),
+            Stepped(0),
+            Stepped(0),
+            Stepped(0),
+            Stepped(1),
+            Stepped(1),
+            Stepped(1),
+            Stepped(1),
+            Armed(0x10010),
+            Paused(0, Some(0)),
+            Stepped(1),
+            Resumed(0),
+        ],
+        n: 0,
+        list: &[0, 0, 0, 0, 1, 1, 1, 1, 1, 0],
+        fault: None,
+    },
+    Row {
+        name: "an instruction that its own hart writes over later",
+        words: OVERWRITES_LATER,
+        harts: 2,
+        entries: &[
+            Armed(0x10008),
+            Stepped(0),
+            Stepped(0),
+            Stepped(1),
+            Stepped(1),
+            Paused(0, Some(0)),
+            Stepped(1),
+            Resumed(0),
+            Stepped(0),
+            Stepped(0),
+        ],
+        n: 0,
+        list: &[0, 0, 1, 1, 1, 0],
+        fault: None,
+    },
+];
+
 fn code(rt: &impl Abort, alloc: Global, words: &[u32]) -> Result<Region, Fail> {
     let mut bytes = Vec::new(alloc);
     for word in words {
@@ -389,7 +513,7 @@ fn assert_shows(
 
 fn assert_row(rt: &impl Abort, alloc: Global, row: &Row) -> Result<(), Fail> {
     let image = image(rt, alloc, row.words)?;
-    let plan = Plan::new(row.harts, 100, 8, 10).ok_or("a plan")?;
+    let plan = Plan::new(row.harts, 100, 8, 10, 4).ok_or("a plan")?;
     match exhibit(alloc, &image, plan, row.entries, row.n) {
         Ok(shown) => assert_shows(rt, alloc, &image, plan, &shown, row),
         Err(fault) => assert_is(rt, Some(fault), row.fault, row.name),
@@ -414,11 +538,42 @@ fn kinds_of_accesses(rt: HostRuntime) -> Result<(), Fail> {
     Ok(())
 }
 
+#[test]
+fn instructions_that_are_written_over(rt: HostRuntime) -> Result<(), Fail> {
+    for row in &TEXTS {
+        assert_row(&rt, rt.alloc(), row)?;
+    }
+    Ok(())
+}
+
+/// The lines of the first row.
+#[test]
+fn writes_three_lines(rt: HostRuntime) -> Result<(), Fail> {
+    let image = image(&rt, rt.alloc(), P)?;
+    let plan = Plan::new(2, 100, 8, 10, 4).ok_or("a plan")?;
+    let shown = exhibit(rt.alloc(), &image, plan, HIT, 0)
+        .ok()
+        .ok_or("an exhibit")?;
+    let mut writer = Flagged::new(Vec::new(rt.alloc()));
+    let is_written = shown.write_exhibit(&mut writer).is_ok();
+    let text = writer.into_inner();
+    let wanted = b"first pc 00010004 store 00020000 4\n\
+        second pc 00010004 store 00020000 4\n\
+        steps 0 1 1 0\n";
+    assert_is(
+        &rt,
+        (is_written, text.as_slice()),
+        (true, wanted.as_slice()),
+        "lines",
+    );
+    Ok(())
+}
+
 /// The accesses of the first row are the two stores.
 #[test]
 fn two_stores(rt: HostRuntime) -> Result<(), Fail> {
     let image = image(&rt, rt.alloc(), P)?;
-    let plan = Plan::new(2, 100, 8, 10).ok_or("a plan")?;
+    let plan = Plan::new(2, 100, 8, 10, 4).ok_or("a plan")?;
     let store = Access {
         pc: 0x10004,
         first: 0x20000,

@@ -28,14 +28,14 @@ pub released-seen-requires : goal.released-seen-requires
 released-seen-requires g c =
     let s = setting_of (stored c.self.inside.image.value (numbers c.self.inside.plan) c.self.inside.entries.items) in
     let of_h = opening_kept c.self.inside.entries.items c.self.inside.openings.items c.args.h c.self.invariant.0.openings_are ∙ ap (option_map opening) c.taken-open.ensures.pause in
-    let k = kept_found s.start c.self.inside.entries.items (λ (q : OpenPause). q.hart == c.args.h) c.self.inside.openings.items c.taken-open.result c.self.invariant.0.kept c.taken-open.ensures.pause in
+    let k = kept_found s.plan.slots s.start c.self.inside.entries.items (λ (q : OpenPause). q.hart == c.args.h) c.self.inside.openings.items c.taken-open.result c.self.invariant.0.kept c.taken-open.ensures.pause in
     subst (λ (xs : Slots). IfSome c.taken-open.result.slot (λ n. IsClaimed xs n)) (sym c.self.invariant.0.slots_are)
-    (slot_claimed s.start c.self.inside.entries.items c.args.h (opening c.taken-open.result) c.taken-open.result.access c.self.invariant.0.apart of_h k.access c.taken-open.result.slot refl k.within)
+    (slot_claimed s.start c.self.inside.entries.items c.args.h (opening c.taken-open.result) c.taken-open.result.access c.self.invariant.0.apart of_h k.access s.plan.slots c.taken-open.result.slot refl k.within)
 
 pub bytes-new-requires : goal.bytes-new-requires
 bytes-new-requires g c =
     let s = setting_of (stored c.self.inside.image.value (numbers c.self.inside.plan) c.self.inside.entries.items) in
-    let k = kept_found s.start c.self.inside.entries.items (λ (q : OpenPause). q.hart == c.args.h) c.self.inside.openings.items c.taken-open.result c.self.invariant.0.kept c.taken-open.ensures.pause in
+    let k = kept_found s.plan.slots s.start c.self.inside.entries.items (λ (q : OpenPause). q.hart == c.args.h) c.self.inside.openings.items c.taken-open.result c.self.invariant.0.kept c.taken-open.ensures.pause in
     size_of c.reservations_and_accesses.ensures.sizes s.start c.self.inside.entries.items c.taken-open.result.place c.taken-open.result.hart c.taken-open.result.access k.access
 
 pub push_reserved-requires : goal.push_reserved-requires
@@ -57,10 +57,10 @@ invariant_of-self g c =
     let s = setting_of (stored c.self.inside.image.value (numbers c.self.inside.plan) c.self.inside.entries.items) in
     let ok = subst (λ (u : Stored). forced (setting_of u) u.entries (Resume c.args.h) ≡ Ok (Resumed c.args.h)) (sym c.self.view_is) c.requires in
     let of_h = opening_kept c.self.inside.entries.items c.self.inside.openings.items c.args.h c.self.invariant.0.openings_are ∙ ap (option_map opening) c.taken-open.ensures.pause in
-    let k = kept_found s.start c.self.inside.entries.items (λ (q : OpenPause). q.hart == c.args.h) c.self.inside.openings.items c.taken-open.result c.self.invariant.0.kept c.taken-open.ensures.pause in
+    let k = kept_found s.plan.slots s.start c.self.inside.entries.items (λ (q : OpenPause). q.hart == c.args.h) c.self.inside.openings.items c.taken-open.result c.self.invariant.0.kept c.taken-open.ensures.pause in
     let seen = c.released-seen.ensures.seen
     ∙ ap (λ (xs : Slots). option_and_then (seen_at xs) c.taken-open.result.slot) c.self.invariant.0.slots_are
-    ∙ slot_seen s.start c.self.inside.entries.items c.args.h (opening c.taken-open.result) c.taken-open.result.access c.self.invariant.0.apart of_h k.access c.taken-open.result.slot refl k.within in
+    ∙ slot_seen s.start c.self.inside.entries.items c.args.h (opening c.taken-open.result) c.taken-open.result.access c.self.invariant.0.apart of_h k.access s.plan.slots c.taken-open.result.slot refl k.within in
     let told_is = c.ending_of-ending.ensures ∙ told s.start c.self.inside.entries.items c.taken-open.result c.released-seen.result c.len.result c.bytes-new.result k.old seen
     (c.len.ensures ∙ c.self.inside.entries.ok.0)
     (c.bytes-new.ensures ∙ bytes_now s.start c.self.inside.machine.state c.self.inside.entries.items (length c.self.inside.entries.items) c.taken-open.result.access c.self.invariant.0.now) in
@@ -83,10 +83,10 @@ pub returns-clause-ending : goal.returns-clause-ending
 returns-clause-ending g c =
     let s = setting_of (stored c.self.inside.image.value (numbers c.self.inside.plan) c.self.inside.entries.items) in
     let of_h = opening_kept c.self.inside.entries.items c.self.inside.openings.items c.args.h c.self.invariant.0.openings_are ∙ ap (option_map opening) c.taken-open.ensures.pause in
-    let k = kept_found s.start c.self.inside.entries.items (λ (q : OpenPause). q.hart == c.args.h) c.self.inside.openings.items c.taken-open.result c.self.invariant.0.kept c.taken-open.ensures.pause in
+    let k = kept_found s.plan.slots s.start c.self.inside.entries.items (λ (q : OpenPause). q.hart == c.args.h) c.self.inside.openings.items c.taken-open.result c.self.invariant.0.kept c.taken-open.ensures.pause in
     let seen = c.released-seen.ensures.seen
     ∙ ap (λ (xs : Slots). option_and_then (seen_at xs) c.taken-open.result.slot) c.self.invariant.0.slots_are
-    ∙ slot_seen s.start c.self.inside.entries.items c.args.h (opening c.taken-open.result) c.taken-open.result.access c.self.invariant.0.apart of_h k.access c.taken-open.result.slot refl k.within in
+    ∙ slot_seen s.start c.self.inside.entries.items c.args.h (opening c.taken-open.result) c.taken-open.result.access c.self.invariant.0.apart of_h k.access s.plan.slots c.taken-open.result.slot refl k.within in
     let told_is = c.ending_of-ending.ensures ∙ told s.start c.self.inside.entries.items c.taken-open.result c.released-seen.result c.len.result c.bytes-new.result k.old seen
     (c.len.ensures ∙ c.self.inside.entries.ok.0)
     (c.bytes-new.ensures ∙ bytes_now s.start c.self.inside.machine.state c.self.inside.entries.items (length c.self.inside.entries.items) c.taken-open.result.access c.self.invariant.0.now) in

@@ -39,20 +39,20 @@ returns-clause-slot g c =
     c.claim-slot.ensures.slot
     ∙ ap (λ (b : Breaks). free_slot b.slots) c.take_code-was_armed.ensures.after
     ∙ ap free_slot c.self.invariant.0.slots_are
-    ∙ least_is_free (setting_of v).start c.self.inside.entries.items c.self.inside.openings.items c.self.invariant.0.kept c.self.invariant.0.openings_are
-    ∙ ap (λ (u : Stored). least_free u.entries) c.self.view_is
+    ∙ least_is_free c.self.inside.plan.slots (setting_of v).start c.self.inside.entries.items c.self.inside.openings.items c.self.invariant.0.kept c.self.invariant.0.openings_are
+    ∙ ap (λ (u : Stored). least_free u.plan.slots u.entries) c.self.view_is
 
 pub invariant_of-self : goal.invariant_of-self
 invariant_of-self g c =
     let v = stored c.self.inside.image.value (numbers c.self.inside.plan) c.self.inside.entries.items in
     let s = setting_of v in
     let wanted = subst (λ (u : Stored). IsArmedAccess u c.args.h c.args.access) (sym c.self.view_is) c.requires.armed in
-    let ok = subst (λ (u : Stored). forced (setting_of u) u.entries (Turn c.args.h) ≡ Ok (Paused c.args.h (least_free u.entries))) (sym c.self.view_is) c.requires.forced in
-    let free : c.claim-slot.result ≡ least_free c.self.inside.entries.items =
+    let ok = subst (λ (u : Stored). forced (setting_of u) u.entries (Turn c.args.h) ≡ Ok (Paused c.args.h (least_free u.plan.slots u.entries))) (sym c.self.view_is) c.requires.forced in
+    let free : c.claim-slot.result ≡ least_free c.self.inside.plan.slots c.self.inside.entries.items =
     c.claim-slot.ensures.slot
     ∙ ap (λ (b : Breaks). free_slot b.slots) c.take_code-was_armed.ensures.after
     ∙ ap free_slot c.self.invariant.0.slots_are
-    ∙ least_is_free s.start c.self.inside.entries.items c.self.inside.openings.items c.self.invariant.0.kept c.self.invariant.0.openings_are in
+    ∙ least_is_free c.self.inside.plan.slots s.start c.self.inside.entries.items c.self.inside.openings.items c.self.invariant.0.kept c.self.invariant.0.openings_are in
     let size = c.len.ensures ∙ c.self.inside.entries.ok.0 in
     let made = claim_made c.claim-slot.result c.args.h c.args.access c.take_code-was_armed.new.self c.claim-slot.new.self c.claim-slot.ensures.claimed c.claim-slot.ensures.none in
     let p : OpenPause = record { hart = c.args.h; place = c.len.result; slot = c.claim-slot.result; access = c.args.access; old = c.bytes-old.result } in

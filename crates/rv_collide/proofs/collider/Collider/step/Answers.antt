@@ -36,7 +36,7 @@ returns-in-Err-clause-memory g c =
 pub show-requires : goal.show-requires
 show-requires g c =
     let s = setting_of (stored c.self.inside.image.value (numbers c.self.inside.plan) c.self.inside.entries.items) in
-    λ none. unwatched s.start c.self.inside.entries.items c.self.inside.breaks.slots c.self.invariant.0.slots_are
+    λ none. unwatched s.plan.slots s.start c.self.inside.entries.items c.self.inside.breaks.slots c.self.invariant.0.slots_are
     (subst (λ (v : Stored). openings v.entries ≡ []) (sym c.self.view_is) (c.requires.unwatched none))
 
 pub push_reserved-requires : goal.push_reserved-requires

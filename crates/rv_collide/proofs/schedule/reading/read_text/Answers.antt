@@ -12,13 +12,13 @@ returns-in-Err-clause-err c = told (is_of_text c.at.result.kind) _ (header_fault
 pub returns-in-Err-read_plan_line-clause-err : goal.returns-in-Err-read_plan_line-clause-err
 returns-in-Err-read_plan_line-clause-err c =
     told (is_of_text c.at-in-Err-read_plan_line.result.kind) _
-    (plan_fault c.args.text.now (pieces_of 10 c.in-Ok.rest.now) c.in-Err-read_plan_line.kind c.in-Ok.ensures.ok c.in-Ok.ensures.rest c.in-Err-read_plan_line.ensures.err ∙ ap Err (sym c.at-in-Err-read_plan_line.ensures))
+    (plan_fault c.in-Ok.parts.0 c.args.text.now (pieces_of 10 c.in-Ok.parts.1.now) c.in-Err-read_plan_line.kind c.in-Ok.ensures.ok c.in-Ok.ensures.rest c.in-Err-read_plan_line.ensures.err ∙ ap Err (sym c.at-in-Err-read_plan_line.ensures))
 
 pub returns-in_err-entries-clause-err : goal.returns-in_err-entries-clause-err
 returns-in_err-entries-clause-err c =
     let parts = c.in-Ok-read_plan_line.parts in
     let fault = c.in_err-entries.field-0.0 in
-    let told = whole_told c.args.text.now (pieces_of 10 c.in-Ok.rest.now) (pieces_of 10 parts.1.now) (numbers parts.0) c.in-Ok.ensures.ok c.in-Ok.ensures.rest c.in-Ok-read_plan_line.ensures.ok
+    let told = whole_told c.in-Ok.parts.0 c.args.text.now (pieces_of 10 c.in-Ok.parts.1.now) (pieces_of 10 parts.1.now) (numbers parts.0) c.in-Ok.ensures.ok c.in-Ok.ensures.rest c.in-Ok-read_plan_line.ensures.ok
     c.in-Ok-read_plan_line.ensures.rest c.most_entries.result fault c.most_entries.ensures c.in_err-entries.ensures.err in
     let p = err_from_is_err_and c.from_residual.result c.from_residual.ensures.1 in
     rw (p.1, p.2) told
@@ -26,7 +26,7 @@ returns-in_err-entries-clause-err c =
 pub returns-clause-ok : goal.returns-clause-ok
 returns-clause-ok c =
     let parts = c.in-Ok-read_plan_line.parts in
-    whole_read c.args.text.now (pieces_of 10 c.in-Ok.rest.now) (pieces_of 10 parts.1.now) (numbers parts.0) c.in-Ok.ensures.ok c.in-Ok.ensures.rest c.in-Ok-read_plan_line.ensures.ok
+    whole_read c.in-Ok.parts.0 c.args.text.now (pieces_of 10 c.in-Ok.parts.1.now) (pieces_of 10 parts.1.now) (numbers parts.0) c.in-Ok.ensures.ok c.in-Ok.ensures.rest c.in-Ok-read_plan_line.ensures.ok
     c.in-Ok-read_plan_line.ensures.rest c.most_entries.result c.in_ok-entries.entries.items c.most_entries.ensures c.in_ok-entries.ensures.ok
 
 pub returns-in-Err-clause-place : goal.returns-in-Err-clause-place
@@ -39,8 +39,8 @@ pub returns-in_err-entries-clause-place : goal.returns-in_err-entries-clause-pla
 returns-in_err-entries-clause-place c =
     let parts = c.in-Ok-read_plan_line.parts in
     let fault = c.in_err-entries.field-0.0 in
-    let third = after_plan c.args.text.now (pieces_of 10 c.in-Ok.rest.now) (pieces_of 10 parts.1.now) c.in-Ok.ensures.rest c.in-Ok-read_plan_line.ensures.rest in
-    let there = entry_there c.args.text.now fault.line fault.kind c.in_err-entries.ensures.reader
-    (λ memory. subst (λ (lines : List (List ℕ)). AreEntriesTo lines fault.line) third (c.in_err-entries.ensures.memory memory)) in
+    let third = after_plan c.args.text.now (pieces_of 10 c.in-Ok.parts.1.now) (pieces_of 10 parts.1.now) c.in-Ok.ensures.rest c.in-Ok-read_plan_line.ensures.rest in
+    let there = entry_there c.in-Ok.parts.0 c.args.text.now fault.line fault.kind c.in-Ok.ensures.ok c.in_err-entries.ensures.reader
+    (λ memory. subst (λ (lines : List (List ℕ)). AreEntriesTo c.in-Ok.parts.0 lines fault.line) third (c.in_err-entries.ensures.memory memory)) in
     let p = err_from_is_err_and c.from_residual.result c.from_residual.ensures.1 in
     rw (p.1, p.2) there
