@@ -19,7 +19,7 @@ const PRINTS: [u32; 3] = [0x0010_0893, 0x0000_0073, 0xffdf_f06f];
 /// A session of so many steps of one hart.
 fn steps(rt: &impl Abort, alloc: Global, words: &[u32], count: u32) -> Result<Session, Fail> {
     let image = image(rt, alloc, words)?;
-    let plan = Plan::new(1, 3000, 0, 1).ok_or("a plan")?;
+    let plan = Plan::new(1, 3000, 0, 1, 4).ok_or("a plan")?;
     let mut entries = Vec::new(alloc);
     for _ in 0..count {
         entries.push(Stepped(0))?;
