@@ -9,7 +9,7 @@ use Rattle.std.proofs.lemmas.Bool.{or_from, or_parts}
 use Rattle.std.proofs.lemmas.Bool.Decides.{nat_tests}
 use Rattle.std.proofs.lemmas.List.{take_all, take-append-drop, length-take-le}
 use Rattle.rv_memory.specs.Chain.{◌>>=◌, want}
-use Rattle.rv_text.specs.Pieces.{pieces_of}
+use Rattle.rv_text.specs.Pieces.{pieces_of, Lacks}
 use Rattle.rv_collide.specs.Grammar.{end_line}
 use Rattle.rv_collide.specs.Plan.{Numbers, most_entries}
 use Rattle.rv_collide.specs.ScheduleRead.{Schedule, IsToldFault, entries_from, entry_of, first_line, format_of, header_in, is_over, is_plan, numbers_of, plan_in, plan_of, schedule_in, schedule_of, words_of}
@@ -18,7 +18,7 @@ use Rattle.rv_collide.specs.declared.schedule.fault.ScheduleFault.{ScheduleFault
 use Rattle.rv_collide.specs.declared.schedule.fault.ScheduleKind.{ScheduleKind}
 use Rattle.rv_collide.specs.declared.schedule.fault.ScheduleKind.TheVariants as kind
 use Rattle.rv_collide.specs.internal.Before.{entries_before}
-use Rattle.rv_collide.proofs.CutLemmas.{Lacks, cut_line, cut_rest, front_long, over_where_empty}
+use Rattle.rv_collide.proofs.CutLemmas.{cut_line, cut_rest, front_long, over_where_empty}
 use Rattle.rv_collide.proofs.EntriesLemmas.{no_line, at_end, after_end, no_entry, too_many, one_more}
 use Rattle.rv_collide.proofs.ScheduleLemmas.{header_fault, plan_fault, whole_fault, whole_read}
 use Rattle.rv_collide.specs.declared.schedule.format.Format.{Format}

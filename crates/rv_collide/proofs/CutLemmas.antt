@@ -4,13 +4,9 @@ use Rattle.std.specs.List.{list_any, onto_first}
 use Rattle.std.proofs.lemmas.Bool.{or_parts, or_from}
 use Rattle.std.proofs.lemmas.Bool.Decides.{nat_tests}
 use Rattle.std.proofs.lemmas.List.Elements.{All-head, All-tail}
-use Rattle.rv_text.specs.Pieces.{pieces_of}
+use Rattle.rv_text.specs.Pieces.{pieces_of, Lacks}
 use Rattle.rv_collide.specs.ScheduleRead.{first_line, is_over}
 use Rattle.rv_collide.specs.declared.schedule.fault.ScheduleKind.TheVariants.{NoEnd, TooLong}
-
--- the byte stands nowhere in the text
-abbrev pub Lacks : ℕ → List ℕ → Type 0
-Lacks byte text = list_any (λ b. b == byte) text ≡ false
 
 pub lacks_from_all : (byte : ℕ) (text : List ℕ) → All (λ b. (b == byte) ≡ false) text → Lacks byte text
 lacks_from_all byte [] all = refl

@@ -1,14 +1,11 @@
 -- In a legal list each pause has an access and each resumption an ending.
-use Rattle.std.proofs.Common.{◌≡◌, ℕ, zero, suc, ◌+◌, ◌<◌, ◌≤◌, Bool, true, false, cond, List, [], ◌∷◌, length, map, take, Option, Some, None, Result, Ok, refl, sym, ap, subst, ◌∙◌, arith}
+use Rattle.std.proofs.Common.{◌≡◌, ℕ, zero, suc, ◌+◌, ◌<◌, ◌≤◌, true, false, cond, List, [], ◌∷◌, length, map, take, Option, Some, None, Result, Ok, refl, sym, ap, subst, ◌∙◌, arith}
 use Rattle.std.specs.Prelude.{◌==◌, not, is_some, IsSome, IsSomeAnd, nat_lt, filter_map, find, slice_get, option_and_then, option_map}
-use Rattle.std.specs.FinSet.{contains}
 use Rattle.std.specs.List.{cons_option, range_with_len}
 use Rattle.std.proofs.lemmas.Bool.Decides.{nat_tests}
-use Rattle.std.proofs.lemmas.Option.{slice_get_within}
-use Rattle.rv_collide.specs.Armed.{armed}
 use Rattle.rv_collide.specs.Entries.{places, steps}
 use Rattle.rv_collide.specs.First.{paused_access}
-use Rattle.rv_collide.specs.Forced.{Setting, Turn, Resume, forced, least_free, turn_entry}
+use Rattle.rv_collide.specs.Forced.{Setting, Turn, Resume, forced, turn_entry}
 use Rattle.rv_collide.specs.Laws.{PausesHaveAccesses, ResumptionsHaveEndings, OneEndingForEach}
 use Rattle.rv_collide.specs.Legal.{IsLegal}
 use Rattle.rv_collide.specs.Next.{next, plain, runs_at}
@@ -24,7 +21,7 @@ use Rattle.rv_hart.specs.State.{State}
 use Rattle.rv_hart.specs.declared.access.Access.{Access}
 use Rattle.rv_collide.proofs.ArmedAccesses.{plain_next}
 use Rattle.rv_collide.proofs.LawLemmas.{has, some_same, wanted}
-use Rattle.rv_collide.proofs.OpenAt.{HasEnded, has_ended}
+use Rattle.rv_collide.proofs.OpenAt.{has_ended}
 use Rattle.rv_collide.proofs.Prefix.{state_end}
 
 -- ---- accesses

@@ -10,7 +10,7 @@ use Rattle.rv_collide.specs.Grammar.{header_line, numbers_line, plan_line, entry
 use Rattle.rv_collide.specs.Plan.{Numbers}
 use Rattle.rv_collide.specs.declared.entry.Entry.{Entry}
 use Rattle.rv_collide.specs.declared.schedule.format.Format.{Format}
-use Rattle.rv_collide.specs.declared.schedule.format.Format.TheVariants.{First, Second}
+use Rattle.rv_collide.specs.declared.schedule.format.Format.TheVariants.{Second}
 
 -- the lines of entries, an LF after each
 abbrev pub entries_text : List Entry → List ℕ

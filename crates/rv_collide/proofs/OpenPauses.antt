@@ -4,7 +4,7 @@ use Rattle.std.specs.Prelude.{◌==◌, not, find, slice_get, slice_set, is_none
 use Rattle.std.specs.List.{range_with_len}
 use Rattle.std.specs.Option.{option_map_or}
 use Rattle.rv_break.specs.Breakpoints.{Breaks}
-use Rattle.rv_break.specs.Slots.{Slots, IsClaimed, free_slot, seen_by}
+use Rattle.rv_break.specs.Slots.{IsClaimed, free_slot, seen_by}
 use Rattle.rv_break.specs.Slots as slots
 use Rattle.rv_break.specs.declared.claim.Claim.{Claim}
 use Rattle.rv_break.specs.declared.claim.Seen.{Seen}

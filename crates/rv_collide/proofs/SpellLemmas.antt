@@ -1,59 +1,32 @@
 -- A schedule that is written is read back.
 use Rattle.std.proofs.Common.{◌≡◌, ℕ, ◌+◌, ◌-◌, ◌^◌, ◌<◌, ◌≤◌, Bool, true, false, ◌&&◌, ◌==◌, nat_lt, nat_le, Option, Some, None, Ok, All, List, [], ◌∷◌, ◌++◌, map, length, codes, refl, ap, ◌∙◌, sym, arith, append_assoc, append-nil, length-append, cond}
 use Rattle.std.specs.Prelude.{IfSome}
-use Rattle.std.specs.List.{list_all, list_any}
-use Rattle.std.specs.Char.{is_digit}
+use Rattle.std.specs.List.{list_any}
 use Rattle.std.specs.Str.{bytes_eq}
-use Rattle.std.specs.Str.Parse.{digits_value}
 use Rattle.std.specs.Fmt.{decimal}
-use Rattle.std.proofs.lemmas.Bool.{and_parts, or_from, or_parts}
+use Rattle.std.proofs.lemmas.Bool.{or_from, or_parts}
 use Rattle.std.proofs.lemmas.Bool.Decides.{nat_tests}
 use Rattle.std.proofs.lemmas.Fmt.{decimal_digit, length-decimal-le}
 use Rattle.std.proofs.lemmas.List.Elements.{All-head, All-tail}
 use Rattle.std.proofs.lemmas.List.Folds.{list_any-append}
 use Rattle.std.proofs.lemmas.Slice.Eq.{bytes_eq-Decides}
 use Rattle.rv_text.specs.Numeral.{number_of}
-use Rattle.rv_text.specs.Decimal.{has_leading_zero, decimal_of, DecimalIsReadBack}
-use Rattle.rv_text.specs.Hexadecimal.{word_digits, word_of, WordIsReadBack}
+use Rattle.rv_text.specs.Decimal.{DecimalIsReadBack, DecimalLacksSeparators}
+use Rattle.rv_text.specs.Hexadecimal.{word_digits, word_of, WordIsReadBack, WordLacksSeparators}
 use Rattle.rv_text.specs.Lines.{has_line_feed, text_of_lines}
-use Rattle.rv_text.specs.Pieces.{pieces_of}
+use Rattle.rv_text.specs.Pieces.{pieces_of, Lacks}
 use Rattle.rv_collide.specs.Grammar.{HasAddress, IsInReach, IsWritableIn, end_line, entry_line, header_line, IsOfFormat, last_slot, numbers_line, plan_line, schedule_lines, text_in, slot_text}
 use Rattle.rv_collide.specs.Plan.{IsPlan, Numbers, most_entries}
 use Rattle.rv_collide.specs.ScheduleRead.{address_of, entries_from, entry_of, first_line, hart_of, header_in, is_plan, numbers_of, plan_in, plan_of, schedule_in, schedule_of, slot_of, slots_in, words_of}
 use Rattle.rv_collide.specs.declared.entry.Entry.{Entry}
 use Rattle.rv_collide.specs.declared.entry.Entry.TheVariants.{Stepped, Paused, Resumed, Armed, Disarmed}
 use Rattle.rv_collide.specs.internal.Before.{entries_before}
-use Rattle.rv_collide.proofs.CutLemmas.{Lacks, line_of, pieces_last, pieces_then}
+use Rattle.rv_collide.proofs.CutLemmas.{line_of, pieces_last, pieces_then}
 use Rattle.rv_collide.proofs.EntriesLemmas.{at_end, one_more}
 use Rattle.rv_collide.specs.declared.schedule.format.Format.{Format}
 use Rattle.rv_collide.specs.declared.schedule.format.Format.TheVariants.{First, Second}
 
--- ---- digits have no byte below the digit 0
-
-digits_lack : (byte radix : ℕ) → byte < 48 → radix ≤ 36 → (text : List ℕ) → list_all (λ c. is_digit c radix) text ≡ true → Lacks byte text
-digits_lack byte radix low most [] all = refl
-digits_lack byte radix low most (c ∷ text) all =
-    let parts = and_parts (is_digit c radix) (list_all (λ c. is_digit c radix) text) all in
-    let digit : is_digit c radix ≡ true = parts.0 in
-    let other : (c == byte) ≡ false = grind (arith, nat_tests) in
-    or_from (c == byte) (list_any (λ b. b == byte) text) other (digits_lack byte radix low most text parts.1)
-
-number_lacks : (byte radix : ℕ) → byte < 48 → radix ≤ 36 → (text : List ℕ) (n : ℕ) → number_of radix text ≡ Some n → Lacks byte text
-unfolding number_of
-number_lacks byte radix low most text n reads = by_test (nat_lt 0 (length text)) (list_all (λ c. is_digit c radix) text) refl reads
-  where
-    by_test : (some all : Bool) → list_all (λ c. is_digit c radix) text ≡ all → cond (some && all) (Some (digits_value radix text)) None ≡ Some n → Lacks byte text
-    by_test true true all reads = digits_lack byte radix low most text all
-    by_test true false all reads = cc
-    by_test false all' all reads = cc
-
-word_lacks : (byte : ℕ) → byte < 48 → (text : List ℕ) (n : ℕ) → word_of text ≡ Some n → Lacks byte text
-unfolding word_of
-word_lacks byte low text n reads = by_test (length text == 8) reads
-  where
-    by_test : (eight : Bool) → cond eight (number_of 16 text) None ≡ Some n → Lacks byte text
-    by_test true reads = number_lacks byte 16 low (omega arith) text n reads
-    by_test false reads = cc
+-- ---- lines
 
 word_length : (text : List ℕ) (n : ℕ) → word_of text ≡ Some n → length text ≡ 8
 unfolding word_of
@@ -62,16 +35,6 @@ word_length text n reads = by_test (length text == 8) refl reads
     by_test : (eight : Bool) → (length text == 8) ≡ eight → cond eight (number_of 16 text) None ≡ Some n → length text ≡ 8
     by_test true is reads = grind (arith, nat_tests)
     by_test false is reads = cc
-
-decimal_lacks : (byte : ℕ) → byte < 48 → (text : List ℕ) (n : ℕ) → decimal_of text ≡ Some n → Lacks byte text
-unfolding decimal_of
-decimal_lacks byte low text n reads = by_test (has_leading_zero text) reads
-  where
-    by_test : (zero : Bool) → cond zero None (number_of 10 text) ≡ Some n → Lacks byte text
-    by_test false reads = number_lacks byte 10 low (omega arith) text n reads
-    by_test true reads = cc
-
--- ---- lines
 
 -- texts of lines are cut into them, with nothing after the last LF
 pub text_pieces : (lines : List (List ℕ)) → list_any has_line_feed lines ≡ false → pieces_of 10 (text_of_lines lines) ≡ lines ++ [] ∷ []
@@ -104,7 +67,7 @@ low_slot : (format : Format) (slot : Option ℕ) → IfSome slot (λ s. s ≤ la
 low_slot format None few = tt
 low_slot format (Some slot) few = let small = last_small format in omega arith
 
-module _ (decimals : DecimalIsReadBack) (words_back : WordIsReadBack) where
+module _ (decimals : DecimalIsReadBack) (decimal_lacks : DecimalLacksSeparators) (words_back : WordIsReadBack) (word_lacks : WordLacksSeparators) where
   number_lacks_lf : (byte n : ℕ) → byte < 48 → n < 2 ^ 64 → Lacks byte (decimal n)
   number_lacks_lf byte n low small = decimal_lacks byte low (decimal n) n (decimals n small)
 

@@ -1,28 +1,25 @@
 -- A machine alone that goes through a legal schedule.
-use Rattle.std.proofs.Common.{◌≡◌, ℕ, zero, suc, ◌+◌, ◌≤◌, ◌<◌, true, List, [], ◌∷◌, ◌++◌, length, take, Option, Some, None, Ok, refl, sym, ap, subst, ◌∙◌, arith, length-append, add-one}
-use Rattle.std.specs.Prelude.{slice_get, option_and_then, is_some}
+use Rattle.std.proofs.Common.{◌≡◌, ℕ, zero, suc, ◌+◌, ◌≤◌, ◌<◌, List, [], ◌∷◌, ◌++◌, length, take, Option, Some, None, Ok, refl, sym, ap, subst, ◌∙◌, arith, length-append, add-one}
+use Rattle.std.specs.Prelude.{slice_get, option_and_then}
 use Rattle.std.proofs.lemmas.Option.{slice_get_within}
-use Rattle.std.proofs.Math.Seq.{take-length}
 use Rattle.rv_collide.specs.Entries.{stepped_at, stepped_hart, steps}
-use Rattle.rv_collide.specs.Forced.{Setting, Turn, forced}
+use Rattle.rv_collide.specs.Forced.{Setting, forced}
 use Rattle.rv_collide.specs.Legal.{IsLegal, call_of}
 use Rattle.rv_collide.specs.Made.{made}
-use Rattle.rv_collide.specs.Next.{next, runs_at}
+use Rattle.rv_collide.specs.Next.{next}
 use Rattle.rv_collide.specs.StateAt.{state_at}
-use Rattle.rv_collide.specs.WalkLaws.{OthersStay, Stays, StepsLeadOn, StepsOn, StepsPrintFew}
+use Rattle.rv_collide.specs.WalkLaws.{OthersStay, StepsLeadOn, StepsPrintFew}
 use Rattle.rv_collide.specs.declared.entry.Entry.{Entry}
 use Rattle.rv_collide.specs.declared.entry.Entry.TheVariants.{Stepped, Paused, Resumed, Armed, Disarmed}
-use Rattle.rv_hart.specs.NextAccess.{accessed, next_access}
-use Rattle.rv_hart.specs.Refusals.{is_running_hart}
+use Rattle.rv_hart.specs.NextAccess.{accessed}
 use Rattle.rv_hart.specs.ReservationLaws.{StepsOfRunningHarts}
-use Rattle.rv_hart.specs.Run.{run}
 use Rattle.rv_hart.specs.State.{State}
 use Rattle.rv_hart.specs.Step.{step_of}
 use Rattle.rv_hart.specs.StepLaws.{OutputLaw}
 use Rattle.rv_hart.specs.declared.access.Event.{Event}
 use Rattle.rv_collide.proofs.Growth.{grown, turn_parts}
-use Rattle.rv_collide.proofs.LawLemmas.{StepTo, has, runs_in, some_same, states, step_to, take_next}
-use Rattle.rv_collide.proofs.Prefix.{state_end, state_quiet, state_step, steps_quiet, steps_step}
+use Rattle.rv_collide.proofs.LawLemmas.{StepTo, runs_in, some_same, step_to, take_next}
+use Rattle.rv_collide.proofs.Prefix.{state_quiet, state_step, steps_quiet, steps_step}
 use Rattle.rv_collide.proofs.ToldLemmas.{next_event, state_here}
 
 -- the first entries, and the one at the place

@@ -1,11 +1,11 @@
 -- Bytes that stand in one page, among the bytes of all pages.
-use Rattle.std.proofs.Common.{◌≡◌, ℕ, ◌+◌, ◌-◌, ◌*◌, ◌/◌, ◌%◌, ◌≤◌, ◌<◌, zero, suc, Bool, true, false, List, [], ◌∷◌, ◌++◌, length, set, get_or, map, refl, ap, sym, ◌∙◌, arith, All, IsTrue, length-append, subst, take}
-use Rattle.std.proofs.lemmas.List.{get_or_append_left, get_or-append-add, set-append_left, set-append_right, length-set, map-set, set-get_or, append-nil, get_or-map, length-map, take_more_set}
+use Rattle.std.proofs.Common.{◌≡◌, ℕ, ◌+◌, ◌-◌, ◌*◌, ◌/◌, ◌%◌, ◌≤◌, ◌<◌, zero, suc, Bool, true, List, [], ◌∷◌, ◌++◌, length, set, get_or, map, refl, ap, sym, ◌∙◌, arith, All, IsTrue, length-append, subst, take}
+use Rattle.std.proofs.lemmas.List.{get_or_append_left, get_or-append-add, set-append_left, set-append_right, length-set, map-set, set-get_or, append-nil, get_or-map, take_more_set}
 use Rattle.std.proofs.lemmas.List.Concat.{flat_map-append}
 use Rattle.std.proofs.Math.Seq.{take-add}
 use Rattle.std.specs.Prelude.{drop}
 use Rattle.std.proofs.lemmas.List.Elements.{All-head, All-tail}
-use Rattle.rv_memory.specs.Pages.{KeptPage, bytes_of, is_own, AreOwn}
+use Rattle.rv_memory.specs.Pages.{KeptPage, bytes_of, is_own}
 use Rattle.rv_memory.specs.internal.Flat.{number_at, put_at}
 use Rattle.rv_memory.specs.internal.Paged.{IsPage}
 

@@ -1,7 +1,5 @@
-use Rattle.std.proofs.Common.{◌≡◌, ◌∙◌, ◌∷◌, ◌++◌, [], ap, cond, length, subst, sym, ◌+◌, ℕ}
-use Rattle.rv_text.specs.Pieces.{pieces_of}
-use Rattle.rv_collide.specs.ScheduleRead.{AreEntriesTo}
-use Rattle.rv_collide.proofs.EntriesSoFar.{EntriesSoFar, entry_line_is, so_far_next}
+use Rattle.std.proofs.Common.{◌≡◌, ◌∙◌, ◌∷◌, ◌++◌, [], ap, cond, length, ◌+◌, ℕ}
+use Rattle.rv_collide.proofs.EntriesSoFar.{entry_line_is, so_far_next}
 use Rattle.rv_collide.proofs.schedule.reading.read_entries.Goals as goal
 
 pub returns-then-is_err-clause-memory : goal.returns-then-is_err-clause-memory
