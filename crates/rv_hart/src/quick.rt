@@ -101,7 +101,7 @@ fn dispatched<S: ByteStore>(
     ensures { Tried hart.old hart.new (S.memory store.old) (S.memory store.new) (event_of_attempt result access.new) }
 {
     let is_plain = (word >> 25) % 128 == 0;
-    let is_product = (word >> 25) % 128 == 1;
+    let is_product = word & 0x0200_0000 != 0;
     match (word >> 2) % 32 * 8 + (word >> 12) % 8 {
         0x00 => load_apart::<operations::Lb, S>(store, hart, word, access),
         0x01 => load_apart::<operations::Lh, S>(store, hart, word, access),
