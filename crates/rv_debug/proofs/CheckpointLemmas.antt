@@ -1,5 +1,5 @@
 -- A machine alone that goes through a legal schedule, and machines that stand at places of it.
-use Rattle.std.proofs.Common.{◌≡◌, ℕ, ◌+◌, ◌*◌, ◌/◌, ◌≤◌, ◌<◌, true, List, [], ◌∷◌, ◌++◌, length, take, Option, Some, None, Result, Ok, Err, zero, suc, inl, inr, refl, sym, ap, subst, ◌∙◌, arith, length-append}
+use Rattle.std.proofs.Common.{◌≡◌, ℕ, ◌+◌, ◌*◌, ◌≤◌, ◌<◌, true, List, [], ◌∷◌, ◌++◌, length, take, Option, Some, None, Result, Ok, Err, zero, suc, inl, inr, refl, sym, ap, subst, ◌∙◌, arith, length-append}
 use Rattle.std.specs.Prelude.{◌⊎◌, IfOk, nat_le, slice_get}
 use Rattle.std.proofs.lemmas.Bool.{cases_lt}
 use Rattle.std.proofs.lemmas.Bool.Decides.{nat_tests}
@@ -12,12 +12,11 @@ use Rattle.rv_collide.specs.Made.{made}
 use Rattle.rv_collide.specs.Plan.{Numbers}
 use Rattle.rv_collide.specs.StateAt.{state_at}
 use Rattle.rv_collide.specs.Stored.{Stored, setting_of, stored}
-use Rattle.rv_collide.specs.WalkLaws.{OthersStay, Stays, StepsLeadOn, StepsOn, StepsPrintFew}
+use Rattle.rv_collide.specs.WalkLaws.{OthersStay, StepsLeadOn, StepsOn, StepsPrintFew}
 use Rattle.rv_collide.specs.declared.entry.Entry.{Entry}
 use Rattle.rv_collide.specs.declared.entry.Entry.TheVariants.{Stepped, Paused, Resumed, Armed, Disarmed}
 use Rattle.rv_elf.specs.Contents.{Contents}
 use Rattle.rv_hart.specs.NextAccess.{accessed}
-use Rattle.rv_hart.specs.Refusals.{HasNoRoom}
 use Rattle.rv_hart.specs.Run.{run}
 use Rattle.rv_hart.specs.State.{Guest, State}
 use Rattle.rv_hart.specs.Step.{step_of}
@@ -27,7 +26,7 @@ use Rattle.rv_hart.specs.declared.access.Event.{Event}
 use Rattle.rv_hart.specs.declared.machine.StepFault.{StepFault}
 use Rattle.rv_hart.specs.declared.machine.StepFault.TheVariants.{NoHart, NotRunning, OutputFull, NoMemory}
 use Rattle.rv_debug.specs.declared.checkpoints.TheConstants.{CHECKPOINT_ENTRIES}
-use Rattle.rv_debug.specs.internal.Session.{AreCheckpoints, HasOneMore, HasStateAt, HoldStates, StandsAt}
+use Rattle.rv_debug.specs.internal.Session.{HasOneMore, HasStateAt, HoldStates, StandsAt}
 
 -- no more is printed than the plan allows steps
 pub printed : StepsPrintFew → (schedule : Stored) (place : ℕ) (m : Guest) → IsLegal (setting_of schedule) schedule.entries → place ≤ length schedule.entries → HasStateAt schedule place m → length m.state.output ≤ schedule.plan.steps

@@ -1,4 +1,4 @@
-use Rattle.std.proofs.Common.{◌≤◌, arith, refl}
+use Rattle.std.proofs.Common.{◌≤◌, arith}
 use Rattle.rv_debug.specs.Placed.{placed}
 use Rattle.rv_debug.proofs.FindLemmas.{first_touch, none_at_all, none_more}
 use Rattle.rv_debug.proofs.finding.next_touch.Goals as goal
