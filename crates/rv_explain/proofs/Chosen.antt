@@ -1,5 +1,5 @@
 -- The symbol that is chosen of a list, when one more comes.
-use Rattle.std.proofs.Common.{◌≡◌, Bool, true, false, Option, None, List, [], ◌∷◌, ◌++◌, refl, ap, ◌∙◌}
+use Rattle.std.proofs.Common.{◌≡◌, Bool, true, false, Option, None, List, [], ◌∷◌, ◌++◌, refl}
 use Rattle.std.specs.Prelude.{filter, if◌then◌else◌}
 use Rattle.std.specs.List.{fold}
 use Rattle.rv_elf.specs.Contents.{Named}

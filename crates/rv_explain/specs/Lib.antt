@@ -5,3 +5,4 @@ pub mod Names
 pub mod Pieces
 pub mod Rows
 pub mod Symbols
+pub mod Told

@@ -1,5 +1,5 @@
 -- Texts one after another.
-use Rattle.std.specs.Prelude.{ℕ, ◌-◌, List, [], ◌∷◌, ◌++◌, length, map}
+use Rattle.std.specs.Prelude.{ℕ, ◌-◌, List, ◌++◌, length, map}
 use Rattle.std.specs.List.{flat_map, range_with_len}
 
 abbrev pub joined : List (List ℕ) → List ℕ

@@ -1,6 +1,6 @@
 -- The lines of entries, in columns: the entry's number, its hart, what happened, the bytes where it wrote them, and the
 -- instruction.
-use Rattle.std.specs.Prelude.{ℕ, Bool, true, false, ◌==◌, ◌&&◌, nat_lt, if◌then◌else◌, Option, Some, None, List, [], ◌∷◌, ◌++◌, codes}
+use Rattle.std.specs.Prelude.{ℕ, Bool, false, ◌==◌, ◌&&◌, nat_lt, if◌then◌else◌, Option, Some, None, List, [], ◌∷◌, codes}
 use Rattle.std.specs.Fmt.{decimal}
 use Rattle.rv_asm.specs.Line.{line}
 use Rattle.rv_collide.specs.declared.ending.Ending.{Ending}

@@ -1,7 +1,8 @@
 //! Reports for people: the block of a race, told by names, instructions, values and what the harts did.
 //!
 //! To the layer above, what `write_block` writes of a `Block` is the text of `specs/Blocks.antt`, which knows no file;
-//! `symbol_of` is the symbol that an address is told by, `class_of` what a report counts as.
+//! `symbol_of` is the symbol that an address is told by, `class_of` what a report counts as, `row_here` what is told of
+//! an entry.
 #![tactic(auto)]
 
 pub mod block;
@@ -15,3 +16,4 @@ mod rows;
 pub mod symbols;
 #[cfg(test)]
 mod tests;
+pub mod told;

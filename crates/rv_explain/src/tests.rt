@@ -18,6 +18,7 @@ use std::test::Fail;
 
 mod blocks;
 mod symbols;
+mod told;
 
 /// What was found is what is wanted. (Each assertion that a test writes out costs the check a second, and a call of
 /// this one next to nothing.)

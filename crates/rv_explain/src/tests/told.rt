@@ -1,0 +1,49 @@
+//! What is told of an entry of a run.
+use super::*;
+use crate::told::row_here;
+use rv_collide::plan::Plan;
+use rv_debug::session::Session;
+
+/// `sw x11, -4(x2)`: hart 0 stores the number of harts at the end of its stack.
+const SW: [u8; 4] = [0x23, 0x2e, 0xb1, 0xfe];
+
+const STORES: Access = Access {
+    pc: 0x10000,
+    first: 0xc000_fffc,
+    size: 4,
+    read: false,
+    write: true,
+};
+
+const TOLD: Row = Row {
+    place: 0,
+    entry: Entry::Stepped(0),
+    pc: 0x10000,
+    word: Some(0xfeb1_2e23),
+    access: Some(STORES),
+    after: After::GoesOn,
+    bytes: 2,
+};
+
+fn program(alloc: Global) -> Result<Image, Fail> {
+    let mut code = zeros(alloc, 0x10000, 4, true);
+    code.bytes.extend_from_slice(&SW)?;
+    Ok(Image::new(0x10000, vec![in alloc; code]?, Vec::new(alloc)).ok_or("an image")?)
+}
+
+#[test]
+fn a_step_that_stores(rt: HostRuntime) -> Result<(), Fail> {
+    let image = program(rt.alloc())?;
+    let plan = Plan::new(2, 100, 1, 10).ok_or("a plan")?;
+    let mut entries = Vec::new(rt.alloc());
+    entries.push(Entry::Stepped(0))?;
+    match Session::new(rt.alloc(), &image, plan, entries) {
+        Ok(mut session) => {
+            let row = row_here(&mut session, Entry::Stepped(0), &STORES);
+            assert_is(&rt, row, TOLD, "the row");
+            assert_is(&rt, session.place(), 1, "the place");
+            Ok(())
+        }
+        Err(_) => Err(Fail::from("a schedule")),
+    }
+}
