@@ -1,10 +1,13 @@
 -- What a job says of the words that spell it.
-use Rattle.std.proofs.Common.{◌≡◌, zero, suc, refl, subst, true, false, List, Option, Some, None, [], ◌∷◌, arith, codes, cond}
-use Rattle.std.specs.Prelude.{Bool, Contains, IfSome, option_and_then}
+use Rattle.std.proofs.Common.{◌≡◌, ℕ, nat_le, zero, suc, refl, subst, true, false, List, Option, Some, None, [], ◌∷◌, arith, codes, cond}
+use Rattle.std.specs.Prelude.{Bool, Contains, IfSome, option_and_then, option_map}
 use Rattle.std.specs.Str.{bytes_eq}
+use Rattle.std.proofs.lemmas.Bool.Decides.{nat_tests}
 use Rattle.std.proofs.lemmas.Slice.Eq.{bytes_eq-Decides}
+use Rattle.rv_text.specs.Numeral.{number_of, up_to}
 use Rattle.clap.specs.Walk.{Text}
-use Rattle.rvcollide.specs.Command.{Asked, IsGiven, arguments, asm_of, command_job, debug_of, is_option, job_of, list_of, options_job, replay_of, run_of, threads_of, words_of}
+use Rattle.rvcollide.specs.Command.{Asked, Exhibit, IsEndingGiven, IsGiven, arguments, asm_of, command_job, debug_of, ending_of, exhibit_of, is_option, job_of, list_of, options_job, replay_of, run_of, threads_of, words_of}
+use Rattle.rvcollide.specs.declared.command.exhibit.TheConstants.{MOST_ENDING}
 use Rattle.rvcollide.proofs.RunGiven.{run_given, threads_given}
 
 later : (x word : Text) (words : List Text) → Contains words x → Contains (word ∷ words) x
@@ -65,6 +68,33 @@ debug_given n rest (image ∷ []) stand = tt
 debug_given n rest (image ∷ schedule ∷ []) stand = (refl, stand.each image (first image (schedule ∷ [])), stand.each schedule (later schedule image (schedule ∷ []) (first schedule [])))
 debug_given n rest (image ∷ schedule ∷ more ∷ others) stand = tt
 
+-- the number that a text writes stands where the text does
+ending_given : (words : List Text) (text : Text) → Contains words text → IfSome (ending_of text) (IsEndingGiven words)
+ending_given words text stands = by_number (number_of 10 text) refl
+  where
+    by_number : (o : Option ℕ) → number_of 10 text ≡ o → IfSome (up_to MOST_ENDING o) (IsEndingGiven words)
+    by_number None reads = tt
+    by_number (Some n) reads = by_range (nat_le n MOST_ENDING) refl
+      where
+        by_range : (fits : Bool) → nat_le n MOST_ENDING ≡ fits → IfSome (cond fits (Some n) None) (IsEndingGiven words)
+        by_range true fits = record { text = text; stands = stands; reads = reads; no_more = grind (arith, nat_tests) }
+        by_range false fits = tt
+
+map_given : (f : ℕ → Asked) (P : ℕ → Type 0) (Q : Asked → Type 0) (o : Option ℕ) → IfSome o P → ((n : ℕ) → P n → Q (f n)) → IfSome (option_map f o) Q
+map_given f P Q None holds then = tt
+map_given f P Q (Some n) holds then = then n holds
+
+exhibit_given : (n : Text) (rest given : List Text) → Stand rest given → IfSome (exhibit_of given) (IsGiven (n ∷ codes "exhibit" ∷ rest))
+exhibit_given n rest [] stand = tt
+exhibit_given n rest (image ∷ []) stand = tt
+exhibit_given n rest (image ∷ schedule ∷ []) stand = tt
+exhibit_given n rest (image ∷ schedule ∷ number ∷ []) stand =
+    let path = stand.each image (first image (schedule ∷ number ∷ [])) in
+    let other = stand.each schedule (later schedule image (schedule ∷ number ∷ []) (first schedule (number ∷ []))) in
+    let last = stand.each number (later number image (schedule ∷ number ∷ []) (later number schedule (number ∷ []) (first number []))) in
+    map_given (λ k. Exhibit image schedule k) (IsEndingGiven rest) (IsGiven (n ∷ codes "exhibit" ∷ rest)) (ending_of number) (ending_given rest number last) (λ k given. (refl, path, other, given))
+exhibit_given n rest (image ∷ schedule ∷ number ∷ more ∷ others) stand = tt
+
 pub job_given : (words : List Text) → IfSome (job_of words) (IsGiven words)
 unfolding job_of
 job_given [] = tt
@@ -77,10 +107,15 @@ job_given (n ∷ name ∷ rest) = by_run (bytes_eq (codes "run") name) refl
     found : (w : Text) → bytes_eq w name ≡ true → Given w (command_job w rest) → Given name (command_job name rest)
     found w same given = subst (λ (v : Text). Given v (command_job v rest)) ((bytes_eq-Decides w name).0 same) given
 
+    by_exhibit : (b : Bool) → bytes_eq (codes "words") name ≡ false → bytes_eq (codes "asm") name ≡ false → bytes_eq (codes "list") name ≡ false
+        → bytes_eq (codes "replay") name ≡ false → bytes_eq (codes "debug") name ≡ false → bytes_eq (codes "exhibit") name ≡ b → Given name (command_job name rest)
+    by_exhibit true no_words no_asm no_list no_replay no_debug exhibit = found (codes "exhibit") exhibit (given_by rest exhibit_of _ (exhibit_given n rest) (arguments rest) (arguments_stand rest))
+    by_exhibit false no_words no_asm no_list no_replay no_debug no_exhibit = rw (no_words, no_asm, no_list, no_replay, no_debug, no_exhibit) tt
+
     by_debug : (b : Bool) → bytes_eq (codes "words") name ≡ false → bytes_eq (codes "asm") name ≡ false → bytes_eq (codes "list") name ≡ false
         → bytes_eq (codes "replay") name ≡ false → bytes_eq (codes "debug") name ≡ b → Given name (command_job name rest)
     by_debug true no_words no_asm no_list no_replay debug = found (codes "debug") debug (given_by rest debug_of _ (debug_given n rest) (arguments rest) (arguments_stand rest))
-    by_debug false no_words no_asm no_list no_replay no_debug = rw (no_words, no_asm, no_list, no_replay, no_debug) tt
+    by_debug false no_words no_asm no_list no_replay no_debug = by_exhibit (bytes_eq (codes "exhibit") name) no_words no_asm no_list no_replay no_debug refl
 
     by_replay : (b : Bool) → bytes_eq (codes "words") name ≡ false → bytes_eq (codes "asm") name ≡ false → bytes_eq (codes "list") name ≡ false
         → bytes_eq (codes "replay") name ≡ b → Given name (command_job name rest)

@@ -11,9 +11,9 @@ use Rattle.clap.specs.declared.parser.matches.ValueSource.TheVariants.{CommandLi
 use Rattle.clap.proofs.OnLiterals.{clap_on_literals}
 use Rattle.std.proofs.lemmas.Slice.Eq.{bytes_eq-Decides}
 use Rattle.rvcollide.proofs.WordLemmas.{IsRequestOr, Requests, first_stays, held, stand, turn_is}
-use Rattle.rvcollide.specs.Command.{Asked, Words, arguments, asm_of, is_option, debug_of, list_of, replay_of, words_of}
+use Rattle.rvcollide.specs.Command.{Asked, Words, arguments, asm_of, exhibit_of, is_option, debug_of, list_of, replay_of, words_of}
 use Rattle.rvcollide.specs.ClapProgram.{program}
-use Rattle.rvcollide.specs.internal.FoundJob.{asm_in, debug_in, list_in, replay_in}
+use Rattle.rvcollide.specs.internal.FoundJob.{asm_in, debug_in, exhibit_in, list_in, replay_in}
 
 -- the commands as `clap` builds them
 abbrev pub leaf : ℕ → Shape
@@ -165,6 +165,9 @@ row id word = record { id = id; values = word ∷ []; count = None; source = Som
 abbrev at_third : Text → Text → Text → Text → Stop
 at_third id word next_id next = record { rows = row id word ∷ []; pending = Some (next_id, next ∷ []); position = 3 }
 
+abbrev at_fourth : Text → Text → Text → Text → Text → Text → Stop
+at_fourth id word next_id next last_id last = record { rows = row id word ∷ row next_id next ∷ []; pending = Some (last_id, last ∷ []); position = 4 }
+
 -- ---- `words`
 
 abbrev pub words_leaf : Shape
@@ -304,6 +307,48 @@ debug_reads = next_reads debug_leaf debug_in at_first debug_of (at_second (codes
     (record { trailing_pass = λ word. refl; trailing_goes_on = λ word. refl; pass = λ word. refl; goes_on = λ word. refl })
     debug_second
 
+-- ---- `exhibit IMAGE SCHEDULE N`
+
+abbrev pub exhibit_leaf : Shape
+exhibit_leaf = leaf 7
+
+exhibit_requests : Requests exhibit_leaf.rules
+exhibit_requests = record {
+  long = λ name. request_or (bytes_eq (codes "help") name || false) _ None (refl, λ again rows. refl) tt;
+  short = λ x. request_or (104 == x || false) _ None (refl, λ again rows. refl) tt;
+}
+
+exhibit_fourth : (image schedule number : Text)
+    → Reads exhibit_leaf exhibit_in (at_fourth (codes "IMAGE") image (codes "SCHEDULE") schedule (codes "N") number) (λ rest. exhibit_of (image ∷ schedule ∷ number ∷ rest))
+unfolding clap_on_literals
+exhibit_fourth image schedule number =
+    full_reads exhibit_leaf exhibit_in (at_fourth (codes "IMAGE") image (codes "SCHEDULE") schedule (codes "N") number) (λ rest. exhibit_of (image ∷ schedule ∷ number ∷ rest))
+    (record { requests = exhibit_requests; trailing = refl; plain = refl; dashes_pass = refl; dashes_go_on = refl })
+    (record { trailing = λ word. refl; plain = refl; none = λ word rest. refl })
+
+exhibit_third : (image schedule : Text)
+    → Reads exhibit_leaf exhibit_in (at_third (codes "IMAGE") image (codes "SCHEDULE") schedule) (λ rest. exhibit_of (image ∷ schedule ∷ rest))
+unfolding clap_on_literals
+exhibit_third image schedule = next_reads exhibit_leaf exhibit_in (at_third (codes "IMAGE") image (codes "SCHEDULE") schedule) (λ rest. exhibit_of (image ∷ schedule ∷ rest))
+    (at_fourth (codes "IMAGE") image (codes "SCHEDULE") schedule (codes "N"))
+    (record { requests = exhibit_requests; trailing = refl; plain = refl; dashes_pass = refl; dashes_go_on = refl })
+    (record { trailing_pass = λ word. refl; trailing_goes_on = λ word. refl; pass = λ word. refl; goes_on = λ word. refl })
+    (exhibit_fourth image schedule)
+
+exhibit_second : (image : Text) → Reads exhibit_leaf exhibit_in (at_second (codes "IMAGE") image) (λ rest. exhibit_of (image ∷ rest))
+unfolding clap_on_literals
+exhibit_second image = next_reads exhibit_leaf exhibit_in (at_second (codes "IMAGE") image) (λ rest. exhibit_of (image ∷ rest)) (at_third (codes "IMAGE") image (codes "SCHEDULE"))
+    (record { requests = exhibit_requests; trailing = refl; plain = refl; dashes_pass = refl; dashes_go_on = refl })
+    (record { trailing_pass = λ word. refl; trailing_goes_on = λ word. refl; pass = λ word. refl; goes_on = λ word. refl })
+    (exhibit_third image)
+
+exhibit_reads : Reads exhibit_leaf exhibit_in at_first exhibit_of
+unfolding clap_on_literals
+exhibit_reads = next_reads exhibit_leaf exhibit_in at_first exhibit_of (at_second (codes "IMAGE"))
+    (record { requests = exhibit_requests; trailing = refl; plain = refl; dashes_pass = refl; dashes_go_on = refl })
+    (record { trailing_pass = λ word. refl; trailing_goes_on = λ word. refl; pass = λ word. refl; goes_on = λ word. refl })
+    exhibit_second
+
 -- ---- what each command's words give
 
 abbrev pub words_at : Bool → Walk
@@ -323,3 +368,6 @@ replay_outcome = replay_reads.plain
 
 pub debug_outcome : (rest : List Text) → outcome debug_leaf debug_in (words_at false) rest ≡ option_and_then debug_of (arguments rest)
 debug_outcome = debug_reads.plain
+
+pub exhibit_outcome : (rest : List Text) → outcome exhibit_leaf exhibit_in (words_at false) rest ≡ option_and_then exhibit_of (arguments rest)
+exhibit_outcome = exhibit_reads.plain

@@ -1,4 +1,5 @@
 pub mod DebugLemmas
+pub mod ExhibitLemmas
 pub mod GivenLemmas
 pub mod LeafLemmas
 pub mod LineLemmas

@@ -10,10 +10,10 @@ use Rattle.clap.proofs.OnLiterals.{clap_on_literals}
 use Rattle.clap.proofs.FaultLemmas.{stopped_fault}
 use Rattle.clap.proofs.WalkLemmas.{walk_stopped}
 use Rattle.rvcollide.proofs.WordLemmas.{Requests, first_stays, turn_is}
-use Rattle.rvcollide.proofs.LeafLemmas.{asm_leaf, asm_outcome, debug_leaf, debug_outcome, if_false, is_dashes, leaf, list_leaf, list_outcome, outcome, replay_leaf, replay_outcome, request_or, words_at, words_job, words_leaf, words_outcome}
+use Rattle.rvcollide.proofs.LeafLemmas.{asm_leaf, asm_outcome, debug_leaf, debug_outcome, exhibit_leaf, exhibit_outcome, if_false, is_dashes, leaf, list_leaf, list_outcome, outcome, replay_leaf, replay_outcome, request_or, words_at, words_job, words_leaf, words_outcome}
 use Rattle.rvcollide.specs.Command.{command_job, job_of, options_job, run_of, threads_of}
 use Rattle.rvcollide.specs.ClapProgram.{program}
-use Rattle.rvcollide.specs.internal.FoundJob.{asm_in, debug_in, job_in, job_read, list_in, replay_in}
+use Rattle.rvcollide.specs.internal.FoundJob.{asm_in, debug_in, exhibit_in, job_in, job_read, list_in, replay_in}
 
 abbrev Built : App
 Built = built program
@@ -90,6 +90,17 @@ unfolding clap_on_literals job_read
 debug_job_is n rest =
     ap₂ (λ (kinds : Kinds) (w : Walk). if is_empty kinds then option_and_then job_in (entered Built w.stopped) else None) (debug_fault n rest) (all_left (codes "debug") rest)
 
+exhibit_fault : (n : Text) (rest : List Text) → fault_of program (n ∷ codes "exhibit" ∷ rest) ≡ level_fault (leaf 7) [] nothing_held rest false []
+unfolding clap_on_literals
+exhibit_fault n rest =
+    ap₂ through (all_left (codes "exhibit") rest) (stopped_fault Built.top (names_of Built) (walk_from nothing_held) (codes "exhibit", []) rest)
+    ∙ nothing_next (level_fault (leaf 7) [] nothing_held rest false [])
+
+exhibit_job_is : (n : Text) (rest : List Text) → job_read (n ∷ codes "exhibit" ∷ rest) ≡ outcome exhibit_leaf exhibit_in (words_at false) rest
+unfolding clap_on_literals job_read
+exhibit_job_is n rest =
+    ap₂ (λ (kinds : Kinds) (w : Walk). if is_empty kinds then option_and_then job_in (entered Built w.stopped) else None) (exhibit_fault n rest) (all_left (codes "exhibit") rest)
+
 pub run_rows : (n : Text) (rest : List Text) → subcommand_of program (n ∷ codes "run" ∷ rest) ≡ Some (codes "run", rows_after (leaf 5).rules [] rest)
 unfolding clap_on_literals
 run_rows n rest = ap (λ (w : Walk). entered Built w.stopped) (all_left (codes "run") rest)
@@ -134,9 +145,10 @@ record Unmet (word : Text) : Type 0 where
   pub no_debug : bytes_eq (codes "debug") word ≡ false
   pub no_run : bytes_eq (codes "run") word ≡ false
   pub no_threads : bytes_eq (codes "threads") word ≡ false
+  pub no_exhibit : bytes_eq (codes "exhibit") word ≡ false
 
 none_met : (word : Text) → Unmet word → bytes_eq (codes "help") word ≡ false → subcommand_met (names_of Built) idle word ≡ None
-none_met word unmet no_help = rw (unmet.no_words, unmet.no_asm, unmet.no_list, unmet.no_replay, unmet.no_debug, unmet.no_run, unmet.no_threads, no_help) refl
+none_met word unmet no_help = rw (unmet.no_words, unmet.no_asm, unmet.no_list, unmet.no_replay, unmet.no_debug, unmet.no_run, unmet.no_threads, unmet.no_exhibit, no_help) refl
 
 turn_refused : (n word : Text) (rest : List Text) → is_empty (turn_fault Built.top (names_of Built) (words_at false) word) ≡ false → job_read (n ∷ word ∷ rest) ≡ None
 unfolding clap_on_literals job_read
@@ -184,14 +196,29 @@ reads_line (n ∷ word ∷ rest) = by_run (bytes_eq (codes "run") word) refl
     Same w = job_read (n ∷ w ∷ rest) ≡ command_job w rest
 
     nothing : Unmet word → None ≡ command_job word rest
-    nothing unmet = rw (unmet.no_words, unmet.no_asm, unmet.no_list, unmet.no_replay, unmet.no_debug) refl
+    nothing unmet = rw (unmet.no_words, unmet.no_asm, unmet.no_list, unmet.no_replay, unmet.no_debug, unmet.no_exhibit) refl
+
+    by_exhibit : (b : Bool) → WithoutOptions → bytes_eq (codes "words") word ≡ false → bytes_eq (codes "asm") word ≡ false → bytes_eq (codes "list") word ≡ false
+        → bytes_eq (codes "replay") word ≡ false → bytes_eq (codes "debug") word ≡ false → bytes_eq (codes "exhibit") word ≡ b → Same word
+    by_exhibit true plain no_words no_asm no_list no_replay no_debug exhibit = subst Same (is_word (codes "exhibit") word exhibit) (exhibit_job_is n rest ∙ exhibit_outcome rest)
+    by_exhibit false plain no_words no_asm no_list no_replay no_debug no_exhibit =
+        let unmet : Unmet word = record {
+          no_words = no_words;
+          no_asm = no_asm;
+          no_list = no_list;
+          no_replay = no_replay;
+          no_debug = no_debug;
+          no_run = plain.0;
+          no_threads = plain.1;
+          no_exhibit = no_exhibit;
+        } in
+        no_command n word rest unmet ∙ nothing unmet
 
     by_debug : (b : Bool) → WithoutOptions → bytes_eq (codes "words") word ≡ false → bytes_eq (codes "asm") word ≡ false → bytes_eq (codes "list") word ≡ false
         → bytes_eq (codes "replay") word ≡ false → bytes_eq (codes "debug") word ≡ b → Same word
     by_debug true plain no_words no_asm no_list no_replay debug = subst Same (is_word (codes "debug") word debug) (debug_job_is n rest ∙ debug_outcome rest)
     by_debug false plain no_words no_asm no_list no_replay no_debug =
-        let unmet : Unmet word = record { no_words = no_words; no_asm = no_asm; no_list = no_list; no_replay = no_replay; no_debug = no_debug; no_run = plain.0; no_threads = plain.1 } in
-        no_command n word rest unmet ∙ nothing unmet
+        by_exhibit (bytes_eq (codes "exhibit") word) plain no_words no_asm no_list no_replay no_debug refl
 
     by_replay : (b : Bool) → WithoutOptions → bytes_eq (codes "words") word ≡ false → bytes_eq (codes "asm") word ≡ false → bytes_eq (codes "list") word ≡ false
         → bytes_eq (codes "replay") word ≡ b → Same word

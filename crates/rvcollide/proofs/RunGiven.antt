@@ -15,7 +15,8 @@ use Rattle.rvcollide.specs.Command.{Asked, IsGiven, options_job, run_of, threads
 use Rattle.rvcollide.specs.ClapProgram.{is_accepted, program}
 use Rattle.rvcollide.specs.Request.{Request}
 use Rattle.rv_campaign.specs.declared.runs.TheConstants.{MOST_RUNS, MOST_WORKERS}
-use Rattle.rv_collide.specs.declared.plan.TheConstants.{MOST_ARMS, MOST_PAUSE, MOST_STEPS}
+use Rattle.rv_collide.specs.declared.plan.TheConstants.{DEFAULT_SLOTS, MOST_ARMS, MOST_PAUSE, MOST_STEPS}
+use Rattle.rv_break.specs.declared.claim.TheConstants.{MOST_SLOTS}
 use Rattle.rv_hart.specs.declared.machine.TheConstants.{MOST_HARTS}
 use Rattle.rvcollide.specs.declared.command.run.TheConstants.{MOST_KEEP, MOST_SEED}
 use Rattle.rvcollide.specs.RunLine.{Gives, GivesNumber, IsPlanGiven, IsRunGiven, request_at, keep_at, number_at, number_in, number_or, plan_at}
@@ -49,8 +50,11 @@ run_told = (
                       (
                         record { missing = refl; defaults = refl; aliases = refl; short_aliases = refl; acts = inl refl; long = inr (refl, refl); short = inl refl; most = omega arith; place = inl refl },
                         (
-                          record { missing = refl; defaults = refl; aliases = refl; short_aliases = refl; acts = inr refl; long = inr (refl, refl); short = inr refl; most = omega arith; place = inl refl },
-                          tt,
+                          record { missing = refl; defaults = refl; aliases = refl; short_aliases = refl; acts = inl refl; long = inr (refl, refl); short = inl refl; most = omega arith; place = inl refl },
+                          (
+                            record { missing = refl; defaults = refl; aliases = refl; short_aliases = refl; acts = inr refl; long = inr (refl, refl); short = inr refl; most = omega arith; place = inl refl },
+                            tt,
+                          ),
                         ),
                       ),
                     ),
@@ -84,8 +88,11 @@ threads_told = (
             (
               record { missing = refl; defaults = refl; aliases = refl; short_aliases = refl; acts = inl refl; long = inr (refl, refl); short = inl refl; most = omega arith; place = inl refl },
               (
-                record { missing = refl; defaults = refl; aliases = refl; short_aliases = refl; acts = inr refl; long = inr (refl, refl); short = inr refl; most = omega arith; place = inl refl },
-                tt,
+                record { missing = refl; defaults = refl; aliases = refl; short_aliases = refl; acts = inl refl; long = inr (refl, refl); short = inl refl; most = omega arith; place = inl refl },
+                (
+                  record { missing = refl; defaults = refl; aliases = refl; short_aliases = refl; acts = inr refl; long = inr (refl, refl); short = inr refl; most = omega arith; place = inl refl },
+                  tt,
+                ),
               ),
             ),
           ),
@@ -130,6 +137,19 @@ module _ (words : List Text) (rows : List Row) (stand : RowsStand words rows) wh
       then_holds (Gives words name) (GivesNumber words name least most) (λ text. number_in least most text) (first_of name rows) (value name other)
       (λ text stands. number_holds words name text least most stands)
 
+  -- the number of an option that may be left out
+  number_or_default : (default : ℕ) (name : Text) (least most : ℕ) → bytes_eq (codes "IMAGE") name ≡ false
+      → IfSome (number_or default name least most rows) (λ n. (n ≡ default) ⊎ GivesNumber words name least most n)
+  number_or_default default name least most other = which (is_some (first_of name rows))
+    where
+      or_default : (o : Option ℕ) → IfSome o (GivesNumber words name least most) → IfSome o (λ n. (n ≡ default) ⊎ GivesNumber words name least most n)
+      or_default None is = tt
+      or_default (Some n) is = inr is
+
+      which : (given : Bool) → IfSome (cond given (number_at name least most rows) (Some default)) (λ n. (n ≡ default) ⊎ GivesNumber words name least most n)
+      which true = or_default (number_at name least most rows) (number name least most other)
+      which false = inl refl
+
   abbrev PlanGiven : Numbers → Type 0
   PlanGiven = IsPlanGiven words
 
@@ -138,24 +158,17 @@ module _ (words : List Text) (rows : List Row) (stand : RowsStand words rows) wh
       then_holds _ PlanGiven _ (number_at (codes "harts") 1 MOST_HARTS rows) (number (codes "harts") 1 MOST_HARTS refl) (λ harts h.
       then_holds _ PlanGiven _ (number_at (codes "steps") 1 MOST_STEPS rows) (number (codes "steps") 1 MOST_STEPS refl) (λ steps s.
       then_holds _ PlanGiven _ (number_at (codes "arms") 0 MOST_ARMS rows) (number (codes "arms") 0 MOST_ARMS refl) (λ arms a.
-      map_holds _ PlanGiven _ (number_at (codes "pause") 1 MOST_PAUSE rows) (number (codes "pause") 1 MOST_PAUSE refl) (λ pause p.
-      record { harts = h; steps = s; arms = a; pause = p }))))
+      then_holds _ PlanGiven _ (number_at (codes "pause") 1 MOST_PAUSE rows) (number (codes "pause") 1 MOST_PAUSE refl) (λ pause p.
+      map_holds _ PlanGiven _ (number_or DEFAULT_SLOTS (codes "slots") 1 MOST_SLOTS rows) (number_or_default DEFAULT_SLOTS (codes "slots") 1 MOST_SLOTS refl) (λ slots l.
+      record { harts = h; steps = s; arms = a; pause = p; slots = l })))))
 
   abbrev KeepGiven : ℕ → Type 0
   KeepGiven keep = (keep ≡ 0) ⊎ GivesNumber words (codes "keep") 0 MOST_KEEP keep
 
   keep_given : (runs : ℕ) → IfSome (keep_at runs rows) (λ keep. KeepGiven keep × (keep < runs))
   keep_given runs = then_holds KeepGiven (λ keep. KeepGiven keep × (keep < runs)) (λ keep. cond (nat_lt keep runs) (Some keep) None) (number_or 0 (codes "keep") 0 MOST_KEEP rows)
-      (which (is_some (first_of (codes "keep") rows))) (λ keep given. below keep given (nat_lt keep runs) refl)
+      (number_or_default 0 (codes "keep") 0 MOST_KEEP refl) (λ keep given. below keep given (nat_lt keep runs) refl)
     where
-      which : (b : Bool) → IfSome (cond b (number_at (codes "keep") 0 MOST_KEEP rows) (Some 0)) KeepGiven
-      which true = or_zero (number_at (codes "keep") 0 MOST_KEEP rows) (number (codes "keep") 0 MOST_KEEP refl)
-        where
-          or_zero : (o : Option ℕ) → IfSome o (GivesNumber words (codes "keep") 0 MOST_KEEP) → IfSome o KeepGiven
-          or_zero None is = tt
-          or_zero (Some n) is = inr is
-      which false = inl refl
-
       below : (keep : ℕ) → KeepGiven keep → (b : Bool) → nat_lt keep runs ≡ b → IfSome (cond b (Some keep) None) (λ k. KeepGiven k × (k < runs))
       below keep given true is = (given, grind (arith, nat_tests))
       below keep given false is = tt

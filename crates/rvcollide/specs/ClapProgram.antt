@@ -28,7 +28,7 @@ schedule = required_word (codes "SCHEDULE")
 -- the options of a plan
 abbrev pub plan_options : List Rule
 plan_options = required_option (codes "harts") ∷ required_option (codes "steps")
-    ∷ required_option (codes "arms") ∷ required_option (codes "pause") ∷ []
+    ∷ required_option (codes "arms") ∷ required_option (codes "pause") ∷ option (codes "slots") ∷ []
 
 -- the options of `run`
 abbrev pub run_options : List Rule
@@ -51,6 +51,7 @@ commands = command (codes "words") []
     ∷ command (codes "debug") (image ∷ schedule ∷ [])
     ∷ command (codes "run") (image ∷ run_options)
     ∷ command (codes "threads") (image ∷ threads_options)
+    ∷ command (codes "exhibit") (image ∷ schedule ∷ required_word (codes "N") ∷ [])
     ∷ []
 
 abbrev pub without_commands : App

@@ -1,14 +1,16 @@
 -- Which job a command line asks for. A word is the list of its bytes.
-use Rattle.std.specs.Prelude.{◌≡◌, ℕ, ◌==◌, ◌&&◌, Bool, false, is_some, drop, slice_get, List, [], ◌∷◌, map, Contains, Option, Some, None, option_map, option_and_then, codes, if◌then◌else◌}
+use Rattle.std.specs.Prelude.{◌≡◌, ◌≤◌, ℕ, ◌==◌, ◌&&◌, Bool, false, is_some, drop, slice_get, List, [], ◌∷◌, map, Contains, Option, Some, None, option_map, option_and_then, codes, if◌then◌else◌}
 use Rattle.std.specs.Borrow.{Bor}
 use Rattle.std.specs.Str.{bytes_eq, chars}
 use Rattle.clap.specs.Words.{Row, first_of, subcommand_of}
 use Rattle.rv_collide.specs.Numbers.{numbers}
 use Rattle.rv_collide.specs.Plan.{Numbers}
+use Rattle.rv_text.specs.Numeral.{number_of, up_to}
 use Rattle.rvcollide.specs.ClapProgram.{is_accepted, program}
 use Rattle.rvcollide.specs.Request.{Request, request}
 use Rattle.rvcollide.specs.RunLine.{IsRunGiven, IsThreadsGiven, number_at, plan_at, request_at}
 use Rattle.rvcollide.specs.declared.command.Job.{Job}
+use Rattle.rvcollide.specs.declared.command.exhibit.TheConstants.{MOST_ENDING}
 use Rattle.rvcollide.specs.declared.command.run.TheConstants.{MOST_SEED}
 use Rattle.rvcollide.specs.declared.command.Job.TheVariants as job
 
@@ -27,6 +29,7 @@ pub data Asked : Type 0 where
   Debug : (image schedule : List ℕ) → Asked
   Run : (image : List ℕ) → (wanted : Request) → (save : Option (List ℕ)) → Asked
   Threads : (image : List ℕ) → (plan : Numbers) → (seed : ℕ) → (save : Option (List ℕ)) → Asked
+  Exhibit : (image schedule : List ℕ) → (number : ℕ) → Asked
 
 -- what a job asks for: each of its paths in its own role
 abbrev pub asked : Job → Asked
@@ -37,6 +40,7 @@ asked (job.Replay image schedule) = Replay image.0.now schedule.0.now
 asked (job.Debug image schedule) = Debug image.0.now schedule.0.now
 asked (job.Run image options save) = Run image.0.now (request options) (option_map (λ path. path.0.now) save)
 asked (job.Threads image plan seed save) = Threads image.0.now (numbers plan) seed (option_map (λ path. path.0.now) save)
+asked (job.Exhibit image schedule number) = Exhibit image.0.now schedule.0.now number
 
 -- a hyphen and a character after it begin an option. No command but `run` and `threads` has options.
 abbrev pub is_option : List ℕ → Bool
@@ -76,6 +80,15 @@ abbrev pub debug_of : List (List ℕ) → Option Asked
 debug_of (image ∷ schedule ∷ []) = Some (Debug image schedule)
 debug_of _ = None
 
+-- the number of an ending that a text writes in decimal digits, if it lies in the range
+abbrev pub ending_of : List ℕ → Option ℕ
+ending_of text = up_to MOST_ENDING (number_of 10 text)
+
+-- `exhibit IMAGE SCHEDULE N`
+abbrev pub exhibit_of : List (List ℕ) → Option Asked
+exhibit_of (image ∷ schedule ∷ number ∷ []) = option_map (λ n. Exhibit image schedule n) (ending_of number)
+exhibit_of _ = None
+
 -- `run IMAGE` with its options, in what `clap` finds for them
 abbrev pub run_of : List Row → Option Asked
 run_of rows = option_and_then (λ image. option_map (λ wanted. Run image wanted (first_of (codes "save") rows))
@@ -98,7 +111,8 @@ command_job name rest =
     else (if bytes_eq (codes "list") name then option_and_then list_of (arguments rest)
     else (if bytes_eq (codes "replay") name then option_and_then replay_of (arguments rest)
     else (if bytes_eq (codes "debug") name then option_and_then debug_of (arguments rest)
-    else None))))
+    else (if bytes_eq (codes "exhibit") name then option_and_then exhibit_of (arguments rest)
+    else None)))))
 
 -- the job that a line asks for: the program's name, the command's, and the command's words
 unfoldable pub job_of : List (List ℕ) → Option Asked
@@ -107,6 +121,13 @@ job_of (name ∷ command ∷ rest) =
     else (if bytes_eq (codes "threads") command then options_job threads_of (name ∷ command ∷ rest)
     else command_job command rest)
 job_of _ = None
+
+-- the number stands among the words, and lies in its range
+pub record IsEndingGiven (words : List (List ℕ)) (number : ℕ) : Type 0 where
+  pub text : List ℕ
+  pub stands : Contains words text
+  pub reads : number_of 10 text ≡ Some number
+  pub no_more : number ≤ MOST_ENDING
 
 -- the command's name and each path of the job stand in the line
 abbrev pub IsGiven : List (List ℕ) → Asked → Type 0
@@ -117,3 +138,4 @@ IsGiven words (Replay image schedule) = (slice_get words 1 ≡ Some (codes "repl
 IsGiven words (Debug image schedule) = (slice_get words 1 ≡ Some (codes "debug")) × Contains (drop 2 words) image × Contains (drop 2 words) schedule
 IsGiven words (Run image wanted save) = (slice_get words 1 ≡ Some (codes "run")) × IsRunGiven (drop 2 words) image wanted save
 IsGiven words (Threads image plan seed save) = (slice_get words 1 ≡ Some (codes "threads")) × IsThreadsGiven (drop 2 words) image plan seed save
+IsGiven words (Exhibit image schedule number) = (slice_get words 1 ≡ Some (codes "exhibit")) × Contains (drop 2 words) image × Contains (drop 2 words) schedule × IsEndingGiven (drop 2 words) number

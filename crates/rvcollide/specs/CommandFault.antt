@@ -5,7 +5,7 @@ use Rattle.rv_campaign.specs.declared.runs.CampaignFault.TheVariants as campaign
 use Rattle.rvcollide.specs.Fault as plain
 use Rattle.rvcollide.specs.FaultText as text
 use Rattle.rvcollide.specs.declared.fault.Fault.{Fault}
-use Rattle.rvcollide.specs.declared.fault.Fault.TheVariants.{Line, Step, Asm, Load, Schedule, Entry, Threads, TooLong, Read, Write, NoMemory}
+use Rattle.rvcollide.specs.declared.fault.Fault.TheVariants.{Line, Step, Asm, Load, Schedule, Entry, Threads, Exhibit, TooLong, Read, Write, NoMemory}
 use Rattle.rvcollide.specs.declared.run.fault.CommandFault.{CommandFault}
 use Rattle.rvcollide.specs.declared.run.fault.CommandFault.TheVariants as run
 
@@ -44,6 +44,7 @@ IsTold told (Plain (Load fault)) = told ≡ Err (Plain (Load fault))
 IsTold told (Plain (Schedule fault)) = told ≡ Err (Plain (Schedule fault))
 IsTold told (Plain (Entry place why)) = told ≡ Err (Plain (Entry place why))
 IsTold told (Plain (Threads fault)) = told ≡ Err (Plain (Threads fault))
+IsTold told (Plain (Exhibit fault)) = told ≡ Err (Plain (Exhibit fault))
 IsTold told (Plain TooLong) = told ≡ Err (Plain TooLong)
 IsTold told (Plain Read) = ⊤
 IsTold told (Plain Write) = ⊤

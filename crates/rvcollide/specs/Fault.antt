@@ -21,8 +21,10 @@ use Rattle.rv_locked.specs.declared.threads.RunFault.{RunFault}
 use Rattle.rv_locked.specs.declared.threads.RunFault.TheVariants as threaded
 use Rattle.rv_memory.specs.declared.flagged.ReadFault.{ReadFault}
 use Rattle.rv_memory.specs.declared.flagged.ReadFault.TheVariants as read
+use Rattle.rv_report.specs.declared.exhibit.ExhibitFault.{ExhibitFault}
+use Rattle.rv_report.specs.declared.exhibit.ExhibitFault.TheVariants as exhibit
 use Rattle.rvcollide.specs.declared.fault.Fault.{Fault}
-use Rattle.rvcollide.specs.declared.fault.Fault.TheVariants.{Line, Step, Asm, Load, Schedule, Entry, Threads, TooLong, Read, Write, NoMemory}
+use Rattle.rvcollide.specs.declared.fault.Fault.TheVariants.{Line, Step, Asm, Load, Schedule, Entry, Threads, Exhibit, TooLong, Read, Write, NoMemory}
 use Rattle.rvcollide.specs.declared.fault.ThreadsFault.TheVariants.{NoThread, Stray}
 
 abbrev pub fault_of_words : WordsFault → Fault
@@ -54,6 +56,12 @@ abbrev pub fault_of_replay : ReplayFault → Fault
 fault_of_replay replay.NoMemory = NoMemory
 fault_of_replay (replay.Entry place why) = Entry place why
 
+-- an entry that is not what a call would add is told as `replay` tells it
+abbrev pub fault_of_exhibit : ExhibitFault → Fault
+fault_of_exhibit exhibit.NoMemory = NoMemory
+fault_of_exhibit (exhibit.Replay place why) = Entry place why
+fault_of_exhibit fault = Exhibit fault
+
 -- a gate that always lets in gives no value to refuse with
 abbrev pub fault_of_threads : RunFault Infallible → Fault
 fault_of_threads threaded.NoMemory = NoMemory
@@ -80,6 +88,7 @@ IsToldFault told (Load fault) = told ≡ Err (Load fault)
 IsToldFault told (Schedule fault) = told ≡ Err (Schedule fault)
 IsToldFault told (Entry place why) = told ≡ Err (Entry place why)
 IsToldFault told (Threads fault) = told ≡ Err (Threads fault)
+IsToldFault told (Exhibit fault) = told ≡ Err (Exhibit fault)
 IsToldFault told TooLong = told ≡ Err TooLong
 IsToldFault told Read = ⊤
 IsToldFault told Write = ⊤
@@ -94,6 +103,7 @@ is_read (Load fault) = false
 is_read (Schedule fault) = false
 is_read (Entry place why) = false
 is_read (Threads fault) = false
+is_read (Exhibit fault) = false
 is_read TooLong = false
 is_read Read = true
 is_read Write = false
@@ -108,6 +118,7 @@ is_write (Load fault) = false
 is_write (Schedule fault) = false
 is_write (Entry place why) = false
 is_write (Threads fault) = false
+is_write (Exhibit fault) = false
 is_write TooLong = false
 is_write Read = false
 is_write Write = true

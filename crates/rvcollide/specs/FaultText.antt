@@ -6,7 +6,7 @@ use Rattle.rv_asm.specs.declared.statement.AsmKind.TheVariants as kind
 use Rattle.rv_hart.specs.declared.machine.StepFault.{StepFault}
 use Rattle.rv_hart.specs.declared.machine.StepFault.TheVariants as refused
 use Rattle.rvcollide.specs.declared.fault.Fault.{Fault}
-use Rattle.rvcollide.specs.declared.fault.Fault.TheVariants.{Line, Step, Asm, Load, Schedule, Entry, Threads, TooLong, Read, Write, NoMemory}
+use Rattle.rvcollide.specs.declared.fault.Fault.TheVariants.{Line, Step, Asm, Load, Schedule, Entry, Threads, Exhibit, TooLong, Read, Write, NoMemory}
 use Rattle.rvcollide.specs.declared.fault.ThreadsFault.{ThreadsFault}
 use Rattle.rvcollide.specs.declared.fault.ThreadsFault.TheVariants.{NoThread, Stray}
 
@@ -32,11 +32,12 @@ threads_fault_name NoThread = codes "NoThread"
 threads_fault_name Stray = codes "Stray"
 
 -- The fixed words and the number of a fault's line, where the name behind them is another crate's: rv_elf names load
--- faults, rv_collide those of schedules and of entries. A line counts from 1 and an entry from 0, as the fault has it.
+-- faults, rv_collide those of schedules and of entries, rv_report those of exhibits. A line counts from 1 and an entry from 0, as the fault has it.
 abbrev pub words_before : Fault → List ℕ
 words_before (Load fault) = codes "load "
 words_before (Schedule fault) = codes "schedule line " ++ (decimal fault.line ++ codes " ")
 words_before (Entry place why) = codes "replay entry " ++ (decimal place ++ codes " ")
+words_before (Exhibit fault) = codes "exhibit "
 words_before _ = []
 
 -- what the program writes of a fault, after its own name; where the name is another crate's, it is said by `words_before`
@@ -47,6 +48,7 @@ fault_output (Asm fault) = Some (codes "asm line " ++ (decimal fault.line ++ (co
 fault_output (Load fault) = None
 fault_output (Schedule fault) = None
 fault_output (Entry place why) = None
+fault_output (Exhibit fault) = None
 fault_output (Threads fault) = Some (codes "run " ++ threads_fault_name fault)
 fault_output TooLong = Some (codes "input TooLong")
 fault_output Read = Some (codes "read")
@@ -62,6 +64,7 @@ status (Load fault) = 1
 status (Schedule fault) = 1
 status (Entry place why) = 1
 status (Threads fault) = 1
+status (Exhibit fault) = 1
 status TooLong = 1
 status Read = 3
 status Write = 3

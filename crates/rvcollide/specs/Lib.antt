@@ -3,6 +3,7 @@ pub mod ClapProgram
 pub mod Command
 pub mod CommandFault
 pub mod Debug
+pub mod Exhibits
 pub mod Failure
 pub mod Fault
 pub mod FaultText

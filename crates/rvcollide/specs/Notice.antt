@@ -10,6 +10,7 @@ use Rattle.rvcollide.specs.ClapProgram.{is_accepted, program}
 use Rattle.std.specs.Fmt.{decimal}
 use Rattle.rvcollide.specs.declared.command.complaint.Complaint.{Complaint}
 use Rattle.rvcollide.specs.declared.command.complaint.Complaint.TheVariants as complaint
+use Rattle.rvcollide.specs.declared.command.exhibit.TheConstants.{MOST_ENDING}
 use Rattle.rvcollide.specs.declared.command.Notice.{Notice}
 use Rattle.rvcollide.specs.declared.command.Notice.TheVariants.{Answer, Refusal}
 
@@ -45,4 +46,7 @@ complaint_output (complaint.Number option value) =
 complaint_output (complaint.Keep value runs) =
     Some (codes "error: invalid value '" ++ (value.now ++ (codes "' for '--keep': it is less than '--runs', which is "
     ++ (decimal runs ++ codes "\n"))))
+complaint_output (complaint.Ending value) =
+    Some (codes "error: invalid value '" ++ (value.now ++ (codes "' for 'N': it is a decimal number from 0 to "
+    ++ (decimal MOST_ENDING ++ codes "\n"))))
 complaint_output complaint.Words = Some (codes "error: the command line is refused\n")

@@ -5,7 +5,8 @@ use Rattle.rv_collide.specs.Plan.{Numbers}
 use Rattle.rv_text.specs.Numeral.{number_of, up_to}
 use Rattle.rvcollide.specs.Request.{Request}
 use Rattle.rv_campaign.specs.declared.runs.TheConstants.{MOST_RUNS, MOST_WORKERS}
-use Rattle.rv_collide.specs.declared.plan.TheConstants.{MOST_ARMS, MOST_PAUSE, MOST_STEPS}
+use Rattle.rv_collide.specs.declared.plan.TheConstants.{DEFAULT_SLOTS, MOST_ARMS, MOST_PAUSE, MOST_STEPS}
+use Rattle.rv_break.specs.declared.claim.TheConstants.{MOST_SLOTS}
 use Rattle.rv_hart.specs.declared.machine.TheConstants.{MOST_HARTS}
 use Rattle.rvcollide.specs.declared.command.run.TheConstants.{MOST_KEEP, MOST_SEED}
 
@@ -25,8 +26,9 @@ number_or default name least most rows = if is_some (first_of name rows) then nu
 
 abbrev pub plan_at : List Row → Option Numbers
 plan_at rows =
-    option_and_then (λ harts. option_and_then (λ steps. option_and_then (λ arms. option_map (λ pause.
-    record { harts = harts; steps = steps; arms = arms; pause = pause })
+    option_and_then (λ harts. option_and_then (λ steps. option_and_then (λ arms. option_and_then (λ pause. option_map (λ slots.
+    record { harts = harts; steps = steps; arms = arms; pause = pause; slots = slots })
+    (number_or DEFAULT_SLOTS (codes "slots") 1 MOST_SLOTS rows))
     (number_at (codes "pause") 1 MOST_PAUSE rows))
     (number_at (codes "arms") 0 MOST_ARMS rows))
     (number_at (codes "steps") 1 MOST_STEPS rows))
@@ -61,12 +63,13 @@ pub record GivesNumber (words : List Text) (name : Text) (least most n : ℕ) : 
   pub no_less : least ≤ n
   pub no_more : n ≤ most
 
--- each number of the plan stands in the words
+-- each number of the plan stands in the words, but for the slots, which may be left out
 pub record IsPlanGiven (words : List Text) (plan : Numbers) : Type 0 where
   pub harts : GivesNumber words (codes "harts") 1 MOST_HARTS plan.harts
   pub steps : GivesNumber words (codes "steps") 1 MOST_STEPS plan.steps
   pub arms : GivesNumber words (codes "arms") 0 MOST_ARMS plan.arms
   pub pause : GivesNumber words (codes "pause") 1 MOST_PAUSE plan.pause
+  pub slots : (plan.slots ≡ DEFAULT_SLOTS) ⊎ GivesNumber words (codes "slots") 1 MOST_SLOTS plan.slots
 
 -- each option of `run` stands in the words
 pub record IsRunGiven (words : List Text) (path : Text) (wanted : Request) (saved : Option Text) : Type 0 where

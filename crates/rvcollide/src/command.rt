@@ -16,6 +16,7 @@ ghost use Rattle.rvcollide.specs.internal.FoundJob as jobs;
 
 pub mod commands;
 pub mod complaint;
+pub mod exhibit;
 pub mod run;
 pub mod subcommand;
 pub mod threads;
@@ -23,6 +24,7 @@ pub mod threads;
 use crate::arguments::{ImagePath, SavePath, SchedulePath, SourcePath};
 use crate::command::commands::COMMANDS;
 use crate::command::complaint::Complaint;
+use crate::command::exhibit::exhibit_of;
 use crate::command::run::run_of;
 use crate::command::subcommand::with_subcommands;
 use crate::command::threads::threads_of;
@@ -70,6 +72,12 @@ pub enum Job<'a> {
         plan: Plan,
         seed: u32,
         save: Option<SavePath<'a>>,
+    },
+    /// `exhibit IMAGE SCHEDULE N`: show the report of ending N as a list of steps.
+    Exhibit {
+        image: ImagePath<'a>,
+        schedule: SchedulePath<'a>,
+        number: u32,
     },
 }
 
@@ -195,6 +203,7 @@ fn job_at<'a>(name: &str, given: &ArgMatches<'a>) -> Result<Job<'a>, Complaint<'
     match name {
         "run" => run_of(given),
         "threads" => threads_of(given),
+        "exhibit" => exhibit_of(given),
         _ => path_job_at(name, given).ok_or(Complaint::Words),
     }
 }
@@ -203,6 +212,7 @@ fn job_at<'a>(name: &str, given: &ArgMatches<'a>) -> Result<Job<'a>, Complaint<'
 fn path_job_at<'a>(name: &str, given: &ArgMatches<'a>) -> Option<Job<'a>>
     requires run { bytes_eq name.now (codes "run") ≡ false }
     requires threads { bytes_eq name.now (codes "threads") ≡ false }
+    requires exhibit { bytes_eq name.now (codes "exhibit") ≡ false }
     ensures { option_map spec.asked result ≡ jobs.job_in (name.now, rows_of (found_of given.now)) }
 {
     match name {

@@ -1,6 +1,6 @@
 ghost use Rattle.std.specs.Prelude.{◌≡◌, ◌++◌, option_map};
 ghost use Rattle.rvcollide.specs.FaultText as spec;
-ghost use Rattle.rvcollide.specs.Fault.{fault_of_asm, fault_of_list, fault_of_load, fault_of_read, fault_of_replay, fault_of_schedule, fault_of_talk, fault_of_threads, fault_of_words};
+ghost use Rattle.rvcollide.specs.Fault.{fault_of_asm, fault_of_exhibit, fault_of_list, fault_of_load, fault_of_read, fault_of_replay, fault_of_schedule, fault_of_talk, fault_of_threads, fault_of_words};
 ghost use Rattle.rvcollide.specs.declared.fault.Fault.TheVariants as fault;
 
 use rv_asm::{AsmFault, AsmKind, ListFault};
@@ -12,6 +12,7 @@ use rv_hart::machine::StepFault;
 use rv_locked::threads::RunFault;
 use rv_memory::flagged::{ReadFault, WriteFault};
 use rv_memory::store::NoMemory;
+use rv_report::exhibit::ExhibitFault;
 use rv_words::fault::WordsFault;
 use std::convert::Infallible;
 use std::fmt;
@@ -41,6 +42,8 @@ pub enum Fault {
     Entry { place: u32, why: Why },
     /// Why a run by threads is refused.
     Threads(ThreadsFault),
+    /// Why an ending of a schedule has no exhibit.
+    Exhibit(ExhibitFault),
     /// The input has more bytes than an input may have.
     TooLong,
     /// The reader failed.
@@ -63,6 +66,7 @@ impl Fault {
             | Fault::Schedule(_)
             | Fault::Entry { .. }
             | Fault::Threads(_)
+            | Fault::Exhibit(_)
             | Fault::TooLong => 1,
             Fault::Read | Fault::Write => 3,
             Fault::NoMemory => 4,
@@ -124,6 +128,19 @@ impl From<ReplayFault> for Fault {
         match given {
             ReplayFault::NoMemory => Fault::NoMemory,
             ReplayFault::Entry { place, why } => Fault::Entry { place, why },
+        }
+    }
+}
+
+/// An entry that is not what a call would add is told as `replay` tells it.
+impl From<ExhibitFault> for Fault {
+    ghost from_gives = { λ given made. made ≡ fault_of_exhibit given };
+
+    fn from(given: ExhibitFault) -> Fault {
+        match given {
+            ExhibitFault::NoMemory => Fault::NoMemory,
+            ExhibitFault::Replay { place, why } => Fault::Entry { place, why },
+            fault => Fault::Exhibit(fault),
         }
     }
 }
@@ -207,6 +224,7 @@ impl<N: fmt::Display> fmt::Display for Named<'_, N> {
             Fault::Load(_) => write!(f, "load {name}"),
             Fault::Schedule(fault) => write!(f, "schedule line {} {name}", fault.line),
             Fault::Entry { place, .. } => write!(f, "replay entry {place} {name}"),
+            Fault::Exhibit(_) => write!(f, "exhibit {name}"),
             _ => write!(f, "{name}"),
         }
     }
@@ -231,6 +249,7 @@ impl fmt::Display for Fault {
                 write!(f, "{}", Named { fault: self, name })
             }
             Fault::Entry { why: name, .. } => write!(f, "{}", Named { fault: self, name }),
+            Fault::Exhibit(name) => write!(f, "{}", Named { fault: self, name }),
             Fault::Threads(fault) => write!(f, "run {}", threads_fault_name(*fault)),
             Fault::TooLong => f.write_str("input TooLong"),
             Fault::Read => f.write_str("read"),

@@ -14,6 +14,7 @@ pub mod command;
 pub mod debug;
 #[cfg(test)]
 pub mod devices;
+pub mod exhibit;
 pub mod failure;
 pub mod fault;
 pub mod files;
@@ -29,6 +30,7 @@ use crate::arguments::{ImagePath, SavePath, SchedulePath};
 use crate::asm::run_asm;
 use crate::command::{Job, LineFault, Notice, command_of, notice_of};
 use crate::debug::engine::run_debug;
+use crate::exhibit::engine::run_exhibit;
 use crate::failure::Failure;
 use crate::fault::Fault;
 use crate::files::{InputFile, OutputFile};
@@ -113,6 +115,15 @@ fn run_job<'a>(
             let mut image = Flagged::new(InputFile::new(rt, image.0));
             let mut schedule = Flagged::new(InputFile::new(rt, schedule.0));
             run_replay(alloc, &mut image, &mut schedule, &mut writer)
+        }
+        Job::Exhibit {
+            image,
+            schedule,
+            number,
+        } => {
+            let mut image = Flagged::new(InputFile::new(rt, image.0));
+            let mut schedule = Flagged::new(InputFile::new(rt, schedule.0));
+            run_exhibit(alloc, &mut image, &mut schedule, number, &mut writer)
         }
         Job::Debug { image, schedule } => debug_files(rt, image, schedule),
         Job::Run {

@@ -2,7 +2,7 @@
 
 use crate::command::subcommand::{Argument, Subcommand};
 
-pub const COMMANDS: [Subcommand; 7] = [
+pub const COMMANDS: [Subcommand; 8] = [
     Subcommand {
         name: "words",
         about: "Runs the words of the standard input",
@@ -52,6 +52,7 @@ pub const COMMANDS: [Subcommand; 7] = [
             STEPS,
             ARMS,
             PAUSE,
+            SLOTS,
             SEED,
             Argument::Required {
                 name: "runs",
@@ -93,11 +94,25 @@ pub const COMMANDS: [Subcommand; 7] = [
             STEPS,
             ARMS,
             PAUSE,
+            SLOTS,
             SEED,
             Argument::Optional {
                 name: "save",
                 value: "FILE",
                 help: "File for the schedule of the run, which replay and debug read",
+            },
+        ],
+    },
+    Subcommand {
+        name: "exhibit",
+        about: "Shows a report of a schedule as a plain list of hart steps, which any emulator can check",
+        after: Some(EXHIBIT),
+        arguments: &[
+            IMAGE,
+            SCHEDULE,
+            Argument::Word {
+                name: "N",
+                help: "Number of the ending, as replay counts them: 0 to 4294967295",
             },
         ],
     },
@@ -131,6 +146,12 @@ const ARMS: Argument = Argument::Required {
 const PAUSE: Argument = Argument::Required {
     name: "pause",
     help: "Steps of other harts that a pause lasts, 1 to 65535",
+};
+
+const SLOTS: Argument = Argument::Optional {
+    name: "slots",
+    value: "N",
+    help: "Pauses that are watched at once, 1 to 8 [default: 4]",
 };
 
 const SEED: Argument = Argument::Required {
@@ -176,3 +197,16 @@ with the same endings, and debug shows its places.
 
 Example:
   rvcollide threads guest.elf --harts 2 --steps 10000 --arms 50 --pause 20 --seed 1 --save run.txt";
+
+/// What the help of `exhibit` says after its arguments.
+const EXHIBIT: &str = "\
+Writes the two accesses that conflict, and the numbers of harts: the steps from the start, one after
+another, on a plain machine without breakpoints. The last two steps make the two accesses.
+
+What is refused is told by a line such as exhibit NotReport:
+  NoEnding     the schedule has no such ending
+  NotReport    the ending is quiet
+  TextChanged  the instruction of the paused hart was written over before the second access
+
+Example:
+  rvcollide exhibit guest.elf run.txt 0";

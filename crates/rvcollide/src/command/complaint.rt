@@ -1,5 +1,6 @@
 ghost use Rattle.rvcollide.specs.Notice as notice;
 
+use crate::command::exhibit::MOST_ENDING;
 use std::fmt;
 
 /// An option whose value is a decimal number, and its range.
@@ -23,6 +24,10 @@ pub enum Complaint<'a> {
         value: &'a str,
         runs: u32,
     },
+    /// The number of an ending is none, or out of its range.
+    Ending {
+        value: &'a str,
+    },
     /// The words are no command with its arguments.
     Words,
 }
@@ -40,6 +45,11 @@ impl<'a> fmt::Display for Complaint<'a> {
             Complaint::Keep { value, runs } => write!(
                 f,
                 "error: invalid value '{value}' for '--keep': it is less than '--runs', which is {runs}\n"
+            ),
+            Complaint::Ending { value } => write!(
+                f,
+                "error: invalid value '{value}' for 'N': it is a decimal number from 0 to {}\n",
+                MOST_ENDING
             ),
             Complaint::Words => f.write_str("error: the command line is refused\n"),
         }

@@ -13,7 +13,9 @@ use crate::arguments::{ImagePath, SavePath};
 use crate::run::options::Options;
 use clap::ArgMatches;
 use rv_campaign::{MOST_RUNS, MOST_WORKERS};
-use rv_collide::plan::{MOST_ARMS, MOST_HARTS, MOST_PAUSE, MOST_STEPS, Plan};
+use rv_collide::plan::{
+    DEFAULT_SLOTS, MOST_ARMS, MOST_HARTS, MOST_PAUSE, MOST_SLOTS, MOST_STEPS, Plan,
+};
 use rv_text::numeral::read_number;
 
 /// The greatest number of a run, which a campaign of the most runs has.
@@ -44,6 +46,12 @@ pub const PAUSE: NumberOption = NumberOption {
     name: "pause",
     least: 1,
     most: MOST_PAUSE,
+};
+
+pub const SLOTS: NumberOption = NumberOption {
+    name: "slots",
+    least: 1,
+    most: MOST_SLOTS as u32,
 };
 
 pub const SEED: NumberOption = NumberOption {
@@ -120,11 +128,13 @@ pub fn plan_of<'a>(given: &ArgMatches<'a>) -> Result<Plan, Complaint<'a>>
     let steps = number_of(given, STEPS)?;
     let arms = number_of(given, ARMS)?;
     let pause = number_of(given, PAUSE)?;
+    let slots = number_or(given, SLOTS, u32::from(DEFAULT_SLOTS))?;
     Ok(Plan {
         harts: harts as u8,
         steps,
         arms,
         pause,
+        slots: slots as u8,
     })
 }
 
@@ -156,6 +166,25 @@ pub fn number_of<'a>(given: &ArgMatches<'a>, option: NumberOption) -> Result<u32
 {
     let value = text_of(given, option.name).ok_or(Complaint::Words)?;
     number_in(option, value)
+}
+
+/// The number of an option that may be left out.
+fn number_or<'a>(
+    given: &ArgMatches<'a>,
+    option: NumberOption,
+    default: u32,
+) -> Result<u32, Complaint<'a>>
+    requires least { option.least ≤ default }
+    requires most { default ≤ option.most }
+    ensures number { MatchResult result
+        (λ n. line.number_or default option.name.now option.least option.most (rows_of (found_of given.now)) ≡ Some n)
+        (λ _. line.number_or default option.name.now option.least option.most (rows_of (found_of given.now)) ≡ None) }
+    ensures range { IfOk result (λ n. (option.least ≤ n) × (n ≤ option.most)) }
+{
+    match text_of(given, option.name) {
+        None => Ok(default),
+        Some(value) => number_in(option, value),
+    }
 }
 
 /// The number that an option's value writes.

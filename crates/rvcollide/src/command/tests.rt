@@ -22,6 +22,11 @@ fn reads_each_command(rt: HostRuntime) {
         image: ImagePath("a.elf"),
         schedule: SchedulePath("a.txt"),
     };
+    let exhibit = Job::Exhibit {
+        image: ImagePath("a.elf"),
+        schedule: SchedulePath("a.txt"),
+        number: 7,
+    };
     let odd = Job::Replay {
         image: ImagePath("-"),
         schedule: SchedulePath(""),
@@ -34,6 +39,14 @@ fn reads_each_command(rt: HostRuntime) {
         (
             ["rvcollide", "debug", "a.elf", "--", "a.txt"].as_slice(),
             debug,
+        ),
+        (
+            ["rvcollide", "exhibit", "a.elf", "a.txt", "7"].as_slice(),
+            exhibit,
+        ),
+        (
+            ["", "exhibit", "a.elf", "--", "a.txt", "007"].as_slice(),
+            exhibit,
         ),
         (["", "words", "--"].as_slice(), Job::Words),
         (["", "asm", "--", "a.s", "a.elf"].as_slice(), ASM),
@@ -81,6 +94,12 @@ fn refuses_other_lines(rt: HostRuntime) {
         ["", "replay", "a.elf", "a.txt", "-"].as_slice(),
         ["", "debug", "a.elf"].as_slice(),
         ["", "debug", "a.elf", "a.txt", "1"].as_slice(),
+        ["", "exhibit", "a.elf", "a.txt"].as_slice(),
+        ["", "exhibit", "a.elf", "a.txt", "-1"].as_slice(),
+        ["", "exhibit", "a.elf", "a.txt", "x"].as_slice(),
+        ["", "exhibit", "a.elf", "a.txt", ""].as_slice(),
+        ["", "exhibit", "a.elf", "a.txt", "4294967296"].as_slice(),
+        ["", "exhibit", "a.elf", "a.txt", "0", "0"].as_slice(),
         ["", "run", "--help"].as_slice(),
         ["", "--help"].as_slice(),
         ["", "help"].as_slice(),
@@ -138,6 +157,16 @@ fn says_what_a_line_lacks(rt: HostRuntime) -> Result<(), Fail> {
             ["rvcollide", "run", "-h"].as_slice(),
             true,
             "rvcollide run [OPTIONS]",
+        ),
+        (
+            ["rvcollide", "exhibit", "-h"].as_slice(),
+            true,
+            "Usage: rvcollide exhibit <IMAGE> <SCHEDULE> <N>",
+        ),
+        (
+            ["rvcollide", "exhibit", "a.elf", "a.txt", "x"].as_slice(),
+            false,
+            "'x' for 'N': it is a decimal number from 0 to 4294967295",
         ),
         (["rvcollide"].as_slice(), false, "error: "),
         (["rvcollide", "asm", "a.s"].as_slice(), false, "<IMAGE>"),

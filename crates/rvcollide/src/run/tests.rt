@@ -123,7 +123,7 @@ fn options_keeping(
 {
     let (harts, steps, arms, pause) = numbers;
     Ok(Options {
-        plan: Plan::new(harts, steps, arms, pause).ok_or("a plan")?,
+        plan: Plan::new(harts, steps, arms, pause, 4).ok_or("a plan")?,
         seed,
         runs,
         workers: 1,
@@ -209,7 +209,7 @@ fn one_hart(rt: HostRuntime) -> Result<(), Fail> {
             alloc,
             ONE_STORE,
             &one,
-            b"rvcollide schedule 1\nharts 1 steps 10 arms 2 pause 5\n\
+            b"rvcollide schedule 2\nharts 1 steps 10 arms 2 pause 5 slots 4\n\
             a 00010004\ns 0\np 0 0\nr 0\na 00010004\np 0 0\nr 0\ns 0\ns 0\nend\n",
         )?;
     }
@@ -228,7 +228,7 @@ fn no_site(rt: HostRuntime) -> Result<(), Fail> {
         alloc,
         &words,
         &none,
-        b"rvcollide schedule 1\nharts 1 steps 10 arms 100 pause 5\ns 0\ns 0\nend\n",
+        b"rvcollide schedule 2\nharts 1 steps 10 arms 100 pause 5 slots 4\ns 0\ns 0\nend\n",
     )
 }
 
@@ -269,7 +269,7 @@ fn keeps_a_later_run(rt: HostRuntime) -> Result<(), Fail> {
         rt.alloc(),
         P,
         &later,
-        b"rvcollide schedule 1\nharts 3 steps 100 arms 5 pause 1\n\
+        b"rvcollide schedule 2\nharts 3 steps 100 arms 5 pause 1 slots 4\n\
         a 00010008\na 00010004\ns 2\ns 0\np 2 0\ns 0\nr 2\na 00010004\ns 1\np 0 0\np 1 1\ns 2\n\
         r 0\na 00010008\nr 1\na 00010004\np 1 0\np 0 1\ns 2\nr 0\nr 1\ns 0\ns 0\ns 1\ns 2\ns 1\n\
         s 1\nend\n",

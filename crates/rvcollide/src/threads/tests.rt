@@ -15,7 +15,7 @@ const ENDINGS: &[u8] =
     ending 1 hart 0 pc 00010004 store 00020000 4 slot 0 quiet old 00000000 new 00000000\n\
     turns 5\n";
 
-const SCHEDULE: &[u8] = b"rvcollide schedule 1\nharts 1 steps 10 arms 2 pause 5\n\
+const SCHEDULE: &[u8] = b"rvcollide schedule 2\nharts 1 steps 10 arms 2 pause 5 slots 4\n\
     a 00010004\ns 0\np 0 0\nr 0\na 00010004\np 0 0\nr 0\ns 0\ns 0\nend\n";
 
 /// One hart meets no other, whatever the seed: its endings and turns, and the schedule of the same run.
@@ -23,7 +23,7 @@ const SCHEDULE: &[u8] = b"rvcollide schedule 1\nharts 1 steps 10 arms 2 pause 5\
 fn one_hart(rt: HostRuntime) -> Result<(), Fail> {
     let alloc = rt.alloc();
     let file = file_of(&rt, alloc, ONE_STORE)?;
-    let plan = Plan::new(1, 10, 2, 5).ok_or("a plan")?;
+    let plan = Plan::new(1, 10, 2, 5, 4).ok_or("a plan")?;
     for seed in [0, 1, 4_294_967_295] {
         let mut writer = Buffered::new(alloc, Vec::new(alloc));
         let mut image = Flagged::new(file.as_slice());
@@ -43,7 +43,7 @@ fn one_hart(rt: HostRuntime) -> Result<(), Fail> {
 fn refuses(rt: HostRuntime) -> Result<(), Fail> {
     let alloc = rt.alloc();
     let whole = file_of(&rt, alloc, ONE_STORE)?;
-    let plan = Plan::new(1, 10, 2, 5).ok_or("a plan")?;
+    let plan = Plan::new(1, 10, 2, 5, 4).ok_or("a plan")?;
     for (file, fault, is_made) in [
         (b"".as_slice(), Fault::Load(LoadFault::Truncated), false),
         (whole.as_slice(), Fault::Write, true),
@@ -81,7 +81,7 @@ fn names_its_faults(rt: HostRuntime) -> Result<(), Fail> {
 fn tells_a_reader_that_fails(rt: HostRuntime) -> Result<(), Fail> {
     let alloc = rt.alloc();
     let file = file_of(&rt, alloc, ONE_STORE)?;
-    let plan = Plan::new(1, 10, 2, 5).ok_or("a plan")?;
+    let plan = Plan::new(1, 10, 2, 5, 4).ok_or("a plan")?;
     assert_tells_each_failing_read(&rt, &file, |reader| {
         let mut save: Option<Kept> = None;
         let mut writer = Buffered::new(alloc, Vec::new(alloc));
@@ -95,7 +95,7 @@ fn tells_a_reader_that_fails(rt: HostRuntime) -> Result<(), Fail> {
 fn tells_a_writer_that_fails(rt: HostRuntime) -> Result<(), Fail> {
     let alloc = rt.alloc();
     let file = file_of(&rt, alloc, ONE_STORE)?;
-    let plan = Plan::new(1, 10, 100, 5).ok_or("a plan")?;
+    let plan = Plan::new(1, 10, 100, 5, 4).ok_or("a plan")?;
     for takes_none in [false, true] {
         assert_tells_each_failing_call(&rt, alloc, takes_none, |writer| {
             let mut save: Option<Kept> = None;

@@ -1,6 +1,6 @@
 ghost use Rattle.std.specs.Prelude.{◌<◌};
 
-use super::{ARMS, HARTS, KEEP, PAUSE, RUNS, SEED, STEPS, WORKERS};
+use super::{ARMS, HARTS, KEEP, PAUSE, RUNS, SEED, SLOTS, STEPS, WORKERS};
 use crate::arguments::{ImagePath, SavePath};
 use crate::command::commands::COMMANDS;
 use crate::command::subcommand::Argument;
@@ -27,7 +27,7 @@ fn hunt<'a>(
     Some(Job::Run {
         image: ImagePath("a.elf"),
         options: Options {
-            plan: Plan::new(2, 20, 4, 5)?,
+            plan: Plan::new(2, 20, 4, 5, 4)?,
             seed: 7,
             runs: 3,
             workers: 6,
@@ -119,15 +119,36 @@ fn reads_what_may_be_left_out(rt: HostRuntime) -> Result<(), Fail> {
     assert_asks(&rt, alloc, empty, hunt(Some(""), Some(""), 0, None))
 }
 
+/// The slots are four where they are left out.
+#[test]
+fn reads_the_slots(rt: HostRuntime) -> Result<(), Fail> {
+    let alloc = rt.alloc();
+    let plain = "rvcollide threads a.elf --harts 2 --steps 20 --arms 4 --pause 5 --seed 7";
+    assert_asks(&rt, alloc, plain, by_threads(4))?;
+    let given =
+        "rvcollide threads a.elf --slots 8 --harts 2 --steps 20 --arms 4 --pause 5 --seed 7";
+    assert_asks(&rt, alloc, given, by_threads(8))
+}
+
+/// The job of `threads` with so many slots.
+fn by_threads<'a>(slots: u8) -> Option<Job<'a>> {
+    Some(Job::Threads {
+        image: ImagePath("a.elf"),
+        plan: Plan::new(2, 20, 4, 5, slots)?,
+        seed: 7,
+        save: None,
+    })
+}
+
 /// Each number at both ends of its range, and one past them.
 #[test]
 fn takes_the_ends_of_the_ranges(rt: HostRuntime) -> Result<(), Fail> {
     let alloc = rt.alloc();
     let least =
-        "rvcollide run a --harts 1 --steps 1 --arms 0 --pause 1 --seed 0 --runs 1 --workers 1";
+        "rvcollide run a --harts 1 --steps 1 --arms 0 --pause 1 --seed 0 --runs 1 --workers 1 --slots 1";
     let most =
         "rvcollide run a --harts 16 --steps 1000000 --arms 4096 --pause 65535 --seed 4294967295 \
---runs 1000 --workers 16 --keep 999";
+--runs 1000 --workers 16 --keep 999 --slots=8";
     for line in [least, most] {
         let words: Vec<&str> = line.split(' ').collect(alloc)?;
         assert!(rt; command_of(alloc, &words).is_ok(), "at {line}");
@@ -165,6 +186,12 @@ fn refuses_numbers_out_of_range(rt: HostRuntime) -> Result<(), Fail> {
             "'0' for '--pause': it is a decimal number from 1 to 65535",
         ),
         ("--pause 5", "--pause 65536", "'65536' for '--pause'"),
+        (
+            "--pause 5",
+            "--pause 5 --slots 0",
+            "'0' for '--slots': it is a decimal number from 1 to 8",
+        ),
+        ("--pause 5", "--pause 5 --slots 9", "'9' for '--slots'"),
         (
             "--seed 7",
             "--seed 4294967296",
@@ -330,7 +357,7 @@ fn help_of(wanted: &str) -> Option<&'static str> {
 #[test]
 fn help_has_the_ranges(rt: HostRuntime) -> Result<(), Fail> {
     let alloc = rt.alloc();
-    for option in &[HARTS, STEPS, ARMS, PAUSE, SEED, RUNS, WORKERS, KEEP] {
+    for option in &[HARTS, STEPS, ARMS, PAUSE, SLOTS, SEED, RUNS, WORKERS, KEEP] {
         let range = format!(in alloc; ", {} to {}", option.least, option.most)?;
         let help = help_of(option.name).ok_or(option.name)?;
         let (_, after) = help.split_once(range.as_str()).ok_or(help)?;

@@ -23,7 +23,7 @@ fn reads_the_options(rt: HostRuntime) -> Result<(), Fail> {
     ] {
         let job = Job::Threads {
             image: ImagePath("a.elf"),
-            plan: Plan::new(2, 20, 4, 5).ok_or("a plan")?,
+            plan: Plan::new(2, 20, 4, 5, 4).ok_or("a plan")?,
             seed: 7,
             save,
         };
