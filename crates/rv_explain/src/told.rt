@@ -12,7 +12,7 @@ use rv_debug::session::Session;
 use rv_hart::access::Access;
 use rv_hart::hart::Status;
 use rv_hart::machine::Machine;
-use rv_memory::flat::Flat;
+use rv_memory::paged::Paged;
 
 /// The hart whose instruction is told.
 fn acting(entry: Entry) -> Option<u8>
@@ -34,7 +34,7 @@ fn stepped(entry: Entry) -> Option<u8>
 }
 
 /// A byte at an offset, or None outside of memory.
-fn byte_at(machine: &Machine<Flat>, first: u32, offset: u32) -> Option<u8>
+fn byte_at(machine: &Machine<Paged>, first: u32, offset: u32) -> Option<u8>
     ensures { result ≡ memory.byte machine.now.state.memory (first + offset) }
 {
     machine.no_byte_past_the_last();
@@ -45,7 +45,7 @@ fn byte_at(machine: &Machine<Flat>, first: u32, offset: u32) -> Option<u8>
 }
 
 /// The word at an address, where memory has its four bytes.
-fn word(machine: &Machine<Flat>, address: u32) -> Option<u32>
+fn word(machine: &Machine<Paged>, address: u32) -> Option<u32>
     ensures { result ≡ word_at machine.now.state.memory address }
 {
     let a = byte_at(machine, address, 0)?;
@@ -56,7 +56,7 @@ fn word(machine: &Machine<Flat>, address: u32) -> Option<u32>
 }
 
 /// A byte as a number, 0 outside of memory.
-fn value_at(machine: &Machine<Flat>, first: u32, offset: u32) -> u32
+fn value_at(machine: &Machine<Paged>, first: u32, offset: u32) -> u32
     ensures value { result ≡ unwrap_or (memory.byte machine.now.state.memory (first + offset)) 0 }
     ensures below { result < 256 }
 {
@@ -66,13 +66,13 @@ fn value_at(machine: &Machine<Flat>, first: u32, offset: u32) -> u32
     }
 }
 
-fn half_value(machine: &Machine<Flat>, first: u32) -> u32
+fn half_value(machine: &Machine<Paged>, first: u32) -> u32
     ensures value { result ≡ memory.load machine.now.state.memory first 2 }
 {
     value_at(machine, first, 0) + 256 * value_at(machine, first, 1)
 }
 
-fn word_value(machine: &Machine<Flat>, first: u32) -> u32
+fn word_value(machine: &Machine<Paged>, first: u32) -> u32
     ensures value { result ≡ memory.load machine.now.state.memory first 4 }
 {
     let one = value_at(machine, first, 0);
@@ -82,14 +82,14 @@ fn word_value(machine: &Machine<Flat>, first: u32) -> u32
     one + 256 * (two + 256 * (three + 256 * four))
 }
 
-fn byte_value(machine: &Machine<Flat>, first: u32) -> u32
+fn byte_value(machine: &Machine<Paged>, first: u32) -> u32
     ensures value { result ≡ memory.load machine.now.state.memory first 1 }
 {
     value_at(machine, first, 0)
 }
 
 /// The bytes of an access.
-fn bytes_in(machine: &Machine<Flat>, access: &Access) -> u32
+fn bytes_in(machine: &Machine<Paged>, access: &Access) -> u32
     ensures { result ≡ spec.bytes_in machine.now.state.memory access.now }
 {
     match access.size {
@@ -100,7 +100,7 @@ fn bytes_in(machine: &Machine<Flat>, access: &Access) -> u32
 }
 
 /// The address of a hart's instruction, where there is one.
-fn pc_in(machine: &Machine<Flat>, entry: Entry) -> Option<u32>
+fn pc_in(machine: &Machine<Paged>, entry: Entry) -> Option<u32>
     ensures { result ≡ spec.pc_in machine.now.state entry }
 {
     let hart = acting(entry)?;
@@ -111,7 +111,7 @@ fn pc_in(machine: &Machine<Flat>, entry: Entry) -> Option<u32>
     }
 }
 
-fn access_in(machine: &Machine<Flat>, entry: Entry) -> Option<Access>
+fn access_in(machine: &Machine<Paged>, entry: Entry) -> Option<Access>
     ensures { result ≡ spec.access_in machine.now.state entry }
 {
     let hart = stepped(entry)?;
@@ -122,7 +122,7 @@ fn access_in(machine: &Machine<Flat>, entry: Entry) -> Option<Access>
     }
 }
 
-fn after_in(machine: &Machine<Flat>, entry: Entry) -> After
+fn after_in(machine: &Machine<Paged>, entry: Entry) -> After
     ensures { result ≡ spec.after_in (spec.hart_in machine.now.state entry) }
 {
     match acting(entry) {
