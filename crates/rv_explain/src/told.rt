@@ -1,5 +1,5 @@
 //! What is told of an entry of a run, as `specs/Told.antt` has it.
-ghost use Rattle.std.specs.Prelude.{◌≡◌, ◌+◌, ◌<◌, Some, slice_get, unwrap_or};
+ghost use Rattle.std.specs.Prelude.{◌≡◌, ◌+◌, ◌<◌, Some, IfOk, OnErr, OnOk, slice_get, unwrap_or};
 ghost use Rattle.rv_collide.specs.Entries.{stepped_hart};
 ghost use Rattle.rv_debug.specs.Answers.{word_at};
 ghost use Rattle.rv_debug.specs.Placed.{moved};
@@ -8,11 +8,12 @@ ghost use Rattle.rv_memory.specs.Memory as memory;
 
 use crate::row::{After, Row};
 use rv_collide::entry::Entry;
-use rv_debug::session::Session;
+use rv_debug::session::{Session, SessionFault};
 use rv_hart::access::Access;
 use rv_hart::hart::Status;
 use rv_hart::machine::Machine;
 use rv_memory::paged::Paged;
+use rv_memory::store::NoMemory;
 
 /// The hart whose instruction is told.
 fn acting(entry: Entry) -> Option<u8>
@@ -136,12 +137,13 @@ fn after_in(machine: &Machine<Paged>, entry: Entry) -> After
 }
 
 /// The row of the entry at the session's place, `entry`, with the bytes of the paused access after it. The session
-/// goes on to the place after it. It takes no memory.
+/// goes on to the place after it; where that takes memory that there isn't, it stays.
 #[tactic(auto, unfolding(crate::specs::Told::row_of))]
-pub fn row_here(session: &mut Session, entry: Entry, paused: &Access) -> Row
+pub fn row_here(session: &mut Session, entry: Entry, paused: &Access) -> Result<Row, NoMemory>
     requires { slice_get session.old.entries session.old.place ≡ Some entry }
-    ensures row { spec.IsRow session.old entry paused.now result }
-    ensures after { session.new ≡ moved session.old (session.old.place + 1) }
+    ensures row { IfOk result (λ row. spec.IsRow session.old entry paused.now row) }
+    ensures after { OnOk result (session.new ≡ moved session.old (session.old.place + 1)) }
+    ensures refused { OnErr result (session.new ≡ session.old) }
 {
     let place = session.place();
     let machine = session.machine();
@@ -153,10 +155,11 @@ pub fn row_here(session: &mut Session, entry: Entry, paused: &Access) -> Row
     let access = access_in(machine, entry);
     match session.forward() {
         Ok(()) => {}
+        Err(SessionFault::NoMemory) => return Err(NoMemory),
         Err(_) => unreachable!(),
     }
     let machine = session.machine();
-    Row {
+    Ok(Row {
         place,
         entry,
         pc: pc.unwrap_or(0),
@@ -164,5 +167,5 @@ pub fn row_here(session: &mut Session, entry: Entry, paused: &Access) -> Row
         access,
         after: after_in(machine, entry),
         bytes: bytes_in(machine, paused),
-    }
+    })
 }

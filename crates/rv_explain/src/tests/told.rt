@@ -34,13 +34,13 @@ fn program(alloc: Global) -> Result<Image, Fail> {
 #[test]
 fn a_step_that_stores(rt: HostRuntime) -> Result<(), Fail> {
     let image = program(rt.alloc())?;
-    let plan = Plan::new(2, 100, 1, 10).ok_or("a plan")?;
+    let plan = Plan::new(2, 100, 1, 10, 4).ok_or("a plan")?;
     let mut entries = Vec::new(rt.alloc());
     entries.push(Entry::Stepped(0))?;
     match Session::new(rt.alloc(), &image, plan, entries) {
         Ok(mut session) => {
             let row = row_here(&mut session, Entry::Stepped(0), &STORES);
-            assert_is(&rt, row, TOLD, "the row");
+            assert_is(&rt, row, Ok(TOLD), "the row");
             assert_is(&rt, session.place(), 1, "the place");
             Ok(())
         }
