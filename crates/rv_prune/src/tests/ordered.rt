@@ -39,39 +39,39 @@ const FENCE_TSO: u32 = 0x8330_000f;
 /// FENCE with an fm that is reserved.
 const FENCE_ODD: u32 = 0x4330_000f;
 
-/// Six words from 00010000 on, which of them is asked for, and its part.
+/// Six words from 00010000 on, the address of the one that is asked for, and its part.
 static PARTS: [([u32; 6], u32, Role); 24] = [
-    ([FENCE_RW_W, SW, 0, 0, 0, 0], 1, Role::Release),
-    ([FENCE_RW_RW, SW, 0, 0, 0, 0], 1, Role::Release),
-    ([FENCE_TSO, SW, 0, 0, 0, 0], 1, Role::Release),
-    ([FENCE_ODD, SW, 0, 0, 0, 0], 1, Role::Plain),
-    ([FENCE_W_W, SW, 0, 0, 0, 0], 1, Role::Plain),
-    ([FENCE_R_RW, SW, 0, 0, 0, 0], 1, Role::Plain),
-    ([FENCE_RW_W, LUI, LUI, LUI, SW, 0], 4, Role::Release),
-    ([FENCE_RW_W, LUI, LUI, LUI, LUI, SW], 5, Role::Plain),
-    ([FENCE_RW_W, FENCE_W_W, SW, 0, 0, 0], 2, Role::Plain),
-    ([FENCE_W_W, FENCE_RW_W, SW, 0, 0, 0], 2, Role::Release),
-    ([FENCE_RW_W, BRANCH, SW, 0, 0, 0], 2, Role::Plain),
-    ([FENCE_RW_W, ECALL, SW, 0, 0, 0], 2, Role::Plain),
-    ([FENCE_RW_W, NONE, SW, 0, 0, 0], 2, Role::Plain),
-    ([SW, FENCE_RW_RW, 0, 0, 0, 0], 0, Role::Plain),
-    ([LW, FENCE_R_RW, 0, 0, 0, 0], 0, Role::Acquire),
-    ([LW, FENCE_RW_RW, 0, 0, 0, 0], 0, Role::Acquire),
-    ([LW, FENCE_TSO, 0, 0, 0, 0], 0, Role::Acquire),
-    ([LW, FENCE_R_R, 0, 0, 0, 0], 0, Role::Load),
-    ([LW, LUI, LUI, LUI, FENCE_R_RW, 0], 0, Role::Acquire),
-    ([LW, LUI, LUI, LUI, LUI, FENCE_R_RW], 0, Role::Load),
-    ([LW, BRANCH, FENCE_R_RW, 0, 0, 0], 0, Role::Load),
-    ([SWAP, 0, 0, 0, 0, 0], 0, Role::Atomic),
-    ([LR, 0, 0, 0, 0, 0], 0, Role::Atomic),
-    ([LUI, 0, 0, 0, 0, 0], 0, Role::Plain),
+    ([FENCE_RW_W, SW, 0, 0, 0, 0], 0x10004, Role::Release),
+    ([FENCE_RW_RW, SW, 0, 0, 0, 0], 0x10004, Role::Release),
+    ([FENCE_TSO, SW, 0, 0, 0, 0], 0x10004, Role::Release),
+    ([FENCE_ODD, SW, 0, 0, 0, 0], 0x10004, Role::Plain),
+    ([FENCE_W_W, SW, 0, 0, 0, 0], 0x10004, Role::Plain),
+    ([FENCE_R_RW, SW, 0, 0, 0, 0], 0x10004, Role::Plain),
+    ([FENCE_RW_W, LUI, LUI, LUI, SW, 0], 0x10010, Role::Release),
+    ([FENCE_RW_W, LUI, LUI, LUI, LUI, SW], 0x10014, Role::Plain),
+    ([FENCE_RW_W, FENCE_W_W, SW, 0, 0, 0], 0x10008, Role::Plain),
+    ([FENCE_W_W, FENCE_RW_W, SW, 0, 0, 0], 0x10008, Role::Release),
+    ([FENCE_RW_W, BRANCH, SW, 0, 0, 0], 0x10008, Role::Plain),
+    ([FENCE_RW_W, ECALL, SW, 0, 0, 0], 0x10008, Role::Plain),
+    ([FENCE_RW_W, NONE, SW, 0, 0, 0], 0x10008, Role::Plain),
+    ([SW, FENCE_RW_RW, 0, 0, 0, 0], 0x10000, Role::Plain),
+    ([LW, FENCE_R_RW, 0, 0, 0, 0], 0x10000, Role::Acquire),
+    ([LW, FENCE_RW_RW, 0, 0, 0, 0], 0x10000, Role::Acquire),
+    ([LW, FENCE_TSO, 0, 0, 0, 0], 0x10000, Role::Acquire),
+    ([LW, FENCE_R_R, 0, 0, 0, 0], 0x10000, Role::Load),
+    ([LW, LUI, LUI, LUI, FENCE_R_RW, 0], 0x10000, Role::Acquire),
+    ([LW, LUI, LUI, LUI, LUI, FENCE_R_RW], 0x10000, Role::Load),
+    ([LW, BRANCH, FENCE_R_RW, 0, 0, 0], 0x10000, Role::Load),
+    ([SWAP, 0, 0, 0, 0, 0], 0x10000, Role::Atomic),
+    ([LR, 0, 0, 0, 0, 0], 0x10000, Role::Atomic),
+    ([LUI, 0, 0, 0, 0, 0], 0x10000, Role::Plain),
 ];
 
 #[test]
 fn the_part_of_an_access(rt: HostRuntime) -> Result<(), Fail> {
-    for (words, place, wanted) in &PARTS {
+    for (words, address, wanted) in &PARTS {
         let image = image(&rt, rt.alloc(), words)?;
-        let found = role_at(&image, 0x10000 + 4 * *place);
+        let found = role_at(&image, *address);
         assert_is(&rt, found, *wanted, "the part");
     }
     let image = image(&rt, rt.alloc(), &[SW])?;
