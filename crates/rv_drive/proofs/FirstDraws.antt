@@ -64,9 +64,8 @@ pub are_paid : FirstDrawsArePaid
 unfolding owed
 are_paid setting sampling takes free =
     let all = draws setting sampling first_draws in
-    let none = no_word takes free all (all_arm setting sampling) in
-    (
+    let none = no_word takes free all (all_arm setting sampling) in (
       ap (λ o. option_or o (draw_after setting sampling takes all)) (slice_get_past all (length all) (omega arith))
-      ∙ nothing_after setting sampling takes all (slice_get all (length all - 1)) refl (all_arm setting sampling (length all - 1)),
+          ∙ nothing_after setting sampling takes all (slice_get all (length all - 1)) refl (all_arm setting sampling (length all - 1)),
       omega (arith, none),
     )

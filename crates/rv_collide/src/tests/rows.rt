@@ -620,7 +620,12 @@ fn text_of<S: ByteStore>(alloc: Global, collider: &Collider<S>) -> Result<Vec<u8
 }
 
 /// Asserts what a row's schedule shows over a store with so many slots, and that its entries and endings are handed out.
-fn assert_shows<S: ByteStore>(rt: &impl Abort, alloc: Global, row: &Row, slots: u8) -> Result<(), Fail> {
+fn assert_shows<S: ByteStore>(
+    rt: &impl Abort,
+    alloc: Global,
+    row: &Row,
+    slots: u8,
+) -> Result<(), Fail> {
     let plan = slotted(row.harts, 1000, 200, slots)?;
     let collider: Collider<S> = told_over(rt, alloc, row.words, plan, row.entries)?;
     let text = text_of(alloc, &collider)?;
