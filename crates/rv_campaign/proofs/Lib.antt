@@ -1,3 +1,3 @@
 pub mod DrivingLemmas
 pub mod GoingLemmas
-pub mod RunsMore
+pub mod PieceLemmas

@@ -8,6 +8,7 @@ mod run;
 mod runs;
 #[cfg(test)]
 mod tests;
+mod workers;
 
 pub use run::run_one;
-pub use runs::{CampaignFault, MOST_RUNS, MOST_WORKERS, campaign};
+pub use runs::{CampaignFault, MOST_RUNS, MOST_WORKERS, NumberFault, campaign};

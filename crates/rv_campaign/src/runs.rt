@@ -1,38 +1,73 @@
-ghost use Rattle.std.specs.Prelude.{◌≡◌, ◌⊎◌, Some, None, IfOk, IfErr, OnOk, MatchResult};
-ghost use Rattle.rv_campaign.specs.Campaign.{AreRuns, fault_of};
+ghost use Rattle.std.specs.Prelude.{◌≡◌, ◌<◌, ◌≤◌, Some, None, IfOk, IfErr, OnOk};
+ghost use Rattle.rv_campaign.specs.Campaign.{AreRuns, IsToldBy, fault_of, number_fault};
 ghost use Rattle.rv_campaign.specs.declared.runs.CampaignFault.TheVariants.{NoMemory as OutOfMemory};
 ghost use Rattle.rv_collide.specs.Numbers.{numbers};
 
-use crate::run::run_sampled;
+use crate::workers::{Work, pieces};
 use rv_collide::collider::Finished;
 use rv_collide::plan::Plan;
+use rv_drive::gate::Gate;
 use rv_elf::Image;
 use rv_memory::store::NoMemory;
 use rv_sample::Sampler;
-use std::alloc::{AllocFailed, Global};
+use std::alloc::{AllocError, AllocFailed, Global};
+use std::sync::Wait;
+use std::thread::Threads;
 
 /// Why a campaign is refused. `Runs` (not 1 to 1000), `Workers` (not 1 to 16) and `TooLarge` (its runs could
-/// have more than 16,777,216 entries together) are tested in this order; then growth was refused.
-#[derive(Clone, Copy, Debug, PartialEq, Eq)]
-pub enum CampaignFault {
+/// have more than 16,777,216 entries together) are tested in this order, before any worker starts. Then growth was
+/// refused, a worker could not be started, or the gate refused a worker, with its value: the fault of the lowest of
+/// the workers that met one is told.
+#[derive(Debug, Drop, PartialEq)]
+pub enum CampaignFault<S> {
     NoMemory,
+    TooLarge,
+    Runs,
+    Workers,
+    NoThread,
+    GateClosed(u8, S),
+}
+
+/// Why the numbers of a campaign are refused.
+#[derive(Clone, Copy, Debug, PartialEq, Eq)]
+pub enum NumberFault {
     TooLarge,
     Runs,
     Workers,
 }
 
-impl From<NoMemory> for CampaignFault {
+impl<S> From<NumberFault> for CampaignFault<S> {
+    ghost from_gives = { λ number fault. number_fault fault ≡ Some number };
+
+    fn from(fault: NumberFault) -> CampaignFault<S> {
+        match fault {
+            NumberFault::TooLarge => CampaignFault::TooLarge,
+            NumberFault::Runs => CampaignFault::Runs,
+            NumberFault::Workers => CampaignFault::Workers,
+        }
+    }
+}
+
+impl<S> From<NoMemory> for CampaignFault<S> {
     ghost from_gives = { λ _ fault. fault ≡ OutOfMemory };
 
-    fn from(_: NoMemory) -> CampaignFault {
+    fn from(_: NoMemory) -> CampaignFault<S> {
         CampaignFault::NoMemory
     }
 }
 
-impl<T: Drop> From<AllocFailed<T>> for CampaignFault {
+impl<S> From<AllocError> for CampaignFault<S> {
     ghost from_gives = { λ _ fault. fault ≡ OutOfMemory };
 
-    fn from(_: AllocFailed<T>) -> CampaignFault {
+    fn from(_: AllocError) -> CampaignFault<S> {
+        CampaignFault::NoMemory
+    }
+}
+
+impl<S, T: Drop> From<AllocFailed<T>> for CampaignFault<S> {
+    ghost from_gives = { λ _ fault. fault ≡ OutOfMemory };
+
+    fn from(_: AllocFailed<T>) -> CampaignFault<S> {
         CampaignFault::NoMemory
     }
 }
@@ -46,9 +81,11 @@ pub const MOST_RUNS: u32 = 1000;
 /// The most workers of a campaign.
 pub const MOST_WORKERS: u32 = 16;
 
-/// The runs of a campaign, numbered from 0 on: of each number the one run. The runs are made one after the
-/// other, whatever the number of workers.
-pub fn campaign(
+/// The runs of a campaign, numbered from 0 on: of each number the one run, whatever the number of workers. Each
+/// worker is a thread of its own, makes the runs of consecutive numbers, and enters the gate before each of them. All
+/// have ended before the answer.
+pub fn campaign<R: Threads + Wait, G: Gate>(
+    rt: &R,
     alloc: Global,
     image: &Image,
     plan: Plan,
@@ -56,7 +93,8 @@ pub fn campaign(
     runs: u32,
     workers: u32,
     excluded: &[u32],
-) -> Result<Vec<Finished>, CampaignFault>
+    gate: &G,
+) -> Result<Vec<Finished>, CampaignFault<G::Shut>>
     ensures ok { IfOk result (λ told. AreRuns (record {
       image = image.now;
       plan = numbers plan;
@@ -64,33 +102,38 @@ pub fn campaign(
       excluded = excluded.now;
     }) runs told.items) }
     ensures accepted { OnOk result (fault_of (numbers plan) runs workers ≡ None) }
-    ensures err { IfErr result (λ fault. (fault_of (numbers plan) runs workers ≡ Some fault)
-        ⊎ ((fault ≡ CampaignFault.NoMemory) × (fault_of (numbers plan) runs workers ≡ None))) }
+    ensures err { IfErr result (λ fault. (fault_of (numbers plan) runs workers ≡ number_fault fault) × IsToldBy G.shuts fault) }
 {
     if let Some(fault) = fault_of(plan, runs, workers) {
-        return Err(fault);
+        return Err(fault.into());
     }
     let sampler = Sampler::sites(alloc, image, excluded)?;
-    let mut told = Vec::new(alloc);
-    for run in 0..runs {
-        let one = run_sampled(alloc, image, plan, seed, run, &sampler)?;
-        told.push(one)?;
-    }
-    Ok(told)
+    let work = Work {
+        alloc,
+        image,
+        plan,
+        seed,
+        sampler: &sampler,
+        first: 0,
+        count: runs,
+        workers: workers as u8,
+        gate,
+    };
+    pieces(rt, &work, 0)
 }
 
 /// The first test that the numbers of a campaign fail.
-fn fault_of(plan: Plan, runs: u32, workers: u32) -> Option<CampaignFault>
+fn fault_of(plan: Plan, runs: u32, workers: u32) -> Option<NumberFault>
     ensures { result ≡ fault_of (numbers plan) runs workers }
 {
     if !(1 <= runs && runs <= MOST_RUNS) {
-        return Some(CampaignFault::Runs);
+        return Some(NumberFault::Runs);
     }
     if !(1 <= workers && workers <= MOST_WORKERS) {
-        return Some(CampaignFault::Workers);
+        return Some(NumberFault::Workers);
     }
     if u64::from(runs) * u64::from(plan.most_entries()) > MOST_ENTRIES {
-        return Some(CampaignFault::TooLarge);
+        return Some(NumberFault::TooLarge);
     }
     None
 }

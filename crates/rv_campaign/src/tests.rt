@@ -1,15 +1,22 @@
-use crate::{CampaignFault, campaign, run_one};
+mod gates;
+mod workers;
+
+use crate::{CampaignFault, NumberFault, campaign, run_one};
 use rv_collide::collider::{Collider, Finished};
 use rv_collide::entry::Entry::{self, Armed, Paused, Resumed, Stepped};
 use rv_collide::plan::Plan;
 use rv_collide::replay::replay;
+use rv_drive::gate::FreeGate;
 use rv_elf::Image;
 use rv_memory::flat::Flat;
 use rv_memory::region::Region;
 use std::alloc::Global;
+use std::convert::Infallible;
 use std::fmt::Debug;
 use std::process::Abort;
+use std::sync::Wait;
 use std::test::Fail;
+use std::thread::Threads;
 
 /// `lui x6,0x20`, `sw x10,0(x6)`, `lw x5,0(x6)`, `ecall`.
 const P: [u32; 4] = [0x0002_0337, 0x00a3_2023, 0x0003_2283, 0x0000_0073];
@@ -262,10 +269,10 @@ fn as_another_implementation_has_them(rt: HostRuntime) -> Result<(), Fail> {
     Ok(())
 }
 
-fn without_sites(rt: &impl Abort, alloc: Global) -> Result<Vec<Finished>, Fail> {
+fn without_sites<R: Threads + Wait + Abort>(rt: &R, alloc: Global) -> Result<Vec<Finished>, Fail> {
     let plan = plan(2, 100, 100, 5)?;
     let image = image(rt, alloc, &[0x0002_0337, 0x0000_0073])?;
-    Ok(campaign(alloc, &image, plan, 9, 5, 3, &[])?)
+    Ok(campaign(rt, alloc, &image, plan, 9, 5, 3, &[], &FreeGate)?)
 }
 
 #[test]
@@ -292,10 +299,24 @@ fn assert_is_run(
     is_told_again(rt, alloc, image, plan, one)
 }
 
-fn assert_runs_by_number(rt: &impl Abort, alloc: Global, workers: u32) -> Result<(), Fail> {
+fn assert_runs_by_number<R: Threads + Wait + Abort>(
+    rt: &R,
+    alloc: Global,
+    workers: u32,
+) -> Result<(), Fail> {
     let plan = plan(3, 100, 5, 1)?;
     let image = image(rt, alloc, &P)?;
-    let told = campaign(alloc, &image, plan, 0, 3, workers, &[0x10008])?;
+    let told = campaign(
+        rt,
+        alloc,
+        &image,
+        plan,
+        0,
+        3,
+        workers,
+        &[0x10008],
+        &FreeGate,
+    )?;
     assert_is(rt, told.len(), 3, "runs");
     for (run, one) in told.iter().enumerate() {
         assert_is_run(rt, alloc, &image, plan, run, one)?;
@@ -311,34 +332,35 @@ fn runs_by_number(rt: HostRuntime) -> Result<(), Fail> {
 }
 
 /// How many steps, runs and workers, and why that is refused.
-const REFUSALS: [(u32, u32, u32, Option<CampaignFault>); 7] = [
-    (16_778, 1000, 1, Some(CampaignFault::TooLarge)),
+const REFUSALS: [(u32, u32, u32, Option<NumberFault>); 7] = [
+    (16_778, 1000, 1, Some(NumberFault::TooLarge)),
     (16_777, 1000, 1, None),
-    (16_778, 1000, 17, Some(CampaignFault::Workers)),
-    (16_778, 1000, 0, Some(CampaignFault::Workers)),
-    (16_778, 0, 0, Some(CampaignFault::Runs)),
-    (10, 1001, 17, Some(CampaignFault::Runs)),
-    (10, 1, 17, Some(CampaignFault::Workers)),
+    (16_778, 1000, 17, Some(NumberFault::Workers)),
+    (16_778, 1000, 0, Some(NumberFault::Workers)),
+    (16_778, 0, 0, Some(NumberFault::Runs)),
+    (10, 1001, 17, Some(NumberFault::Runs)),
+    (10, 1, 17, Some(NumberFault::Workers)),
 ];
 
-fn fault_of(
-    rt: &impl Abort,
+fn fault_of<R: Threads + Wait + Abort>(
+    rt: &R,
     alloc: Global,
     steps: u32,
     runs: u32,
     workers: u32,
-) -> Result<Option<CampaignFault>, Fail> {
+) -> Result<Option<CampaignFault<Infallible>>, Fail> {
     let plan = plan(1, steps, 0, 1)?;
     let image = image(rt, alloc, &ONE_STORE)?;
-    Ok(campaign(alloc, &image, plan, 0, runs, workers, &[]).err())
+    Ok(campaign(rt, alloc, &image, plan, 0, runs, workers, &[], &FreeGate).err())
 }
 
 #[test]
 fn refusals(rt: HostRuntime) -> Result<(), Fail> {
     for (steps, runs, workers, want) in &REFUSALS {
         let fault = fault_of(&rt, rt.alloc(), *steps, *runs, *workers)?;
+        let want = want.map(|number| CampaignFault::from(number));
         let found = (steps, runs, workers, fault);
-        assert_is(&rt, found, (steps, runs, workers, *want), "refusal");
+        assert_is(&rt, found, (steps, runs, workers, want), "refusal");
     }
     Ok(())
 }

@@ -3,10 +3,13 @@ use Rattle.std.proofs.Common.{◌≡◌, ℕ, List, [], get_or, Option, Some, No
 use Rattle.std.specs.Prelude.{Bool, true, false, ◌||◌, All, IfSome, IsOkAnd, ◌⊎◌}
 use Rattle.std.proofs.Common.{inl, inr}
 use Rattle.std.proofs.lemmas.Option.{slice_get-get_or}
-use Rattle.rv_campaign.specs.Campaign.{AreRuns, fault_of}
+use Rattle.rv_campaign.specs.Campaign.{AreRuns, fault_of, number_fault}
 use Rattle.rv_campaign.specs.Run.{Hunt, IsRun, sampling_of}
 use Rattle.rv_campaign.specs.declared.runs.CampaignFault.{CampaignFault}
 use Rattle.rv_campaign.specs.declared.runs.CampaignFault.TheVariants as campaign
+use Rattle.rv_campaign.specs.declared.runs.NumberFault.{NumberFault}
+use Rattle.rv_campaign.specs.declared.runs.NumberFault.TheVariants as number
+use Rattle.std.specs.declared.convert.Infallible.{Infallible}
 use Rattle.rv_drive.specs.DriverLaws.{DrawnIsLegal}
 use Rattle.rv_collide.specs.Grammar.{IsWritable}
 use Rattle.rv_collide.specs.GrammarLaws.{LegalIsWritable}
@@ -82,24 +85,22 @@ names_refused None r image excluded told is skips h = tt
 names_refused (Some bytes) r image excluded told is skips h =
     subst (λ (o : Result Campaign Refusal). IsTold o told) (sym (of_skipped r bytes image excluded is skips)) (told_then (listed image (elements r.named)) (numbered r image excluded) told h)
 
-number_told : (r : Request) (image : Contents) (excluded : List ℕ) (named : List (ℕ × ℕ)) (fault : CampaignFault) → fault_of r.plan r.runs r.workers ≡ Some fault → IsTold (numbered r image excluded named) (refusal_of_campaign fault)
-number_told r image excluded named campaign.NoMemory h = tt
-number_told r image excluded named campaign.TooLarge h = ap (λ o. unless_some o Numbered >>= λ _. Ok (record { hunt = record { image = image; plan = r.plan; seed = r.seed; excluded = excluded }; listed = named })) h
-number_told r image excluded named campaign.Runs h = ap (λ o. unless_some o Numbered >>= λ _. Ok (record { hunt = record { image = image; plan = r.plan; seed = r.seed; excluded = excluded }; listed = named })) h
-number_told r image excluded named campaign.Workers h = ap (λ o. unless_some o Numbered >>= λ _. Ok (record { hunt = record { image = image; plan = r.plan; seed = r.seed; excluded = excluded }; listed = named })) h
+number_told : (r : Request) (image : Contents) (excluded : List ℕ) (named : List (ℕ × ℕ)) (number : NumberFault) → fault_of r.plan r.runs r.workers ≡ Some number → numbered r image excluded named ≡ Err (Numbered number)
+number_told r image excluded named number h = ap (λ o. unless_some o Numbered >>= λ _. Ok (record { hunt = record { image = image; plan = r.plan; seed = r.seed; excluded = excluded }; listed = named })) h
 
-memory_or_told : (o : Result Campaign Refusal) (fault : CampaignFault) → fault ≡ campaign.NoMemory → IsTold o (refusal_of_campaign fault)
-memory_or_told o fault is = subst (λ (f : CampaignFault). IsTold o (refusal_of_campaign f)) (sym is) tt
+fault_told : (r : Request) (image : Contents) (excluded : List ℕ) (named : List (ℕ × ℕ)) (fault : CampaignFault Infallible) → fault_of r.plan r.runs r.workers ≡ number_fault fault → IsTold (numbered r image excluded named) (refusal_of_campaign fault)
+fault_told r image excluded named campaign.NoMemory h = tt
+fault_told r image excluded named campaign.TooLarge h = number_told r image excluded named number.TooLarge h
+fault_told r image excluded named campaign.Runs h = number_told r image excluded named number.Runs h
+fault_told r image excluded named campaign.Workers h = number_told r image excluded named number.Workers h
+fault_told r image excluded named campaign.NoThread h = tt
+fault_told r image excluded named (campaign.GateClosed worker shut) h = elim shut [ ]
 
-pub numbers_refused : (known : Option (List ℕ)) (r : Request) (image : Contents) (excluded : List ℕ) (named : List (ℕ × ℕ)) (fault : CampaignFault) (told : Refusal) → told ≡ refusal_of_campaign fault → IfSome known (λ bytes. image_of bytes ≡ Ok image) → skipped (elements r.skip) ≡ Ok excluded → listed image (elements r.named) ≡ Ok named
-    → (fault_of r.plan r.runs r.workers ≡ Some fault) ⊎ ((fault ≡ campaign.NoMemory) × (fault_of r.plan r.runs r.workers ≡ None)) → IfSome known (λ bytes. IsTold (campaign_of r bytes) told)
+pub numbers_refused : (known : Option (List ℕ)) (r : Request) (image : Contents) (excluded : List ℕ) (named : List (ℕ × ℕ)) (fault : CampaignFault Infallible) (told : Refusal) → told ≡ refusal_of_campaign fault → IfSome known (λ bytes. image_of bytes ≡ Ok image) → skipped (elements r.skip) ≡ Ok excluded → listed image (elements r.named) ≡ Ok named → fault_of r.plan r.runs r.workers ≡ number_fault fault → IfSome known (λ bytes. IsTold (campaign_of r bytes) told)
 numbers_refused None r image excluded named fault told same is skips names h = tt
 numbers_refused (Some bytes) r image excluded named fault told same is skips names h =
     subst (λ (t : Refusal). IsTold (campaign_of r bytes) t) (sym same)
-    (elim h [
-      | inl refused ↦ subst (λ (o : Result Campaign Refusal). IsTold o (refusal_of_campaign fault)) (sym (of_names r bytes image excluded named is skips names)) (number_told r image excluded named fault refused)
-      | inr memory ↦ memory_or_told (campaign_of r bytes) fault memory.0
-    ])
+    (subst (λ (o : Result Campaign Refusal). IsTold o (refusal_of_campaign fault)) (sym (of_names r bytes image excluded named is skips names)) (fault_told r image excluded named fault h))
 
 pub campaign_known : (known : Option (List ℕ)) (r : Request) (image : Contents) (excluded : List ℕ) (named : List (ℕ × ℕ)) (Fact : Campaign → Type 0) → IfSome known (λ bytes. image_of bytes ≡ Ok image) → skipped (elements r.skip) ≡ Ok excluded → listed image (elements r.named) ≡ Ok named → fault_of r.plan r.runs r.workers ≡ None
     → Fact (record { hunt = record { image = image; plan = r.plan; seed = r.seed; excluded = excluded }; listed = named }) → IfSome known (λ bytes. IsOkAnd (campaign_of r bytes) Fact)

@@ -2,6 +2,9 @@
 use Rattle.std.specs.Prelude.{◌≡◌, ⊤, ℕ, Bool, false, Option, Some, List, ◌++◌, codes, Result, Ok, Err}
 use Rattle.rv_campaign.specs.declared.runs.CampaignFault.{CampaignFault}
 use Rattle.rv_campaign.specs.declared.runs.CampaignFault.TheVariants as campaign
+use Rattle.rv_campaign.specs.declared.runs.NumberFault.{NumberFault}
+use Rattle.rv_campaign.specs.declared.runs.NumberFault.TheVariants as number
+use Rattle.std.specs.declared.convert.Infallible.{Infallible}
 use Rattle.rvcollide.specs.Fault as plain
 use Rattle.rvcollide.specs.FaultText as text
 use Rattle.rvcollide.specs.declared.fault.Fault.{Fault}
@@ -15,7 +18,7 @@ pub data Refusal : Type 0 where
   Plain : Fault → Refusal
   Skip : (element : List ℕ) → Refusal
   Name : (name : List ℕ) → Refusal
-  Campaign : CampaignFault → Refusal
+  Campaign : NumberFault → Refusal
 
 abbrev pub refusal : CommandFault → Refusal
 refusal (run.Plain fault) = Plain fault
@@ -23,12 +26,15 @@ refusal (run.Skip element) = Skip element.now
 refusal (run.Name name) = Name name.now
 refusal (run.Campaign fault) = Campaign fault
 
--- that memory is out is no fault of a campaign's numbers
-abbrev pub refusal_of_campaign : CampaignFault → Refusal
+-- that a worker can't be started is told as want of memory, which is no fault of a campaign's numbers; and a gate
+-- that always lets in gives no value to refuse with
+abbrev pub refusal_of_campaign : CampaignFault Infallible → Refusal
 refusal_of_campaign campaign.NoMemory = Plain NoMemory
-refusal_of_campaign campaign.TooLarge = Campaign campaign.TooLarge
-refusal_of_campaign campaign.Runs = Campaign campaign.Runs
-refusal_of_campaign campaign.Workers = Campaign campaign.Workers
+refusal_of_campaign campaign.TooLarge = Campaign number.TooLarge
+refusal_of_campaign campaign.Runs = Campaign number.Runs
+refusal_of_campaign campaign.Workers = Campaign number.Workers
+refusal_of_campaign campaign.NoThread = Plain NoMemory
+refusal_of_campaign (campaign.GateClosed worker shut) = elim shut [ ]
 
 -- a fault that any command may tell, as one of `run`
 abbrev pub plainly : {A : Type 0} → Result A Fault → Result A Refusal
@@ -74,18 +80,17 @@ fails_by test (Err fault) = test (refusal fault)
 
 -- ---- what is told
 
-abbrev pub campaign_fault_name : CampaignFault → List ℕ
-campaign_fault_name campaign.NoMemory = codes "NoMemory"
-campaign_fault_name campaign.TooLarge = codes "TooLarge"
-campaign_fault_name campaign.Runs = codes "Runs"
-campaign_fault_name campaign.Workers = codes "Workers"
+abbrev pub number_fault_name : NumberFault → List ℕ
+number_fault_name number.TooLarge = codes "TooLarge"
+number_fault_name number.Runs = codes "Runs"
+number_fault_name number.Workers = codes "Workers"
 
 -- what the program writes of a refusal, after its own name
 abbrev pub refusal_output : CommandFault → Option (List ℕ)
 refusal_output (run.Plain fault) = text.fault_output fault
 refusal_output (run.Skip element) = Some (codes "skip " ++ element.now)
 refusal_output (run.Name name) = Some (codes "name " ++ name.now)
-refusal_output (run.Campaign fault) = Some (codes "campaign " ++ campaign_fault_name fault)
+refusal_output (run.Campaign fault) = Some (codes "campaign " ++ number_fault_name fault)
 
 -- the exit status
 abbrev pub status : CommandFault → ℕ

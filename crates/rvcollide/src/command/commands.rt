@@ -60,7 +60,7 @@ pub const COMMANDS: [Subcommand; 8] = [
             },
             Argument::Required {
                 name: "workers",
-                help: "Workers, 1 to 16; today the runs are made one after another, whatever this says",
+                help: "Threads that make the runs, 1 to 16; what is written does not depend on it",
             },
             Argument::Optional {
                 name: "named",
@@ -182,7 +182,8 @@ the place as it was and is answered by a line such as fault 1 NoPlace:
 /// What the help of `run` says after its options.
 const HUNT: &str = "\
 The runs are numbered from 0. Each takes its draws from the seed and its number alone, so the same line
-finds the same races, with any number of workers. The table has a row for each pair of instructions
+finds the same races, with any number of workers: each is a thread that makes runs of its own, so as
+many as there are idle processors are the fastest. The table has a row for each pair of instructions
 that raced, in the order of their first report, and counts the reports that were pruned.
 
 Example:

@@ -22,6 +22,7 @@ use rv_memory::buffered::Buffered;
 use rv_memory::flagged::Flagged;
 use std::alloc::Global;
 use std::io::{Read, Write};
+use std::sync::Wait;
 use std::thread::Threads;
 
 /// Makes the file with the schedule of the run that is kept, where one is wanted, and then writes the race table,
@@ -61,7 +62,7 @@ fn publish<F: NewFile, W: Write>(
 /// made first, with the schedule of the run that is kept. A campaign that is refused makes no file and writes
 /// nothing.
 pub fn run_campaign<'a, R: Read, F: NewFile, W: Write>(
-    rt: &(impl Threads + Sync),
+    rt: &(impl Threads + Wait + Sync),
     alloc: Global,
     options: &Options<'a>,
     image: &mut Flagged<R>,

@@ -4,10 +4,11 @@ ghost use Rattle.rvcollide.specs.CommandFault as spec;
 ghost use Rattle.rvcollide.specs.declared.fault.Fault.TheVariants as fault;
 
 use crate::fault::Fault;
-use rv_campaign::CampaignFault;
+use rv_campaign::{CampaignFault, NumberFault};
 use rv_memory::flagged::WriteFault;
 use rv_memory::store::NoMemory;
 use std::alloc::AllocError;
+use std::convert::Infallible;
 use std::fmt;
 
 /// Why `run`, or another command, does not write its text. A text of a list stays where the command line has it.
@@ -20,7 +21,7 @@ pub enum CommandFault<'a> {
     /// The first name of the list that no symbol has.
     Name(&'a str),
     /// The first number of the campaign that is refused.
-    Campaign(CampaignFault),
+    Campaign(NumberFault),
 }
 
 impl CommandFault<'_> {
@@ -43,13 +44,18 @@ impl<'a> From<Fault> for CommandFault<'a> {
     }
 }
 
-impl<'a> From<CampaignFault> for CommandFault<'a> {
+/// A worker that can't be started is told as want of memory.
+impl<'a> From<CampaignFault<Infallible>> for CommandFault<'a> {
     ghost from_gives = { λ given made. spec.refusal made ≡ spec.refusal_of_campaign given };
 
-    fn from(given: CampaignFault) -> CommandFault<'a> {
+    fn from(given: CampaignFault<Infallible>) -> CommandFault<'a> {
         match given {
-            CampaignFault::NoMemory => CommandFault::Plain(Fault::NoMemory),
-            _ => CommandFault::Campaign(given),
+            CampaignFault::NoMemory | CampaignFault::NoThread => CommandFault::Plain(
+                Fault::NoMemory,
+            ),
+            CampaignFault::TooLarge => CommandFault::Campaign(NumberFault::TooLarge),
+            CampaignFault::Runs => CommandFault::Campaign(NumberFault::Runs),
+            CampaignFault::Workers => CommandFault::Campaign(NumberFault::Workers),
         }
     }
 }
@@ -87,20 +93,17 @@ impl fmt::Display for CommandFault<'_> {
             CommandFault::Plain(fault) => write!(f, "{fault}"),
             CommandFault::Skip(element) => write!(f, "skip {element}"),
             CommandFault::Name(name) => write!(f, "name {name}"),
-            CommandFault::Campaign(fault) => {
-                write!(f, "campaign {}", campaign_fault_name(*fault))
-            }
+            CommandFault::Campaign(fault) => { write!(f, "campaign {}", number_fault_name(*fault)) }
         }
     }
 }
 
-fn campaign_fault_name(fault: CampaignFault) -> &'static str
-    ensures { result.now ≡ spec.campaign_fault_name fault }
+fn number_fault_name(fault: NumberFault) -> &'static str
+    ensures { result.now ≡ spec.number_fault_name fault }
 {
     match fault {
-        CampaignFault::NoMemory => "NoMemory",
-        CampaignFault::TooLarge => "TooLarge",
-        CampaignFault::Runs => "Runs",
-        CampaignFault::Workers => "Workers",
+        NumberFault::TooLarge => "TooLarge",
+        NumberFault::Runs => "Runs",
+        NumberFault::Workers => "Workers",
     }
 }

@@ -18,10 +18,12 @@ use rv_campaign::campaign;
 use rv_collide::collider::Finished;
 use rv_collide::schedule::laws::legal_is_writable;
 use rv_drive::driver_laws::seeded_runs;
+use rv_drive::gate::FreeGate;
 use rv_memory::flagged::Flagged;
 use rv_report::race_table::RaceTable;
 use std::alloc::Global;
 use std::io::Read;
+use std::sync::Wait;
 use std::thread::Threads;
 
 /// The runs of a campaign, and their race table.
@@ -33,7 +35,7 @@ pub struct Hunted {
 
 /// Reads an image and makes the campaign's runs of it.
 pub fn hunt<'a, R: Read>(
-    rt: &(impl Threads + Sync),
+    rt: &(impl Threads + Wait + Sync),
     alloc: Global,
     options: &Options<'a>,
     image: &mut Flagged<R>,
@@ -54,6 +56,7 @@ pub fn hunt<'a, R: Read>(
     let excluded = read_skipped(alloc, options.skip)?;
     let ranges = read_named(alloc, &contents, options.named)?;
     let runs = campaign(
+        rt,
         alloc,
         &contents,
         options.plan,
@@ -61,6 +64,7 @@ pub fn hunt<'a, R: Read>(
         options.runs,
         options.workers,
         &excluded,
+        &FreeGate,
     )?;
     let table = table_of(rt, alloc, &contents, &ranges, options.runs, &runs)?;
     Ok(Hunted { runs, table })

@@ -7,7 +7,7 @@ use crate::fault::Fault;
 use crate::run::engine::run_campaign;
 use crate::run::fault::CommandFault;
 use crate::run::options::Options;
-use rv_campaign::CampaignFault;
+use rv_campaign::NumberFault;
 use rv_collide::plan::Plan;
 use rv_elf::{Image, LoadFault, Symbol, write};
 use rv_memory::buffered::Buffered;
@@ -15,6 +15,7 @@ use rv_memory::flagged::Flagged;
 use rv_memory::region::Region;
 use std::alloc::Global;
 use std::process::Abort;
+use std::sync::Wait;
 use std::test::Fail;
 use std::thread::Threads;
 
@@ -135,7 +136,7 @@ fn options_keeping(
 
 /// Asserts that a campaign of the image of these words writes the table.
 fn writes(
-    rt: &(impl Abort + Threads + Sync),
+    rt: &(impl Abort + Threads + Wait + Sync),
     alloc: Global,
     words: &[u32],
     options: &Options<'_>,
@@ -154,7 +155,7 @@ fn writes(
 
 /// Asserts that such a campaign saves the schedule, and writes a table.
 fn saves(
-    rt: &(impl Abort + Threads + Sync),
+    rt: &(impl Abort + Threads + Wait + Sync),
     alloc: Global,
     words: &[u32],
     options: &Options<'_>,
@@ -175,7 +176,7 @@ fn saves(
 
 /// Asserts that a campaign of a file is refused: it makes no file and writes nothing, and the program tells the text.
 fn refuses(
-    rt: &(impl Abort + Threads + Sync),
+    rt: &(impl Abort + Threads + Wait + Sync),
     alloc: Global,
     file: &[u8],
     options: &Options<'_>,
@@ -319,10 +320,10 @@ fn refuses_in_order(rt: HostRuntime) -> Result<(), Fail> {
     let file = file_of(&rt, alloc, P)?;
     let mut asked = options((1, 1_000_000, 0, 1), 0, 17)?;
     asked.workers = 17;
-    let fault = CommandFault::Campaign(CampaignFault::Workers);
+    let fault = CommandFault::Campaign(NumberFault::Workers);
     refuses(&rt, alloc, &file, &asked, fault, "campaign Workers")?;
     asked.workers = 16;
-    let fault = CommandFault::Campaign(CampaignFault::TooLarge);
+    let fault = CommandFault::Campaign(NumberFault::TooLarge);
     refuses(&rt, alloc, &file, &asked, fault, "campaign TooLarge")?;
     asked.named = Some("word,wor,other");
     refuses(

@@ -24,7 +24,7 @@ returns-in_err-ranges-clause-err g c =
 pub returns-in_err-runs-clause-err : goal.returns-in_err-runs-clause-err
 returns-in_err-runs-clause-err g c =
     let p = err_from_is_err_and c.from_residual-in_err-runs.result c.from_residual-in_err-runs.ensures.1 in
-    rw p.1 (numbers_refused (g.R.Read.remaining (flag.device c.args.image.now)) (request c.args.options.now) c.in_ok-contents.contents c.in_ok-excluded.excluded.items c.in_ok-ranges.ranges.items c.in_err-runs.field-0.0 _ p.2 c.in_ok-contents.ensures.ok c.in_ok-excluded.ensures.ok c.in_ok-ranges.ensures.ok c.in_err-runs.ensures.err)
+    rw p.1 (numbers_refused (g.R.Read.remaining (flag.device c.args.image.now)) (request c.args.options.now) c.in_ok-contents.contents c.in_ok-excluded.excluded.items c.in_ok-ranges.ranges.items c.in_err-runs.field-0.0 _ p.2 c.in_ok-contents.ensures.ok c.in_ok-excluded.ensures.ok c.in_ok-ranges.ensures.ok c.in_err-runs.ensures.err.0)
 
 pub returns-clause-ok : goal.returns-clause-ok
 returns-clause-ok g c =
