@@ -9,7 +9,7 @@ use Rattle.std.proofs.lemmas.Bool.{or_from, or_parts}
 use Rattle.std.proofs.lemmas.Bool.Decides.{nat_tests}
 use Rattle.std.proofs.lemmas.List.{take_all, take-append-drop, length-take-le}
 use Rattle.rv_memory.specs.Chain.{◌>>=◌, want}
-use Rattle.rv_text.specs.Pieces.{pieces_of, Lacks}
+use Rattle.rv_text.specs.Pieces.{pieces_of, Lacks, PiecesAreCut}
 use Rattle.rv_collide.specs.Grammar.{end_line}
 use Rattle.rv_collide.specs.Plan.{Numbers, most_entries}
 use Rattle.rv_collide.specs.ScheduleRead.{Schedule, IsToldFault, entries_from, entry_of, first_line, format_of, header_in, is_over, is_plan, numbers_of, plan_in, plan_of, schedule_in, schedule_of, words_of}
@@ -78,8 +78,8 @@ same_long n text front more enough is lacks long =
       front = ap (λ t. first_line (pieces_of 10 t)) taken ∙ front_long front (take (n - 65) more) lacks over;
     }
 
-same_line : (n : ℕ) (text line rest : List ℕ) → 65 ≤ n → IsCut text line rest → length line ≤ 64 → SameLine n text
-same_line n text line rest enough cut short =
+same_line : PiecesAreCut → (n : ℕ) (text line rest : List ℕ) → 65 ≤ n → IsCut text line rest → length line ≤ 64 → SameLine n text
+same_line law n text line rest enough cut short =
     let left : ℕ = n - (length line + 1) in
     let one : length (line ++ 10 ∷ []) ≡ length line + 1 = length-append line (10 ∷ []) in
     let count : n ≡ length (line ++ 10 ∷ []) + (n - (length line + 1)) = omega (arith, one) in
@@ -92,14 +92,14 @@ same_line n text line rest enough cut short =
       rest = rest;
       left = n - (length line + 1);
       enough = omega arith;
-      whole_line = cut_line text line rest cut.lacks cut.is short;
-      whole_cut = cut_rest text line rest cut.lacks cut.is;
-      front_line = cut_line (take n text) line (take (n - (length line + 1)) rest) cut.lacks taken short;
-      front_cut = cut_rest (take n text) line (take (n - (length line + 1)) rest) cut.lacks taken;
+      whole_line = cut_line law text line rest cut.lacks cut.is short;
+      whole_cut = cut_rest law text line rest cut.lacks cut.is;
+      front_line = cut_line law (take n text) line (take (n - (length line + 1)) rest) cut.lacks taken short;
+      front_cut = cut_rest law (take n text) line (take (n - (length line + 1)) rest) cut.lacks taken;
     }
 
-first_same : (n : ℕ) (text : List ℕ) → 65 ≤ n → (take n text ≡ text) ⊎ (SameFault n text ⊎ SameLine n text)
-first_same n text enough = by_length (nat_le (length text) n) refl (cut_of text)
+first_same : PiecesAreCut → (n : ℕ) (text : List ℕ) → 65 ≤ n → (take n text ≡ text) ⊎ (SameFault n text ⊎ SameLine n text)
+first_same law n text enough = by_length (nat_le (length text) n) refl (cut_of text)
   where
     long_front : (front more : List ℕ) → text ≡ front ++ more → Lacks 10 front → 65 ≤ length front → SameFault n text
     long_front front more is lacks long =
@@ -110,7 +110,7 @@ first_same n text enough = by_length (nat_le (length text) n) refl (cut_of text)
     by_line : (line rest : List ℕ) → IsCut text line rest → (short : Bool) → nat_le (length line) 64 ≡ short → SameFault n text ⊎ SameLine n text
     by_line line rest cut true is =
         let short : length line ≤ 64 = grind (arith, nat_tests) in
-        inr (same_line n text line rest enough cut short)
+        inr (same_line law n text line rest enough cut short)
     by_line line rest cut false is =
         let long : 65 ≤ length line = grind (arith, nat_tests) in
         inl (long_front line (10 ∷ rest) cut.is cut.lacks long)
@@ -165,9 +165,9 @@ module _ (format : Format) (number room n : ℕ) (text : List ℕ) (same : SameL
       ∙ ap (entries_before (e ∷ [])) (later fits)
       ∙ sym (one_more format number room (pieces_of 10 text) same.line (pieces_of 10 same.rest) same.whole_cut same.whole_line e end is fits)
 
-same_step : (format : Format) (number room n : ℕ) (text : List ℕ) → 65 * (room + 1) + 1 ≤ n → ((m : ℕ) (rest : List ℕ) → nat_lt 0 room ≡ true → n ≤ m + 65 → SameEntries format (number + 1) (room - 1) m rest)
+same_step : PiecesAreCut → (format : Format) (number room n : ℕ) (text : List ℕ) → 65 * (room + 1) + 1 ≤ n → ((m : ℕ) (rest : List ℕ) → nat_lt 0 room ≡ true → n ≤ m + 65 → SameEntries format (number + 1) (room - 1) m rest)
     → SameEntries format number room n text
-same_step format number room n text enough later = by_first (first_same n text (omega arith))
+same_step law format number room n text enough later = by_first (first_same law n text (omega arith))
   where
     by_first : (take n text ≡ text) ⊎ (SameFault n text ⊎ SameLine n text) → SameEntries format number room n text
     by_first (inl whole) = ap (λ t. entries_from format number room (pieces_of 10 t)) whole
@@ -177,14 +177,14 @@ same_step format number room n text enough later = by_first (first_same n text (
         by_end format number room n text same (omega (arith, same.enough, enough)) (bytes_eq same.line end_line) (is_over (pieces_of 10 same.rest)) (entry_of format same.line) (nat_lt 0 room) refl refl refl refl
         (λ some. later same.left same.rest some same.enough)
 
-entries_same : (format : Format) (fuel number room n : ℕ) (text : List ℕ) → room ≤ fuel → 65 * (room + 1) + 1 ≤ n → SameEntries format number room n text
-entries_same format zero number room n text few enough =
-    same_step format number room n text enough (λ m rest some within. let more : 0 < room = grind (arith, nat_tests) in absurd (omega (arith, more, few)))
-entries_same format (suc fuel) number room n text few enough =
-    same_step format number room n text enough
+entries_same : PiecesAreCut → (format : Format) (fuel number room n : ℕ) (text : List ℕ) → room ≤ fuel → 65 * (room + 1) + 1 ≤ n → SameEntries format number room n text
+entries_same law format zero number room n text few enough =
+    same_step law format number room n text enough (λ m rest some within. let more : 0 < room = grind (arith, nat_tests) in absurd (omega (arith, more, few)))
+entries_same law format (suc fuel) number room n text few enough =
+    same_step law format number room n text enough
     (λ m rest some within.
     let more : 0 < room = grind (arith, nat_tests) in
-    entries_same format fuel (number + 1) (room - 1) m rest (omega (arith, more, few)) (omega (arith, more, enough, within)))
+    entries_same law format fuel (number + 1) (room - 1) m rest (omega (arith, more, few)) (omega (arith, more, enough, within)))
 
 -- ---- the whole
 
@@ -219,9 +219,9 @@ after_first : (lines : List (List ℕ)) (line : List ℕ) (more : List (List ℕ
 after_first lines line more is = sym (ap (drop 1) is)
 
 -- a front of 66,065,156 bytes says what the text says
-pub schedule_same : (n : ℕ) (text : List ℕ) → 66_065_156 ≤ n → schedule_of (take n text) ≡ schedule_of text
+pub schedule_same : PiecesAreCut → (n : ℕ) (text : List ℕ) → 66_065_156 ≤ n → schedule_of (take n text) ≡ schedule_of text
 unfolding schedule_of schedule_in
-schedule_same n text enough = by_first (first_same n text (omega arith))
+schedule_same law n text enough = by_first (first_same law n text (omega arith))
   where
     by_first : (take n text ≡ text) ⊎ (SameFault n text ⊎ SameLine n text) → schedule_of (take n text) ≡ schedule_of text
     by_first (inl whole) = ap schedule_of whole
@@ -242,7 +242,7 @@ schedule_same n text enough = by_first (first_same n text (omega arith))
         by_entries format p second r header plan entries =
             let few = room_of_plan format second.line p (plan_line_in format (pieces_of 10 same.rest) second.line p second.whole_line plan) in
             let left : 65 * (most_entries p + 1) + 1 ≤ second.left = omega (arith, few, enough, same.enough, second.enough) in
-            let there = entries_same format (most_entries p) 3 (most_entries p) second.left second.rest (omega arith) left in
+            let there = entries_same law format (most_entries p) 3 (most_entries p) second.left second.rest (omega arith) left in
             let front_header = header_same n text same ∙ header in
             let front_plan = plan_same format same.left same.rest second ∙ plan in
             let front_more = after_first (pieces_of 10 (take same.left same.rest)) second.line (pieces_of 10 (take second.left second.rest)) second.front_cut in
@@ -276,7 +276,7 @@ schedule_same n text enough = by_first (first_same n text (omega arith))
         by_second format header (inr (inr second)) = by_plan format (plan_in format (pieces_of 10 same.rest)) second header refl
 
         by_header : (r : Result Format ScheduleKind) → header_in (pieces_of 10 text) ≡ r → schedule_of (take n text) ≡ schedule_of text
-        by_header (Ok format) header = by_second format header (first_same same.left same.rest (omega (arith, enough, same.enough)))
+        by_header (Ok format) header = by_second format header (first_same law same.left same.rest (omega (arith, enough, same.enough)))
         by_header (Err k) header = header_fault (take n text) k (header_same n text same ∙ header) ∙ sym (header_fault text k header)
 
 -- ---- what was read says what the text says
@@ -285,22 +285,22 @@ pub text_front : (o : Option (List ℕ)) (bytes text : List ℕ) → text ≡ by
 text_front None bytes text same front = tt
 text_front (Some known) bytes text same (n, enough, taken) = (n, enough, same ∙ taken)
 
-ok_known : (o : Option (List ℕ)) (text : List ℕ) → IfSome o (λ known. (n : ℕ) × (67_108_864 ≤ n) × (text ≡ take n known)) → (s : Schedule) → schedule_of text ≡ Ok s → IfSome o (λ known. schedule_of known ≡ Ok s)
-ok_known None text front s is = tt
-ok_known (Some known) text (n, enough, taken) s is = sym (schedule_same n known (omega arith)) ∙ ap schedule_of (sym taken) ∙ is
+ok_known : PiecesAreCut → (o : Option (List ℕ)) (text : List ℕ) → IfSome o (λ known. (n : ℕ) × (67_108_864 ≤ n) × (text ≡ take n known)) → (s : Schedule) → schedule_of text ≡ Ok s → IfSome o (λ known. schedule_of known ≡ Ok s)
+ok_known law None text front s is = tt
+ok_known law (Some known) text (n, enough, taken) s is = sym (schedule_same law n known (omega arith)) ∙ ap schedule_of (sym taken) ∙ is
 
-fault_known : (o : Option (List ℕ)) (text : List ℕ) → IfSome o (λ known. (n : ℕ) × (67_108_864 ≤ n) × (text ≡ take n known)) → (fault : ScheduleFault) → IsToldFault (schedule_of text) fault
+fault_known : PiecesAreCut → (o : Option (List ℕ)) (text : List ℕ) → IfSome o (λ known. (n : ℕ) × (67_108_864 ≤ n) × (text ≡ take n known)) → (fault : ScheduleFault) → IsToldFault (schedule_of text) fault
     → IfSome o (λ known. IsToldFault (schedule_of known) fault)
-fault_known None text front fault is = tt
-fault_known (Some known) text (n, enough, taken) fault is =
-    let same : schedule_of text ≡ schedule_of known = ap schedule_of taken ∙ schedule_same n known (omega arith) in
+fault_known law None text front fault is = tt
+fault_known law (Some known) text (n, enough, taken) fault is =
+    let same : schedule_of text ≡ schedule_of known = ap schedule_of taken ∙ schedule_same law n known (omega arith) in
     subst (λ (r : Result Schedule ScheduleFault). IsToldFault r fault) same is
 
-module _ (o : Option (List ℕ)) (text : List ℕ) (front : IfSome o (λ known. (n : ℕ) × (67_108_864 ≤ n) × (text ≡ take n known))) where
+module _ (law : PiecesAreCut) (o : Option (List ℕ)) (text : List ℕ) (front : IfSome o (λ known. (n : ℕ) × (67_108_864 ≤ n) × (text ≡ take n known))) where
   pub read_same : {A E : Type 0} (r : Result A E) (said : A → Schedule) → IfOk r (λ a. schedule_of text ≡ Ok (said a)) → IfOk r (λ a. IfSome o (λ known. schedule_of known ≡ Ok (said a)))
   read_same (Err fault) said is = tt
-  read_same (Ok a) said is = ok_known o text front (said a) is
+  read_same (Ok a) said is = ok_known law o text front (said a) is
 
   pub fault_same : {A : Type 0} (r : Result A ScheduleFault) → IfErr r (IsToldFault (schedule_of text)) → IfErr r (λ fault. IfSome o (λ known. IsToldFault (schedule_of known) fault))
   fault_same (Ok a) is = tt
-  fault_same (Err fault) is = fault_known o text front fault is
+  fault_same (Err fault) is = fault_known law o text front fault is

@@ -4,7 +4,7 @@ use Rattle.std.specs.List.{list_any, onto_first}
 use Rattle.std.proofs.lemmas.Bool.{or_parts, or_from}
 use Rattle.std.proofs.lemmas.Bool.Decides.{nat_tests}
 use Rattle.std.proofs.lemmas.List.Elements.{All-head, All-tail}
-use Rattle.rv_text.specs.Pieces.{pieces_of, Lacks}
+use Rattle.rv_text.specs.Pieces.{pieces_of, Lacks, PiecesAreCut}
 use Rattle.rv_collide.specs.ScheduleRead.{first_line, is_over}
 use Rattle.rv_collide.specs.declared.schedule.fault.ScheduleKind.TheVariants.{NoEnd, TooLong}
 
@@ -12,21 +12,6 @@ pub lacks_from_all : (byte : ℕ) (text : List ℕ) → All (λ b. (b == byte) �
 lacks_from_all byte [] all = refl
 lacks_from_all byte (b ∷ text) all =
     or_from (b == byte) (list_any (λ b. b == byte) text) (All-head (λ b. (b == byte) ≡ false) b text all) (lacks_from_all byte text (All-tail (λ b. (b == byte) ≡ false) b text all))
-
--- the text up to its first separator is the first piece
-pub pieces_then : (byte : ℕ) (piece rest : List ℕ) → Lacks byte piece → pieces_of byte (piece ++ byte ∷ rest) ≡ piece ∷ pieces_of byte rest
-pieces_then byte [] rest lacks =
-    let self : (byte == byte) ≡ true = grind (arith, nat_tests) in
-    rw self refl
-pieces_then byte (b ∷ piece) rest lacks =
-    let parts = or_parts (b == byte) (list_any (λ b. b == byte) piece) lacks in
-    rw parts.0 (ap (onto_first b) (pieces_then byte piece rest parts.1))
-
-pub pieces_last : (byte : ℕ) (piece : List ℕ) → Lacks byte piece → pieces_of byte piece ≡ piece ∷ []
-pieces_last byte [] lacks = refl
-pieces_last byte (b ∷ piece) lacks =
-    let parts = or_parts (b == byte) (list_any (λ b. b == byte) piece) lacks in
-    rw parts.0 (ap (onto_first b) (pieces_last byte piece parts.1))
 
 -- each text has a piece
 pub some_piece : (byte : ℕ) (text : List ℕ) → (first : List ℕ) × (more : List (List ℕ)) × (pieces_of byte text ≡ first ∷ more)
@@ -61,27 +46,28 @@ long_line line (next ∷ more) long =
     let over : nat_lt 64 (length line) ≡ true = grind (arith, nat_tests) in
     rw over refl
 
--- a line that an LF ends
-pub cut_line : (text line rest : List ℕ) → Lacks 10 line → text ≡ line ++ 10 ∷ rest → length line ≤ 64 → first_line (pieces_of 10 text) ≡ Ok line
-cut_line text line rest lacks is short =
-    let next = some_piece 10 rest in
-    ap (λ t. first_line (pieces_of 10 t)) is ∙ ap first_line (pieces_then 10 line rest lacks ∙ ap (λ more. line ∷ more) next.2) ∙ line_of line next.0 next.1 short
+module _ (cut : PiecesAreCut) where
+  -- a line that an LF ends
+  pub cut_line : (text line rest : List ℕ) → Lacks 10 line → text ≡ line ++ 10 ∷ rest → length line ≤ 64 → first_line (pieces_of 10 text) ≡ Ok line
+  cut_line text line rest lacks is short =
+      let next = some_piece 10 rest in
+      ap (λ t. first_line (pieces_of 10 t)) is ∙ ap first_line ((cut 10 line rest lacks).0 ∙ ap (λ more. line ∷ more) next.2) ∙ line_of line next.0 next.1 short
 
-pub cut_rest : (text line rest : List ℕ) → Lacks 10 line → text ≡ line ++ 10 ∷ rest → pieces_of 10 text ≡ line ∷ pieces_of 10 rest
-cut_rest text line rest lacks is = ap (pieces_of 10) is ∙ pieces_then 10 line rest lacks
+  pub cut_rest : (text line rest : List ℕ) → Lacks 10 line → text ≡ line ++ 10 ∷ rest → pieces_of 10 text ≡ line ∷ pieces_of 10 rest
+  cut_rest text line rest lacks is = ap (pieces_of 10) is ∙ (cut 10 line rest lacks).0
 
-pub cut_long : (text line rest : List ℕ) → Lacks 10 line → text ≡ line ++ 10 ∷ rest → 64 < length line → first_line (pieces_of 10 text) ≡ Err TooLong
-cut_long text line rest lacks is long = ap first_line (cut_rest text line rest lacks is) ∙ long_line line (pieces_of 10 rest) long
+  pub cut_long : (text line rest : List ℕ) → Lacks 10 line → text ≡ line ++ 10 ∷ rest → 64 < length line → first_line (pieces_of 10 text) ≡ Err TooLong
+  cut_long text line rest lacks is long = ap first_line (cut_rest text line rest lacks is) ∙ long_line line (pieces_of 10 rest) long
 
--- a text without an LF
-pub uncut_long : (text : List ℕ) → Lacks 10 text → 64 < length text → first_line (pieces_of 10 text) ≡ Err TooLong
-uncut_long text lacks long = ap first_line (pieces_last 10 text lacks) ∙ long_line text [] long
+  -- a text without an LF
+  pub uncut_long : (text : List ℕ) → Lacks 10 text → 64 < length text → first_line (pieces_of 10 text) ≡ Err TooLong
+  uncut_long text lacks long = ap first_line (cut 10 text [] lacks).1 ∙ long_line text [] long
 
-pub uncut_short : (text : List ℕ) → Lacks 10 text → length text ≤ 64 → first_line (pieces_of 10 text) ≡ Err NoEnd
-uncut_short text lacks short =
-    let fits : nat_lt 64 (length text) ≡ false = grind (arith, nat_tests) in
-    let one : first_line (text ∷ []) ≡ Err NoEnd = rw fits refl in
-    ap first_line (pieces_last 10 text lacks) ∙ one
+  pub uncut_short : (text : List ℕ) → Lacks 10 text → length text ≤ 64 → first_line (pieces_of 10 text) ≡ Err NoEnd
+  uncut_short text lacks short =
+      let fits : nat_lt 64 (length text) ≡ false = grind (arith, nat_tests) in
+      let one : first_line (text ∷ []) ≡ Err NoEnd = rw fits refl in
+      ap first_line (cut 10 text [] lacks).1 ∙ one
 
 pub front_long : (front rest : List ℕ) → Lacks 10 front → 64 < length front → first_line (pieces_of 10 (front ++ rest)) ≡ Err TooLong
 front_long front rest lacks long =

@@ -14,14 +14,14 @@ use Rattle.rv_text.specs.Numeral.{number_of}
 use Rattle.rv_text.specs.Decimal.{DecimalIsReadBack, DecimalLacksSeparators}
 use Rattle.rv_text.specs.Hexadecimal.{word_digits, word_of, WordIsReadBack, WordLacksSeparators}
 use Rattle.rv_text.specs.Lines.{has_line_feed, text_of_lines}
-use Rattle.rv_text.specs.Pieces.{pieces_of, Lacks}
+use Rattle.rv_text.specs.Pieces.{pieces_of, Lacks, PiecesAreCut}
 use Rattle.rv_collide.specs.Grammar.{HasAddress, IsInReach, IsWritableIn, end_line, entry_line, header_line, IsOfFormat, last_slot, numbers_line, plan_line, schedule_lines, text_in, slot_text}
 use Rattle.rv_collide.specs.Plan.{IsPlan, Numbers, most_entries}
 use Rattle.rv_collide.specs.ScheduleRead.{address_of, entries_from, entry_of, first_line, hart_of, header_in, is_plan, numbers_of, plan_in, plan_of, schedule_in, schedule_of, slot_of, slots_in, words_of}
 use Rattle.rv_collide.specs.declared.entry.Entry.{Entry}
 use Rattle.rv_collide.specs.declared.entry.Entry.TheVariants.{Stepped, Paused, Resumed, Armed, Disarmed}
 use Rattle.rv_collide.specs.internal.Before.{entries_before}
-use Rattle.rv_collide.proofs.CutLemmas.{line_of, pieces_last, pieces_then}
+use Rattle.rv_collide.proofs.CutLemmas.{line_of}
 use Rattle.rv_collide.proofs.EntriesLemmas.{at_end, one_more}
 use Rattle.rv_collide.specs.declared.schedule.format.Format.{Format}
 use Rattle.rv_collide.specs.declared.schedule.format.Format.TheVariants.{First, Second}
@@ -37,11 +37,11 @@ word_length text n reads = by_test (length text == 8) refl reads
     by_test false is reads = cc
 
 -- texts of lines are cut into them, with nothing after the last LF
-pub text_pieces : (lines : List (List ℕ)) → list_any has_line_feed lines ≡ false → pieces_of 10 (text_of_lines lines) ≡ lines ++ [] ∷ []
-text_pieces [] lack = refl
-text_pieces (line ∷ lines) lack =
+text_pieces : PiecesAreCut → (lines : List (List ℕ)) → list_any has_line_feed lines ≡ false → pieces_of 10 (text_of_lines lines) ≡ lines ++ [] ∷ []
+text_pieces cut [] lack = refl
+text_pieces cut (line ∷ lines) lack =
     let parts = or_parts (has_line_feed line) (list_any has_line_feed lines) lack in
-    ap (pieces_of 10) (append_assoc line (10 ∷ []) (text_of_lines lines)) ∙ pieces_then 10 line (text_of_lines lines) parts.0 ∙ ap (λ more. line ∷ more) (text_pieces lines parts.1)
+    ap (pieces_of 10) (append_assoc line (10 ∷ []) (text_of_lines lines)) ∙ (cut 10 line (text_of_lines lines) parts.0).0 ∙ ap (λ more. line ∷ more) (text_pieces cut lines parts.1)
 
 first_differs : (a b : ℕ) (xs ys : List ℕ) → (a == b) ≡ false → bytes_eq (a ∷ xs) (b ∷ ys) ≡ false
 first_differs a b xs ys other = rw other refl
@@ -67,7 +67,7 @@ low_slot : (format : Format) (slot : Option ℕ) → IfSome slot (λ s. s ≤ la
 low_slot format None few = tt
 low_slot format (Some slot) few = let small = last_small format in omega arith
 
-module _ (decimals : DecimalIsReadBack) (decimal_lacks : DecimalLacksSeparators) (words_back : WordIsReadBack) (word_lacks : WordLacksSeparators) where
+module _ (decimals : DecimalIsReadBack) (decimal_lacks : DecimalLacksSeparators) (words_back : WordIsReadBack) (word_lacks : WordLacksSeparators) (cut : PiecesAreCut) where
   number_lacks_lf : (byte n : ℕ) → byte < 48 → n < 2 ^ 64 → Lacks byte (decimal n)
   number_lacks_lf byte n low small = decimal_lacks byte low (decimal n) n (decimals n small)
 
@@ -103,18 +103,18 @@ module _ (decimals : DecimalIsReadBack) (decimal_lacks : DecimalLacksSeparators)
   entry_read : (format : Format) (e : Entry) → IsInReach format e → HasAddress e → entry_of format (entry_line e) ≡ Some e
   unfolding entry_of entry_line
   entry_read format (Stepped hart) reach address =
-      rw (pieces_last 32 (decimal hart) (number_lacks_lf 32 hart (omega arith) (omega arith)), hart_read hart reach) refl
+      rw ((cut 32 (decimal hart) [] (number_lacks_lf 32 hart (omega arith) (omega arith))).1, hart_read hart reach) refl
   entry_read format (Resumed hart) reach address =
-      rw (pieces_last 32 (decimal hart) (number_lacks_lf 32 hart (omega arith) (omega arith)), hart_read hart reach) refl
+      rw ((cut 32 (decimal hart) [] (number_lacks_lf 32 hart (omega arith) (omega arith))).1, hart_read hart reach) refl
   entry_read format (Armed a) reach address =
-      rw (pieces_last 32 (word_digits a) (address_lacks 32 a (omega arith) address), address_read a address) refl
+      rw ((cut 32 (word_digits a) [] (address_lacks 32 a (omega arith) address)).1, address_read a address) refl
   entry_read format (Disarmed a) reach address =
-      rw (pieces_last 32 (word_digits a) (address_lacks 32 a (omega arith) address), address_read a address) refl
+      rw ((cut 32 (word_digits a) [] (address_lacks 32 a (omega arith) address)).1, address_read a address) refl
   entry_read format (Paused hart slot) reach address =
       let text = slot_text slot in
       let whole : (decimal hart ++ 32 ∷ []) ++ slot_text slot ≡ decimal hart ++ 32 ∷ slot_text slot = append_assoc (decimal hart) (32 ∷ []) (slot_text slot) in
-      let words = pieces_then 32 (decimal hart) (slot_text slot) (number_lacks_lf 32 hart (omega arith) (omega arith)) in
-      let last = pieces_last 32 (slot_text slot) (slot_lacks 32 slot (omega arith) (low_slot format slot reach.1)) in
+      let words = (cut 32 (decimal hart) (slot_text slot) (number_lacks_lf 32 hart (omega arith) (omega arith))).0 in
+      let last = (cut 32 (slot_text slot) [] (slot_lacks 32 slot (omega arith) (low_slot format slot reach.1))).1 in
       rw (whole, words, last, hart_read hart reach.0, slot_read format slot reach.1) refl
 
   entry_lacks : (format : Format) (e : Entry) → IsInReach format e → HasAddress e → Lacks 10 (entry_line e)
@@ -182,18 +182,18 @@ module _ (decimals : DecimalIsReadBack) (decimal_lacks : DecimalLacksSeparators)
   -- the last number of a line, and the words after it
   last_words : (format : Format) (n : Numbers) → IsPlan n → pieces_of 32 (decimal n.pause ++ slots_text format n) ≡ decimal n.pause ∷ slot_words format n
   last_words First n limits =
-      ap (pieces_of 32) (append-nil (decimal n.pause)) ∙ pieces_last 32 (decimal n.pause) (number_lacks_lf 32 n.pause (omega arith) (omega (arith, limits.pause)))
+      ap (pieces_of 32) (append-nil (decimal n.pause)) ∙ (cut 32 (decimal n.pause) [] (number_lacks_lf 32 n.pause (omega arith) (omega (arith, limits.pause)))).1
   last_words Second n limits =
-      let pause = pieces_then 32 (decimal n.pause) (codes "slots " ++ decimal n.slots) (number_lacks_lf 32 n.pause (omega arith) (omega (arith, limits.pause))) in
-      let slots = pieces_last 32 (decimal n.slots) (number_lacks_lf 32 n.slots (omega arith) (omega (arith, limits.slots))) in
+      let pause = (cut 32 (decimal n.pause) (codes "slots " ++ decimal n.slots) (number_lacks_lf 32 n.pause (omega arith) (omega (arith, limits.pause)))).0 in
+      let slots = (cut 32 (decimal n.slots) [] (number_lacks_lf 32 n.slots (omega arith) (omega (arith, limits.slots)))).1 in
       rw (pause, slots) refl
 
   plan_words : (format : Format) (n : Numbers) → IsPlan n → words_of (plan_line format n) ≡ codes "harts" ∷ decimal n.harts ∷ codes "steps" ∷ decimal n.steps ∷ codes "arms" ∷ decimal n.arms ∷ codes "pause" ∷ decimal n.pause ∷ slot_words format n
   plan_words format n limits =
       let after : List ℕ = decimal n.pause ++ slots_text format n in
-      let harts = pieces_then 32 (decimal n.harts) (codes "steps " ++ (decimal n.steps ++ (codes " arms " ++ (decimal n.arms ++ (codes " pause " ++ after))))) (number_lacks_lf 32 n.harts (omega arith) (omega (arith, limits.harts))) in
-      let steps = pieces_then 32 (decimal n.steps) (codes "arms " ++ (decimal n.arms ++ (codes " pause " ++ after))) (number_lacks_lf 32 n.steps (omega arith) (omega (arith, limits.steps))) in
-      let arms = pieces_then 32 (decimal n.arms) (codes "pause " ++ after) (number_lacks_lf 32 n.arms (omega arith) (omega (arith, limits.arms))) in
+      let harts = (cut 32 (decimal n.harts) (codes "steps " ++ (decimal n.steps ++ (codes " arms " ++ (decimal n.arms ++ (codes " pause " ++ after))))) (number_lacks_lf 32 n.harts (omega arith) (omega (arith, limits.harts)))).0 in
+      let steps = (cut 32 (decimal n.steps) (codes "arms " ++ (decimal n.arms ++ (codes " pause " ++ after))) (number_lacks_lf 32 n.steps (omega arith) (omega (arith, limits.steps)))).0 in
+      let arms = (cut 32 (decimal n.arms) (codes "pause " ++ after) (number_lacks_lf 32 n.arms (omega arith) (omega (arith, limits.arms)))).0 in
       ap words_of (plan_is format n) ∙ rw (harts, steps, arms, last_words format n limits) refl
 
   plan_fits : (n : Numbers) → IsPlan n → is_plan n ≡ true
@@ -266,7 +266,7 @@ module _ (decimals : DecimalIsReadBack) (decimal_lacks : DecimalLacksSeparators)
   unfolding text_in
   pieces_are format n entries limits reach address =
       let lack : list_any has_line_feed (schedule_lines format n entries) ≡ false = or_from _ _ (header_lacks format) (or_from _ _ (plan_lacks format n limits) (entries_lack format entries reach address)) in
-      text_pieces (schedule_lines format n entries) lack ∙ ap (λ more. header_line format ∷ plan_line format n ∷ more) (append_assoc (map entry_line entries) (end_line ∷ []) ([] ∷ []))
+      text_pieces cut (schedule_lines format n entries) lack ∙ ap (λ more. header_line format ∷ plan_line format n ∷ more) (append_assoc (map entry_line entries) (end_line ∷ []) ([] ∷ []))
 
   header_there : (format : Format) (line : List ℕ) (more : List (List ℕ)) → header_in (header_line format ∷ line ∷ more) ≡ Ok format
   header_there First line more = refl

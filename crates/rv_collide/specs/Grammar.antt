@@ -9,6 +9,7 @@ use Rattle.rv_collide.specs.Plan.{Numbers, most_entries}
 use Rattle.rv_collide.specs.declared.entry.Entry.{Entry}
 use Rattle.rv_collide.specs.declared.entry.Entry.TheVariants.{Stepped, Paused, Resumed, Armed, Disarmed}
 use Rattle.rv_collide.specs.declared.plan.Plan.{Plan}
+use Rattle.rv_collide.specs.declared.plan.TheConstants.{DEFAULT_SLOTS}
 use Rattle.rv_collide.specs.declared.schedule.format.Format.{Format}
 use Rattle.rv_collide.specs.declared.schedule.format.Format.TheVariants.{First, Second}
 
@@ -73,7 +74,7 @@ IsInReach format (Disarmed address) = ⊤
 
 -- format 1 has plans of four slots alone
 abbrev pub IsOfFormat : Format → Numbers → Type 0
-IsOfFormat First n = n.slots ≡ 4
+IsOfFormat First n = n.slots ≡ DEFAULT_SLOTS
 IsOfFormat Second n = ⊤
 
 -- the plan and its entries have a text of the format

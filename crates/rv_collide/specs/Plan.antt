@@ -1,5 +1,8 @@
 -- The plan of a run: the numbers that it is given.
 use Rattle.std.specs.Prelude.{ℕ, ◌+◌, ◌*◌, ◌≤◌}
+use Rattle.rv_break.specs.declared.claim.TheConstants.{MOST_SLOTS}
+use Rattle.rv_hart.specs.declared.machine.TheConstants.{MOST_HARTS}
+use Rattle.rv_collide.specs.declared.plan.TheConstants.{MOST_ARMS, MOST_PAUSE, MOST_STEPS}
 
 -- How many harts there are, how many steps they make together at most, how many addresses are armed in
 -- all at most, how many steps of other harts a pause lasts at least, and how many slots there are, each of
@@ -14,14 +17,14 @@ pub record Numbers : Type 0 where
 -- the numbers that a plan may have
 pub record IsPlan (n : Numbers) : Type 0 where
   pub some_hart : 1 ≤ n.harts
-  pub harts : n.harts ≤ 16
+  pub harts : n.harts ≤ MOST_HARTS
   pub some_step : 1 ≤ n.steps
-  pub steps : n.steps ≤ 1_000_000
-  pub arms : n.arms ≤ 4096
+  pub steps : n.steps ≤ MOST_STEPS
+  pub arms : n.arms ≤ MOST_ARMS
   pub some_pause : 1 ≤ n.pause
-  pub pause : n.pause ≤ 65_535
+  pub pause : n.pause ≤ MOST_PAUSE
   pub some_slot : 1 ≤ n.slots
-  pub slots : n.slots ≤ 8
+  pub slots : n.slots ≤ MOST_SLOTS
 
 -- how many entries a schedule of the plan has at most: one for each step, and four for each address that
 -- is armed

@@ -3,6 +3,8 @@
 use Rattle.std.specs.Prelude.{◌≡◌, ℕ, ◌+◌, ◌-◌, ◌<◌, ◌≤◌, ◌⊎◌, ⊤, Bool, true, false, MatchBool, ◌&&◌, ◌==◌, nat_lt, nat_le, if◌then◌else◌, Option, Some, None, option_and_then, option_map, Result, Ok, Err, List, [], ◌∷◌, length, drop, codes, count_by, slice_get, IsSome, IsSomeAnd}
 use Rattle.std.specs.Option.{ok_or}
 use Rattle.std.specs.Str.{bytes_eq}
+use Rattle.rv_break.specs.declared.claim.TheConstants.{MOST_SLOTS}
+use Rattle.rv_hart.specs.declared.machine.TheConstants.{MOST_HARTS}
 use Rattle.rv_memory.specs.Chain.{◌>>=◌, want}
 use Rattle.rv_text.specs.Decimal.{decimal_of}
 use Rattle.rv_text.specs.Hexadecimal.{word_digits, word_of}
@@ -12,6 +14,7 @@ use Rattle.rv_collide.specs.Grammar.{header_line, end_line, last_slot}
 use Rattle.rv_collide.specs.Plan.{Numbers, most_entries}
 use Rattle.rv_collide.specs.declared.entry.Entry.{Entry}
 use Rattle.rv_collide.specs.declared.entry.Entry.TheVariants.{Stepped, Paused, Resumed, Armed, Disarmed}
+use Rattle.rv_collide.specs.declared.plan.TheConstants.{DEFAULT_SLOTS, MOST_ARMS, MOST_PAUSE, MOST_STEPS}
 use Rattle.rv_collide.specs.declared.schedule.fault.ScheduleFault.{ScheduleFault}
 use Rattle.rv_collide.specs.declared.schedule.fault.ScheduleKind.{ScheduleKind}
 use Rattle.rv_collide.specs.declared.schedule.fault.ScheduleKind.TheVariants as kind
@@ -42,7 +45,7 @@ option_then o next = option_and_then next o
 
 -- the slots that the words after the other numbers say, of any size; format 1 has no such words, and four slots
 abbrev pub slots_in : Format → List (List ℕ) → Option ℕ
-slots_in First words = if length words == 0 then Some 4 else None
+slots_in First words = if length words == 0 then Some DEFAULT_SLOTS else None
 slots_in Second words = option_then (named (codes "slots") words) (λ slots. if length words == 2 then Some slots else None)
 
 -- the numbers of a plan line, of any size
@@ -58,7 +61,7 @@ numbers_of format words =
 -- the numbers are in the range of a plan
 abbrev pub is_plan : Numbers → Bool
 is_plan n =
-    nat_le 1 n.harts && nat_le n.harts 16 && nat_le 1 n.steps && nat_le n.steps 1_000_000 && nat_le n.arms 4096 && nat_le 1 n.pause && nat_le n.pause 65_535 && nat_le 1 n.slots && nat_le n.slots 8
+    nat_le 1 n.harts && nat_le n.harts MOST_HARTS && nat_le 1 n.steps && nat_le n.steps MOST_STEPS && nat_le n.arms MOST_ARMS && nat_le 1 n.pause && nat_le n.pause MOST_PAUSE && nat_le 1 n.slots && nat_le n.slots MOST_SLOTS
 
 -- what a plan line says: its shape is tested first
 unfoldable pub plan_of : Format → List ℕ → Result Numbers ScheduleKind

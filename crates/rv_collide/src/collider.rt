@@ -1,13 +1,13 @@
 //! The core: one machine, its breakpoints, and the stored schedule of the calls that it accepted.
-ghost use Rattle.std.specs.Prelude.{◌≡◌, ◌⊎◌, ℕ, ◌<◌, ◌≤◌, ◌+◌, ◌*◌, ◌++◌, ◌∷◌, [], ◌==◌, not, Bool, nat_lt, Ok, Err, Some, None, IfOk, IfErr, OnOk, OnErr, IfSome, IfNone, IsSome, unwrap_or, if◌then◌else◌, count_by, ◌%◌, false, true, IsTrue, length, slice_get, option_and_then, option_map, is_some, is_none, find, filter, filter_map, map, vec_len, vec_capacity, MatchResult};
+ghost use Rattle.std.specs.Prelude.{◌≡◌, ℕ, ◌<◌, ◌+◌, ◌*◌, [], ◌==◌, not, nat_lt, Ok, Err, Some, None, IfOk, IfErr, OnErr, IfSome, IfNone, IsSome, if◌then◌else◌, count_by, ◌%◌, false, true, IsTrue, length, slice_get, option_and_then, option_map, is_some, find, filter, vec_capacity};
 ghost use Rattle.std.specs.FinSet as set;
 ghost use Rattle.std.specs.List.{list_any};
 ghost use Rattle.rv_collide.specs.Armed.{armed, arms};
 ghost use Rattle.rv_collide.specs.Entries.{steps};
 ghost use Rattle.rv_collide.specs.Forced.{forced, Turn, Resume, Arm, Disarm, turn_entry, least_free};
-ghost use Rattle.rv_collide.specs.Next.{next, plain, runs_at};
+ghost use Rattle.rv_collide.specs.Next.{plain, runs_at};
 ghost use Rattle.rv_collide.specs.Numbers.{numbers};
-ghost use Rattle.rv_collide.specs.Pause.{opening_of, openings, ended};
+ghost use Rattle.rv_collide.specs.Pause.{opening_of, openings};
 ghost use Rattle.rv_collide.specs.StateAt.{state_at};
 ghost use Rattle.rv_collide.specs.Stored.{added, setting_of, Stored, stored};
 ghost use Rattle.rv_collide.specs.Verdict.{ending_at, endings, verdict_of};
@@ -17,11 +17,11 @@ ghost use Rattle.rv_collide.specs.internal.GoesOn.{GoesOn};
 ghost use Rattle.rv_break.specs.Slots as break_slots;
 ghost use Rattle.rv_hart.specs.NextAccess.{accessed};
 ghost use Rattle.rv_hart.specs.State.{start as first_state};
-ghost use Rattle.rv_memory.specs.Memory.{byte, load, IsSize};
 
 use crate::ending::{Ending, Verdict};
 use crate::entry::Entry;
 use crate::laws::schedules;
+use crate::number::number_at;
 use crate::open_pause::OpenPause;
 use crate::plan::Plan;
 use crate::refused::Refused;
@@ -334,7 +334,7 @@ impl<S: ByteStore> Collider<S> {
         reservations_and_accesses();
         let _was_armed = self.breaks.take_code(access.pc);
         let slot = self.breaks.claim(h, access);
-        let old = bytes(&self.machine, access);
+        let old = number_at(&self.machine, access.first, access.size);
         self.openings.push_reserved(OpenPause {
             hart: h,
             place: self.entries.len() as u32,
@@ -507,7 +507,7 @@ impl<S: ByteStore> Collider<S> {
         reservations_and_accesses();
         let open = taken(&mut self.openings, h);
         let seen = released(&mut self.breaks, open.slot);
-        let new = bytes(&self.machine, open.access);
+        let new = number_at(&self.machine, open.access.first, open.access.size);
         let ending = ending_of(open, self.entries.len() as u32, seen, new);
         self.entries.push_reserved(Entry::Resumed(h));
         self.endings.push_reserved(ending);
@@ -669,38 +669,5 @@ fn verdict(seen: Option<Seen>, same: bool) -> Verdict
                 Verdict::Changed
             }
         }
-    }
-}
-
-/// The bytes of an access as a little-endian number.
-fn bytes<S: ByteStore>(machine: &Machine<S>, access: Access) -> u32
-    requires { IsSize access.size }
-    ensures { result ≡ load machine.now.state.memory access.first access.size }
-{
-    let one = byte_at(machine, access.first, 0);
-    if access.size == 1 {
-        return one;
-    }
-    let two = byte_at(machine, access.first, 1);
-    if access.size == 2 {
-        return one + 256 * two;
-    }
-    let three = byte_at(machine, access.first, 2);
-    let four = byte_at(machine, access.first, 3);
-    one + 256 * (two + 256 * (three + 256 * four))
-}
-
-/// A byte at an offset, or 0 outside of memory.
-fn byte_at<S: ByteStore>(machine: &Machine<S>, first: u32, offset: u32) -> u32
-    ensures value { result ≡ unwrap_or (byte machine.now.state.memory (first + offset)) 0 }
-    ensures below { result < 256 }
-{
-    machine.no_byte_past_the_last();
-    match first.checked_add(offset) {
-        None => 0,
-        Some(address) => match machine.byte(address) {
-            None => 0,
-            Some(byte) => u32::from(byte),
-        },
     }
 }

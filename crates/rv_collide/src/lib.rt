@@ -11,6 +11,7 @@ pub mod ending;
 pub mod entry;
 pub mod laws;
 pub mod list_laws;
+pub mod number;
 mod open_pause;
 pub mod pause_laws;
 pub mod plan;

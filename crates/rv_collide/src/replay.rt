@@ -1,7 +1,7 @@
 //! A stored schedule is told again.
 ghost use Rattle.std.specs.Prelude.{◌≡◌, ◌≢◌, ◌⊎◌, ◌≤◌, [], IfOk, IfErr, OnOk, length, take};
 ghost use Rattle.rv_collide.specs.Answers as answer;
-ghost use Rattle.rv_collide.specs.Forced.{forced, Turn, Resume, Arm, Disarm};
+ghost use Rattle.rv_collide.specs.Forced.{forced, Turn};
 ghost use Rattle.rv_collide.specs.Legal.{IsLegal, call_of};
 ghost use Rattle.rv_collide.specs.Numbers.{numbers};
 ghost use Rattle.rv_collide.specs.Replays.{IsReplayFault, IsWhy, turned_entry};

@@ -1,7 +1,6 @@
 //! The text that endings, and a run that is over, are shown in. It is written piece by piece and takes no memory.
 ghost use Rattle.std.specs.Prelude.{◌≡◌, ◌∷◌, [], ◌++◌, ◌||◌, is_err, OnOk};
 ghost use Rattle.std.specs.Io.KnownBytes.{Appends};
-ghost use Rattle.rv_text.specs.Lines.{text_of_lines};
 ghost use Rattle.rv_collide.specs.Texts as spec;
 
 use crate::collider::Finished;

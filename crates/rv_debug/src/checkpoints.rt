@@ -1,5 +1,5 @@
 //! Machines at some of a schedule's places, from which any other is near.
-ghost use Rattle.std.specs.Prelude.{◌≡◌, ◌⊎◌, ◌≤◌, ◌+◌, ◌*◌, ◌<◌, [], IfOk, IfErr, OnOk, length, take};
+ghost use Rattle.std.specs.Prelude.{◌≡◌, ◌⊎◌, ◌≤◌, ◌+◌, ◌*◌, ◌<◌, [], IfOk, IfErr, OnOk, length};
 ghost use Rattle.rv_collide.specs.Legal.{IsLegal};
 ghost use Rattle.rv_collide.specs.Numbers.{numbers};
 ghost use Rattle.rv_collide.specs.Replays.{IsReplayFault};

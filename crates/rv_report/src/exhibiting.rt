@@ -1,14 +1,12 @@
 //! From a report to its exhibit.
-ghost use Rattle.std.specs.Prelude.{◌≡◌, ◌≢◌, ◌==◌, ◌+◌, ◌<◌, ◌≤◌, ◌↔◌, ◌∷◌, ◌++◌, [], IsTrue, IfOk, IfErr, OnOk, unwrap_or, length, slice_get, take};
+ghost use Rattle.std.specs.Prelude.{◌≡◌, ◌≢◌, ◌==◌, ◌+◌, ◌<◌, ◌≤◌, [], IfOk, IfErr, OnOk, length, slice_get, take};
 ghost use Rattle.rv_collide.specs.Entries.{steps};
 ghost use Rattle.rv_collide.specs.Legal.{IsLegal};
 ghost use Rattle.rv_collide.specs.Numbers.{numbers};
-ghost use Rattle.rv_collide.specs.Replays.{IsReplayFault};
 ghost use Rattle.rv_collide.specs.Stored.{setting_of, stored};
 ghost use Rattle.rv_collide.specs.Verdict.{endings};
 ghost use Rattle.rv_collide.specs.declared.ending.Verdict.TheVariants as verdict;
 ghost use Rattle.rv_hart.specs.State as state;
-ghost use Rattle.rv_memory.specs.Memory as memory;
 ghost use Rattle.rv_report.specs.Exhibit as spec;
 ghost use Rattle.rv_report.specs.SideBySide.{StandSideBySide};
 ghost use Rattle.rv_report.specs.declared.exhibit.ExhibitFault.TheVariants as fault_is;
@@ -20,6 +18,7 @@ use rv_collide::collider::Collider;
 use rv_collide::ending::{Ending, Verdict};
 use rv_collide::entry::Entry;
 use rv_collide::laws::schedules;
+use rv_collide::number::number_at;
 use rv_collide::pause_laws::pauses_that_ended;
 use rv_collide::plan::Plan;
 use rv_collide::replay::{ReplayFault, replay};
@@ -27,7 +26,6 @@ use rv_collide::told::{advance, collider_at};
 use rv_elf::Image;
 use rv_hart::access::Access;
 use rv_hart::laws::{reservations_and_accesses, what_no_step_does};
-use rv_hart::machine::Machine;
 use rv_memory::flat::Flat;
 use rv_memory::laws::store_keeps_the_rest;
 use rv_memory::store::NoMemory;
@@ -256,33 +254,7 @@ fn word_at(
         word ≡ spec.word_at (setting_of (stored image.now (numbers plan) [])).start entries.now place address) }
 {
     let collider = collider_at(alloc, image, plan, entries, place)?;
-    Ok(word(collider.machine(), address))
-}
-
-/// The word at an address; a byte outside of memory is 0.
-fn word(machine: &Machine<Flat>, address: u32) -> u32
-    ensures { result ≡ memory.load machine.now.state.memory address 4 }
-{
-    let one = byte_at(machine, address, 0);
-    let two = byte_at(machine, address, 1);
-    let three = byte_at(machine, address, 2);
-    let four = byte_at(machine, address, 3);
-    one + 256 * (two + 256 * (three + 256 * four))
-}
-
-/// A byte at an offset, or 0 outside of memory.
-fn byte_at(machine: &Machine<Flat>, first: u32, offset: u32) -> u32
-    ensures value { result ≡ unwrap_or (memory.byte machine.now.state.memory (first + offset)) 0 }
-    ensures below { result < 256 }
-{
-    machine.no_byte_past_the_last();
-    match first.checked_add(offset) {
-        None => 0,
-        Some(address) => match machine.byte(address) {
-            None => 0,
-            Some(byte) => u32::from(byte),
-        },
-    }
+    Ok(number_at(collider.machine(), address, 4))
 }
 
 /// The harts of the steps up to a place, with the one there, and then the paused one.

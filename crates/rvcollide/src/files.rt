@@ -1,5 +1,5 @@
 //! Files of the system, by their paths.
-ghost use Rattle.std.specs.Prelude.{◌≡◌, ◌||◌, true, false, is_err, is_some, OnOk, option_and_then};
+ghost use Rattle.std.specs.Prelude.{◌≡◌, true, false, is_err, is_some, OnOk, option_and_then};
 ghost use Rattle.std.specs.Io.KnownBytes.{ReadConsumes};
 ghost use Rattle.std.specs.Io.{ReadsAtMost};
 

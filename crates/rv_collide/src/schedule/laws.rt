@@ -3,8 +3,8 @@
 ghost use Rattle.rv_collide.specs.GrammarLaws.{ReadsTheGrammar, TextHasOneSchedule, ScheduleHasOneText, ScheduleHasText, LegalIsWritable};
 
 use rv_text::laws::{
-    decimal_has_one_spelling, decimal_is_read_back, decimal_lacks_separators, word_is_read_back,
-    word_lacks_separators,
+    decimal_has_one_spelling, decimal_is_read_back, decimal_lacks_separators, pieces_are_cut,
+    word_is_read_back, word_lacks_separators,
 };
 
 /// The texts that are read are those of the grammar, as what they were written from.
@@ -16,6 +16,7 @@ pub fn reads_the_grammar()
     decimal_has_one_spelling();
     word_is_read_back();
     word_lacks_separators();
+    pieces_are_cut();
 }
 
 /// A schedule has one spelling: a text is of one schedule at most, and a schedule has in each format one text at

@@ -4,6 +4,7 @@ ghost use Rattle.rv_text.specs.Pieces.{pieces_of};
 ghost use Rattle.rv_collide.specs.ScheduleRead as spec;
 
 use crate::schedule::fault::ScheduleKind;
+use rv_text::laws::pieces_are_cut;
 
 /// The most bytes of a line, its LF not counted.
 const MOST_LINE: usize = 64;
@@ -26,6 +27,7 @@ pub(crate) fn first_line(text: &[u8]) -> Result<(&[u8], &[u8]), ScheduleKind>
     ensures err { IfErr result (λ kind. spec.first_line (pieces_of 10 text.now) ≡ Err kind) }
     ensures told { IfErr result (λ kind. spec.is_of_text kind ≡ true) }
 {
+    pieces_are_cut();
     match cut(text) {
         Some((line, rest)) if line.len() <= MOST_LINE => Ok((line, rest)),
         None if text.len() <= MOST_LINE => Err(ScheduleKind::NoEnd),

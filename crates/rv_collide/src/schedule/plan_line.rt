@@ -1,5 +1,5 @@
 //! The line of the plan.
-ghost use Rattle.std.specs.Prelude.{◌≡◌, ◌≤◌, ◌↔◌, true, is_some, min, IsSome, IfSome, IfOk, IfErr, OnSome, Ok, Err, drop};
+ghost use Rattle.std.specs.Prelude.{◌≡◌, ◌↔◌, true, is_some, min, IsSome, IfSome, IfOk, IfErr, OnSome, Ok, Err, drop};
 ghost use Rattle.std.specs.List.{list_all};
 ghost use Rattle.std.specs.Char.{is_ascii_digit};
 ghost use Rattle.std.specs.Option.{option_map};

@@ -16,6 +16,7 @@ use crate::schedule::format::Format;
 use crate::schedule::line::first_line;
 use crate::schedule::plan_line::read_plan;
 use rv_memory::flagged::{Flagged, INPUT_LIMIT};
+use rv_text::laws::pieces_are_cut;
 use std::alloc::Global;
 use std::io::Read;
 
@@ -199,6 +200,7 @@ pub fn read_schedule<R: Read>(
         × spec.IsBrokenOff taken fault.line fault.kind) }
     ensures failed { flag.has_failed reader.new ≡ (flag.has_failed reader.old || spec.fails_reading result) }
 {
+    pieces_are_cut();
     let text = read_front(alloc, reader)?;
     read_text(alloc, &text)
 }

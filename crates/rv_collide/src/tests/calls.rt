@@ -1,5 +1,6 @@
 //! Calls and their refusals.
 use super::*;
+use crate::number::number_at;
 
 fn begun(rt: &impl Abort, alloc: Global, arms: u32) -> Result<Collider<Flat>, Fail> {
     let image = image(rt, alloc, P)?;
@@ -182,5 +183,21 @@ fn tells_the_first_entry_that_no_call_adds(rt: HostRuntime) -> Result<(), Fail> 
     assert_is(&rt, fault, at(0, Why::Differs), "no address is armed");
     let fault = fault_of(&rt, alloc, P, slotted(6, 100, 8, 5)?, &UNWATCHED)?;
     assert_is(&rt, fault, at(15, Why::Differs), "a fifth slot is free");
+    Ok(())
+}
+
+/// The words of P, parts of them, and bytes that there are not.
+#[test]
+fn reads_bytes_as_a_number(rt: HostRuntime) -> Result<(), Fail> {
+    let core = begun(&rt, rt.alloc(), 0)?;
+    let machine = core.machine();
+    let found = [
+        number_at(machine, 0x10000, 4),
+        number_at(machine, 0x10000, 1),
+        number_at(machine, 0x1000b, 2),
+        number_at(machine, 0x1000d, 4),
+        number_at(machine, 0x30000, 4),
+    ];
+    assert_is(&rt, found, [0x0002_0337, 0x37, 0x7300, 0, 0], "numbers");
     Ok(())
 }

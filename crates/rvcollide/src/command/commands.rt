@@ -80,7 +80,7 @@ pub const COMMANDS: [Subcommand; 8] = [
             Argument::Optional {
                 name: "save",
                 value: "FILE",
-                help: "File for the schedule of that run, which replay and debug read",
+                help: "File for the schedule of that run, which replay, debug and exhibit read",
             },
         ],
     },
@@ -99,7 +99,7 @@ pub const COMMANDS: [Subcommand; 8] = [
             Argument::Optional {
                 name: "save",
                 value: "FILE",
-                help: "File for the schedule of the run, which replay and debug read",
+                help: "File for the schedule of the run, which replay, debug and exhibit read",
             },
         ],
     },
@@ -194,7 +194,7 @@ const BY_THREADS: &str = "\
 Each hart takes its turns in a thread of its own. The seed draws the addresses that are armed, one after
 another; the threads decide when each hart goes on, and so what is hit, and the same line may find other
 endings when it is given again. The schedule that --save keeps is the whole run: replay makes it again,
-with the same endings, and debug shows its places.
+with the same endings, debug shows its places, and exhibit the steps to a report.
 
 Example:
   rvcollide threads guest.elf --harts 2 --steps 10000 --arms 50 --pause 20 --seed 1 --save run.txt";

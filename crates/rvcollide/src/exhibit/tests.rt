@@ -1,3 +1,5 @@
+mod drawn;
+
 use crate::devices::{
     Endless, assert_is, assert_tells_each_failing_call, assert_tells_each_failing_read,
 };
@@ -36,8 +38,8 @@ fn code(rt: &impl Abort, alloc: Global, words: &[u32]) -> Result<Region, Fail> {
     })
 }
 
-/// The file of an image of them and 4,096 zero bytes at 00020000, R and W.
-fn file_of(rt: &impl Abort, alloc: Global, words: &[u32]) -> Result<Vec<u8>, Fail> {
+/// An image of them and 4,096 zero bytes at 00020000, R and W.
+fn image_of(rt: &impl Abort, alloc: Global, words: &[u32]) -> Result<Image, Fail> {
     let code = code(rt, alloc, words)?;
     let data = Region {
         start: 0x20000,
@@ -48,7 +50,12 @@ fn file_of(rt: &impl Abort, alloc: Global, words: &[u32]) -> Result<Vec<u8>, Fai
         x: false,
     };
     let segments = vec![in alloc; code, data]?;
-    let image = Image::new(0x10000, segments, Vec::new(alloc)).ok_or("an image")?;
+    Ok(Image::new(0x10000, segments, Vec::new(alloc)).ok_or("an image")?)
+}
+
+/// Its file.
+fn file_of(rt: &impl Abort, alloc: Global, words: &[u32]) -> Result<Vec<u8>, Fail> {
+    let image = image_of(rt, alloc, words)?;
     Ok(write(alloc, &image)?)
 }
 

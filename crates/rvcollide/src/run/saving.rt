@@ -1,5 +1,5 @@
 //! The schedule of a run, as a file.
-ghost use Rattle.std.specs.Prelude.{◌≡◌, ◌<◌, ◌⊎◌, ◌||◌, false, IfOk, IfErr, OnOk, IsSomeAnd, is_some, length, slice_get, List, All};
+ghost use Rattle.std.specs.Prelude.{◌≡◌, ◌<◌, ◌⊎◌, ◌||◌, false, IfOk, IfErr, OnOk, IsSomeAnd, is_some, length, slice_get, All};
 ghost use Rattle.rv_collide.specs.Grammar.{IsWritable, schedule_text};
 ghost use Rattle.rv_collide.specs.Numbers.{numbers};
 ghost use Rattle.rv_collide.specs.declared.collider.Finished.{Finished};

@@ -32,8 +32,8 @@ released-seen-requires g c =
     subst (λ (xs : Slots). IfSome c.taken-open.result.slot (λ n. IsClaimed xs n)) (sym c.self.invariant.0.slots_are)
     (slot_claimed s.start c.self.inside.entries.items c.args.h (opening c.taken-open.result) c.taken-open.result.access c.self.invariant.0.apart of_h k.access s.plan.slots c.taken-open.result.slot refl k.within)
 
-pub bytes-new-requires : goal.bytes-new-requires
-bytes-new-requires g c =
+pub number_at-new-requires : goal.number_at-new-requires
+number_at-new-requires g c =
     let s = setting_of (stored c.self.inside.image.value (numbers c.self.inside.plan) c.self.inside.entries.items) in
     let k = kept_found s.plan.slots s.start c.self.inside.entries.items (λ (q : OpenPause). q.hart == c.args.h) c.self.inside.openings.items c.taken-open.result c.self.invariant.0.kept c.taken-open.ensures.pause in
     size_of c.reservations_and_accesses.ensures.sizes s.start c.self.inside.entries.items c.taken-open.result.place c.taken-open.result.hart c.taken-open.result.access k.access
@@ -61,9 +61,9 @@ invariant_of-self g c =
     let seen = c.released-seen.ensures.seen
     ∙ ap (λ (xs : Slots). option_and_then (seen_at xs) c.taken-open.result.slot) c.self.invariant.0.slots_are
     ∙ slot_seen s.start c.self.inside.entries.items c.args.h (opening c.taken-open.result) c.taken-open.result.access c.self.invariant.0.apart of_h k.access s.plan.slots c.taken-open.result.slot refl k.within in
-    let told_is = c.ending_of-ending.ensures ∙ told s.start c.self.inside.entries.items c.taken-open.result c.released-seen.result c.len.result c.bytes-new.result k.old seen
+    let told_is = c.ending_of-ending.ensures ∙ told s.start c.self.inside.entries.items c.taken-open.result c.released-seen.result c.len.result c.number_at-new.result k.old seen
     (c.len.ensures ∙ c.self.inside.entries.ok.0)
-    (c.bytes-new.ensures ∙ bytes_now s.start c.self.inside.machine.state c.self.inside.entries.items (length c.self.inside.entries.items) c.taken-open.result.access c.self.invariant.0.now) in
+    (c.number_at-new.ensures ∙ bytes_now s.start c.self.inside.machine.state c.self.inside.entries.items (length c.self.inside.entries.items) c.taken-open.result.access c.self.invariant.0.now) in
     let core = core_resume s c.self.inside.entries.items c.self.inside.machine c.self.inside.breaks c.released-seen.new.breaks c.self.inside.openings.items c.self.inside.endings.items c.self.inside.steps c.self.inside.arms c.args.h c.taken-open.result c.ending_of-ending.result c.self.invariant.0 ok c.taken-open.ensures.pause
     (ap (λ (b : Breaks). b.armed) c.released-seen.ensures.after)
     (ap (λ (b : Breaks). b.slots) c.released-seen.ensures.after)
@@ -87,9 +87,9 @@ returns-clause-ending g c =
     let seen = c.released-seen.ensures.seen
     ∙ ap (λ (xs : Slots). option_and_then (seen_at xs) c.taken-open.result.slot) c.self.invariant.0.slots_are
     ∙ slot_seen s.start c.self.inside.entries.items c.args.h (opening c.taken-open.result) c.taken-open.result.access c.self.invariant.0.apart of_h k.access s.plan.slots c.taken-open.result.slot refl k.within in
-    let told_is = c.ending_of-ending.ensures ∙ told s.start c.self.inside.entries.items c.taken-open.result c.released-seen.result c.len.result c.bytes-new.result k.old seen
+    let told_is = c.ending_of-ending.ensures ∙ told s.start c.self.inside.entries.items c.taken-open.result c.released-seen.result c.len.result c.number_at-new.result k.old seen
     (c.len.ensures ∙ c.self.inside.entries.ok.0)
-    (c.bytes-new.ensures ∙ bytes_now s.start c.self.inside.machine.state c.self.inside.entries.items (length c.self.inside.entries.items) c.taken-open.result.access c.self.invariant.0.now) in
+    (c.number_at-new.ensures ∙ bytes_now s.start c.self.inside.machine.state c.self.inside.entries.items (length c.self.inside.entries.items) c.taken-open.result.access c.self.invariant.0.now) in
     ap (λ (ys : List Entry). ending_at s.start ys (length c.args.self.now.entries)) c.push_reserved.ensures.items
     ∙ ap (λ (u : Stored). ending_at s.start (c.self.inside.entries.items ++ Resumed c.args.h ∷ []) (length u.entries)) (sym c.self.view_is)
     ∙ ending_now s.start c.self.inside.entries.items c.args.h (opening c.taken-open.result) c.taken-open.result.access of_h k.access

@@ -15,8 +15,8 @@ use Rattle.rv_collide.proofs.OpenPauses.{bytes_now, claim_made, least_is_free, s
 use Rattle.rv_collide.proofs.Rooms.{room_to_disarm, room_to_open}
 use Rattle.rv_collide.proofs.collider.Collider.pause.Goals as goal
 
-pub bytes-old-requires : goal.bytes-old-requires
-bytes-old-requires g c =
+pub number_at-old-requires : goal.number_at-old-requires
+number_at-old-requires g c =
     size_of c.reservations_and_accesses.ensures.sizes (setting_of c.args.self.now).start c.args.self.now.entries (length c.args.self.now.entries) c.args.h c.args.access c.requires.armed.is_next
 
 pub push_reserved-requires : goal.push_reserved-requires
@@ -55,10 +55,10 @@ invariant_of-self g c =
     ∙ least_is_free c.self.inside.plan.slots s.start c.self.inside.entries.items c.self.inside.openings.items c.self.invariant.0.kept c.self.invariant.0.openings_are in
     let size = c.len.ensures ∙ c.self.inside.entries.ok.0 in
     let made = claim_made c.claim-slot.result c.args.h c.args.access c.take_code-was_armed.new.self c.claim-slot.new.self c.claim-slot.ensures.claimed c.claim-slot.ensures.none in
-    let p : OpenPause = record { hart = c.args.h; place = c.len.result; slot = c.claim-slot.result; access = c.args.access; old = c.bytes-old.result } in
+    let p : OpenPause = record { hart = c.args.h; place = c.len.result; slot = c.claim-slot.result; access = c.args.access; old = c.number_at-old.result } in
     let core = core_pause s c.self.inside.entries.items c.self.inside.machine c.self.inside.breaks c.claim-slot.new.self c.self.inside.openings.items c.self.inside.endings.items c.self.inside.steps c.self.inside.arms c.args.h p c.self.invariant.0
     (ok ∙ ap (λ k. Ok (Paused c.args.h k)) (sym free)) (sym free) refl size wanted.is_next wanted.is_armed
-    (c.bytes-old.ensures ∙ bytes_now s.start c.self.inside.machine.state c.self.inside.entries.items (length c.self.inside.entries.items) c.args.access c.self.invariant.0.now)
+    (c.number_at-old.ensures ∙ bytes_now s.start c.self.inside.machine.state c.self.inside.entries.items (length c.self.inside.entries.items) c.args.access c.self.invariant.0.now)
     (made.armed ∙ ap (λ (b : Breaks). b.armed) c.take_code-was_armed.ensures.after)
     (made.slots ∙ ap (λ (b : Breaks). slots_claimed c.claim-slot.result c.args.h c.args.access b.slots) c.take_code-was_armed.ensures.after) in (
       subst (λ (ys : List Entry). IsCore s ys c.self.inside.machine c.claim-slot.new.self c.push_reserved.new.self.items c.self.inside.endings.items c.self.inside.steps c.self.inside.arms) (sym c.push_reserved-2.ensures.items)
