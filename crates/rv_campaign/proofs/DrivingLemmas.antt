@@ -1,15 +1,16 @@
 -- How a seeded run goes on, entry by entry.
-use Rattle.std.proofs.Common.{◌≡◌, ℕ, zero, suc, ◌+◌, ◌-◌, ◌≤◌, ◌<◌, inl, inr, true, false, cond, List, [], ◌∷◌, ◌++◌, length, take, Option, Some, None, Ok, refl, sym, ap, subst, ◌∙◌, arith, length-append, ◌%◌}
+use Rattle.std.proofs.Common.{◌≡◌, ℕ, zero, suc, ◌+◌, ◌≤◌, ◌<◌, inl, inr, true, false, cond, List, [], ◌∷◌, ◌++◌, length, take, Option, Some, None, Ok, refl, sym, ap, subst, ◌∙◌, arith, length-append, ◌%◌}
 use Rattle.std.specs.Prelude.{slice_get, option_and_then, option_map}
 use Rattle.std.specs.Result.{result_ok}
 use Rattle.std.specs.Option.{option_or, option_to_list}
 use Rattle.std.proofs.lemmas.Bool.{cases_lt}
-use Rattle.std.proofs.lemmas.List.{append-nil, take-append-le, take_all}
+use Rattle.std.proofs.lemmas.List.{append_assoc, append-nil, take-append-le, take_all}
 use Rattle.std.proofs.lemmas.Option.{slice_get_past}
 use Rattle.rv_campaign.specs.internal.Driving.{IsDriving}
 use Rattle.rv_drive.specs.Able.{able, due}
 use Rattle.rv_drive.specs.Drawn.{IsDrawn, driven, picked_hart, turn_drawn, turns_and_resumptions}
 use Rattle.rv_drive.specs.DriverLaws.{AddsItsKind, DrawsGoOn}
+use Rattle.rv_drive.specs.Turns.{ArePickedTurns}
 use Rattle.rv_drive.specs.Draws.{Sampling, draw, draws, first_draws, is_resumed, next_index, owed}
 use Rattle.rv_collide.specs.Forced.{Setting, Turn, forced}
 use Rattle.rv_collide.specs.Legal.{call_of}
@@ -73,7 +74,7 @@ turn_driven setting sampling xs hart e paid undue picked ok =
     ∙ ap (option_and_then (λ h. result_ok (forced setting xs (Turn h)))) picked
     ∙ ap result_ok ok
 
-pub after_turn : DrawsGoOn → AddsItsKind → (setting : Setting) (sampling : Sampling) (xs : List Entry) (taken hart : ℕ) (e : Entry) → IsDriving setting sampling xs taken → due setting xs ≡ None → picked_hart setting xs (sampling.word_at taken) ≡ Some hart → forced setting xs (Turn hart) ≡ Ok e → IsDriving setting sampling (xs ++ e ∷ []) (taken + 1)
+after_turn : DrawsGoOn → AddsItsKind → (setting : Setting) (sampling : Sampling) (xs : List Entry) (taken hart : ℕ) (e : Entry) → IsDriving setting sampling xs taken → due setting xs ≡ None → picked_hart setting xs (sampling.word_at taken) ≡ Some hart → forced setting xs (Turn hart) ≡ Ok e → IsDriving setting sampling (xs ++ e ∷ []) (taken + 1)
 after_turn go kind setting sampling xs taken hart e d undue picked ok =
     let t = is_turn e hart (kind setting xs (Turn hart) e ok) in
     let at = subst (λ (n : ℕ). picked_hart setting xs (sampling.word_at n) ≡ Some hart) d.taken_are picked in
@@ -83,6 +84,23 @@ after_turn go kind setting sampling xs taken hart e d undue picked ok =
       paid = owed_more go setting sampling xs e d.paid ∙ ap (λ b. cond b (draw setting sampling (xs ++ e ∷ []) (next_index turns_and_resumptions xs)) None) t.stays;
       taken_are = ap (λ n. n + 1) d.taken_are ∙ sym one;
     }
+
+plus_none : (n : ℕ) → n + 0 ≡ n
+plus_none n = omega arith
+
+more_then : (taken more : ℕ) → taken + 1 + more ≡ taken + suc more
+more_then taken more = omega arith
+
+pub after_turns : DrawsGoOn → AddsItsKind → (setting : Setting) (sampling : Sampling) (xs turns : List Entry) (taken : ℕ) → IsDriving setting sampling xs taken → ArePickedTurns setting sampling.word_at taken xs turns → IsDriving setting sampling (xs ++ turns) (taken + length turns)
+after_turns go kind setting sampling xs [] taken d are =
+    subst (λ (n : ℕ). IsDriving setting sampling (xs ++ []) n) (sym (plus_none taken))
+    (subst (λ (ys : List Entry). IsDriving setting sampling ys taken) (sym (append-nil xs)) d)
+after_turns go kind setting sampling xs (turn ∷ turns) taken d are =
+    let first = are.0 in
+    let one = after_turn go kind setting sampling xs taken first.hart turn d first.undue first.picked first.turns in
+    let all = after_turns go kind setting sampling (xs ++ turn ∷ []) turns (taken + 1) one are.1 in
+    subst (λ (n : ℕ). IsDriving setting sampling (xs ++ turn ∷ turns) n) (more_then taken (length turns))
+    (subst (λ (ys : List Entry). IsDriving setting sampling ys (taken + 1 + length turns)) (append_assoc xs (turn ∷ []) turns) all)
 
 -- ---- a resumption with its draw
 
@@ -95,9 +113,6 @@ due_driven setting sampling xs hart paid is =
 drawn_first : (setting : Setting) (sampling : Sampling) (xs : List Entry) (e : Entry) → owed setting sampling turns_and_resumptions xs ≡ Some e → driven setting sampling xs ≡ Some e
 unfolding driven
 drawn_first setting sampling xs e owes = ap (λ o. option_or o (option_or (option_map Resumed (due setting xs)) (turn_drawn setting sampling xs))) owes
-
-plus_none : (n : ℕ) → n + 0 ≡ n
-plus_none n = omega arith
 
 after_draw : DrawsGoOn → (setting : Setting) (sampling : Sampling) (xs : List Entry) (taken : ℕ) (d : Option Entry) → ((place : ℕ) → place < length xs → slice_get xs place ≡ driven setting sampling (take place xs)) → owed setting sampling turns_and_resumptions xs ≡ d → (index : ℕ) → draw setting sampling xs index ≡ d → taken ≡ next_index turns_and_resumptions xs → length (draws setting sampling first_draws) ≤ length xs → IsDriving setting sampling (xs ++ option_to_list d) taken
 after_draw go setting sampling xs taken None so_far owes index adds are past =

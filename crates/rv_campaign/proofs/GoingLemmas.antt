@@ -1,15 +1,15 @@
 -- A driver's calls, as a seeded run goes on.
-use Rattle.std.proofs.Common.{◌≡◌, ℕ, ◌+◌, ◌%◌, List, [], ◌++◌, length, Some, None, refl, sym, ap, subst, ◌∙◌}
-use Rattle.std.specs.Prelude.{slice_get}
+use Rattle.std.proofs.Common.{◌≡◌, ℕ, ◌+◌, ◌^◌, ◌<◌, ◌≤◌, List, [], ◌++◌, length, Some, None, refl, sym, ap, subst, ◌∙◌, arith, length-append}
 use Rattle.std.specs.Option.{option_to_list}
+use Rattle.std.proofs.lemmas.List.Sums.{count_by-le-length}
 use Rattle.rv_campaign.specs.Run.{IsRunOver, sampling_of}
-use Rattle.rv_campaign.specs.internal.Driving.{IsDriving}
-use Rattle.rv_drive.specs.Able.{able, due}
-use Rattle.rv_drive.specs.Drawn.{IsDrawn, driven, picked_hart}
+use Rattle.rv_campaign.specs.internal.Driving.{IsDriving, SameRun}
+use Rattle.rv_drive.specs.Able.{due}
+use Rattle.rv_drive.specs.Drawn.{IsDrawn, driven, turns_and_resumptions}
 use Rattle.rv_drive.specs.DriverLaws.{AddsItsKind, DrawsGoOn}
-use Rattle.rv_drive.specs.Draws.{draw, draws, first_draws}
-use Rattle.rv_collide.specs.Forced.{Setting, Turn}
-use Rattle.rv_collide.specs.Answers.{Adds, IsOutput, Turns}
+use Rattle.rv_drive.specs.Draws.{Sampling, draw, draws, first_draws}
+use Rattle.rv_collide.specs.Answers.{IsOutput}
+use Rattle.rv_collide.specs.Forced.{Setting}
 use Rattle.rv_collide.specs.Numbers.{numbers}
 use Rattle.rv_collide.specs.Plan.{Numbers}
 use Rattle.rv_collide.specs.Stored.{Stored, added, setting_of, stored}
@@ -17,12 +17,11 @@ use Rattle.rv_collide.specs.Verdict.{endings}
 use Rattle.rv_collide.specs.declared.collider.Finished.{Finished}
 use Rattle.rv_elf.specs.Contents.{Contents}
 use Rattle.rv_collide.specs.declared.entry.Entry.{Entry}
-use Rattle.rv_collide.specs.declared.entry.Entry.TheVariants.{Stepped, Paused, Resumed}
-use Rattle.rv_collide.specs.declared.collider.Turned.{Turned}
-use Rattle.rv_collide.specs.declared.collider.Turned.TheVariants as turned
+use Rattle.rv_collide.specs.declared.entry.Entry.TheVariants.{Resumed}
 use Rattle.rv_drive.specs.Sampling.{begun}
+use Rattle.rv_drive.specs.Turns.{TakesTurns}
 use Rattle.rv_sample.specs.Generator.{Given, word_at}
-use Rattle.rv_campaign.proofs.DrivingLemmas.{after_draws, after_resumption, after_turn, whole_run}
+use Rattle.rv_campaign.proofs.DrivingLemmas.{after_draws, after_resumption, after_turns, whole_run}
 
 pub opened_drives : DrawsGoOn → (driver : Stored) (image : Contents) (plan : Numbers) (sites : List ℕ) (before after : Given) → driver ≡ begun image plan (sampling_of sites before.seed before.stream) → after ≡ record before { taken = first_draws } → IsDriving (setting_of driver) (sampling_of sites after.seed after.stream) driver.entries after.taken
 opened_drives go driver image plan sites before after is words =
@@ -38,26 +37,34 @@ resumed_on go old mid new sites before after hart d is resumes gives words =
     let at_new = subst (λ (s : Stored). IsDriving (setting_of s) (sampling_of sites before.seed before.stream) s.entries (before.taken + 1)) (sym gives) at_mid in
     subst (λ (w : Given). IsDriving (setting_of new) (sampling_of sites w.seed w.stream) new.entries w.taken) (sym words) at_new
 
-pub is_picked : (setting : Setting) (xs : List Entry) (word drawn count hart : ℕ) → word ≡ drawn → count ≡ length (able setting xs) → slice_get (able setting xs) (word % count) ≡ Some hart → picked_hart setting xs drawn ≡ Some hart
-unfolding picked_hart
-is_picked setting xs word drawn count hart is counts there =
-    ap (λ (w : ℕ). slice_get (able setting xs) (w % length (able setting xs))) (sym is) ∙ ap (λ (n : ℕ). slice_get (able setting xs) (word % n)) (sym counts) ∙ there
+pub turns_on : DrawsGoOn → AddsItsKind → (old new : Stored) (sites : List ℕ) (before after : Given) → IsDriving (setting_of old) (sampling_of sites before.seed before.stream) old.entries before.taken → TakesTurns old new (word_at before.seed before.stream) before.taken after.taken → after ≡ record before { taken = after.taken } → IsDriving (setting_of new) (sampling_of sites after.seed after.stream) new.entries after.taken
+turns_on go kind old new sites before after d takes words =
+    let core = after_turns go kind (setting_of old) (sampling_of sites before.seed before.stream) old.entries takes.turns before.taken d takes.are_picked in
+    let at_next = subst (λ (n : ℕ). IsDriving (setting_of old) (sampling_of sites before.seed before.stream) (old.entries ++ takes.turns) n) (sym takes.next_is) core in
+    let at_new = subst (λ (s : Stored). IsDriving (setting_of s) (sampling_of sites before.seed before.stream) s.entries after.taken) (sym takes.are_added) at_next in
+    subst (λ (w : Given). IsDriving (setting_of new) (sampling_of sites w.seed w.stream) new.entries after.taken) (sym words) at_new
 
--- the entry that a turn adds
-record HasTurned (old new : Stored) (hart : ℕ) : Type 0 where
-  entry : Entry
-  adds : Adds old new (Turn hart) entry
+-- so few words are taken that there are more
+pub few_words : (setting : Setting) (sampling : Sampling) (xs : List Entry) (taken most : ℕ) → IsDriving setting sampling xs taken → length xs ≤ most → most ≤ 1_016_384 → taken + 2 ^ 32 < 2 ^ 64
+few_words setting sampling xs taken most d few range =
+    let taken_are = d.taken_are in
+    let counted = count_by-le-length turns_and_resumptions xs in
+    omega (arith, taken_are, counted, few, range)
 
-has_turned : (old new : Stored) (hart : ℕ) (t : Turned) → Turns old new hart t → HasTurned old new hart
-has_turned old new hart (turned.Stepped event) turns = record { entry = Stepped hart; adds = turns.0 }
-has_turned old new hart (turned.Paused slot) turns = record { entry = Paused hart slot; adds = turns }
+-- turns make the list longer
+pub turns_longer : (old new : Stored) (word : ℕ → ℕ) (first next : ℕ) → TakesTurns old new word first next → first < next → length old.entries < length new.entries
+turns_longer old new word first next takes more =
+    let long = ap (λ (s : Stored). length s.entries) takes.are_added ∙ length-append old.entries takes.turns in
+    let next_is = takes.next_is in
+    omega (arith, long, next_is, more)
 
-pub turned_on : DrawsGoOn → AddsItsKind → (old new : Stored) (sites : List ℕ) (before after : Given) (hart : ℕ) (t : Turned) → IsDriving (setting_of old) (sampling_of sites before.seed before.stream) old.entries before.taken → due (setting_of old) old.entries ≡ None → picked_hart (setting_of old) old.entries (word_at before.seed before.stream before.taken) ≡ Some hart → Turns old new hart t → after ≡ record before { taken = before.taken + 1 } → IsDriving (setting_of new) (sampling_of sites after.seed after.stream) new.entries after.taken
-turned_on go kind old new sites before after hart t d undue picked turns words =
-    let accepts = has_turned old new hart t turns in
-    let core = after_turn go kind (setting_of old) (sampling_of sites before.seed before.stream) old.entries before.taken hart accepts.entry d undue picked accepts.adds.is_forced in
-    let at_new = subst (λ (s : Stored). IsDriving (setting_of s) (sampling_of sites before.seed before.stream) s.entries (before.taken + 1)) (sym accepts.adds.is_added) core in
-    subst (λ (w : Given). IsDriving (setting_of new) (sampling_of sites w.seed w.stream) new.entries w.taken) (sym words) at_new
+pub turns_same : (old new : Stored) (before after : Given) (word : ℕ → ℕ) → TakesTurns old new word before.taken after.taken → after ≡ record before { taken = after.taken } → SameRun old new before after
+turns_same old new before after word takes words = record {
+  image = ap (λ (s : Stored). s.image) takes.are_added;
+  plan = ap (λ (s : Stored). s.plan) takes.are_added;
+  seed = ap (λ (w : Given). w.seed) words;
+  stream = ap (λ (w : Given). w.stream) words;
+}
 
 abbrev Drawn : List ℕ → Contents → Numbers → ℕ → ℕ → List Entry → Type 0
 Drawn sites image plan seed run entries = IsDrawn (setting_of (stored image plan [])) (sampling_of sites seed run) entries

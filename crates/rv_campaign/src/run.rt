@@ -54,8 +54,8 @@ pub(crate) fn run_sampled(
     Ok(driver.into_collider().finish())
 }
 
-/// What the run adds next: the lowest pause that is due ends, and a draw follows; else an able hart takes a
-/// turn. It answers whether there was something to add.
+/// What the run adds next: the lowest pause that is due ends, and a draw follows; else able harts take turns.
+/// It answers whether there was something to add.
 fn go_on(driver: &mut Driver, words: &mut Generator, sampler: &Sampler) -> bool
     requires driving { IsDriving (setting_of driver.old)
         (sampling_of sampler.now words.old.seed words.old.stream) driver.old.entries words.old.taken }
@@ -77,17 +77,10 @@ fn go_on(driver: &mut Driver, words: &mut Generator, sampler: &Sampler) -> bool
         driver.collider().facts();
         return true;
     }
-    let count = driver.count();
-    if count == 0 {
+    if driver.count() == 0 {
         return false;
     }
-    let word = words.next();
-    match driver.nth(word % count) {
-        None => unreachable!(),
-        Some(h) => {
-            driver.turn(h);
-            driver.collider().facts();
-            true
-        }
-    }
+    driver.turns(words);
+    driver.collider().facts();
+    true
 }

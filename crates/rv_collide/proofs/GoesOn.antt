@@ -43,7 +43,7 @@ within harts h n count runs =
       | inr past ↦ absurd (no_hart harts h runs (omega arith))
     ]
 
-runs_there : (start s : State) (xs : List Entry) (n h : ℕ) → state_at start xs n ≡ Some s → is_running_hart (slice_get s.harts h) ≡ true → runs_at start xs n h ≡ true
+pub runs_there : (start s : State) (xs : List Entry) (n h : ℕ) → state_at start xs n ≡ Some s → is_running_hart (slice_get s.harts h) ≡ true → runs_at start xs n h ≡ true
 unfolding runs_at
 runs_there start s xs n h at runs = ap (λ (o : Option State). option_map_or (λ (s : State). is_running_hart (slice_get s.harts h)) o false) at ∙ runs
 

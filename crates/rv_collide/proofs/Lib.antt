@@ -29,6 +29,7 @@ pub mod PauseLemmas
 pub mod Places
 pub mod PlanLineLemmas
 pub mod Prefix
+pub mod QuickTurns
 pub mod ReadsBack
 pub mod Replayed
 pub mod ReportLemmas

@@ -1,5 +1,5 @@
 -- A schedule that is written is read back.
-use Rattle.std.proofs.Common.{◌≡◌, ℕ, ◌+◌, ◌-◌, ◌^◌, ◌<◌, ◌≤◌, Bool, true, false, ◌&&◌, ◌==◌, nat_lt, nat_le, Option, Some, None, Ok, All, List, [], ◌∷◌, ◌++◌, map, length, codes, refl, ap, ◌∙◌, sym, arith, append_assoc, append-nil, length-append, cond}
+use Rattle.std.proofs.Common.{◌≡◌, ℕ, ◌+◌, ◌-◌, ◌^◌, ◌<◌, ◌≤◌, Bool, true, false, ◌==◌, nat_lt, nat_le, Option, Some, None, Ok, All, List, [], ◌∷◌, ◌++◌, map, length, codes, refl, ap, ◌∙◌, sym, arith, append_assoc, append-nil, length-append, cond}
 use Rattle.std.specs.Prelude.{IfSome}
 use Rattle.std.specs.List.{list_any}
 use Rattle.std.specs.Str.{bytes_eq}

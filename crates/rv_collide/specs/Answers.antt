@@ -19,7 +19,7 @@ use Rattle.rv_collide.specs.declared.refused.Refused.{Refused}
 use Rattle.rv_collide.specs.declared.refused.Refused.TheVariants.{NoMemory}
 use Rattle.std.specs.FinSet.{contains}
 use Rattle.rv_collide.specs.Armed.{armed}
-use Rattle.rv_collide.specs.Next.{next, plain}
+use Rattle.rv_collide.specs.Next.{next, plain, runs_at}
 use Rattle.rv_break.specs.declared.claim.Seen.{Seen}
 use Rattle.rv_hart.specs.ReservationLaws.{reservation_at}
 use Rattle.rv_hart.specs.State.{State}
@@ -56,6 +56,12 @@ pub record IsEvent (c : Stored) (h : ℕ) (event : Event) : Type 0 where
 abbrev pub Turns : Stored → Stored → ℕ → Turned → Type 0
 Turns old new h (turned.Stepped event) = Adds old new (Turn h) (Stepped h) × IsEvent old h event
 Turns old new h (turned.Paused slot) = Adds old new (Turn h) (Paused h slot)
+
+-- the hart makes a step, and runs after it
+pub record StepsOn (old new : Stored) (h : ℕ) : Type 0 where
+  pub event : Event
+  pub turns : Turns old new h (turned.Stepped event)
+  pub runs : runs_at (setting_of new).start new.entries (length new.entries) h ≡ true
 
 -- a turn is refused as it is forced to be, or for want of memory, which comes last
 abbrev pub IsRefusedTurn : Stored → ℕ → Refused → Bool → Type 0

@@ -16,7 +16,9 @@ ghost use Rattle.rv_collide.specs.internal.Core.{IsUntil, slots_freed, slots_see
 ghost use Rattle.rv_collide.specs.internal.GoesOn.{GoesOn};
 ghost use Rattle.rv_break.specs.Slots as break_slots;
 ghost use Rattle.rv_hart.specs.NextAccess.{accessed};
+ghost use Rattle.rv_hart.specs.Refusals.{is_running_hart};
 ghost use Rattle.rv_hart.specs.State.{start as first_state};
+ghost use Rattle.rv_hart.specs.Step.{step_of};
 
 use crate::ending::{Ending, Verdict};
 use crate::entry::Entry;
@@ -36,6 +38,7 @@ use std::alloc::Global;
 use std::marker::Model;
 use std::snapshot::Snapshot;
 
+mod quick;
 mod sharing;
 
 /// What an accepted turn was: a step of the hart, or its pause with the slot that watches it, if one was
@@ -134,11 +137,11 @@ impl<S: ByteStore> Collider<S> {
     {
         // Apart from one another, since a step that is shown to no claim stays in registers.
         if self.goes_on_unwatched(h) {
-            if let Some(event) = self.step(h, false) {
+            if let Some(event) = self.step(h, false, false) {
                 return Ok(Turned::Stepped(event));
             }
         } else if self.goes_on(h) {
-            if let Some(event) = self.step(h, true) {
+            if let Some(event) = self.step(h, true, false) {
                 return Ok(Turned::Stepped(event));
             }
         }
@@ -380,7 +383,7 @@ impl<S: ByteStore> Collider<S> {
         }
         match self.armed_access(h) {
             Some(access) => Ok(Turned::Paused(self.pause(h, access))),
-            None => match self.step(h, true) {
+            None => match self.step(h, true, false) {
                 Some(event) => Ok(Turned::Stepped(event)),
                 None => Err(Refused::NoMemory),
             },
@@ -444,25 +447,26 @@ impl<S: ByteStore> Collider<S> {
         self.breaks.is_armed(self.machine.pc(h))
     }
 
-    /// Lets a hart make a step, if there is such a hart and it runs. The claims are shown its access where there
-    /// may be claims.
+    /// Lets a hart make a step, if there is such a hart and it runs; or a common step alone, after which it runs on.
+    /// The claims are shown its access where there may be claims.
     #[inline(always)]
-    fn step(&mut self, h: u8, is_watched: bool) -> Option<Event>
+    fn step(&mut self, h: u8, is_watched: bool, is_common: bool) -> Option<Event>
         requires goes_on { GoesOn self.old h }
         requires unwatched { is_watched ≡ false → openings self.old.entries ≡ [] }
         ensures forced { IfSome result (λ _.
             forced (setting_of self.old) self.old.entries (Turn h) ≡ Ok (Entry.Stepped h)) }
         ensures event { IfSome result (λ event. answer.IsEvent self.old h event) }
         ensures after { IfSome result (λ _. self.new ≡ added self.old (Entry.Stepped h)) }
+        ensures moves { IfSome result (λ event. is_common ≡ true → event ≡ Event.Moved (accessed event)) }
         ensures none { IfNone result (self.new ≡ self.old) }
-        ensures memory { IfNone result
-            (forced (setting_of self.old) self.old.entries (Turn h) ≡ Ok (Entry.Stepped h) → IsTrue S.can_refuse) }
+        ensures memory { IfNone result (is_common ≡ false
+            → forced (setting_of self.old) self.old.entries (Turn h) ≡ Ok (Entry.Stepped h) → IsTrue S.can_refuse) }
     {
         reservations_and_accesses();
         what_no_step_does();
-        let event = match self.machine.step(h) {
-            Ok(event) => event,
-            Err(_) => return None,
+        let event = match stepped(&mut self.machine, h, is_common) {
+            Some(event) => event,
+            None => return None,
         };
         let place = self.entries.len() as u32;
         show(&mut self.breaks, is_watched, place, h, event);
@@ -529,6 +533,27 @@ fn machine_of<S: ByteStore>(
     match Machine::new(alloc, segments, image.entry(), plan.harts, plan.steps) {
         Ok(machine) => Ok(machine),
         Err(fault) => Err(no_memory(fault)),
+    }
+}
+
+/// A step of a hart, whatever it is; or a common one alone, which moves on.
+#[inline(always)]
+fn stepped<S: ByteStore>(machine: &mut Machine<S>, h: u8, is_common: bool) -> Option<Event>
+    ensures step { IfSome result (λ event. step_of machine.old.state h ≡ Some (event, machine.new.state)) }
+    ensures moves { IfSome result (λ event. is_common ≡ true → event ≡ Event.Moved (accessed event)) }
+    ensures harts { length machine.new.state.harts ≡ length machine.old.state.harts }
+    ensures limit { machine.new.limit ≡ machine.old.limit }
+    ensures none { IfNone result (machine.new ≡ machine.old) }
+    ensures memory { IfNone result (is_common ≡ false
+        → is_running_hart (slice_get machine.old.state.harts h) ≡ true
+        → length machine.old.state.output < machine.old.limit → IsTrue S.can_refuse) }
+{
+    if is_common {
+        return machine.step_quick(h);
+    }
+    match machine.step(h) {
+        Ok(event) => Some(event),
+        Err(_) => None,
     }
 }
 

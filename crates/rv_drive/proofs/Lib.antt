@@ -8,4 +8,5 @@ pub mod KeptLemmas
 pub mod OwedLemmas
 pub mod RowLemmas
 pub mod RunsLemmas
+pub mod TurnsLemmas
 pub mod FirstDraws

@@ -3,4 +3,5 @@ pub mod Drawn
 pub mod Draws
 pub mod DriverLaws
 pub mod Sampling
+pub mod Turns
 pub mod internal

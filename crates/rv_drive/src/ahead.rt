@@ -21,6 +21,8 @@ use rv_memory::store::NoMemory;
 use rv_sample::{Generator, Sampler};
 use std::alloc::Global;
 
+mod turns;
+
 /// A core, how many steps its harts have made, for each hart how many had been made when it was last paused,
 /// the able harts in ascending order, and before how many steps no pause has lasted as long as the plan wants.
 #[derive(Drop)]

@@ -1,11 +1,13 @@
 //! A core as a driver has it: which harts are able, which pauses are due, and a draw.
-ghost use Rattle.std.specs.Prelude.{◌≡◌, ◌+◌, ◌<◌, ◌^◌, [], true, length, slice_get, IfOk, OnOk, OnErr, IfSome, IfNone, ◌≤◌};
+ghost use Rattle.std.specs.Prelude.{◌≡◌, ◌+◌, ◌<◌, ◌^◌, [], true, length, slice_get, IfOk, OnOk, OnErr, IfSome, IfNone, ◌≤◌, None};
 ghost use Rattle.rv_drive.specs.Able.{able, due, is_able, is_due};
 ghost use Rattle.rv_collide.specs.Answers.{Resumes, Turns};
 ghost use Rattle.rv_drive.specs.Draws.{draws, first_draws};
 ghost use Rattle.rv_collide.specs.Numbers.{numbers};
 ghost use Rattle.rv_collide.specs.Stored.{setting_of};
 ghost use Rattle.rv_drive.specs.Sampling.{begun, drew, sampling_of};
+ghost use Rattle.rv_drive.specs.Turns.{TakesTurns};
+ghost use Rattle.rv_sample.specs.Generator.{word_at};
 
 use crate::ahead::Ahead;
 use rv_collide::collider::{Collider, Turned};
@@ -163,6 +165,21 @@ impl Driver {
         ensures { Turns self.old self.new h result }
     {
         self.ahead.turn(h)
+    }
+
+    /// Turns of the able harts that the next words pick, one at least, where no pause is due; then it may be that
+    /// something else is next.
+    #[inline(always)]
+    pub fn turns(&mut self, words: &mut Generator)
+        requires undue { due (setting_of self.old) self.old.entries ≡ None }
+        requires some { 0 < length (able (setting_of self.old) self.old.entries) }
+        requires more { words.old.taken + 2 ^ 32 < 2 ^ 64 }
+        ensures turns { TakesTurns self.old self.new
+            (word_at words.old.seed words.old.stream) words.old.taken words.new.taken }
+        ensures words { words.new ≡ record words.old { taken = words.new.taken } }
+        ensures one { words.old.taken < words.new.taken }
+    {
+        self.ahead.turns(words);
     }
 
     /// Ends the pause of a hart, which is due.

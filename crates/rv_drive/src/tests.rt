@@ -151,3 +151,45 @@ fn one_site_and_one_hart(rt: HostRuntime) -> Result<(), Fail> {
     }
     Ok(())
 }
+
+/// What one row of turns adds to a core that has made its first draws.
+fn assert_row(
+    rt: &impl Abort,
+    alloc: Global,
+    image: &Image,
+    sampler: &Sampler,
+    arms: u32,
+    wanted: &[Entry],
+) -> Result<(), Fail> {
+    let plan = Plan::new(1, 3, arms, 5, 4).ok_or("a plan")?;
+    let mut generator = Generator::new(0, 0);
+    let mut driver = Driver::open(alloc, image, plan, sampler, &mut generator)?;
+    assert!(rt; driver.due().is_none() && 0 < driver.count());
+    driver.turns(&mut generator);
+    assert_is(rt, has_entries(&driver, wanted), true, "entries");
+    Ok(())
+}
+
+/// A row of turns goes on to a pause, or to the last step.
+#[test]
+fn turns_in_a_row(rt: HostRuntime) -> Result<(), Fail> {
+    let alloc = rt.alloc();
+    let image = image(alloc)?;
+    let sampler = Sampler::sites(alloc, &image, &[])?;
+    assert_row(
+        &rt,
+        alloc,
+        &image,
+        &sampler,
+        2,
+        &[Armed(0x10004), Stepped(0), Paused(0, Some(0))],
+    )?;
+    assert_row(
+        &rt,
+        alloc,
+        &image,
+        &sampler,
+        0,
+        &[Stepped(0), Stepped(0), Stepped(0)],
+    )
+}

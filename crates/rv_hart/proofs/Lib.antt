@@ -10,6 +10,7 @@ pub mod ProductLemmas
 pub mod QuickLemmas
 pub mod RegisterLemmas
 pub mod ReservationLemmas
+pub mod RunsOnLemmas
 pub mod StartLemmas
 pub mod StepLemmas
 pub mod TextLemmas

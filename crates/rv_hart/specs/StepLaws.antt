@@ -1,11 +1,11 @@
 -- What a step of each class of instructions changes, and what stays.
-use Rattle.std.specs.Prelude.{◌≡◌, ◌≢◌, ℕ, ℤ, pos, ◌+ℤ◌, ◌*ℤ◌, ◌+◌, ◌-◌, ◌*◌, ◌^◌, ◌<◌, ◌≤◌, ◌<ℤ◌, ◌↔◌, Bool, false, ◌&&◌, nat_le, nat_lt, IsTrue, Option, Some, None, List, [], ◌∷◌, ◌++◌, length, map, slice_get, slice_set}
+use Rattle.std.specs.Prelude.{◌≡◌, ◌≢◌, ℕ, ℤ, pos, ◌+ℤ◌, ◌*ℤ◌, ◌+◌, ◌-◌, ◌*◌, ◌^◌, ◌<◌, ◌≤◌, ◌<ℤ◌, ◌↔◌, Bool, true, false, ◌&&◌, nat_le, nat_lt, IsTrue, Option, Some, None, List, [], ◌∷◌, ◌++◌, length, map, slice_get, slice_set}
 use Rattle.std.specs.Int.{int_shr, w32, w64}
 use Rattle.std.specs.Int.RustNames.{FitsSigned, int_div}
 use Rattle.rv_hart.specs.Act.{following}
 use Rattle.rv_hart.specs.SomeHart.{SomeHart}
 use Rattle.rv_hart.specs.NextAccess.{accessed}
-use Rattle.rv_hart.specs.Refusals.{IsIdle}
+use Rattle.rv_hart.specs.Refusals.{IsIdle, is_running_hart}
 use Rattle.rv_hart.specs.Registers.{get, set}
 use Rattle.rv_hart.specs.State.{State, is_running}
 use Rattle.rv_hart.specs.Step.{step_of, action_at, seen_by, reads, writes, both, write}
@@ -117,6 +117,11 @@ OtherBytesStay =
 abbrev pub OutputLaw : Type 0
 OutputLaw =
     (before after : State) (h : ℕ) (made : Event) → step_of before h ≡ Some (made, after) → (bytes : List ℕ) × (length bytes ≤ 1) × (after.output ≡ before.output ++ bytes)
+
+-- a step whose event is a move ends no hart
+abbrev pub MovesRunOn : Type 0
+MovesRunOn =
+    (before after : State) (h : ℕ) (access : Option Access) → step_of before h ≡ Some (event.Moved access, after) → is_running_hart (slice_get after.harts h) ≡ true
 
 -- no step is made by a number that no hart has, or by a hart that does not run
 abbrev pub NoHartLaw : Type 0

@@ -34,12 +34,13 @@ pub fn steps_by_class()
 {}
 
 /// What no step does: it changes no other hart's registers, pc or status, and no byte that its access does
-/// not write. It takes nothing back that was printed, and prints one byte at most. A number that no running
-/// hart has makes none.
+/// not write. It takes nothing back that was printed, and prints one byte at most. A step that moves on ends no
+/// hart. A number that no running hart has makes none.
 pub fn what_no_step_does()
     ensures other_harts { law.OtherHartsStay }
     ensures other_bytes { law.OtherBytesStay }
     ensures output { law.OutputLaw }
+    ensures moves { law.MovesRunOn }
     ensures no_hart { law.NoHartLaw }
     ensures idle { law.IdleLaw }
 {

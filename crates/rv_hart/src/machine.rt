@@ -223,11 +223,12 @@ impl<S: ByteStore> Machine<S> {
         }
     }
 
-    /// One step of a hart where it is a common one; else nothing has changed.
+    /// One step of a hart where it is a common one, which moves on; else nothing has changed.
     #[inline(always)]
-    fn step_quick(&mut self, h: u8) -> Option<Event>
+    pub fn step_quick(&mut self, h: u8) -> Option<Event>
         ensures step { IfSome result (λ event.
             step_of self.old.state h ≡ Some (event, self.new.state)) }
+        ensures moves { IfSome result (λ event. event ≡ Event.Moved (next.accessed event)) }
         ensures running { IsSome result
             → IsTrue (refusals.is_running_hart (slice_get self.old.state.harts h)) }
         ensures silent { IsSome result

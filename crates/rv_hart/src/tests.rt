@@ -19,6 +19,7 @@ mod corners;
 mod edges;
 mod operations;
 mod products;
+mod quick;
 mod sharing;
 
 /// What was found is what is wanted. (Each assertion that a test writes out costs the check a second, and a call of

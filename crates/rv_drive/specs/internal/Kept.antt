@@ -1,14 +1,19 @@
 -- What a driver keeps beside its core: the steps made, for each hart how many were made when it was paused, the able
 -- harts, and before how many steps no pause has lasted.
-use Rattle.std.specs.Prelude.{◌≡◌, ℕ, ◌+◌, ◌<◌, ◌≤◌, Some, List, length, slice_index, vec_capacity}
+use Rattle.std.specs.Prelude.{◌≡◌, ℕ, ◌+◌, ◌-◌, ◌^◌, ◌<◌, ◌≤◌, Some, None, List, length, slice_index, vec_capacity}
 use Rattle.rv_drive.specs.declared.ahead.Ahead.{Ahead}
 use Rattle.rv_hart.specs.declared.machine.TheConstants.{MOST_HARTS}
-use Rattle.rv_drive.specs.Able.{able, others_steps}
+use Rattle.rv_drive.specs.Able.{able, due, others_steps}
+use Rattle.rv_drive.specs.Drawn.{picked_hart}
+use Rattle.rv_drive.specs.Turns.{TakesTurns}
+use Rattle.rv_collide.specs.Answers.{Adds}
 use Rattle.rv_collide.specs.Entries.{steps}
-use Rattle.rv_collide.specs.Forced.{Setting}
+use Rattle.rv_collide.specs.Forced.{Setting, Turn}
 use Rattle.rv_collide.specs.Pause.{Opening, opening_of}
-use Rattle.rv_collide.specs.Stored.{setting_of}
+use Rattle.rv_collide.specs.Stored.{Stored, setting_of}
 use Rattle.rv_collide.specs.declared.entry.Entry.{Entry}
+use Rattle.rv_collide.specs.declared.entry.Entry.TheVariants.{Stepped}
+use Rattle.rv_sample.specs.Generator.{Given, word_at}
 
 pub record IsKept (entries : List Entry) (made : ℕ) (made_at : List ℕ) : Type 0 where
   pub made_is : made ≡ length (steps entries)
@@ -25,3 +30,25 @@ pub record IsAhead (d : Ahead) : Type 0 where
   pub able_are : d.able.items ≡ able (setting_of d.collider) d.collider.entries
   pub lasts : NoneLasts (setting_of d.collider) d.collider.entries d.made_at d.earliest
   pub room : MOST_HARTS ≤ vec_capacity d.able
+
+-- A row of turns so far: `before` it stood `old`. The last word has picked the next turn's hart, and before so many steps
+-- more no pause is due and steps are left.
+pub record IsInRow (old : Stored) (before : Given) (d : Ahead) (words : Given) (hart left : ℕ) : Type 0 where
+  pub ahead : IsAhead d
+  pub some : 0 < length d.able.items
+  pub undue : due (setting_of d.collider) d.collider.entries ≡ None
+  pub so_far : TakesTurns old d.collider (word_at before.seed before.stream) before.taken (words.taken - 1)
+  pub picked : picked_hart (setting_of d.collider) d.collider.entries (word_at before.seed before.stream (words.taken - 1)) ≡ Some hart
+  pub pauses : 0 < left → d.made + left ≤ d.earliest
+  pub steps : 0 < left → d.made + left ≤ d.collider.plan.steps
+  pub words_are : words ≡ record before { taken = words.taken }
+  pub later : before.taken < words.taken
+  pub few : words.taken + left ≤ before.taken + 2 ^ 32
+
+-- a step of an able hart, after which the same harts are able
+pub record StaysAhead (old new : Ahead) (h : ℕ) : Type 0 where
+  pub ahead : IsAhead new
+  pub adds : Adds old.collider new.collider (Turn h) (Stepped h)
+  pub one_more : new.made ≡ old.made + 1
+  pub same_end : new.earliest ≡ old.earliest
+  pub same_able : new.able.items ≡ old.able.items

@@ -15,15 +15,14 @@ use Rattle.rv_collide.proofs.GoesOn.{step_forced}
 use Rattle.rv_collide.proofs.Until.{until_kept}
 use Rattle.rv_collide.proofs.Growth.{core_step, turn_parts}
 use Rattle.rv_collide.proofs.LawLemmas.{runs_in}
-use Rattle.rv_collide.proofs.StepFaults.{only_memory}
 use Rattle.rv_collide.proofs.Rooms.{room_to_step}
 use Rattle.rv_collide.proofs.Unwatched.{unwatched}
 use Rattle.rv_collide.proofs.collider.Collider.step.Goals as goal
 
-pub returns-in-Err-clause-memory : goal.returns-in-Err-clause-memory
-returns-in-Err-clause-memory g c =
+pub returns-in-None-clause-memory : goal.returns-in-None-clause-memory
+returns-in-None-clause-memory g c =
     let s = setting_of (stored c.self.inside.image.value (numbers c.self.inside.plan) c.self.inside.entries.items) in
-    λ was.
+    λ whole was.
     let ok = subst (λ (v : Stored). forced (setting_of v) v.entries (Turn c.args.h) ≡ Ok (Stepped c.args.h)) (sym c.self.view_is) was in
     let parts = turn_parts s c.self.inside.entries.items c.args.h (Stepped c.args.h) ok in
     let runs = runs_in s.start c.self.inside.machine.state c.self.inside.entries.items (length c.self.inside.entries.items) c.args.h c.self.invariant.0.now parts.runs in
@@ -31,7 +30,7 @@ returns-in-Err-clause-memory g c =
     let printed = c.self.invariant.0.output in
     let limit = c.self.invariant.0.limit in
     let room : length c.self.inside.machine.state.output < c.self.inside.machine.limit = omega arith in
-    only_memory c.self.inside.machine c.args.h c.in-Err.field-0 c.step.result c.in-Err.is runs room c.step.ensures.no_hart c.step.ensures.not_running c.step.ensures.output_full c.step.ensures.no_memory
+    c.in-None.ensures.memory whole runs room
 
 pub show-requires : goal.show-requires
 show-requires g c =
@@ -43,7 +42,7 @@ pub push_reserved-requires : goal.push_reserved-requires
 push_reserved-requires g c =
     let s = setting_of (stored c.self.inside.image.value (numbers c.self.inside.plan) c.self.inside.entries.items) in
     let goes = subst (λ (v : Stored). GoesOn v c.args.h) (sym c.self.view_is) c.requires.goes_on in
-    let ok = step_forced (stored c.self.inside.image.value (numbers c.self.inside.plan) c.self.inside.entries.items) c.self.inside.machine.state c.args.h (c.in-Ok.event, c.step.new.self.state) c.self.invariant.0.now c.self.invariant.0.harts goes c.in-Ok.ensures.step in
+    let ok = step_forced (stored c.self.inside.image.value (numbers c.self.inside.plan) c.self.inside.entries.items) c.self.inside.machine.state c.args.h (c.in-Some.event, c.stepped.new.machine.state) c.self.invariant.0.now c.self.invariant.0.harts goes c.in-Some.ensures.step in
     let parts = turn_parts s c.self.inside.entries.items c.args.h (Stepped c.args.h) ok in
     let lt = room_to_step s c.self.inside.entries.items (length c.self.inside.endings.items) (vec_capacity c.self.inside.entries) c.self.invariant.0.room c.self.invariant.1.for_entries parts.left in
     omega (arith, c.self.inside.entries.ok.0)
@@ -52,12 +51,12 @@ pub invariant_of-self-2 : goal.invariant_of-self-2
 invariant_of-self-2 g c =
     let s = setting_of (stored c.self.inside.image.value (numbers c.self.inside.plan) c.self.inside.entries.items) in
     let goes = subst (λ (v : Stored). GoesOn v c.args.h) (sym c.self.view_is) c.requires.goes_on in
-    let ok = step_forced (stored c.self.inside.image.value (numbers c.self.inside.plan) c.self.inside.entries.items) c.self.inside.machine.state c.args.h (c.in-Ok.event, c.step.new.self.state) c.self.invariant.0.now c.self.invariant.0.harts goes c.in-Ok.ensures.step in
+    let ok = step_forced (stored c.self.inside.image.value (numbers c.self.inside.plan) c.self.inside.entries.items) c.self.inside.machine.state c.args.h (c.in-Some.event, c.stepped.new.machine.state) c.self.invariant.0.now c.self.invariant.0.harts goes c.in-Some.ensures.step in
     let size = c.len-place.ensures ∙ c.self.inside.entries.ok.0 in (
-      subst (λ (ys : List Entry). IsCore s ys c.step.new.self c.show.new.breaks c.self.inside.openings.items c.self.inside.endings.items (c.self.inside.steps + 1) c.self.inside.arms) (sym c.push_reserved.ensures.items)
-          (core_step c.reservations_and_accesses.ensures.next c.what_no_step_does.ensures.output s c.self.inside.entries.items c.self.inside.machine c.step.new.self c.self.inside.breaks c.show.new.breaks c.self.inside.openings.items c.self.inside.endings.items c.self.inside.steps c.self.inside.arms c.args.h c.in-Ok.event c.self.invariant.0 ok c.in-Ok.ensures.step c.step.ensures.harts c.step.ensures.limit
+      subst (λ (ys : List Entry). IsCore s ys c.stepped.new.machine c.show.new.breaks c.self.inside.openings.items c.self.inside.endings.items (c.self.inside.steps + 1) c.self.inside.arms) (sym c.push_reserved.ensures.items)
+          (core_step c.reservations_and_accesses.ensures.next c.what_no_step_does.ensures.output s c.self.inside.entries.items c.self.inside.machine c.stepped.new.machine c.self.inside.breaks c.show.new.breaks c.self.inside.openings.items c.self.inside.endings.items c.self.inside.steps c.self.inside.arms c.args.h c.in-Some.event c.self.invariant.0 ok c.in-Some.ensures.step c.stepped.ensures.harts c.stepped.ensures.limit
           (ap (λ (b : Breaks). b.armed) c.show.ensures)
-          (ap (λ (b : Breaks). b.slots) c.show.ensures ∙ ap (λ n. slots_seen (option_map (λ access. record { place = n; hart = c.args.h; access = access }) (accessed c.in-Ok.event)) c.self.inside.breaks.slots) size)),
+          (ap (λ (b : Breaks). b.slots) c.show.ensures ∙ ap (λ n. slots_seen (option_map (λ access. record { place = n; hart = c.args.h; access = access }) (accessed c.in-Some.event)) c.self.inside.breaks.slots) size)),
       record {
         for_entries = subst (λ (n : ℕ). s.plan.steps + 4 * s.plan.arms ≤ n) (sym c.push_reserved.ensures.capacity) c.self.invariant.1.for_entries;
         for_openings = c.self.invariant.1.for_openings;
@@ -69,5 +68,5 @@ invariant_of-self-2 g c =
 pub returns-clause-forced : goal.returns-clause-forced
 returns-clause-forced g c =
     let goes = subst (λ (v : Stored). GoesOn v c.args.h) (sym c.self.view_is) c.requires.goes_on in
-    let ok = step_forced (stored c.self.inside.image.value (numbers c.self.inside.plan) c.self.inside.entries.items) c.self.inside.machine.state c.args.h (c.in-Ok.event, c.step.new.self.state) c.self.invariant.0.now c.self.invariant.0.harts goes c.in-Ok.ensures.step in
+    let ok = step_forced (stored c.self.inside.image.value (numbers c.self.inside.plan) c.self.inside.entries.items) c.self.inside.machine.state c.args.h (c.in-Some.event, c.stepped.new.machine.state) c.self.invariant.0.now c.self.invariant.0.harts goes c.in-Some.ensures.step in
     subst (λ (v : Stored). forced (setting_of v) v.entries (Turn c.args.h) ≡ Ok (Stepped c.args.h)) c.self.view_is ok

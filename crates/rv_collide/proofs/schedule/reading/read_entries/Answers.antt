@@ -1,4 +1,4 @@
-use Rattle.std.proofs.Common.{◌≡◌, ◌∙◌, ◌∷◌, ◌++◌, [], ap, cond, length, ◌+◌, ℕ}
+use Rattle.std.proofs.Common.{◌≡◌, ◌∙◌, ◌∷◌, ◌++◌, [], ap, cond, length}
 use Rattle.rv_collide.proofs.EntriesSoFar.{entry_line_is, so_far_next}
 use Rattle.rv_collide.proofs.schedule.reading.read_entries.Goals as goal
 

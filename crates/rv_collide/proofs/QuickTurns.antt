@@ -1,0 +1,71 @@
+-- A turn that is accepted, and a step after which its hart runs on.
+use Rattle.std.proofs.Common.{◌≡◌, ℕ, ◌<◌, true, false, List, [], ◌∷◌, ◌++◌, length, Option, Some, None, Result, Ok, Err, refl, sym, ap, subst, ◌∙◌, arith}
+use Rattle.std.specs.Prelude.{nat_lt, is_ok, is_some, IfNone, IfSome}
+use Rattle.std.proofs.lemmas.Bool.Decides.{nat_tests}
+use Rattle.rv_collide.specs.Answers.{IsEvent, StepsOn}
+use Rattle.rv_collide.specs.Entries.{steps}
+use Rattle.rv_collide.specs.Forced.{Setting, Turn, forced}
+use Rattle.rv_collide.specs.Next.{runs_at}
+use Rattle.rv_collide.specs.Pause.{opening_of}
+use Rattle.rv_collide.specs.Stored.{Stored, added, setting_of}
+use Rattle.rv_collide.specs.declared.entry.Entry.{Entry}
+use Rattle.rv_collide.specs.declared.entry.Entry.TheVariants.{Stepped}
+use Rattle.rv_collide.specs.declared.refused.Refused.{Refused}
+use Rattle.rv_hart.specs.NextAccess.{accessed}
+use Rattle.rv_hart.specs.StepLaws.{MovesRunOn}
+use Rattle.rv_hart.specs.declared.access.Event.{Event}
+use Rattle.rv_hart.specs.declared.access.Event.TheVariants.{Moved}
+use Rattle.rv_collide.proofs.GoesOn.{runs_there}
+use Rattle.rv_collide.proofs.Growth.{turn_parts}
+use Rattle.rv_collide.proofs.LawLemmas.{wanted}
+use Rattle.rv_collide.proofs.Prefix.{state_step}
+
+-- ---- what an accepted turn says of its hart
+
+pub record MayTurn (setting : Setting) (xs : List Entry) (h : ℕ) : Type 0 where
+  pub within : h < setting.plan.harts
+  pub free : is_some (opening_of xs h) ≡ false
+  pub left : nat_lt (length (steps xs)) setting.plan.steps ≡ true
+
+below_of : (a b : ℕ) → nat_lt a b ≡ true → a < b
+below_of a b h = grind (arith, nat_tests)
+
+lt_is : (a b : ℕ) → a < b → nat_lt a b ≡ true
+lt_is a b h = grind (arith, nat_tests)
+
+turn_within : (setting : Setting) (xs : List Entry) (h : ℕ) (e : Entry) → forced setting xs (Turn h) ≡ Ok e → h < setting.plan.harts
+unfolding forced
+turn_within setting xs h e ok = below_of h setting.plan.harts (wanted (nat_lt h setting.plan.harts) _ _ e ok).0
+
+by_answer : (setting : Setting) (xs : List Entry) (h : ℕ) (r : Result Entry Refused) → forced setting xs (Turn h) ≡ r → is_ok r ≡ true → MayTurn setting xs h
+by_answer setting xs h (Err fault) is ok = cc
+by_answer setting xs h (Ok e) is ok =
+    let parts = turn_parts setting xs h e is in
+    record {
+      within = turn_within setting xs h e is;
+      free = parts.not_open;
+      left = lt_is (length (steps xs)) setting.plan.steps parts.left;
+    }
+
+pub may_turn : (setting : Setting) (xs : List Entry) (h : ℕ) → is_ok (forced setting xs (Turn h)) ≡ true → MayTurn setting xs h
+may_turn setting xs h ok = by_answer setting xs h (forced setting xs (Turn h)) refl ok
+
+-- ---- a common step
+
+runs_after : MovesRunOn → (c : Stored) (h : ℕ) (event : Event) → IsEvent c h event → event ≡ Moved (accessed event) → runs_at (setting_of c).start (c.entries ++ Stepped h ∷ []) (length (c.entries ++ Stepped h ∷ [])) h ≡ true
+runs_after law c h event is moved =
+    let at = state_step (setting_of c).start is.state is.after c.entries h event is.reached is.step in
+    let step = is.step ∙ ap (λ (e : Event). Some (e, is.after)) moved in
+    runs_there (setting_of c).start is.after (c.entries ++ Stepped h ∷ []) (length (c.entries ++ Stepped h ∷ [])) h at (law is.state is.after h (accessed event) step)
+
+pub steps_on : MovesRunOn → (old new : Stored) (h : ℕ) (r : Option Event) → IfSome r (λ _. forced (setting_of old) old.entries (Turn h) ≡ Ok (Stepped h)) → IfSome r (λ event. IsEvent old h event) → IfSome r (λ _. new ≡ added old (Stepped h)) → IfSome r (λ event. true ≡ true → event ≡ Moved (accessed event)) → is_some r ≡ true → StepsOn old new h
+steps_on law old new h None is_forced is_event is_added moves some = cc
+steps_on law old new h (Some event) is_forced is_event is_added moves some = record {
+  event = event;
+  turns = (record { is_forced = is_forced; is_added = is_added }, is_event);
+  runs = subst (λ (c : Stored). runs_at (setting_of c).start c.entries (length c.entries) h ≡ true) (sym is_added) (runs_after law old h event is_event (moves refl));
+}
+
+pub unchanged : (old new : Stored) (r : Option Event) → IfNone r (new ≡ old) → is_some r ≡ false → new ≡ old
+unchanged old new None same none = same
+unchanged old new (Some event) same none = cc

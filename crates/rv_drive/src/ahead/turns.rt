@@ -1,0 +1,88 @@
+//! Speed: turns in a row. What is asked before each turn elsewhere is asked here once: before so many steps no pause
+//! is due, and the able harts stay as they are. `turn` is the plain form, one turn.
+ghost use Rattle.std.specs.Prelude.{◌≡◌, ◌+◌, ◌<◌, ◌≤◌, ◌^◌, true, false, length, None, Some};
+ghost use Rattle.rv_drive.specs.Able.{due, is_able};
+ghost use Rattle.rv_drive.specs.Drawn.{picked_hart};
+ghost use Rattle.rv_drive.specs.Turns.{TakesTurns};
+ghost use Rattle.rv_drive.specs.internal.Kept.{IsAhead, StaysAhead};
+ghost use Rattle.rv_collide.specs.Stored.{setting_of};
+ghost use Rattle.rv_sample.specs.Generator.{word_at};
+
+use super::Ahead;
+use crate::driver_laws::{accepted_calls, open_pauses};
+use rv_hart::laws::what_no_step_does;
+use rv_sample::Generator;
+
+impl Ahead {
+    /// Turns of the able harts that the next words pick, one at least; then it may be that something else is next.
+    pub fn turns(&mut self, words: &mut Generator)
+        requires driver { IsAhead self.old }
+        requires undue { due (setting_of self.old.collider) self.old.collider.entries ≡ None }
+        requires some { 0 < length self.old.able.items }
+        requires more { words.old.taken + 2 ^ 32 < 2 ^ 64 }
+        ensures driver { IsAhead self.new }
+        ensures turns { TakesTurns self.old.collider self.new.collider
+            (word_at words.old.seed words.old.stream) words.old.taken words.new.taken }
+        ensures words { words.new ≡ record words.old { taken = words.new.taken } }
+        ensures one { words.old.taken < words.new.taken }
+    {
+        let mut left = self.undue();
+        let mut h = self.pick(words);
+        while self.turn_quick(h, left) {
+            left -= 1;
+            h = self.pick(words);
+        }
+        self.turn(h);
+    }
+
+    /// Before how many steps more no pause is due and steps are left, if a hart is able.
+    fn undue(&self) -> u32
+        ensures pauses { 0 < result → self.now.made + result ≤ self.now.earliest }
+        ensures steps { 0 < result → self.now.made + result ≤ self.now.collider.plan.steps }
+        ensures few { result < 2 ^ 32 }
+    {
+        let plan = self.collider.plan();
+        self.earliest.min(plan.steps).saturating_sub(self.made)
+    }
+
+    /// The able hart that the next word picks.
+    #[inline(always)]
+    fn pick(&self, words: &mut Generator) -> u8
+        requires driver { IsAhead self.now }
+        requires some { 0 < length self.now.able.items }
+        requires more { words.old.taken + 1 < 2 ^ 64 }
+        ensures hart { picked_hart (setting_of self.now.collider) self.now.collider.entries
+            (word_at words.old.seed words.old.stream words.old.taken) ≡ Some result }
+        ensures words { words.new ≡ record words.old { taken = words.old.taken + 1 } }
+    {
+        let word = words.next();
+        let count = self.count();
+        self.able[(word % count) as usize]
+    }
+
+    /// A turn of an able hart that is a common step, where more than one step is left: the same harts stay able. Else
+    /// nothing has changed.
+    #[inline(always)]
+    fn turn_quick(&mut self, h: u8, left: u32) -> bool
+        requires driver { IsAhead self.old }
+        requires hart { h < self.old.collider.plan.harts }
+        requires able { is_able (setting_of self.old.collider) self.old.collider.entries h ≡ true }
+        requires left { 1 < left → self.old.made + 1 < self.old.collider.plan.steps }
+        ensures more { result ≡ true → 1 < left }
+        ensures steps { result ≡ true → StaysAhead self.old self.new h }
+        ensures same { result ≡ false → self.new ≡ self.old }
+    {
+        open_pauses();
+        accepted_calls();
+        what_no_step_does();
+        let _plan = self.collider.plan();
+        if left <= 1 {
+            return false;
+        }
+        if !self.collider.turn_quick(h) {
+            return false;
+        }
+        self.made += 1;
+        true
+    }
+}
