@@ -51,9 +51,9 @@ impl Model for Reading {
     ghost Value = { Reading };
 
     ghost view = { λ r. record {
-        stage = r.stage;
-        bytes = (if nat_le r.count MOST_BYTES then Some (take r.count r.bytes) else None);
-        sum = r.sum;
+      stage = r.stage;
+      bytes = (if nat_le r.count MOST_BYTES then Some (take r.count r.bytes) else None);
+      sum = r.sum;
     } };
 
     ghost invariant = { λ r. r.count ≤ 513 };

@@ -1,6 +1,6 @@
-//! GDB's remote protocol over a stored schedule: packets, what they ask, and what is answered of a place.
+//! The packets of GDB's remote protocol.
 //!
-//! To the layer above, `specs/` says which packets some bytes make, what each of them asks, and the text of its answer.
+//! To the layer above, `specs/` says which packets some bytes make, byte by byte.
 //! No command uses this crate yet.
 #![tactic(auto)]
 

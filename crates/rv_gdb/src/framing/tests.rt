@@ -24,12 +24,32 @@ fn hears_packets(rt: HostRuntime) {
     assert_heard(&rt, b"$g#67", &[(4, right)], "a packet");
     assert_heard(&rt, b"$g#68", &[(4, wrong)], "another sum");
     assert_heard(&rt, b"$g#6x", &[(4, wrong)], "another byte for a digit");
-    assert_heard(&rt, b"$QStartNoAckMode#B0", &[(18, right)], "a capital digit");
+    assert_heard(
+        &rt,
+        b"$QStartNoAckMode#B0",
+        &[(18, right)],
+        "a capital digit",
+    );
     assert_heard(&rt, b"$#00", &[(3, right)], "no data");
-    assert_heard(&rt, b"+x#00-$?#3f-", &[(5, Heard::Again), (10, right), (11, Heard::Again)], "between packets");
-    assert_heard(&rt, b"$-+#58$?#3f$g#67", &[(5, right), (10, right), (15, right)], "one after another");
+    assert_heard(
+        &rt,
+        b"+x#00-$?#3f-",
+        &[(5, Heard::Again), (10, right), (11, Heard::Again)],
+        "between packets",
+    );
+    assert_heard(
+        &rt,
+        b"$-+#58$?#3f$g#67",
+        &[(5, right), (10, right), (15, right)],
+        "one after another",
+    );
     assert_heard(&rt, b"$abc$g#67", &[(8, right)], "begun anew");
-    assert_heard(&rt, b"$abc#2$g#67", &[(10, right)], "begun anew in its digits");
+    assert_heard(
+        &rt,
+        b"$abc#2$g#67",
+        &[(10, right)],
+        "begun anew in its digits",
+    );
     assert_heard(&rt, b"$abc#26", &[(6, right)], "a sum that wraps");
     assert_heard(&rt, b"$abc#2", &[], "cut");
 }
