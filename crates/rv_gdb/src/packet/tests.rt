@@ -24,12 +24,12 @@ fn told(request: Option<Request<'_>>) -> (u8, u32, u32) {
         Some(Request::Register(register)) => (13, register, 0),
         Some(Request::Memory(range)) => (14, range.from, range.length),
         Some(Request::SetPoint(point)) => (
-            20 + place_of(point.kind),
+            20u8.saturating_add(place_of(point.kind)),
             point.bytes.from,
             point.bytes.length,
         ),
         Some(Request::ClearPoint(point)) => (
-            30 + place_of(point.kind),
+            30u8.saturating_add(place_of(point.kind)),
             point.bytes.from,
             point.bytes.length,
         ),
