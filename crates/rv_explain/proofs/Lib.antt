@@ -1,2 +1,4 @@
 pub mod Blanks
 pub mod Chosen
+pub mod Counted
+pub mod Words

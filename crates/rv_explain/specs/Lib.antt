@@ -2,6 +2,7 @@ pub mod Blocks
 pub mod Classes
 pub mod Fault
 pub mod Names
+pub mod Picture
 pub mod Pieces
 pub mod Rows
 pub mod Symbols

@@ -10,6 +10,7 @@ pub mod blocks;
 pub mod classes;
 pub mod fault;
 pub mod names;
+pub mod picture;
 mod pieces;
 pub mod row;
 mod rows;

@@ -17,6 +17,7 @@ use std::process::Abort;
 use std::test::Fail;
 
 mod blocks;
+mod picture;
 mod symbols;
 mod told;
 

@@ -2,7 +2,7 @@
 //! first are those of another implementation.
 use super::*;
 
-const RING: [Row4; 3] = [
+pub(super) const RING: [Row4; 3] = [
     ("put", 0x10030, 0x30, 2),
     ("take", 0x10060, 0x28, 2),
     ("rings", 0x20000, 0x200, 1),
@@ -89,7 +89,7 @@ const HIT: Verdict = Verdict::Hit(Seen {
     access: STORES,
 });
 
-fn ring(alloc: Global) -> Result<Block, Fail> {
+pub(super) fn ring(alloc: Global) -> Result<Block, Fail> {
     Ok(Block {
         reports: 8,
         class: RaceClass::Kept,

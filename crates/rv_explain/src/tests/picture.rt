@@ -1,0 +1,90 @@
+//! The picture of the ring's race, element by element, and what long names and names of XML's own characters become.
+use super::blocks::{RING, ring};
+use super::*;
+use crate::picture::write_picture;
+
+/// The picture of the ring's race under the names of an image's symbols.
+fn drawn(alloc: Global, symbols: &[Row4]) -> Result<String, Fail> {
+    let image = image(alloc, symbols)?;
+    let block = ring(alloc)?;
+    let mut writer = Flagged::new(Vec::new(alloc));
+    match write_picture(alloc, &mut writer, &image, 1, &block) {
+        Ok(()) => Ok(String::from_utf8(writer.into_inner())?),
+        Err(_) => Err(Fail::from("write")),
+    }
+}
+
+/// The longest line is that of the bytes, of 90 characters: 72 pixels to the left of it, 16 behind it.
+const RING_PICTURE: &str =
+    "<svg xmlns='http://www.w3.org/2000/svg' width='808' height='384' viewBox='0 0 808 384' font-family='ui-monospace, DejaVu Sans Mono, monospace' font-size='13' xml:space='preserve'>
+<rect width='100%' height='100%' fill='#ffffff'/>
+<rect x='16' y='173' width='776' height='20' fill='#fdf1d8'/>
+<rect x='16' y='273' width='776' height='20' fill='#fdf1d8'/>
+<rect x='16' y='233' width='776' height='20' fill='#f6d5d8'/>
+<text x='28' y='168' text-anchor='middle'>0</text>
+<line x1='28' y1='175' x2='28' y2='331' stroke='#b8b8b8'/>
+<text x='52' y='168' text-anchor='middle'>1</text>
+<line x1='52' y1='175' x2='52' y2='331' stroke='#b8b8b8'/>
+<rect x='44' y='175' width='16' height='116' rx='8' fill='#fbe3b3' stroke='#a86a00'/>
+<line x1='28' y1='243' x2='52' y2='243' stroke='#b3001b' stroke-width='2'/>
+<circle cx='52' cy='183' r='4' fill='#ffffff' stroke='#a86a00' stroke-width='2'/>
+<circle cx='28' cy='203' r='4' fill='#ffffff' stroke='#a86a00' stroke-width='2'/>
+<rect x='24' y='239' width='8' height='8' fill='#b3001b'/>
+<rect x='16' y='260' width='48' height='6' fill='#ffffff'/>
+<circle cx='52' cy='283' r='4' fill='#ffffff' stroke='#a86a00' stroke-width='2'/>
+<circle cx='28' cy='303' r='4' fill='#1a1a1a'/>
+<circle cx='52' cy='323' r='4' fill='#ffffff' stroke='#a86a00' stroke-width='2'/>
+<text x='16' y='28' font-weight='bold'>race 1: put+0x24/0x30 and take+0x14/0x28, 8 reports, kept</text>
+<text x='16' y='48'>  hart 1 was about to load 4 bytes at 00020008 rings+0x8/0x200, ending 1</text>
+<text x='16' y='68'>    00010074 take+0x14/0x28: lw x28, 0(x7)</text>
+<text x='16' y='88'>  hart 0 stored 4 bytes at 00020008 rings+0x8/0x200, entry 66</text>
+<text x='16' y='108'>    00010054 put+0x24/0x30: sw x21, 0(x7)</text>
+<text x='16' y='128'>  bytes 00000000 at entry 63, the pause; 00000001 at entry 106, its end; data breakpoint 1</text>
+<text x='16' y='148'></text>
+<text x='72' y='168'>    entry  hart  event      bytes     instruction</text>
+<text x='72' y='188'>       63     1  paused 1             00010074 take+0x14/0x28: lw x28, 0(x7)</text>
+<text x='72' y='208'>       64     0  resumed</text>
+<text x='72' y='228'>       65        armed                00010074 take+0x14/0x28</text>
+<text x='72' y='248'>       66     0  hit        00000001  00010054 put+0x24/0x30: sw x21, 0(x7)</text>
+<text x='72' y='268'>       .. 39 entries</text>
+<text x='72' y='288'>      106     1  resumed</text>
+<text x='72' y='308'>      107     0                       00010044 put+0x14/0x30: slli x7, x7, 2</text>
+<text x='72' y='328'>      108     1  paused 0             00010074 take+0x14/0x28: lw x28, 0(x7)</text>
+<text x='16' y='368' fill='#595959'>dot: a step; square: a store; ring: paused, resumed; bar: the pause</text>
+</svg>
+";
+
+#[test]
+fn the_ring_is_drawn(rt: HostRuntime) -> Result<(), Fail> {
+    let picture = drawn(rt.alloc(), &RING)?;
+    assert_is(&rt, picture.as_str(), RING_PICTURE, "the picture");
+    Ok(())
+}
+
+/// A name of 43 characters, one of 40 with a `+` among them, and one that ends a text in XML.
+const NAMES: [Row4; 3] = [
+    (
+        "a23456789b23456789c23456789d23456789e234567",
+        0x10030,
+        0x30,
+        2,
+    ),
+    ("</text><script>", 0x10060, 0x28, 2),
+    (
+        "a2345678+b2345678+c2345678+d2345678+e234",
+        0x20000,
+        0x200,
+        1,
+    ),
+];
+
+#[test]
+fn names_are_cut_and_written_as_entities(rt: HostRuntime) -> Result<(), Fail> {
+    let picture = drawn(rt.alloc(), &NAMES)?;
+    let title =
+        ">race 1: a23456789b23456789c23456789d23456789e234..+0x24/0x30 and &lt;/text&gt;&lt;script&gt;+0x14/0x28, 8 reports, kept</text>";
+    assert_is(&rt, picture.contains(title), true, "the title");
+    let data = "at 00020008 a2345678+b2345678+c2345678+d2345678+e234+0x8/0x200, ending 1</text>";
+    assert_is(&rt, picture.contains(data), true, "the data");
+    Ok(())
+}
