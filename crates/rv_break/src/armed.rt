@@ -1,5 +1,5 @@
 //! The armed addresses, with a filter that tells most other addresses at one look.
-ghost use Rattle.std.specs.Prelude.{◌≡◌, ◌<◌, ◌≤◌, ◌&&◌, not, nat_lt, IfOk, if◌then◌else◌, replicate, filter, ◌==◌, vec_capacity};
+ghost use Rattle.std.specs.Prelude.{◌≡◌, ◌<◌, ◌&&◌, not, nat_lt, IfOk, if◌then◌else◌, replicate, filter, ◌==◌, vec_capacity};
 ghost use Rattle.std.specs.FinSet as set;
 ghost use Rattle.rv_break.specs.internal.Buckets.{bucket_of};
 

@@ -1,5 +1,5 @@
 //! The data breakpoints.
-ghost use Rattle.std.specs.Prelude.{◌≡◌, ◌<◌, ◌≤◌, IfOk, IfSome, IfNone, IsTrue, ◌↔◌, Some, None, replicate, length, slice_set, slice_get, map, option_map, is_none, position};
+ghost use Rattle.std.specs.Prelude.{◌≡◌, ◌<◌, ◌≤◌, IfOk, IfSome, IfNone, IsTrue, ◌↔◌, Some, None, replicate, length, slice_set, option_map, is_none, position};
 ghost use Rattle.rv_break.specs.Slots as spec;
 
 use crate::claim::{Claim, MOST_SLOTS, Seen};

@@ -1,5 +1,5 @@
 //! The names of symbols in a string table.
-ghost use Rattle.std.specs.Prelude.{◌≡◌, ◌+◌, ◌≤◌, ◌&&◌, nat_le, length, drop, if◌then◌else◌, Some, None};
+ghost use Rattle.std.specs.Prelude.{◌≡◌, ◌&&◌, nat_le, length, if◌then◌else◌, Some, None};
 ghost use Rattle.std.specs.Option.{option_copied};
 ghost use Rattle.std.specs.Str.{is_utf8};
 ghost use Rattle.rv_elf.specs.Loaded as spec;

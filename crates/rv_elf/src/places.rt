@@ -1,7 +1,6 @@
 //! Where the tables of symbols lie in a written file.
 ghost use Rattle.std.specs.Prelude.{◌≡◌, ◌+◌, ◌≤◌, length};
 ghost use Rattle.std.specs.List.{sum_by};
-ghost use Rattle.rv_elf.specs.Contents.{need_of};
 ghost use Rattle.rv_elf.specs.Written as spec;
 
 use crate::symbol::Symbol;

@@ -1,6 +1,6 @@
 //! What is wanted of an image's segments together, whether they are still described by program headers
 //! or hold their bytes.
-ghost use Rattle.std.specs.Prelude.{◌≡◌, ◌+◌, ◌%◌, ◌≤◌, ◌==◌, ◌&&◌, map, length};
+ghost use Rattle.std.specs.Prelude.{◌≡◌, ◌+◌, ◌%◌, ◌≤◌, ◌&&◌, map, length};
 ghost use Rattle.std.specs.List.{list_any, sum_by};
 ghost use Rattle.rv_memory.specs.Extent.{Extent, end_of};
 ghost use Rattle.rv_memory.specs.Memory.{holds, meets, overlaps};

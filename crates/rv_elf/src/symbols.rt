@@ -1,5 +1,5 @@
 //! The symbol table of a file.
-ghost use Rattle.std.specs.Prelude.{◌≡◌, ◌*◌, ◌≤◌, ◌==◌, ◌++◌, [], length, slice_get, IfOk, OnOk};
+ghost use Rattle.std.specs.Prelude.{◌≡◌, ◌*◌, ◌==◌, ◌++◌, [], length, slice_get, IfOk, OnOk};
 ghost use Rattle.std.specs.List.{All, find, cons_option};
 ghost use Rattle.std.specs.Option.{ForSome};
 ghost use Rattle.rv_elf.specs.Contents.{IsSymbol};

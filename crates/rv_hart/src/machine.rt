@@ -1,4 +1,4 @@
-ghost use Rattle.std.specs.Prelude.{◌≡◌, ◌^◌, ◌≢◌, ℕ, ◌<◌, ◌≤◌, ◌%◌, ◌↔◌, ◌+◌, Some, None, length, IsTrue, false, IsSome, IfSome, IfOk, IfErr, OnOk, OnErr, unwrap_or, slice_get, All};
+ghost use Rattle.std.specs.Prelude.{◌≡◌, ◌^◌, ◌≢◌, ℕ, ◌<◌, ◌≤◌, ◌%◌, ◌↔◌, Some, None, length, IsTrue, false, IsSome, IfSome, IfOk, IfErr, OnOk, OnErr, unwrap_or, slice_get, All};
 ghost use Rattle.rv_hart.specs.internal.Able.{IsAble};
 ghost use Rattle.rv_hart.specs.internal.Machine as machine;
 ghost use Rattle.rv_hart.specs.internal.HartAccess as own;

@@ -14,7 +14,8 @@ use rv_memory::store::ByteStore;
 use rv_text::decimal::Decimal;
 use rv_text::hexadecimal::{byte_digits, word_digits};
 
-fn write_status<O: Output>(writer: &mut O, status: Status) -> Result<(), WriteFault>
+/// Writes whether a hart runs, or how it ended.
+pub fn write_status<O: Output>(writer: &mut O, status: Status) -> Result<(), WriteFault>
     ensures ok { OnOk result (Appends (O.written writer.old) (O.written writer.new)
         (spec.status_text status)) }
     ensures failed { O.has_failed writer.new ≡ (O.has_failed writer.old || is_err result) }

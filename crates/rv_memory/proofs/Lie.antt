@@ -1,5 +1,5 @@
 -- Where the bytes of an access lie in the pages of an extent, and what storing there leaves.
-use Rattle.std.proofs.Common.{◌≡◌, ℕ, ◌+◌, ◌-◌, ◌*◌, ◌/◌, ◌%◌, ◌^◌, ◌≤◌, ◌<◌, zero, suc, true, false, List, [], ◌∷◌, ◌++◌, length, set, get_or, map, refl, ap, sym, ◌∙◌, arith, subst, take, drop, All, HoldsAt, IsTrue, min, slice_index, leb, inl, inr, Some}
+use Rattle.std.proofs.Common.{◌≡◌, ℕ, ◌+◌, ◌-◌, ◌/◌, ◌%◌, ◌^◌, ◌≤◌, ◌<◌, zero, suc, true, false, List, [], ◌∷◌, ◌++◌, length, set, get_or, refl, ap, sym, ◌∙◌, arith, subst, take, drop, HoldsAt, IsTrue, min, slice_index, leb, inl, inr, Some}
 use Rattle.std.specs.Prelude.{◌&&◌, ◌||◌}
 use Rattle.std.specs.List.{list_any}
 use Rattle.std.proofs.lemmas.List.{get_or-take, get_or-drop, drop-set-add, length-set, length-map, length-take, length-drop, map-set, get_or-map, get_or_default, set-get_or, get_or-set_same, get_or-set_other, map-append, take_more}

@@ -30,8 +30,8 @@ same_index m k firsts same index =
     let count : length m ≡ length k = sym (length-map m span) ∙ ap length same ∙ length-map k span in
     record {
       count = index.count;
-      skips = λ page place e within before there.
+      skips = λ block place e within before there.
           let below : place < length m = omega arith in
           let alike : span (get_or m place e) ≡ span (get_or k place e) = sym (get_or-map span m place e (span e) below) ∙ ap (λ s. get_or s place (span e)) same ∙ get_or-map span k place e (span e) there in
-          ap (touches page) (sym alike) ∙ index.skips page place e within before below;
+          ap (touches block) (sym alike) ∙ index.skips block place e within before below;
     }

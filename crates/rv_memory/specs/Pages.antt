@@ -1,5 +1,5 @@
 -- Memory kept in pages: what a store of pages holds as memory, and which of its bytes are ready to be stored to.
-use Rattle.std.specs.Prelude.{◌≡◌, ℕ, ◌+◌, ◌-◌, ◌/◌, ◌%◌, ◌≤◌, ◌<◌, Bool, false, List, All, IsTrue, map, take, drop, slice_index_or}
+use Rattle.std.specs.Prelude.{ℕ, ◌+◌, ◌-◌, ◌/◌, ◌%◌, ◌≤◌, ◌<◌, Bool, false, List, All, IsTrue, map, take, drop, slice_index_or}
 use Rattle.std.specs.List.{flat_map}
 use Rattle.rv_memory.specs.Extent.{Extent}
 use Rattle.rv_memory.specs.Memory.{Memory, holds}

@@ -1,6 +1,6 @@
 //! A writer that gathers small pieces, and whose contracts say which bytes its device has got.
 ghost use Rattle.std.specs.Prelude.{◌≡◌, [], ◌++◌, ◌||◌, false, is_err, MatchBool, OnOk};
-ghost use Rattle.std.specs.Io.KnownBytes.{Keeps, Appends};
+ghost use Rattle.std.specs.Io.KnownBytes.{Keeps};
 ghost use Rattle.rv_memory.specs.Buffered as buffer;
 
 use crate::flagged::{Flagged, WriteFault, flush, write_whole};

@@ -1,6 +1,5 @@
-ghost use Rattle.std.specs.Prelude.{◌≡◌, ◌+◌, ◌++◌, ◌-◌, ◌^◌, ◌<◌, ◌≤◌, false, ⊤, refl, None, is_some, IsTrue, IfOk, IfSome, All, HoldsAt, length, map, nat_lt, sum_by};
-ghost use Rattle.std.specs.List.{list_any};
-ghost use Rattle.rv_memory.specs.Extent.{IsExtent, span, filled, end_of as spec_end_of};
+ghost use Rattle.std.specs.Prelude.{◌≡◌, ◌+◌, ◌++◌, ◌-◌, ◌^◌, ◌<◌, ◌≤◌, false, ⊤, refl, None, is_some, IsTrue, IfOk, IfSome, All, HoldsAt, length, map};
+ghost use Rattle.rv_memory.specs.Extent.{IsExtent, span, filled};
 ghost use Rattle.rv_memory.specs.Memory as spec;
 ghost use Rattle.rv_memory.specs.internal.Flat.{number_at, put_at};
 ghost use Rattle.rv_memory.specs.internal.Index.{Skips};
@@ -17,9 +16,9 @@ use std::marker::Model;
 #[derive(Debug, Drop)]
 pub struct Flat {
     regions: Vec<Region>,
-    /// Where an access looks for its region, from its page on.
+    /// Where an access looks for its region, from its block on.
     firsts: Vec<u16>,
-    /// The place of the first executable region, where a fetch looks before it asks for its page's. It is
+    /// The place of the first executable region, where a fetch looks before it asks for its block's. It is
     /// no more than a place to try: what lies there is tested at each fetch.
     code: usize,
 }

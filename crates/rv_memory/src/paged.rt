@@ -1,5 +1,5 @@
 //! The store that keeps its regions in pages, which stores share until one writes.
-ghost use Rattle.std.specs.Prelude.{◌≡◌, ℕ, false, OnOk, ◌+◌, ◌++◌, ◌-◌, ◌^◌, ◌<◌, ◌≤◌, true, ⊤, None, is_some, IsTrue, IfOk, IfSome, All, HoldsAt, length, map};
+ghost use Rattle.std.specs.Prelude.{◌≡◌, ℕ, false, OnOk, ◌+◌, ◌++◌, ◌-◌, ◌^◌, ◌<◌, ◌≤◌, true, None, is_some, IsTrue, IfOk, IfSome, All, HoldsAt, length, map};
 ghost use Rattle.rv_memory.specs.Extent.{IsExtent, IsFull};
 ghost use Rattle.rv_memory.specs.Memory as spec;
 ghost use Rattle.rv_memory.specs.Pages.{bytes_of, extent, is_own, memory_in, place_of, AreOwn, IsReady};

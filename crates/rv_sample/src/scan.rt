@@ -1,5 +1,5 @@
 //! The scan of an image's segments for sites.
-ghost use Rattle.std.specs.Prelude.{◌≡◌, ◌++◌, ◌+◌, ◌%◌, ◌≤◌, [], ◌∷◌, ℕ, length, IfOk, OnOk, IsTrue};
+ghost use Rattle.std.specs.Prelude.{◌≡◌, ◌++◌, ◌+◌, ◌%◌, ◌≤◌, [], ◌∷◌, length, IfOk, OnOk, IsTrue};
 ghost use Rattle.std.specs.Option.{option_copied};
 ghost use Rattle.rv_elf.specs.Contents.{IsSegment};
 ghost use Rattle.rv_hart.specs.NextAccess.{is_plain_op};

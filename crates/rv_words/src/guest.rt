@@ -1,9 +1,8 @@
 //! The machine that the words of an input are loaded into.
-ghost use Rattle.std.specs.Prelude.{◌≡◌, ◌≤◌, ◌<◌, ◌+◌, ◌*◌, Some, None, IfOk, IfErr, OnOk, All, length, vec_len};
+ghost use Rattle.std.specs.Prelude.{◌≡◌, ◌≤◌, ◌<◌, ◌+◌, ◌*◌, Some, None, IfOk, IfErr, OnOk, length};
 ghost use Rattle.std.specs.Int.{to_le_bytes, w32};
 ghost use Rattle.std.specs.List.{flat_map};
 ghost use Rattle.rv_hart.specs.Step.{step_of};
-ghost use Rattle.rv_memory.specs.Extent.{IsExtent};
 ghost use Rattle.rv_words.specs.WordsGuest as spec;
 ghost use Rattle.rv_words.specs.WordsInput.{IsInLimits};
 ghost use Rattle.rv_words.specs.declared.input.TheConstants.{MOST_WORDS};

@@ -1,5 +1,5 @@
 //! The image of both sections and the labels.
-ghost use Rattle.std.specs.Prelude.{◌≡◌, ◌^◌, ◌<◌, ◌≤◌, ◌∷◌, length, codes, IfOk};
+ghost use Rattle.std.specs.Prelude.{◌≡◌, ◌^◌, ◌<◌, ◌∷◌, length, codes, IfOk};
 ghost use Rattle.rv_elf.specs.Contents.{IsImage, contents};
 ghost use Rattle.rv_asm.specs.Assembled as spec;
 ghost use Rattle.rv_asm.specs.Layout as layout;

@@ -1,5 +1,5 @@
 //! What stands at a place, and the place of the next line.
-ghost use Rattle.std.specs.Prelude.{◌≡◌, ◌+◌, ◌^◌, ◌<◌, nat_le, if◌then◌else◌, Some, None};
+ghost use Rattle.std.specs.Prelude.{◌≡◌, ◌+◌, ◌^◌, ◌<◌, if◌then◌else◌, Some, None};
 ghost use Rattle.rv_asm.specs.Layout as spec;
 ghost use Rattle.rv_asm.specs.Size.{size_of, section_after};
 ghost use Rattle.rv_asm.specs.internal.Within.{IsWithin};

@@ -2,7 +2,7 @@
 ghost use Rattle.std.specs.Prelude.{◌≡◌, ◌≤◌, option_map};
 ghost use Rattle.std.specs.List.{list_all};
 ghost use Rattle.std.specs.Char.{is_digit};
-ghost use Rattle.rv_text.specs.Numeral.{number_of, up_to, is_numeral};
+ghost use Rattle.rv_text.specs.Numeral.{number_of, up_to};
 ghost use Rattle.rv_asm.specs.Number as spec;
 
 use rv_text::numeral::read_number;

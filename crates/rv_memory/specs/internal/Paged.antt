@@ -1,5 +1,5 @@
 -- What the contracts of the private functions of a store of pages cite.
-use Rattle.std.specs.Prelude.{◌≡◌, ℕ, ◌+◌, ◌-◌, ◌*◌, ◌/◌, ◌%◌, ◌≤◌, Bool, true, false, ◌&&◌, List, ◌++◌, length, replicate, drop}
+use Rattle.std.specs.Prelude.{◌≡◌, ℕ, ◌+◌, ◌-◌, ◌%◌, ◌≤◌, Bool, true, false, ◌&&◌, List, ◌++◌, length, replicate, drop}
 use Rattle.std.specs.List.{list_any}
 use Rattle.rv_memory.specs.Extent.{Extent}
 use Rattle.rv_memory.specs.Memory.{holds, allows}

@@ -1,5 +1,5 @@
 //! One page of a store: 4,096 bytes that are the store's own, or that it shares with others.
-ghost use Rattle.std.specs.Prelude.{◌≡◌, ◌+◌, ◌^◌, ◌<◌, ◌≤◌, true, false, IsTrue, IfOk, OnOk, length};
+ghost use Rattle.std.specs.Prelude.{◌≡◌, ◌+◌, ◌^◌, ◌<◌, ◌≤◌, true, false, IsTrue, IfOk, OnOk};
 ghost use Rattle.rv_memory.specs.Memory as spec;
 ghost use Rattle.rv_memory.specs.internal.Flat.{number_at as spec_number_at, put_at as spec_put_at};
 ghost use Rattle.rv_memory.specs.internal.Paged.{IsPage};

@@ -1,5 +1,4 @@
 use Rattle.std.proofs.Common.{◌∙◌, sym}
-use Rattle.rv_memory.specs.Memory.{load}
 use Rattle.rv_memory.proofs.Lie.{permits_is, skips_in, held_at, lie_in, permitted_lies}
 use Rattle.rv_memory.proofs.paged.PagedByteStore.load_permitted.Goals as goal
 

@@ -1,4 +1,4 @@
-use Rattle.std.proofs.Common.{ℕ, sym, subst}
+use Rattle.std.proofs.Common.{sym, subst}
 use Rattle.rv_memory.specs.internal.Flat.{IsFlat}
 use Rattle.rv_memory.specs.declared.store.Need.TheVariants.{Nothing}
 use Rattle.rv_memory.proofs.Lie.{skips_in, held_at, lie_in, new_same, new_ready}

@@ -1,4 +1,4 @@
-use Rattle.std.proofs.Common.{◌≡◌, ◌<◌, ◌∙◌, length, arith, ap}
+use Rattle.std.proofs.Common.{◌<◌, ◌∙◌, length, arith, ap}
 use Rattle.std.proofs.lemmas.List.Elements.{All-push, All-set}
 use Rattle.rv_memory.specs.internal.Paged.{IsPage}
 use Rattle.rv_memory.proofs.InPages.{same_in, more_shared}
