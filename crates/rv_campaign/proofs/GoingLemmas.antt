@@ -2,6 +2,7 @@
 use Rattle.std.proofs.Common.{◌≡◌, ℕ, ◌+◌, ◌^◌, ◌<◌, ◌≤◌, List, [], ◌++◌, length, Some, None, refl, sym, ap, subst, ◌∙◌, arith, length-append}
 use Rattle.std.specs.Option.{option_to_list}
 use Rattle.std.proofs.lemmas.List.Sums.{count_by-le-length}
+use Rattle.rv_campaign.specs.Kept.{IsCoreOf, Source}
 use Rattle.rv_campaign.specs.Run.{IsRunOver, sampling_of}
 use Rattle.rv_campaign.specs.internal.Driving.{IsDriving, SameRun}
 use Rattle.rv_drive.specs.Able.{due}
@@ -69,21 +70,25 @@ turns_same old new before after word takes words = record {
 abbrev Drawn : List ℕ → Contents → Numbers → ℕ → ℕ → List Entry → Type 0
 Drawn sites image plan seed run entries = IsDrawn (setting_of (stored image plan [])) (sampling_of sites seed run) entries
 
-pub finished : (image : Contents) (plan : Numbers) (sites : List ℕ) (seed run : ℕ) (d : Stored) (w : Given) (told : Finished) → d.image ≡ image → d.plan ≡ plan → w.seed ≡ seed → w.stream ≡ run → IsDriving (setting_of d) (sampling_of sites w.seed w.stream) d.entries w.taken → driven (setting_of d) (sampling_of sites w.seed w.stream) d.entries ≡ None → numbers told.plan ≡ d.plan → told.entries.items ≡ d.entries → told.endings.items ≡ endings (setting_of d).start d.entries → IsOutput d told.output.items → IsRunOver image plan sites seed run told
-finished image plan sites seed run d w told same_image same_plan same_seed same_run driving over plan_is entries_are endings_are output_is =
+pub made : (source : Source) (plan : Numbers) (run : ℕ) (d core : Stored) (w : Given) → d.image ≡ source.image → d.plan ≡ plan → w.seed ≡ source.seed → w.stream ≡ run → IsDriving (setting_of d) (sampling_of source.sites w.seed w.stream) d.entries w.taken → driven (setting_of d) (sampling_of source.sites w.seed w.stream) d.entries ≡ None → core ≡ d → IsCoreOf source plan run core
+made source plan run d core w same_image same_plan same_seed same_run driving over is =
+    let sites = source.sites in
     let whole : Drawn sites d.image d.plan w.seed w.stream d.entries = whole_run (setting_of d) (sampling_of sites w.seed w.stream) d.entries w.taken driving over in
-    let by_image : Drawn sites image d.plan w.seed w.stream d.entries = subst (λ (i : Contents). Drawn sites i d.plan w.seed w.stream d.entries) same_image whole in
-    let by_plan : Drawn sites image plan w.seed w.stream d.entries = subst (λ (p : Numbers). Drawn sites image p w.seed w.stream d.entries) same_plan by_image in
-    let by_seed : Drawn sites image plan seed w.stream d.entries = subst (λ (k : ℕ). Drawn sites image plan k w.stream d.entries) same_seed by_plan in
-    let by_run : Drawn sites image plan seed run d.entries = subst (λ (k : ℕ). Drawn sites image plan seed k d.entries) same_run by_seed in
-    record {
-      plan_is = plan_is ∙ same_plan;
-      drawn = subst (λ (es : List Entry). Drawn sites image plan seed run es) (sym entries_are) by_run;
-      endings_are = endings_are
-          ∙ ap (λ (i : Contents). endings (setting_of (stored i d.plan [])).start d.entries) same_image
-          ∙ ap (λ (p : Numbers). endings (setting_of (stored image p [])).start d.entries) same_plan
-          ∙ ap (endings (setting_of (stored image plan [])).start) (sym entries_are);
-      output_is = subst (λ (es : List Entry). IsOutput (stored image plan es) told.output.items) (sym entries_are)
-          (subst (λ (p : Numbers). IsOutput (stored image p d.entries) told.output.items) same_plan
-          (subst (λ (i : Contents). IsOutput (stored i d.plan d.entries) told.output.items) same_image output_is));
-    }
+    let by_image : Drawn sites source.image d.plan w.seed w.stream d.entries = subst (λ (i : Contents). Drawn sites i d.plan w.seed w.stream d.entries) same_image whole in
+    let by_plan : Drawn sites source.image plan w.seed w.stream d.entries = subst (λ (p : Numbers). Drawn sites source.image p w.seed w.stream d.entries) same_plan by_image in
+    let by_seed : Drawn sites source.image plan source.seed w.stream d.entries = subst (λ (k : ℕ). Drawn sites source.image plan k w.stream d.entries) same_seed by_plan in
+    let by_run : Drawn sites source.image plan source.seed run d.entries = subst (λ (k : ℕ). Drawn sites source.image plan source.seed k d.entries) same_run by_seed in
+    subst (λ (c : Stored). IsCoreOf source plan run c) (sym is) (record { image_is = same_image; plan_is = same_plan; drawn = by_run })
+
+pub finished : (image : Contents) (plan : Numbers) (sites : List ℕ) (seed run : ℕ) (d : Stored) (told : Finished) → IsCoreOf (record { image = image; sites = sites; seed = seed }) plan run d → numbers told.plan ≡ d.plan → told.entries.items ≡ d.entries → told.endings.items ≡ endings (setting_of d).start d.entries → IsOutput d told.output.items → IsRunOver image plan sites seed run told
+finished image plan sites seed run d told core plan_is entries_are endings_are output_is = record {
+  plan_is = plan_is ∙ core.plan_is;
+  drawn = subst (λ (es : List Entry). Drawn sites image plan seed run es) (sym entries_are) core.drawn;
+  endings_are = endings_are
+      ∙ ap (λ (i : Contents). endings (setting_of (stored i d.plan [])).start d.entries) core.image_is
+      ∙ ap (λ (p : Numbers). endings (setting_of (stored image p [])).start d.entries) core.plan_is
+      ∙ ap (endings (setting_of (stored image plan [])).start) (sym entries_are);
+  output_is = subst (λ (es : List Entry). IsOutput (stored image plan es) told.output.items) (sym entries_are)
+      (subst (λ (p : Numbers). IsOutput (stored image p d.entries) told.output.items) core.plan_is
+      (subst (λ (i : Contents). IsOutput (stored i d.plan d.entries) told.output.items) core.image_is output_is));
+}

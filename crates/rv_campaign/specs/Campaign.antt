@@ -5,20 +5,16 @@ use Rattle.rv_campaign.specs.declared.runs.CampaignFault.{CampaignFault}
 use Rattle.rv_campaign.specs.declared.runs.CampaignFault.TheVariants as campaign
 use Rattle.rv_campaign.specs.declared.runs.NumberFault.{NumberFault}
 use Rattle.rv_campaign.specs.declared.runs.NumberFault.TheVariants.{Runs, Workers, TooLarge}
-use Rattle.rv_campaign.specs.declared.runs.TheConstants.{MOST_RUNS, MOST_WORKERS}
+use Rattle.rv_campaign.specs.declared.runs.TheConstants.{MOST_ENTRIES, MOST_RUNS, MOST_WORKERS}
 use Rattle.rv_collide.specs.Plan.{Numbers, most_entries}
 use Rattle.rv_collide.specs.declared.collider.Finished.{Finished}
-
--- the most entries that the runs of a campaign may have together
-abbrev pub most_of_all : ℕ
-most_of_all = 16_777_216
 
 -- the first test that the numbers of a campaign fail
 abbrev pub fault_of : Numbers → ℕ → ℕ → Option NumberFault
 fault_of plan runs workers =
     if not (nat_le 1 runs && nat_le runs MOST_RUNS) then Some Runs
     else (if not (nat_le 1 workers && nat_le workers MOST_WORKERS) then Some Workers
-    else (if not (nat_le (runs * most_entries plan) most_of_all) then Some TooLarge else None))
+    else (if not (nat_le (runs * most_entries plan) MOST_ENTRIES) then Some TooLarge else None))
 
 -- the test that a fault tells of, if it tells of the numbers
 abbrev pub number_fault : {S : Type 0} → CampaignFault S → Option NumberFault

@@ -1,3 +1,4 @@
 pub mod Campaign
+pub mod Kept
 pub mod Run
 pub mod internal

@@ -1,4 +1,5 @@
 ghost use Rattle.std.specs.Prelude.{◌≡◌, ◌<◌, ◌≤◌, true, false, None, length, IfOk};
+ghost use Rattle.rv_campaign.specs.Kept.{IsCoreOf};
 ghost use Rattle.rv_campaign.specs.Run.{IsRun, IsRunOver, sampling_of};
 ghost use Rattle.rv_campaign.specs.internal.Driving.{IsDriving, SameRun};
 ghost use Rattle.rv_drive.specs.Drawn.{driven};
@@ -6,11 +7,12 @@ ghost use Rattle.rv_collide.specs.Plan.{most_entries};
 ghost use Rattle.rv_collide.specs.Stored.{setting_of};
 ghost use Rattle.rv_collide.specs.Numbers.{numbers};
 
-use rv_collide::collider::Finished;
+use rv_collide::collider::{Collider, Finished};
 use rv_collide::plan::Plan;
 use rv_drive::driver::Driver;
 use rv_drive::driver_laws::{accepted_calls, draws_owed};
 use rv_elf::Image;
+use rv_memory::flat::Flat;
 use rv_memory::store::NoMemory;
 use rv_sample::{Generator, Sampler};
 use std::alloc::Global;
@@ -47,11 +49,30 @@ pub(crate) fn run_sampled(
 ) -> Result<Finished, NoMemory>
     ensures { IfOk result (λ told. IsRunOver image.now (numbers plan) sampler.now seed run told) }
 {
+    let core = core_sampled(alloc, image, plan, seed, run, sampler)?;
+    Ok(core.finish())
+}
+
+/// The core at the end of a run over the sites of a sampler.
+pub(crate) fn core_sampled(
+    alloc: Global,
+    image: &Image,
+    plan: Plan,
+    seed: u64,
+    run: u32,
+    sampler: &Sampler,
+) -> Result<Collider<Flat>, NoMemory>
+    ensures { IfOk result (λ core. IsCoreOf (record {
+      image = image.now;
+      sites = sampler.now;
+      seed = seed;
+    }) (numbers plan) run core) }
+{
     draws_owed();
     let mut words = Generator::new(seed, u64::from(run));
     let mut driver = Driver::open(alloc, image, plan, sampler, &mut words)?;
     while go_on(&mut driver, &mut words, sampler) {}
-    Ok(driver.into_collider().finish())
+    Ok(driver.into_collider())
 }
 
 /// What the run adds next: the lowest pause that is due ends, and a draw follows; else able harts take turns.

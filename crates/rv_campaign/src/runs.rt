@@ -1,4 +1,4 @@
-ghost use Rattle.std.specs.Prelude.{◌≡◌, ◌<◌, ◌≤◌, Some, None, IfOk, IfErr, OnOk};
+ghost use Rattle.std.specs.Prelude.{◌≡◌, ◌<◌, Some, None, IfOk, IfErr, OnOk};
 ghost use Rattle.rv_campaign.specs.Campaign.{AreRuns, IsToldBy, fault_of, number_fault};
 ghost use Rattle.rv_campaign.specs.declared.runs.CampaignFault.TheVariants.{NoMemory as OutOfMemory};
 ghost use Rattle.rv_collide.specs.Numbers.{numbers};
@@ -73,7 +73,7 @@ impl<S, T: Drop> From<AllocFailed<T>> for CampaignFault<S> {
 }
 
 /// The most entries that the runs of a campaign may have together.
-const MOST_ENTRIES: u64 = 16_777_216;
+pub const MOST_ENTRIES: u64 = 16_777_216;
 
 /// The most runs of a campaign.
 pub const MOST_RUNS: u32 = 1000;

@@ -1,4 +1,5 @@
 mod gates;
+mod kept;
 mod workers;
 
 use crate::{CampaignFault, NumberFault, campaign, run_one};

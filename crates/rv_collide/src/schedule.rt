@@ -7,7 +7,7 @@ pub mod laws;
 mod line;
 mod plan_line;
 mod reading;
-pub(crate) mod writing;
+pub mod writing;
 
 pub use fault::{ScheduleFault, ScheduleKind};
 pub use format::Format;

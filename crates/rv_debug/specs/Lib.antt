@@ -5,4 +5,5 @@ pub mod Fault
 pub mod Placed
 pub mod Talk
 pub mod TalkLaws
+pub mod Visited
 pub mod internal

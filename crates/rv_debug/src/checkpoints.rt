@@ -79,6 +79,14 @@ fn add_checkpoint(
     Ok(())
 }
 
+/// The nearest checkpoint at or before a place, from which fewer than `CHECKPOINT_ENTRIES` entries lead there.
+pub(crate) fn nearest(place: u32) -> u32
+    ensures before { CHECKPOINT_ENTRIES * result ≤ place }
+    ensures near { place < CHECKPOINT_ENTRIES * (result + 1) }
+{
+    place / CHECKPOINT_ENTRIES
+}
+
 /// The machine at a place, from the nearest checkpoint at or before it. The checkpoints stay, also where memory is
 /// refused.
 pub(crate) fn machine_at(
@@ -91,9 +99,9 @@ pub(crate) fn machine_at(
     ensures same { checkpoints.new.items ≡ checkpoints.old.items }
     ensures at { IfOk result (λ machine. StandsAt schedule.now place machine) }
 {
-    let nearest = place / CHECKPOINT_ENTRIES;
-    let mut machine = second(schedule, checkpoints, nearest)?;
-    schedule.walk(&mut machine, CHECKPOINT_ENTRIES * nearest, place)?;
+    let checkpoint = nearest(place);
+    let mut machine = second(schedule, checkpoints, checkpoint)?;
+    schedule.walk(&mut machine, CHECKPOINT_ENTRIES * checkpoint, place)?;
     Ok(machine)
 }
 

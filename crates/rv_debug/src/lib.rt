@@ -19,3 +19,4 @@ mod shown;
 pub mod talk;
 #[cfg(test)]
 mod tests;
+pub mod word;

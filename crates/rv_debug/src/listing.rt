@@ -3,7 +3,8 @@ ghost use Rattle.std.specs.Prelude.{◌≡◌, ◌≤◌, IfOk, IsSome, MatchOpt
 ghost use Rattle.std.specs.String.{string_bytes};
 ghost use Rattle.rv_debug.specs.Answers as answer;
 
-use crate::shown::{byte_at, has_bytes};
+use crate::shown::has_bytes;
+use crate::word::word_at;
 use rv_asm::listed;
 use rv_hart::machine::Machine;
 use rv_memory::store::{ByteStore, NoMemory};
@@ -59,14 +60,4 @@ fn line_at<S: ByteStore>(
         None => Ok(None),
         Some(word) => Ok(Some(listed(alloc, address, word)?)),
     }
-}
-
-fn word_at<S: ByteStore>(machine: &Machine<S>, address: u32) -> Option<u32>
-    ensures { result ≡ answer.word_at machine.now.state.memory address }
-{
-    let a = byte_at(machine, u64::from(address))?;
-    let b = byte_at(machine, u64::from(address) + 1)?;
-    let c = byte_at(machine, u64::from(address) + 2)?;
-    let d = byte_at(machine, u64::from(address) + 3)?;
-    Some(u32::from_le_bytes([a, b, c, d]))
 }

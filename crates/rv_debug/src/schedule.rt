@@ -64,6 +64,13 @@ impl Schedule {
         let _count = self.count;
     }
 
+    /// Its entries.
+    pub(crate) fn entries(&self) -> &[Entry]
+        ensures { result.now ≡ self.now.entries }
+    {
+        self.entries.as_slice()
+    }
+
     /// How many entries there are.
     pub(crate) fn count(&self) -> u32
         ensures { result ≡ length self.now.entries }

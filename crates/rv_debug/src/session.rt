@@ -1,7 +1,10 @@
 //! A session: a stored schedule at one of its places.
+pub mod visit;
+
 ghost use Rattle.std.specs.Prelude.{◌≡◌, ◌⊎◌, ◌↔◌, ◌+◌, ◌-◌, ◌<◌, ◌≤◌, [], Err, Some, None, IfOk, IfErr, IsSome, OnOk, OnErr, length, map};
 ghost use Rattle.std.specs.String.{string_bytes};
 ghost use Rattle.rv_collide.specs.Legal.{IsLegal};
+ghost use Rattle.rv_collide.specs.Made.{made};
 ghost use Rattle.rv_collide.specs.Numbers.{numbers};
 ghost use Rattle.rv_collide.specs.Replays.{IsReplayFault};
 ghost use Rattle.rv_collide.specs.Stored.{setting_of, stored};
@@ -21,6 +24,7 @@ use rv_collide::plan::Plan;
 use rv_collide::replay::ReplayFault;
 use rv_collide::walk_laws::steps_of_legal_schedules;
 use rv_elf::Image;
+use rv_hart::access::Access;
 use rv_hart::machine::Machine;
 use rv_memory::paged::Paged;
 use rv_memory::store::NoMemory;
@@ -120,6 +124,20 @@ impl Session {
         self.place
     }
 
+    /// How many entries the schedule has.
+    pub fn count(&self) -> u32
+        ensures { result ≡ length self.now.entries }
+    {
+        self.schedule.count()
+    }
+
+    /// The entries of the schedule.
+    pub fn entries(&self) -> &[Entry]
+        ensures { result.now ≡ self.now.entries }
+    {
+        self.schedule.entries()
+    }
+
     /// Goes to a place.
     pub fn go(&mut self, n: u32) -> Result<(), SessionFault>
         ensures ok { OnOk result (self.new ≡ moved self.old n) }
@@ -143,9 +161,21 @@ impl Session {
         if self.place == self.schedule.count() {
             return Err(SessionFault::NoPlace);
         }
-        let _access = self.schedule.advance(&mut self.machine, self.place)?;
-        self.place += 1;
+        let _access = self.pass()?;
         Ok(())
+    }
+
+    /// Goes on by the entry at the place. What it accessed, if it is a step that did.
+    pub fn pass(&mut self) -> Result<Option<Access>, NoMemory>
+        requires { self.old.place < length self.old.entries }
+        ensures ok { OnOk result (self.new ≡ moved self.old (self.old.place + 1)) }
+        ensures access { IfOk result (λ access. access ≡ made (setting self.old).start self.old.entries self.old.place) }
+        ensures refused { OnErr result (self.new ≡ self.old) }
+    {
+        let _count = self.schedule.count();
+        let access = self.schedule.advance(&mut self.machine, self.place)?;
+        self.place += 1;
+        Ok(access)
     }
 
     /// Goes one place backwards.

@@ -2,7 +2,7 @@
 //!
 //! Speed: a turn asks neither of all harts. Both are looked up anew where a pause begins or ends, a hart ends, or
 //! the steps are spent; no other turn changes them.
-ghost use Rattle.std.specs.Prelude.{◌≡◌, ◌≢◌, ◌+◌, ◌<◌, ◌≤◌, ◌^◌, ◌++◌, ◌∷◌, [], ℕ, length, slice_get, nat_lt, true, is_some, Ok, Some, IfOk, IfSome, vec_capacity};
+ghost use Rattle.std.specs.Prelude.{◌≡◌, ◌+◌, ◌<◌, ◌≤◌, ◌^◌, [], length, slice_get, true, is_some, Ok, Some, IfOk, IfSome, vec_capacity};
 ghost use Rattle.rv_drive.specs.Sampling.{drew, sampling_of};
 ghost use Rattle.rv_drive.specs.internal.Kept.{IsAhead, IsKept, NoneLasts};
 ghost use Rattle.rv_drive.specs.Able.{able, another_is_able, due, is_able, is_due};

@@ -1,12 +1,13 @@
-//! What stands before each turn of a worker.
+//! What a caller may put before the work of threads.
 ghost use Rattle.std.specs.Prelude.{IfErr};
 
 use std::convert::Infallible;
 use std::marker::{Send, Sync};
 
-/// A caller's gate: each worker enters it before a turn and leaves it afterwards. It may hold a worker up, or
-/// refuse it with a value of the caller's own. For contracts alone it names which values it refuses a hart
-/// with.
+/// A caller's gate: a worker enters it before each piece of its work and leaves it afterwards. In a run by threads
+/// there is a worker for each hart, and its pieces are turns; in a campaign a piece is a seeded run. It may hold a
+/// worker up, or refuse it with a value of the caller's own. For contracts alone it names which values it refuses a
+/// worker with.
 pub trait Gate: Sync {
     ghost use Rattle.std.specs.Prelude.{ℕ};
 
@@ -14,7 +15,7 @@ pub trait Gate: Sync {
 
     ghost shuts: { ℕ → Self.Shut → Type 0 };
 
-    /// Lets a hart's worker in, or refuses it.
+    /// Lets a worker in, or refuses it. The number is that of its hart, or in a campaign its own.
     fn enter(&self, hart: u8) -> Result<(), Self::Shut>
         ensures { IfErr result (λ shut. shuts hart shut) };
 

@@ -41,7 +41,8 @@ use Rattle.rv_report.specs.declared.exhibit.Exhibit.{Exhibit}
 use Rattle.rv_report.specs.Exhibit.{IsExhibit, IsLastStore, IsOther, IsTextChanged, harts_to, paused_word, stores_at, word_at, writes_over}
 use Rattle.rv_report.specs.SideBySide.{StandSideBySide}
 use Rattle.rv_report.specs.declared.exhibiting.Other.{Other}
-use Rattle.rv_report.specs.internal.Paused.{EndingsAreOfPauses, ExhibitsStandSideBySide, IsOfPause, IsOtherAccess, LastBefore, last_after}
+use Rattle.rv_report.specs.OfPause.{EndingsAreOfPauses, IsOfPause}
+use Rattle.rv_report.specs.internal.Paused.{ExhibitsStandSideBySide, IsOtherAccess, LastBefore, last_after}
 use Rattle.rv_report.proofs.SameStep.{moved_by, plain_hart, plain_pc, same_step}
 use Rattle.rv_report.proofs.StillPaused.{last_step, run_on, run_permits, steps_with, still_from}
 

@@ -1,5 +1,6 @@
 pub mod Exhibit
 pub mod ExhibitText
+pub mod OfPause
 pub mod Races
 pub mod SideBySide
 pub mod TableText

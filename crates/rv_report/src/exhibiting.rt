@@ -8,6 +8,7 @@ ghost use Rattle.rv_collide.specs.Verdict.{endings};
 ghost use Rattle.rv_collide.specs.declared.ending.Verdict.TheVariants as verdict;
 ghost use Rattle.rv_hart.specs.State as state;
 ghost use Rattle.rv_report.specs.Exhibit as spec;
+ghost use Rattle.rv_report.specs.OfPause.{EndingsAreOfPauses, IsOfPause};
 ghost use Rattle.rv_report.specs.SideBySide.{StandSideBySide};
 ghost use Rattle.rv_report.specs.declared.exhibit.ExhibitFault.TheVariants as fault_is;
 ghost use Rattle.rv_report.specs.internal.Paused as internal;
@@ -72,6 +73,16 @@ pub fn exhibits()
     ensures fault { spec.OneFault }
 {}
 
+/// Each ending of a legal schedule is of a pause of it: that pause has begun before it, its hart stood still, a hit
+/// names the first access that conflicts, and before a change another hart wrote one of the bytes.
+pub fn endings_are_of_pauses()
+    ensures { EndingsAreOfPauses }
+{
+    schedules();
+    pauses_that_ended();
+    changes_of_a_pause();
+}
+
 /// The access that a report names beside the paused one, and its place.
 #[derive(Clone, Copy, Debug)]
 struct Other {
@@ -99,7 +110,7 @@ fn report(
     ensures ending { IfOk result (λ told.
         slice_get (endings (setting_of (stored image.now (numbers plan) [])).start entries.now) n ≡ Some told) }
     ensures of_pause { IfOk result (λ told.
-        internal.IsOfPause (setting_of (stored image.now (numbers plan) [])).start entries.now told) }
+        IsOfPause (setting_of (stored image.now (numbers plan) [])).start entries.now told) }
     ensures report { IfOk result (λ told. told.verdict ≢ verdict.Quiet) }
     ensures err { IfErr result (λ fault.
         spec.IsExhibitFault (setting_of (stored image.now (numbers plan) [])) entries.now n fault) }
@@ -146,7 +157,7 @@ fn other_access(
     told: &Ending,
 ) -> Result<Other, NoMemory>
     requires legal { IsLegal (setting_of (stored image.now (numbers plan) [])) entries.now }
-    requires of_pause { internal.IsOfPause (setting_of (stored image.now (numbers plan) [])).start entries.now told.now }
+    requires of_pause { IsOfPause (setting_of (stored image.now (numbers plan) [])).start entries.now told.now }
     requires report { told.now.verdict ≢ verdict.Quiet }
     ensures { IfOk result (λ other.
         internal.IsOtherAccess (setting_of (stored image.now (numbers plan) [])).start entries.now told.now other) }
@@ -210,7 +221,7 @@ fn last_after(
 }
 
 /// Whether an access writes one of the bytes of another.
-fn writes_over(paused: &Access, access: &Access) -> bool
+pub fn writes_over(paused: &Access, access: &Access) -> bool
     ensures { result ≡ spec.writes_over paused.now access.now }
 {
     let end = u64::from(paused.first) + u64::from(paused.size);
@@ -288,15 +299,6 @@ fn add_step(harts: &mut Vec<u8>, entry: Entry) -> Result<(), NoMemory>
         Entry::Paused(_, _) | Entry::Resumed(_) | Entry::Armed(_) | Entry::Disarmed(_) => {}
     }
     Ok(())
-}
-
-/// Each ending of a legal schedule is of a pause of it.
-fn endings_are_of_pauses()
-    ensures { internal.EndingsAreOfPauses }
-{
-    schedules();
-    pauses_that_ended();
-    changes_of_a_pause();
 }
 
 /// The list of an exhibit ends in its two accesses.

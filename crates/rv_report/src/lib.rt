@@ -12,4 +12,4 @@ pub mod race_table;
 pub mod row;
 #[cfg(test)]
 mod tests;
-mod texts;
+pub mod texts;

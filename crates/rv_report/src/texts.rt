@@ -25,7 +25,8 @@ fn write_address<O: Output>(writer: &mut O, address: Option<u32>) -> Result<(), 
     }
 }
 
-fn write_key<O: Output>(writer: &mut O, key: &Key) -> Result<(), WriteFault>
+/// Writes the addresses of a row, `-` for the second where it has one alone.
+pub fn write_key<O: Output>(writer: &mut O, key: &Key) -> Result<(), WriteFault>
     ensures ok { OnOk result (Appends (O.written writer.old) (O.written writer.new) (spec.key_text key.now)) }
     ensures failed { O.has_failed writer.new ≡ (O.has_failed writer.old || is_err result) }
 {
@@ -58,7 +59,8 @@ fn write_verdict<O: Output>(writer: &mut O, verdict: &Verdict) -> Result<(), Wri
     }
 }
 
-fn write_values<O: Output>(writer: &mut O, old: u32, new: u32) -> Result<(), WriteFault>
+/// Writes the values of a row, a blank before them.
+pub fn write_values<O: Output>(writer: &mut O, old: u32, new: u32) -> Result<(), WriteFault>
     ensures ok { OnOk result (Appends (O.written writer.old) (O.written writer.new) (values_text old «new»)) }
     ensures failed { O.has_failed writer.new ≡ (O.has_failed writer.old || is_err result) }
 {

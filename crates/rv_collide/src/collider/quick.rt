@@ -1,6 +1,6 @@
 //! Speed: the turn that is nearly each turn, a common step of a hart that may take a turn. `turn` is its twin: where
 //! this makes a step `turn` would make the same, and where it makes none nothing has changed.
-ghost use Rattle.std.specs.Prelude.{◌≡◌, Ok, false, is_ok, true};
+ghost use Rattle.std.specs.Prelude.{◌≡◌, false, is_ok, true};
 ghost use Rattle.rv_collide.specs.Answers as answer;
 ghost use Rattle.rv_collide.specs.Forced.{Turn, forced};
 ghost use Rattle.rv_collide.specs.Stored.{setting_of};

@@ -36,7 +36,7 @@ fn write_plan<O: Output>(writer: &mut O, plan: &Plan) -> Result<(), WriteFault>
 }
 
 /// Writes a slot's number, or `-` where there is none.
-pub(crate) fn write_slot<O: Output>(writer: &mut O, slot: Option<u8>) -> Result<(), WriteFault>
+pub fn write_slot<O: Output>(writer: &mut O, slot: Option<u8>) -> Result<(), WriteFault>
     ensures ok { OnOk result (Appends (O.written writer.old) (O.written writer.new)
         (spec.slot_text slot)) }
     ensures failed { O.has_failed writer.new ≡ (O.has_failed writer.old || is_err result) }
@@ -47,8 +47,9 @@ pub(crate) fn write_slot<O: Output>(writer: &mut O, slot: Option<u8>) -> Result<
     }
 }
 
+/// Writes the line of an entry.
 #[tactic(auto, unfolding(crate::specs::Grammar::entry_line))]
-fn write_entry<O: Output>(writer: &mut O, entry: Entry) -> Result<(), WriteFault>
+pub fn write_entry<O: Output>(writer: &mut O, entry: Entry) -> Result<(), WriteFault>
     ensures ok { OnOk result (Appends (O.written writer.old) (O.written writer.new)
         (spec.entry_line entry ++ 10 ∷ [])) }
     ensures failed { O.has_failed writer.new ≡ (O.has_failed writer.old || is_err result) }

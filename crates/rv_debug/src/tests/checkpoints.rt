@@ -1,4 +1,5 @@
 //! Places far from one another, with checkpoints between them.
+use crate::checkpoints::{CHECKPOINT_ENTRIES, nearest};
 use crate::session::{Session, SessionFault};
 use crate::tests::{assert_is, image};
 use rv_collide::entry::Entry::Stepped;
@@ -124,5 +125,23 @@ fn ends_at_a_checkpoint(rt: HostRuntime) -> Result<(), Fail> {
             "the end",
         );
     }
+    Ok(())
+}
+
+/// How many entries lead to a place from the one checkpoint that its machine is shared from. Each is at most a step.
+fn way(place: u32) -> u32 {
+    place - CHECKPOINT_ENTRIES * nearest(place)
+}
+
+/// A step back from the last places of a schedule of 1,000,000 entries, with each remainder among them.
+#[test]
+fn steps_back_by_few_entries(rt: HostRuntime) -> Result<(), Fail> {
+    let mut longest = 0;
+    for place in 998_976..1_000_000 {
+        longest = longest.max(way(place));
+    }
+    assert_is(&rt, longest, 1023, "the longest way");
+    let ways = [way(999_423), way(999_424), way(999_425)];
+    assert_is(&rt, ways, [1023, 0, 1], "the ways by a checkpoint");
     Ok(())
 }

@@ -367,3 +367,27 @@ fn lists_what_stands_at_the_place(rt: HostRuntime) -> Result<(), Fail> {
     let mut session = session_of(&rt, alloc, &words, &[Stepped(1), Stepped(1)])?;
     list_overwritten_code(&rt, alloc, &mut session)
 }
+
+#[test]
+fn visits_places_while_it_stays(rt: HostRuntime) -> Result<(), Fail> {
+    let alloc = rt.alloc();
+    let mut session = session_of(&rt, alloc, &P, &HIT)?;
+    session.go(2)?;
+    let mut visit = session.visit_here()?;
+    assert_is(&rt, visit.place(), 2, "here");
+    assert!(rt; session.count() == 6);
+    let mut other = session.visit(4)?;
+    assert!(rt; visit.place() < 6 && other.place() < 6);
+    let access = session.pass_on(&mut other)?;
+    let first = access.map(|access| access.first);
+    assert_is(&rt, first, Some(0x20000), "the store");
+    let _access = session.pass_on(&mut visit)?;
+    assert_is(&rt, session.place(), 2, "stays");
+    assert_is(&rt, (visit.place(), other.place()), (3, 5), "pass");
+    session.settle(other);
+    assert_is(&rt, session.place(), 5, "settles");
+    let machine = session.machine();
+    assert!(rt; machine.harts() == 2);
+    assert_is(&rt, machine.pc(1), 0x10008, "hart 1 has stored");
+    Ok(())
+}

@@ -1,39 +1,17 @@
 -- What is known of a report's ending, and what follows for its exhibit.
-use Rattle.std.specs.Prelude.{◌≡◌, ◌≢◌, ℕ, ◌+◌, ◌<◌, ◌≤◌, IsTrue, if◌then◌else◌, Option, Some, None, List, [], ◌∷◌, ◌++◌, length, slice_get}
-use Rattle.rv_break.specs.declared.claim.Seen.{Seen}
-use Rattle.rv_collide.specs.Answers.{pause_of}
-use Rattle.rv_collide.specs.ChangedLaws.{Overwritten}
-use Rattle.rv_collide.specs.Entries.{stepped_at}
-use Rattle.rv_collide.specs.First.{first}
+use Rattle.std.specs.Prelude.{◌≡◌, ℕ, ◌+◌, ◌<◌, IsTrue, if◌then◌else◌, Option, Some, None, List, [], ◌∷◌, ◌++◌}
 use Rattle.rv_collide.specs.Forced.{Setting}
-use Rattle.rv_collide.specs.Laws.{Reported}
 use Rattle.rv_collide.specs.Legal.{IsLegal}
 use Rattle.rv_collide.specs.Made.{made}
-use Rattle.rv_collide.specs.Next.{plain}
-use Rattle.rv_collide.specs.Verdict.{endings}
 use Rattle.rv_collide.specs.declared.ending.Ending.{Ending}
-use Rattle.rv_collide.specs.declared.ending.Verdict.TheVariants.{Hit, Changed}
 use Rattle.rv_collide.specs.declared.entry.Entry.{Entry}
 use Rattle.rv_collide.specs.declared.entry.Entry.TheVariants.{Stepped, Paused, Resumed, Armed, Disarmed}
 use Rattle.rv_hart.specs.State.{State}
 use Rattle.rv_hart.specs.declared.access.Access.{Access}
 use Rattle.rv_report.specs.Exhibit.{IsOther, harts_to, paused_word, stores_at, writes_over}
+use Rattle.rv_report.specs.OfPause.{IsOfPause}
 use Rattle.rv_report.specs.SideBySide.{StandSideBySide}
 use Rattle.rv_report.specs.declared.exhibiting.Other.{Other}
-
--- the ending is of a pause of the list
-pub record IsOfPause (start : State) (entries : List Entry) (told : Ending) : Type 0 where
-  pub starts : told.paused_at < told.resumed_at
-  pub inside : told.resumed_at < length entries
-  pub is_plain : plain start entries told.paused_at told.hart ≡ Some told.access
-  pub still : (at : ℕ) → told.paused_at ≤ at → at ≤ told.resumed_at → stepped_at entries at ≢ Some told.hart
-  pub hit : (seen : Seen) → told.verdict ≡ Hit seen → Reported start entries (pause_of told) told.access seen
-  pub is_first : (seen : Seen) → told.verdict ≡ Hit seen → first start entries (pause_of told) ≡ Some seen.place
-  pub changed : told.verdict ≡ Changed → Overwritten start entries (pause_of told) told.access
-
-abbrev pub EndingsAreOfPauses : Type 0
-EndingsAreOfPauses =
-    (setting : Setting) (entries : List Entry) (n : ℕ) (told : Ending) → IsLegal setting entries → slice_get (endings setting.start entries) n ≡ Some told → IsOfPause setting.start entries told
 
 -- the other hart's access, and its place
 pub record IsOtherAccess (start : State) (entries : List Entry) (told : Ending) (other : Other) : Type 0 where

@@ -4,7 +4,7 @@ use Rattle.rv_campaign.specs.internal.Driving.{IsDriving}
 use Rattle.rv_collide.specs.Numbers.{numbers}
 use Rattle.rv_collide.specs.Plan.{most_entries}
 use Rattle.rv_collide.specs.Stored.{setting_of}
-use Rattle.rv_campaign.proofs.run.run_sampled.Given as goal
+use Rattle.rv_campaign.proofs.run.core_sampled.Given as goal
 
 abbrev pub invariant-loop-words : goal.invariant-loop-words
 invariant-loop-words l = record {

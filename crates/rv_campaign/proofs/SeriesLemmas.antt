@@ -1,0 +1,77 @@
+-- The slots of a series, and what is kept in the order of the places.
+use Rattle.std.proofs.Common.{◌≡◌, ℕ, zero, suc, ◌⊎◌, inl, inr, List, [], ◌∷◌, ◌++◌, length, Option, None, Some, replicate, refl, sym, ap, subst, ◌∙◌}
+use Rattle.std.specs.Prelude.{slice_get, slice_set}
+use Rattle.rv_campaign.specs.Kept.{AreKept, Source}
+use Rattle.rv_campaign.specs.internal.Series.{AreSlots, IsKeptAt}
+use Rattle.rv_collide.specs.Stored.{Stored}
+use Rattle.rv_collide.specs.declared.plan.Plan.{Plan}
+
+-- no slot of an empty list of slots holds anything
+none_there : {X : Type 0} (n place : ℕ) (one : X) → slice_get (replicate n None) place ≡ Some (Some one) → ⊥
+none_there zero place one there = cc
+none_there (suc n) zero one there = cc
+none_there (suc n) (suc place) one there = none_there n place one there
+
+pub empty : {K : Type 0} (keeps : Stored → K → Type 0) (source : Source) (first : ℕ) (plans : List Plan) (slots : List (Option K)) (n : ℕ) → slots ≡ replicate n None → AreSlots keeps source first plans slots
+empty keeps source first plans slots n is = λ place one there.
+    absurd (none_there n place one (ap (λ xs. slice_get xs place) (sym is) ∙ there))
+
+-- what is read of a list in which one element is replaced: that one, or what was there
+read_set : {X : Type 0} (xs : List X) (at place : ℕ) (new' other : X) → slice_get (slice_set xs at new') place ≡ Some other → ((place ≡ at) × (new' ≡ other)) ⊎ (slice_get xs place ≡ Some other)
+read_set [] at place new' other there = inr there
+read_set (x ∷ xs) zero zero new' other there = inl (refl, (let same : Some new' ≡ Some other = there in cc))
+read_set (x ∷ xs) zero (suc place) new' other there = inr there
+read_set (x ∷ xs) (suc at) zero new' other there = inr there
+read_set (x ∷ xs) (suc at) (suc place) new' other there =
+    elim (read_set xs at place new' other there) [
+      | inl both ↦ inl (ap (λ n. suc n) both.0, both.1)
+      | inr before ↦ inr before
+    ]
+
+same_some : {X : Type 0} (x y : X) → Some x ≡ Some y → x ≡ y
+same_some x y h = cc
+
+pub filled_one : {K : Type 0} (keeps : Stored → K → Type 0) (source : Source) (first : ℕ) (plans : List Plan) (old new' : List (Option K)) (at : ℕ) (kept : K) → new' ≡ slice_set old at (Some kept) → IsKeptAt keeps source first plans at kept → AreSlots keeps source first plans old → AreSlots keeps source first plans new'
+filled_one keeps source first plans old new' at kept is here before = λ place one there.
+    elim (read_set old at place (Some kept) (Some one) (ap (λ xs. slice_get xs place) (sym is) ∙ there)) [
+      | inl both ↦
+          subst (λ (n : ℕ). IsKeptAt keeps source first plans n one) (sym both.0)
+          (subst (λ x. IsKeptAt keeps source first plans at x) (same_some kept one both.1) here)
+      | inr there_before ↦ before place one there_before
+    ]
+
+pub taken_one : {K : Type 0} (keeps : Stored → K → Type 0) (source : Source) (first : ℕ) (plans : List Plan) (old new' : List (Option K)) (at : ℕ) → new' ≡ slice_set old at None → AreSlots keeps source first plans old → AreSlots keeps source first plans new'
+taken_one keeps source first plans old new' at is before = λ place one there.
+    elim (read_set old at place None (Some one) (ap (λ xs. slice_get xs place) (sym is) ∙ there)) [
+      | inl both ↦ (let no : None ≡ Some one = both.1 in cc)
+      | inr there_before ↦ before place one there_before
+    ]
+
+-- one more is kept, behind those of the places before
+more : {X : Type 0} (xs : List X) (x : X) (place : ℕ) (one : X) → slice_get (xs ++ x ∷ []) place ≡ Some one → (slice_get xs place ≡ Some one) ⊎ ((place ≡ length xs) × (x ≡ one))
+more [] x zero one there = inr (refl, (let same : Some x ≡ Some one = there in cc))
+more [] x (suc place) one there = (let no : None ≡ Some one = there in cc)
+more (y ∷ xs) x zero one there = inl there
+more (y ∷ xs) x (suc place) one there =
+    elim (more xs x place one there) [
+      | inl before ↦ inl before
+      | inr both ↦ inr (ap (λ n. suc n) both.0, both.1)
+    ]
+
+abbrev pub Kept : {K : Type 0} → (Stored → K → Type 0) → Source → ℕ → List Plan → List K → Type 0
+Kept {K = K} keeps source first plans kept = (place : ℕ) (one : K) → slice_get kept place ≡ Some one → IsKeptAt keeps source first plans place one
+
+pub kept_one : {K : Type 0} (keeps : Stored → K → Type 0) (source : Source) (first : ℕ) (plans : List Plan) (xs all : List K) (x : K) (at : ℕ) → all ≡ xs ++ x ∷ [] → length xs ≡ at → IsKeptAt keeps source first plans at x → Kept keeps source first plans xs → Kept keeps source first plans all
+kept_one keeps source first plans xs all x at is count here before = λ place one there.
+    elim (more xs x place one (ap (λ ys. slice_get ys place) (sym is) ∙ there)) [
+      | inl there_before ↦ before place one there_before
+      | inr both ↦
+          subst (λ (n : ℕ). IsKeptAt keeps source first plans n one) (sym (both.0 ∙ count))
+          (subst (λ y. IsKeptAt keeps source first plans at y) both.1 here)
+    ]
+
+pub are_kept : {K : Type 0} (keeps : Stored → K → Type 0) (source : Source) (first : ℕ) (plans : List Plan) (kept : List K) → length kept ≡ length plans → Kept keeps source first plans kept → AreKept keeps source first plans kept
+are_kept keeps source first plans kept count each = record {
+  count = count;
+  each = λ place plan one there kept_there. each place one kept_there plan there;
+}

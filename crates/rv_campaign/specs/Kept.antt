@@ -1,0 +1,32 @@
+-- Runs of consecutive numbers, each with a plan of its own, and what is kept of each.
+use Rattle.std.specs.Prelude.{◌≡◌, ℕ, ◌+◌, List, [], Some, length, slice_get}
+use Rattle.rv_collide.specs.Numbers.{numbers}
+use Rattle.rv_collide.specs.Plan.{Numbers}
+use Rattle.rv_collide.specs.Stored.{Stored, setting_of, stored}
+use Rattle.rv_collide.specs.declared.plan.Plan.{Plan}
+use Rattle.rv_drive.specs.Drawn.{IsDrawn}
+use Rattle.rv_drive.specs.Sampling.{sampling_of}
+use Rattle.rv_elf.specs.Contents.{Contents}
+
+-- What runs are made of: an image, the sites at which their harts may be paused, and a seed.
+pub record Source : Type 0 where
+  pub image : Contents
+  pub sites : List ℕ
+  pub seed : ℕ
+
+-- The core at the end of a run: its schedule is the one that the run's words drive.
+pub record IsCoreOf (source : Source) (plan : Numbers) (run : ℕ) (core : Stored) : Type 0 where
+  pub image_is : core.image ≡ source.image
+  pub plan_is : core.plan ≡ plan
+  pub drawn : IsDrawn (setting_of (stored source.image plan [])) (sampling_of source.sites source.seed run) core.entries
+
+-- What is kept of a run is what may be kept of its core.
+pub record IsKept {K : Type 0} (keeps : Stored → K → Type 0) (source : Source) (plan : Numbers) (run : ℕ) (kept : K) : Type 0 where
+  pub core : Stored
+  pub is_core : IsCoreOf source plan run core
+  pub is_kept : keeps core kept
+
+-- in order, what is kept of the runs from one number on, of each plan's the one
+pub record AreKept {K : Type 0} (keeps : Stored → K → Type 0) (source : Source) (first : ℕ) (plans : List Plan) (kept : List K) : Type 0 where
+  pub count : length kept ≡ length plans
+  pub each : (place : ℕ) (plan : Plan) (one : K) → slice_get plans place ≡ Some plan → slice_get kept place ≡ Some one → IsKept keeps source (numbers plan) (first + place) one

@@ -1,0 +1,9 @@
+use Rattle.std.proofs.Common.{◌≡◌, ◌≤◌, length, map, take}
+use Rattle.rv_tally.specs.Summary.{end_of}
+use Rattle.rv_tally.proofs.summary.ends.Given as goal
+
+abbrev pub invariant-loop-h : goal.invariant-loop-h
+invariant-loop-h l = record {
+  within : l.h ≤ l.h-end;
+  so_far : l.ends.items ≡ map end_of (take l.h l.machine.state.harts);
+}

@@ -1,0 +1,6 @@
+pub mod GoesOn
+pub mod Kinds
+pub mod Plans
+pub mod Summary
+pub mod Tally
+pub mod Warnings

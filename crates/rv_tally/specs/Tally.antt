@@ -1,0 +1,113 @@
+-- What the runs of a hunt saw, added up run by run.
+use Rattle.std.specs.Prelude.{ℕ, ◌+◌, ◌==◌, Bool, true, false, nat_lt, cond, if◌then◌else◌, List, [], count_by}
+use Rattle.std.specs.BTreeSet.{insert_key}
+use Rattle.std.specs.List.{fold, list_all, list_any}
+use Rattle.std.specs.Ordering.{nat_cmp}
+use Rattle.rv_tally.specs.Kinds.{Kinds, capped, no_kinds, one_more}
+use Rattle.rv_tally.specs.declared.counts.Counts.{Counts}
+use Rattle.rv_tally.specs.declared.end.End.{End}
+use Rattle.rv_tally.specs.declared.end.End.TheVariants.{Exited, Stopped, OutOfSteps}
+use Rattle.rv_tally.specs.declared.summary.Summary.{Summary}
+use Rattle.rv_tally.specs.declared.tally.Longest.{Longest}
+
+-- ---- how harts ended
+
+-- exits by code, traps by cause and address, and those that had no steps left
+pub record Ended : Type 0 where
+  pub exits : Kinds
+  pub stops : Kinds
+  pub out_of_steps : ℕ
+
+abbrev pub ended_with : Ended → End → Ended
+ended_with ended (Exited code) = record ended { exits = one_more ended.exits (Exited code) }
+ended_with ended (Stopped cause pc) = record ended { stops = one_more ended.stops (Stopped cause pc) }
+ended_with ended OutOfSteps = record ended { out_of_steps = capped (ended.out_of_steps + 1) }
+
+unfoldable pub all_ended : Ended → List End → Ended
+all_ended ended ends = fold ended_with ended ends
+
+abbrev pub is_exit : End → Bool
+is_exit (Exited code) = true
+is_exit (Stopped cause pc) = false
+is_exit OutOfSteps = false
+
+abbrev pub is_stop : End → Bool
+is_stop (Exited code) = false
+is_stop (Stopped cause pc) = true
+is_stop OutOfSteps = false
+
+-- ---- the sums
+
+-- addresses in ascending order, each once, and those of a list
+unfoldable pub with_addresses : List ℕ → List ℕ → List ℕ
+with_addresses addresses more = fold (insert_key nat_cmp) addresses more
+
+abbrev pub sum : Counts → Counts → Counts
+sum a b = record {
+  steps = capped (a.steps + b.steps);
+  quiet = capped (a.quiet + b.quiet);
+  hit = capped (a.hit + b.hit);
+  changed = capped (a.changed + b.changed);
+  unwatched = capped (a.unwatched + b.unwatched);
+  passed = capped (a.passed + b.passed);
+}
+
+abbrev pub no_counts : Counts
+no_counts = record { steps = 0; quiet = 0; hit = 0; changed = 0; unwatched = 0; passed = 0 }
+
+-- one where it holds
+abbrev pub one_if : Bool → ℕ
+one_if holds = cond holds 1 0
+
+-- Of the runs whose plans have the most steps: how many that is, and how many harts exited in them. A run of so many
+-- exits and steps is one of them, or the first of longer ones.
+abbrev pub longest_with : Longest → ℕ → ℕ → Longest
+longest_with longest steps exits =
+    if nat_lt longest.steps steps then record { steps = steps; exits = exits }
+    else (if longest.steps == steps then record { steps = longest.steps; exits = capped (longest.exits + exits) } else longest)
+
+-- ---- all of it
+
+pub record Tally : Type 0 where
+  pub runs : ℕ
+  pub ended : Ended
+  pub armed : List ℕ
+  pub paused : List ℕ
+  pub counts : Counts
+  -- in how many runs a hart was stopped by a trap, and in how many each was
+  pub some_stopped : ℕ
+  pub each_stopped : ℕ
+  pub longest : Longest
+
+abbrev pub nothing : Tally
+nothing = record {
+  runs = 0;
+  ended = record { exits = no_kinds; stops = no_kinds; out_of_steps = 0 };
+  armed = [];
+  paused = [];
+  counts = no_counts;
+  some_stopped = 0;
+  each_stopped = 0;
+  longest = record { steps = 0; exits = 0 };
+}
+
+-- one more run
+unfoldable pub added : Tally → Summary → Tally
+added t s = record {
+  runs = capped (t.runs + 1);
+  ended = all_ended t.ended s.ends.items;
+  armed = with_addresses t.armed s.armed.items;
+  paused = with_addresses t.paused s.paused.items;
+  counts = sum t.counts s.counts;
+  some_stopped = capped (t.some_stopped + one_if (list_any is_stop s.ends.items));
+  each_stopped = capped (t.each_stopped + one_if (list_all is_stop s.ends.items));
+  longest = longest_with t.longest s.most_steps (count_by is_exit s.ends.items);
+}
+
+-- what runs saw, in their order
+unfoldable pub tally_of : List Summary → Tally
+tally_of summaries = fold added nothing summaries
+
+-- how many pauses were made; in a run that is over each has ended
+abbrev pub pauses : Tally → ℕ
+pauses t = t.counts.quiet + t.counts.hit + t.counts.changed

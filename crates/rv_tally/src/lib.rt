@@ -1,0 +1,18 @@
+//! What the runs of a hunt are and what they saw.
+//!
+//! To the layer above, each run's plan is a function of its number (`specs/Plans.antt`), what is counted of a run is a
+//! function of its core (`specs/Summary.antt`), what all runs saw is the fold of that (`specs/Tally.antt`), and so is
+//! whether one more is made (`specs/GoesOn.antt`).
+#![tactic(auto)]
+
+pub mod addresses;
+pub mod counts;
+pub mod end;
+pub mod ended;
+pub mod kinds;
+pub mod limit;
+pub mod plans;
+pub mod summary;
+pub mod tally;
+#[cfg(test)]
+mod tests;

@@ -1,0 +1,160 @@
+//! The plans of a hunt's runs.
+ghost use Rattle.std.specs.Prelude.{◌≡◌, ◌↔◌, ◌≤◌, true, unwrap_or, IsSome, IfSome};
+ghost use Rattle.rv_collide.specs.Numbers.{numbers};
+ghost use Rattle.rv_collide.specs.Plan.{IsPlan};
+ghost use Rattle.rv_tally.specs.Plans as spec;
+
+use rv_collide::plan::{MOST_ARMS, MOST_HARTS, MOST_PAUSE, MOST_SLOTS, MOST_STEPS, Plan};
+use std::marker::Model;
+
+/// The lengths of a run: how many steps its harts make together at most (1 to 1,000,000), how many addresses are armed
+/// in all at most (0 to 4096), and how many steps of other harts a pause lasts at least (1 to 65,535).
+#[derive(Clone, Copy, Debug, PartialEq, Eq)]
+pub struct Lengths {
+    pub steps: u32,
+    pub arms: u32,
+    pub pause: u32,
+}
+
+/// The plans of all runs, by number. The lengths go through all scales, and there are 2, 4 and 8 harts by turns, where
+/// none are given.
+#[derive(Debug, Drop)]
+pub struct Plans {
+    harts: Option<u8>,
+    slots: u8,
+    lengths: Option<Lengths>,
+}
+
+impl Model for Plans {
+    ghost use Rattle.rv_tally.specs.Plans.{Given, IsGiven};
+
+    ghost Value = { Given };
+
+    ghost view = { λ p. record { harts = p.harts; slots = p.slots; lengths = p.lengths } };
+
+    ghost invariant = { λ p. IsGiven (record { harts = p.harts; slots = p.slots; lengths = p.lengths }) };
+}
+
+/// How many times 2 divides a number, at most 10 times.
+fn twos(n: u64) -> u32
+    ensures is { result ≡ spec.twos n }
+    ensures few { result ≤ 10 }
+{
+    [2u64, 4, 8, 16, 32, 64, 128, 256, 512, 1024]
+        .iter()
+        .filter(|power| n % **power == 0)
+        .count() as u32
+}
+
+/// How many steps a run makes at most, where that is not given.
+fn steps_of(run: u32) -> u32
+    ensures { result ≡ spec.steps_of run }
+{
+    let twos = twos(u64::from(run) + 1);
+    (1000 * 2u32.pow(twos)).min(1_000_000)
+}
+
+/// How many harts a run has, where that is not given.
+fn harts_of(run: u32) -> u8
+    ensures { result ≡ spec.harts_of run }
+{
+    match run % 3 {
+        0 => 2,
+        1 => 4,
+        _ => 8,
+    }
+}
+
+/// The lengths of a run, where they are not given.
+fn lengths_of(run: u32) -> Lengths
+    ensures value { result ≡ spec.lengths_of run }
+    ensures legal { spec.AreLengths result }
+{
+    let steps = steps_of(run);
+    Lengths {
+        steps,
+        arms: 64,
+        pause: steps / 20,
+    }
+}
+
+/// Whether a run may have the lengths.
+fn are_lengths(lengths: Lengths) -> bool
+    ensures { (result ≡ true) ↔ spec.AreLengths lengths }
+{
+    let run = 1 <= lengths.steps && lengths.steps <= MOST_STEPS && lengths.arms <= MOST_ARMS;
+    run && 1 <= lengths.pause && lengths.pause <= MOST_PAUSE
+}
+
+impl Plans {
+    /// The plans of so many harts (1 to 16), slots (1 to 8) and lengths, where they are in range.
+    pub fn new(harts: Option<u8>, slots: u8, lengths: Option<Lengths>) -> Option<Plans>
+        ensures valid { IsSome result
+            ↔ spec.IsGiven (record { harts = harts; slots = slots; lengths = lengths }) }
+        ensures value { IfSome result (λ plans. plans
+            ≡ record { harts = harts; slots = slots; lengths = lengths }) }
+    {
+        if let Some(harts) = harts {
+            if !(1 <= harts && harts <= MOST_HARTS) {
+                return None;
+            }
+        }
+        if let Some(lengths) = lengths {
+            if !are_lengths(lengths) {
+                return None;
+            }
+        }
+        if 1 <= slots && slots <= MOST_SLOTS {
+            Some(Plans {
+                harts,
+                slots,
+                lengths,
+            })
+        } else {
+            None
+        }
+    }
+
+    /// How many harts a run has.
+    fn harts(&self, run: u32) -> u8
+        ensures value { result ≡ unwrap_or self.now.harts (spec.harts_of run) }
+        ensures legal { spec.IsHarts result }
+    {
+        match self.harts {
+            Some(harts) => harts,
+            None => harts_of(run),
+        }
+    }
+
+    /// The lengths of a run.
+    fn lengths(&self, run: u32) -> Lengths
+        ensures value { result ≡ unwrap_or self.now.lengths (spec.lengths_of run) }
+        ensures legal { spec.AreLengths result }
+    {
+        match self.lengths {
+            Some(lengths) => lengths,
+            None => lengths_of(run),
+        }
+    }
+
+    /// The plan of a run, which is a legal one.
+    #[tactic(auto, unfolding(crate::specs::Plans::plan_of))]
+    pub fn plan(&self, run: u32) -> Plan
+        ensures value { numbers result ≡ spec.plan_of self.now run }
+        ensures legal { IsPlan (spec.plan_of self.now run) }
+    {
+        let harts = self.harts(run);
+        let lengths = self.lengths(run);
+        let _slots = self.slots;
+        match Plan::new(
+            harts,
+            lengths.steps,
+            lengths.arms,
+            lengths.pause,
+            self.slots,
+        ) {
+            Some(plan) => plan,
+            None => unreachable!(),
+        }
+    }
+}
