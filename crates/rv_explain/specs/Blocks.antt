@@ -13,12 +13,36 @@ use Rattle.rv_explain.specs.declared.block.Block.{Block}
 use Rattle.rv_explain.specs.declared.block.RaceClass.{RaceClass}
 use Rattle.rv_explain.specs.declared.block.RaceClass.TheVariants.{Kept, Counter, Flag, Ordered, Named}
 use Rattle.rv_explain.specs.declared.block.Side.{Side}
+use Rattle.rv_explain.specs.declared.row.Shown.{Shown}
 use Rattle.rv_hart.specs.declared.access.Access.{Access}
 use Rattle.rv_prune.specs.Ordered.{role_at}
 use Rattle.rv_prune.specs.declared.role.Role.{Role}
 use Rattle.rv_prune.specs.declared.role.Role.TheVariants as role
 use Rattle.rv_text.specs.Hexadecimal.{word_digits}
 use Rattle.rv_text.specs.Lines.{text_of_lines}
+
+-- What is shown of a race: a block, with its lines as a list.
+pub record RaceShown : Type 0 where
+  pub reports : ℕ
+  pub class : RaceClass
+  pub number : ℕ
+  pub ending : Ending
+  pub paused : Side
+  pub other : Side
+  pub second : ℕ
+  pub lines : List Shown
+
+abbrev pub shown_of : Block → RaceShown
+shown_of block = record {
+  reports = block.reports;
+  class = block.class;
+  number = block.number;
+  ending = block.ending;
+  paused = block.paused;
+  other = block.other;
+  second = block.second;
+  lines = block.lines.items;
+}
 
 -- ---- the first line
 
@@ -40,7 +64,7 @@ abbrev pub reports_text : ℕ → List ℕ
 reports_text count = if count == 1 then codes "1 report" else joined (decimal count ∷ codes " reports" ∷ [])
 
 -- `race K: A and B, N reports, CLASS`; and where the run has a name, a comma and that
-unfoldable pub first_line : Contents → List ℕ → ℕ → Block → List ℕ
+unfoldable pub first_line : Contents → List ℕ → ℕ → RaceShown → List ℕ
 first_line image run race block =
     joined (codes "race " ∷ decimal race ∷ codes ": " ∷ pair_text image block.ending.access block.ending.verdict ∷ codes ", " ∷ reports_text block.reports ∷ codes ", " ∷ class_word block.class ∷ run ∷ [])
 
@@ -54,7 +78,7 @@ role_text role.Acquire = codes "a load before a fence: an acquire"
 role_text role.Load = codes "a load"
 role_text role.Plain = codes "no part of an order"
 
-unfoldable pub reason_text : Contents → Block → RaceClass → List ℕ
+unfoldable pub reason_text : Contents → RaceShown → RaceClass → List ℕ
 reason_text image block Kept = []
 reason_text image block Counter = codes "  counter: both add to a word in memory, so this may be a statistics counter\n"
 reason_text image block Flag = codes "  flag: the code looks at none of the bits that changed\n"
@@ -76,7 +100,7 @@ abbrev pub bytes_text : ℕ → List ℕ
 bytes_text size = if size == 1 then codes "1 byte at " else joined (decimal size ∷ codes " bytes at " ∷ [])
 
 -- `  hart H was about to load 4 bytes at ADDR NAME, ending N`
-abbrev pub paused_line : Contents → Block → List ℕ
+abbrev pub paused_line : Contents → RaceShown → List ℕ
 paused_line image block =
     joined (codes "  hart " ∷ decimal block.paused.hart ∷ codes " was about to " ∷ about_to block.paused.access.read block.paused.access.write ∷ codes " "
     ∷ bytes_text block.paused.access.size ∷ address_text image block.paused.access.first ∷ codes ", ending " ∷ decimal block.number ∷ [])
@@ -88,7 +112,7 @@ last_text Changed = codes ", the last store"
 last_text Quiet = []
 
 -- `  hart H stored 4 bytes at ADDR NAME, entry N`
-abbrev pub other_line : Contents → Block → List ℕ
+abbrev pub other_line : Contents → RaceShown → List ℕ
 other_line image block =
     joined (codes "  hart " ∷ decimal block.other.hart ∷ codes " " ∷ did block.other.access.read block.other.access.write ∷ codes " "
     ∷ bytes_text block.other.access.size ∷ address_text image block.other.access.first ∷ codes ", entry " ∷ decimal block.second ∷ last_text block.ending.verdict ∷ [])
@@ -123,23 +147,23 @@ values_line told =
 abbrev pub columns_text : List ℕ
 columns_text = codes "\n\n    entry  hart  event      bytes     instruction\n"
 
-unfoldable pub lines_text : Contents → Block → List ℕ
-lines_text image block = text_of_lines (map (shown_line image block.ending block.second) block.lines.items)
+unfoldable pub lines_text : Contents → RaceShown → List ℕ
+lines_text image block = text_of_lines (map (shown_line image block.ending block.second) block.lines)
 
-unfoldable pub paused_text : Contents → Block → List ℕ
+unfoldable pub paused_text : Contents → RaceShown → List ℕ
 paused_text image block = joined (paused_line image block ∷ codes "\n" ∷ side_text image block.paused ∷ [])
 
-unfoldable pub other_text : Contents → Block → List ℕ
+unfoldable pub other_text : Contents → RaceShown → List ℕ
 other_text image block = joined (other_line image block ∷ codes "\n" ∷ side_text image block.other ∷ [])
 
 -- its first line, why it is not kept, both accesses, the bytes, and the columns' names
-unfoldable pub head_text : Contents → List ℕ → ℕ → Block → List ℕ
+unfoldable pub head_text : Contents → List ℕ → ℕ → RaceShown → List ℕ
 head_text image run race block =
     joined (first_line image run race block ∷ codes "\n" ∷ reason_text image block block.class ∷ paused_text image block
     ∷ other_text image block ∷ values_line block.ending ∷ columns_text ∷ [])
 
 -- The block of a race: that, and a line of each entry that is shown.
-unfoldable pub block_text : Contents → List ℕ → ℕ → Block → List ℕ
+unfoldable pub block_text : Contents → List ℕ → ℕ → RaceShown → List ℕ
 block_text image run race block = head_text image run race block ++ lines_text image block
 
 -- `races N, reports M of E endings`, of a whole run

@@ -30,3 +30,11 @@ stronger one Flag = Flag
 stronger Ordered other = Ordered
 stronger one Ordered = Ordered
 stronger Named Named = Named
+
+-- its place in that order
+abbrev pub rank : RaceClass → ℕ
+rank Kept = 0
+rank Counter = 1
+rank Flag = 2
+rank Ordered = 3
+rank Named = 4

@@ -1,9 +1,13 @@
+pub mod BlockOf
 pub mod Blocks
 pub mod Classes
+pub mod Explained
 pub mod Fault
 pub mod Names
 pub mod Picture
 pub mod Pieces
+pub mod Races
 pub mod Rows
 pub mod Symbols
 pub mod Told
+pub mod internal

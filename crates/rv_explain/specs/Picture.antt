@@ -7,9 +7,8 @@ use Rattle.std.specs.Option.{option_map_or}
 use Rattle.rv_collide.specs.declared.entry.Entry.{Entry}
 use Rattle.rv_collide.specs.declared.entry.Entry.TheVariants.{Stepped, Paused, Resumed, Armed, Disarmed}
 use Rattle.rv_elf.specs.Contents.{Contents}
-use Rattle.rv_explain.specs.Blocks.{block_text}
+use Rattle.rv_explain.specs.Blocks.{RaceShown, block_text}
 use Rattle.rv_explain.specs.Pieces.{joined}
-use Rattle.rv_explain.specs.declared.block.Block.{Block}
 use Rattle.rv_explain.specs.declared.picture.frame.Frame.{Frame}
 use Rattle.rv_explain.specs.declared.row.Row.{Row}
 use Rattle.rv_explain.specs.declared.row.Shown.{Shown}
@@ -40,7 +39,7 @@ abbrev pub short_line : List ℕ → List ℕ
 short_line line = short_words (pieces_of 32 line)
 
 -- the lines of the block
-unfoldable pub picture_lines : Contents → ℕ → Block → List (List ℕ)
+unfoldable pub picture_lines : Contents → ℕ → RaceShown → List (List ℕ)
 picture_lines image race block = map short_line (lines_of (block_text image [] race block))
 
 -- the last line says what the shapes mean
@@ -62,18 +61,18 @@ hart_shown (shown.Row row) = hart_at row.entry
 hart_shown (shown.Gap entries meeting) = None
 
 -- the greatest number of a hart that is shown
-abbrev pub last_hart : Block → ℕ
-last_hart block = fold (λ most shown. max most (unwrap_or (hart_shown shown) 0)) (max block.paused.hart block.other.hart) block.lines.items
+abbrev pub last_hart : RaceShown → ℕ
+last_hart block = fold (λ most shown. max most (unwrap_or (hart_shown shown) 0)) (max block.paused.hart block.other.hart) block.lines
 
 -- how many characters the longest line has
 abbrev pub longest : List (List ℕ) → ℕ
 longest lines = fold (λ most line. max most (length line)) (length legend) lines
 
 -- how many lines there are, which of them is the first entry's, how many characters the longest has; and how many lanes
-unfoldable pub frame_of : List (List ℕ) → Block → Frame
+unfoldable pub frame_of : List (List ℕ) → RaceShown → Frame
 frame_of lines block = record {
   lines = length lines;
-  first = length lines - length block.lines.items;
+  first = length lines - length block.lines;
   columns = longest lines;
   lanes = last_hart block + 1;
 }
@@ -231,23 +230,23 @@ abbrev pub band : Frame → List Shown → List ℕ → ℕ → List ℕ
 band frame rows colour place = option_map_or (band_element frame colour) (row_at rows place) []
 
 -- the rows of the pause, its end and the second access
-unfoldable pub bands : Frame → Block → List ℕ
+unfoldable pub bands : Frame → RaceShown → List ℕ
 bands frame block =
-    joined (band frame block.lines.items (codes "#fdf1d8") block.ending.paused_at ∷ band frame block.lines.items (codes "#fdf1d8") block.ending.resumed_at ∷ band frame block.lines.items (codes "#f6d5d8") block.second ∷ [])
+    joined (band frame block.lines (codes "#fdf1d8") block.ending.paused_at ∷ band frame block.lines (codes "#fdf1d8") block.ending.resumed_at ∷ band frame block.lines (codes "#f6d5d8") block.second ∷ [])
 
 abbrev pub bar_between : Frame → ℕ → Option ℕ → Option ℕ → List ℕ
 bar_between frame hart (Some first) (Some last) = bar_element frame hart first last
 bar_between frame hart (Some first) None = []
 bar_between frame hart None last = []
 
-abbrev pub bar : Frame → Block → List ℕ
-bar frame block = bar_between frame block.paused.hart (row_at block.lines.items block.ending.paused_at) (row_at block.lines.items block.ending.resumed_at)
+abbrev pub bar : Frame → RaceShown → List ℕ
+bar frame block = bar_between frame block.paused.hart (row_at block.lines block.ending.paused_at) (row_at block.lines block.ending.resumed_at)
 
-abbrev pub second_access : Frame → Block → List ℕ
-second_access frame block = option_map_or (access_element frame block.other.hart block.paused.hart) (row_at block.lines.items block.second) []
+abbrev pub second_access : Frame → RaceShown → List ℕ
+second_access frame block = option_map_or (access_element frame block.other.hart block.paused.hart) (row_at block.lines block.second) []
 
 -- the pause, and the second access that comes into it
-unfoldable pub report_elements : Frame → Block → List ℕ
+unfoldable pub report_elements : Frame → RaceShown → List ℕ
 report_elements frame block = joined (bar frame block ∷ second_access frame block ∷ [])
 
 -- ---- the picture
@@ -277,11 +276,11 @@ start_tag frame =
     joined (codes "<svg xmlns='http://www.w3.org/2000/svg'" ∷ size_attributes frame ∷ codes " font-family='ui-monospace, DejaVu Sans Mono, monospace' font-size='13' xml:space='preserve'>\n"
     ∷ codes "<rect width='100%' height='100%' fill='#ffffff'/>\n" ∷ [])
 
-unfoldable pub framed : Frame → List (List ℕ) → Block → List ℕ
+unfoldable pub framed : Frame → List (List ℕ) → RaceShown → List ℕ
 framed frame lines block =
-    joined (start_tag frame ∷ bands frame block ∷ lane_elements frame ∷ report_elements frame block ∷ row_elements frame block.second block.lines.items ∷ line_elements frame lines
+    joined (start_tag frame ∷ bands frame block ∷ lane_elements frame ∷ report_elements frame block ∷ row_elements frame block.second block.lines ∷ line_elements frame lines
     ∷ legend_element frame ∷ codes "</svg>\n" ∷ [])
 
 -- The picture of a race: what is behind, lanes, the pause, entries, and texts.
-unfoldable pub picture_text : Contents → ℕ → Block → List ℕ
+unfoldable pub picture_text : Contents → ℕ → RaceShown → List ℕ
 picture_text image race block = framed (frame_of (picture_lines image race block) block) (picture_lines image race block) block

@@ -1,5 +1,5 @@
 //! The block of a race, as `specs/Blocks.antt` has it.
-ghost use Rattle.std.specs.Prelude.{◌≡◌, ◌||◌, is_err, IfOk, OnOk};
+ghost use Rattle.std.specs.Prelude.{◌≡◌, ◌≢◌, ◌||◌, Err, is_err, IfOk, OnOk};
 ghost use Rattle.std.specs.Io.KnownBytes.{Appends};
 ghost use Rattle.rv_explain.specs.Blocks as spec;
 ghost use Rattle.rv_explain.specs.Fault.{is_write_fault};
@@ -9,8 +9,8 @@ use crate::fault::ExplainFault;
 use crate::names::{address_text, name_text};
 use crate::pieces::{copied, joined};
 use crate::rows::{instruction_text, shown_line};
+use crate::symbol_table::SymbolTable;
 use rv_collide::ending::{Ending, Verdict};
-use rv_elf::Image;
 use rv_memory::flagged::WriteFault;
 use rv_memory::output::{Output, put_pieces};
 use rv_memory::store::NoMemory;
@@ -23,21 +23,22 @@ use std::alloc::Global;
 /// The names of the columns.
 const COLUMNS: &[u8] = b"\n\n    entry  hart  event      bytes     instruction\n";
 
-fn pair_text(alloc: Global, image: &Image, ending: &Ending) -> Result<Vec<u8>, NoMemory>
-    ensures { IfOk result (λ text. text.items ≡ spec.pair_text image.now ending.now.access ending.now.verdict) }
+fn pair_text(alloc: Global, symbols: &SymbolTable, ending: &Ending) -> Result<Vec<u8>, NoMemory>
+    ensures { IfOk result (λ text. text.items ≡ spec.pair_text symbols.now ending.now.access ending.now.verdict) }
 {
     let pc = ending.access.pc;
     match ending.verdict {
         Verdict::Hit(seen) => {
-            let one = name_text(alloc, image, pc.min(seen.access.pc))?;
-            let other = name_text(alloc, image, pc.max(seen.access.pc))?;
+            let one = name_text(alloc, symbols, pc.min(seen.access.pc))?;
+            let other = name_text(alloc, symbols, pc.max(seen.access.pc))?;
             joined(alloc, &[&one, b" and ", &other])
         }
-        Verdict::Changed | Verdict::Quiet => name_text(alloc, image, pc),
+        Verdict::Changed | Verdict::Quiet => name_text(alloc, symbols, pc),
     }
 }
 
-fn class_word(class: RaceClass) -> &'static [u8]
+/// The word of a class.
+pub fn class_word(class: RaceClass) -> &'static [u8]
     ensures { result.now ≡ spec.class_word class }
 {
     match class {
@@ -62,15 +63,15 @@ fn reports_text(alloc: Global, count: u64) -> Result<Vec<u8>, NoMemory>
 #[tactic(auto, unfolding(crate::specs::Blocks::first_line))]
 fn first_line(
     alloc: Global,
-    image: &Image,
+    symbols: &SymbolTable,
     run: &[u8],
-    race: u32,
+    race: u64,
     block: &Block,
 ) -> Result<Vec<u8>, NoMemory>
-    ensures { IfOk result (λ text. text.items ≡ spec.first_line image.now run.now race block.now) }
+    ensures { IfOk result (λ text. text.items ≡ spec.first_line symbols.now run.now race (spec.shown_of block.now)) }
 {
-    let number = Decimal::new(u64::from(race));
-    let pair = pair_text(alloc, image, &block.ending)?;
+    let number = Decimal::new(race);
+    let pair = pair_text(alloc, symbols, &block.ending)?;
     let reports = reports_text(alloc, block.reports)?;
     let class = class_word(block.class);
     let run = copied(alloc, run)?;
@@ -104,8 +105,8 @@ fn role_text(role: Role) -> &'static [u8]
 
 /// Why a race is not kept, a line, or nothing.
 #[tactic(auto, unfolding(crate::specs::Blocks::reason_text))]
-fn reason_text(alloc: Global, image: &Image, block: &Block) -> Result<Vec<u8>, NoMemory>
-    ensures { IfOk result (λ text. text.items ≡ spec.reason_text image.now block.now block.now.class) }
+fn reason_text(alloc: Global, symbols: &SymbolTable, block: &Block) -> Result<Vec<u8>, NoMemory>
+    ensures { IfOk result (λ text. text.items ≡ spec.reason_text symbols.now (spec.shown_of block.now) block.now.class) }
 {
     match block.class {
         RaceClass::Kept => Ok(Vec::new(alloc)),
@@ -119,6 +120,7 @@ fn reason_text(alloc: Global, image: &Image, block: &Block) -> Result<Vec<u8>, N
         ),
         RaceClass::Named => joined(alloc, &[b"  named: the bytes are listed by --named\n"]),
         RaceClass::Ordered => {
+            let image = symbols.image();
             let one = role_text(role_at(image, block.paused.access.pc));
             let other = role_text(role_at(image, block.other.access.pc));
             joined(alloc, &[b"  ordered: ", one, b"; ", other, b"\n"])
@@ -157,14 +159,14 @@ fn bytes_text(alloc: Global, size: u8) -> Result<Vec<u8>, NoMemory>
     }
 }
 
-fn paused_line(alloc: Global, image: &Image, block: &Block) -> Result<Vec<u8>, NoMemory>
-    ensures { IfOk result (λ text. text.items ≡ spec.paused_line image.now block.now) }
+fn paused_line(alloc: Global, symbols: &SymbolTable, block: &Block) -> Result<Vec<u8>, NoMemory>
+    ensures { IfOk result (λ text. text.items ≡ spec.paused_line symbols.now (spec.shown_of block.now)) }
 {
     let access = block.paused.access;
     let hart = Decimal::new(u64::from(block.paused.hart));
     let verb = about_to(access.read, access.write);
     let bytes = bytes_text(alloc, access.size)?;
-    let place = address_text(alloc, image, access.first)?;
+    let place = address_text(alloc, symbols, access.first)?;
     let number = Decimal::new(u64::from(block.number));
     joined(
         alloc,
@@ -191,14 +193,14 @@ fn last_text(verdict: &Verdict) -> &'static [u8]
     }
 }
 
-fn other_line(alloc: Global, image: &Image, block: &Block) -> Result<Vec<u8>, NoMemory>
-    ensures { IfOk result (λ text. text.items ≡ spec.other_line image.now block.now) }
+fn other_line(alloc: Global, symbols: &SymbolTable, block: &Block) -> Result<Vec<u8>, NoMemory>
+    ensures { IfOk result (λ text. text.items ≡ spec.other_line symbols.now (spec.shown_of block.now)) }
 {
     let access = block.other.access;
     let hart = Decimal::new(u64::from(block.other.hart));
     let verb = did(access.read, access.write);
     let bytes = bytes_text(alloc, access.size)?;
-    let place = address_text(alloc, image, access.first)?;
+    let place = address_text(alloc, symbols, access.first)?;
     let entry = Decimal::new(u64::from(block.second));
     let last = last_text(&block.ending.verdict);
     joined(
@@ -218,23 +220,27 @@ fn other_line(alloc: Global, image: &Image, block: &Block) -> Result<Vec<u8>, No
     )
 }
 
-fn caller_text(alloc: Global, image: &Image, caller: Option<u32>) -> Result<Vec<u8>, NoMemory>
-    ensures { IfOk result (λ text. text.items ≡ spec.caller_text image.now caller) }
+fn caller_text(
+    alloc: Global,
+    symbols: &SymbolTable,
+    caller: Option<u32>,
+) -> Result<Vec<u8>, NoMemory>
+    ensures { IfOk result (λ text. text.items ≡ spec.caller_text symbols.now caller) }
 {
     match caller {
         None => Ok(Vec::new(alloc)),
         Some(address) => {
-            let place = address_text(alloc, image, address)?;
+            let place = address_text(alloc, symbols, address)?;
             joined(alloc, &[b"    called from ", &place, b"\n"])
         }
     }
 }
 
-fn side_text(alloc: Global, image: &Image, side: &Side) -> Result<Vec<u8>, NoMemory>
-    ensures { IfOk result (λ text. text.items ≡ spec.side_text image.now side.now) }
+fn side_text(alloc: Global, symbols: &SymbolTable, side: &Side) -> Result<Vec<u8>, NoMemory>
+    ensures { IfOk result (λ text. text.items ≡ spec.side_text symbols.now side.now) }
 {
-    let instruction = instruction_text(alloc, image, side.access.pc, side.word)?;
-    let caller = caller_text(alloc, image, side.caller)?;
+    let instruction = instruction_text(alloc, symbols, side.access.pc, side.word)?;
+    let caller = caller_text(alloc, symbols, side.caller)?;
     joined(alloc, &[b"    ", &instruction, b"\n", &caller])
 }
 
@@ -281,37 +287,37 @@ fn values_line(alloc: Global, told: &Ending) -> Result<Vec<u8>, NoMemory>
 }
 
 #[tactic(auto, unfolding(crate::specs::Blocks::paused_text))]
-fn paused_text(alloc: Global, image: &Image, block: &Block) -> Result<Vec<u8>, NoMemory>
-    ensures { IfOk result (λ text. text.items ≡ spec.paused_text image.now block.now) }
+fn paused_text(alloc: Global, symbols: &SymbolTable, block: &Block) -> Result<Vec<u8>, NoMemory>
+    ensures { IfOk result (λ text. text.items ≡ spec.paused_text symbols.now (spec.shown_of block.now)) }
 {
-    let line = paused_line(alloc, image, block)?;
-    let side = side_text(alloc, image, &block.paused)?;
+    let line = paused_line(alloc, symbols, block)?;
+    let side = side_text(alloc, symbols, &block.paused)?;
     joined(alloc, &[&line, b"\n", &side])
 }
 
 #[tactic(auto, unfolding(crate::specs::Blocks::other_text))]
-fn other_text(alloc: Global, image: &Image, block: &Block) -> Result<Vec<u8>, NoMemory>
-    ensures { IfOk result (λ text. text.items ≡ spec.other_text image.now block.now) }
+fn other_text(alloc: Global, symbols: &SymbolTable, block: &Block) -> Result<Vec<u8>, NoMemory>
+    ensures { IfOk result (λ text. text.items ≡ spec.other_text symbols.now (spec.shown_of block.now)) }
 {
-    let line = other_line(alloc, image, block)?;
-    let side = side_text(alloc, image, &block.other)?;
+    let line = other_line(alloc, symbols, block)?;
+    let side = side_text(alloc, symbols, &block.other)?;
     joined(alloc, &[&line, b"\n", &side])
 }
 
 #[tactic(auto, unfolding(crate::specs::Blocks::head_text))]
 fn head_text(
     alloc: Global,
-    image: &Image,
+    symbols: &SymbolTable,
     run: &[u8],
-    race: u32,
+    race: u64,
     block: &Block,
 ) -> Result<Vec<u8>, NoMemory>
-    ensures { IfOk result (λ text. text.items ≡ spec.head_text image.now run.now race block.now) }
+    ensures { IfOk result (λ text. text.items ≡ spec.head_text symbols.now run.now race (spec.shown_of block.now)) }
 {
-    let first = first_line(alloc, image, run, race, block)?;
-    let reason = reason_text(alloc, image, block)?;
-    let paused = paused_text(alloc, image, block)?;
-    let other = other_text(alloc, image, block)?;
+    let first = first_line(alloc, symbols, run, race, block)?;
+    let reason = reason_text(alloc, symbols, block)?;
+    let paused = paused_text(alloc, symbols, block)?;
+    let other = other_text(alloc, symbols, block)?;
     let values = values_line(alloc, &block.ending)?;
     joined(
         alloc,
@@ -323,14 +329,15 @@ fn head_text(
 fn write_lines<O: Output>(
     alloc: Global,
     writer: &mut O,
-    image: &Image,
+    symbols: &SymbolTable,
     block: &Block,
 ) -> Result<(), ExplainFault>
-    ensures ok { OnOk result (Appends (O.written writer.old) (O.written writer.new) (spec.lines_text image.now block.now)) }
+    ensures ok { OnOk result (Appends (O.written writer.old) (O.written writer.new) (spec.lines_text symbols.now (spec.shown_of block.now))) }
+    ensures race { result ≢ Err ExplainFault.NoRace }
     ensures failed { O.has_failed writer.new ≡ (O.has_failed writer.old || is_write_fault result) }
 {
     for shown in &block.lines {
-        let line = shown_line(alloc, image, &block.ending, block.second, shown)?;
+        let line = shown_line(alloc, symbols, &block.ending, block.second, shown)?;
         put_pieces(writer, &[&line, b"\n"])?;
     }
     Ok(())
@@ -365,22 +372,23 @@ pub fn write_totals<O: Output>(
     )
 }
 
-/// Writes the block of a race. `race` is its number, and `run` what the first line says of the run that made
-/// its report, or nothing.
+/// Writes the block of a race of the symbols' image. `race` is its number, and `run` what the first line says of the
+/// run that made its report, or nothing.
 #[tactic(auto, unfolding(crate::specs::Blocks::block_text))]
 pub fn write_block<O: Output>(
     alloc: Global,
     writer: &mut O,
-    image: &Image,
+    symbols: &SymbolTable,
     run: &[u8],
-    race: u32,
+    race: u64,
     block: &Block,
 ) -> Result<(), ExplainFault>
     ensures ok { OnOk result (Appends (O.written writer.old) (O.written writer.new)
-        (spec.block_text image.now run.now race block.now)) }
+        (spec.block_text symbols.now run.now race (spec.shown_of block.now))) }
+    ensures race { result ≢ Err ExplainFault.NoRace }
     ensures failed { O.has_failed writer.new ≡ (O.has_failed writer.old || is_write_fault result) }
 {
-    let head = head_text(alloc, image, run, race, block)?;
+    let head = head_text(alloc, symbols, run, race, block)?;
     writer.put(&head)?;
-    write_lines(alloc, writer, image, block)
+    write_lines(alloc, writer, symbols, block)
 }

@@ -36,3 +36,16 @@ pub fn stronger(one: RaceClass, other: RaceClass) -> RaceClass
         (RaceClass::Named, RaceClass::Named) => RaceClass::Named,
     }
 }
+
+/// The place of a class in that order.
+pub fn rank(class: RaceClass) -> u8
+    ensures { result ≡ spec.rank class }
+{
+    match class {
+        RaceClass::Kept => 0,
+        RaceClass::Counter => 1,
+        RaceClass::Flag => 2,
+        RaceClass::Ordered => 3,
+        RaceClass::Named => 4,
+    }
+}

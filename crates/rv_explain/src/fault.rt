@@ -5,9 +5,11 @@ ghost use Rattle.rv_explain.specs.declared.fault.ExplainFault.TheVariants as fau
 use rv_memory::flagged::WriteFault;
 use rv_memory::store::NoMemory;
 
-/// Why a report is not whole. What was written before is not said.
+/// Why a report is not whole. Where the writer failed or a growth was refused, what was written before is not said.
 #[derive(Clone, Copy, Debug, PartialEq, Eq)]
 pub enum ExplainFault {
+    /// There is no race of the number that was asked for. Nothing was written.
+    NoRace,
     /// The writer failed.
     Write,
     /// A growth was refused.

@@ -1,12 +1,11 @@
 //! How an address is written, as `specs/Names.antt` has it.
-ghost use Rattle.std.specs.Prelude.{◌≡◌, ◌≤◌, ◌++◌, IfOk, IfSome, OnOk};
-ghost use Rattle.std.specs.Option.{option_copied};
+ghost use Rattle.std.specs.Prelude.{◌≡◌, ◌++◌, IfOk, OnOk};
 ghost use Rattle.std.specs.String.{string_bytes};
 ghost use Rattle.rv_explain.specs.Names as spec;
 
 use crate::pieces::joined;
-use crate::symbols::symbol_of;
-use rv_elf::{Image, Symbol};
+use crate::symbol_table::SymbolTable;
+use rv_elf::Symbol;
 use rv_memory::store::NoMemory;
 use rv_text::hexadecimal::{byte_digits, word_digits};
 use std::alloc::Global;
@@ -70,10 +69,10 @@ fn symbol_text(alloc: Global, symbol: &Symbol, address: u32) -> Result<Vec<u8>, 
 
 /// The name of an address, as `take+0x14/0x28`, or its eight digits where it has no symbol.
 #[tactic(auto, unfolding(crate::specs::Names::name_text))]
-pub fn name_text(alloc: Global, image: &Image, address: u32) -> Result<Vec<u8>, NoMemory>
-    ensures { IfOk result (λ text. text.items ≡ spec.name_text image.now address) }
+pub fn name_text(alloc: Global, symbols: &SymbolTable, address: u32) -> Result<Vec<u8>, NoMemory>
+    ensures { IfOk result (λ text. text.items ≡ spec.name_text symbols.now address) }
 {
-    match symbol_of(image, address) {
+    match symbols.symbol_of(address) {
         Some(symbol) => symbol_text(alloc, symbol, address),
         None => joined(alloc, &[&word_digits(address)]),
     }
@@ -81,10 +80,10 @@ pub fn name_text(alloc: Global, image: &Image, address: u32) -> Result<Vec<u8>, 
 
 /// The digits of an address, and its name where it has one, as `00010074 take+0x14/0x28`.
 #[tactic(auto, unfolding(crate::specs::Names::address_text))]
-pub fn address_text(alloc: Global, image: &Image, address: u32) -> Result<Vec<u8>, NoMemory>
-    ensures { IfOk result (λ text. text.items ≡ spec.address_text image.now address) }
+pub fn address_text(alloc: Global, symbols: &SymbolTable, address: u32) -> Result<Vec<u8>, NoMemory>
+    ensures { IfOk result (λ text. text.items ≡ spec.address_text symbols.now address) }
 {
-    match symbol_of(image, address) {
+    match symbols.symbol_of(address) {
         Some(symbol) => {
             let name = symbol_text(alloc, symbol, address)?;
             joined(alloc, &[&word_digits(address), b" ", &name])

@@ -1,6 +1,7 @@
 //! The picture of a race, as `specs/Picture.antt` has it.
-ghost use Rattle.std.specs.Prelude.{◌≡◌, ◌||◌, ◌<◌, ◌^◌, IfOk, OnOk, length, map};
+ghost use Rattle.std.specs.Prelude.{◌≡◌, ◌≢◌, ◌||◌, ◌<◌, ◌^◌, Err, IfOk, OnOk, length, map};
 ghost use Rattle.std.specs.Io.KnownBytes.{Appends};
+ghost use Rattle.rv_explain.specs.Blocks.{shown_of};
 ghost use Rattle.rv_explain.specs.Fault.{is_write_fault};
 ghost use Rattle.rv_explain.specs.Picture as spec;
 
@@ -17,7 +18,7 @@ use crate::picture::shapes::{bands, report_elements, row_element};
 use crate::picture::short::picture_lines;
 use crate::pieces::joined;
 use crate::row::Shown;
-use rv_elf::Image;
+use crate::symbol_table::SymbolTable;
 use rv_memory::output::Output;
 use rv_memory::store::NoMemory;
 use rv_text::decimal::Decimal;
@@ -111,7 +112,7 @@ fn framed(
 ) -> Result<Vec<u8>, NoMemory>
     requires lines { length lines.now < 2 ^ 32 }
     requires rows { length block.now.lines.items < 2 ^ 32 }
-    ensures { IfOk result (λ text. text.items ≡ spec.framed frame.now (map (λ line. line.items) lines.now) block.now) }
+    ensures { IfOk result (λ text. text.items ≡ spec.framed frame.now (map (λ line. line.items) lines.now) (shown_of block.now)) }
 {
     let start = start_tag(alloc, frame)?;
     let bands = bands(alloc, frame, block)?;
@@ -137,26 +138,32 @@ fn framed(
 
 /// The picture of a race, an SVG. `race` is its number.
 #[tactic(auto, unfolding(crate::specs::Picture::picture_text))]
-fn picture_text(alloc: Global, image: &Image, race: u32, block: &Block) -> Result<Vec<u8>, NoMemory>
-    ensures { IfOk result (λ text. text.items ≡ spec.picture_text image.now race block.now) }
+fn picture_text(
+    alloc: Global,
+    symbols: &SymbolTable,
+    race: u64,
+    block: &Block,
+) -> Result<Vec<u8>, NoMemory>
+    ensures { IfOk result (λ text. text.items ≡ spec.picture_text symbols.now race (shown_of block.now)) }
 {
-    let lines = picture_lines(alloc, image, race, block)?;
+    let lines = picture_lines(alloc, symbols, race, block)?;
     let frame = frame_of(&lines, block)?;
     framed(alloc, &frame, &lines, block)
 }
 
-/// Writes the picture of a race, an SVG. `race` is its number.
+/// Writes the picture of a race of the symbols' image, an SVG. `race` is its number.
 pub fn write_picture<O: Output>(
     alloc: Global,
     writer: &mut O,
-    image: &Image,
-    race: u32,
+    symbols: &SymbolTable,
+    race: u64,
     block: &Block,
 ) -> Result<(), ExplainFault>
     ensures ok { OnOk result (Appends (O.written writer.old) (O.written writer.new)
-        (spec.picture_text image.now race block.now)) }
+        (spec.picture_text symbols.now race (shown_of block.now))) }
+    ensures race { result ≢ Err ExplainFault.NoRace }
     ensures failed { O.has_failed writer.new ≡ (O.has_failed writer.old || is_write_fault result) }
 {
-    let text = picture_text(alloc, image, race, block)?;
+    let text = picture_text(alloc, symbols, race, block)?;
     Ok(writer.put(&text)?)
 }

@@ -6,10 +6,10 @@ ghost use Rattle.rv_hart.specs.Conflict.{meets};
 use crate::names::address_text;
 use crate::pieces::{at_left, at_right, joined};
 use crate::row::{After, Row, Shown};
+use crate::symbol_table::SymbolTable;
 use rv_asm::line_of;
 use rv_collide::ending::{Ending, Verdict};
 use rv_collide::entry::Entry;
-use rv_elf::Image;
 use rv_hart::access::Access;
 use rv_memory::store::NoMemory;
 use rv_text::decimal::Decimal;
@@ -19,13 +19,13 @@ use std::alloc::Global;
 /// The line of the instruction that memory had at an address.
 pub(crate) fn instruction_text(
     alloc: Global,
-    image: &Image,
+    symbols: &SymbolTable,
     address: u32,
     word: Option<u32>,
 ) -> Result<Vec<u8>, NoMemory>
-    ensures { IfOk result (λ text. text.items ≡ spec.instruction_text image.now address word) }
+    ensures { IfOk result (λ text. text.items ≡ spec.instruction_text symbols.now address word) }
 {
-    let place = address_text(alloc, image, address)?;
+    let place = address_text(alloc, symbols, address)?;
     match word {
         Some(word) => {
             let line = line_of(alloc, word, address)?;
@@ -55,7 +55,7 @@ pub(crate) fn met(paused: &Access, access: &Option<Access>) -> bool
 }
 
 /// Whether a step has written one of them.
-fn wrote(paused: &Access, access: &Option<Access>) -> bool
+pub(crate) fn wrote(paused: &Access, access: &Option<Access>) -> bool
     ensures { result ≡ spec.wrote paused.now access.now }
 {
     match access {
@@ -64,7 +64,7 @@ fn wrote(paused: &Access, access: &Option<Access>) -> bool
     }
 }
 
-fn is_within(told: &Ending, place: u32) -> bool
+pub(crate) fn is_within(told: &Ending, place: u32) -> bool
     ensures { result ≡ spec.is_within told.now place }
 {
     told.paused_at < place && place < told.resumed_at
@@ -145,24 +145,24 @@ fn bytes_of(alloc: Global, told: &Ending, row: &Row) -> Result<Vec<u8>, NoMemory
     }
 }
 
-fn place_of(alloc: Global, image: &Image, row: &Row) -> Result<Vec<u8>, NoMemory>
-    ensures { IfOk result (λ text. text.items ≡ spec.place_of image.now row.now row.now.entry) }
+fn place_of(alloc: Global, symbols: &SymbolTable, row: &Row) -> Result<Vec<u8>, NoMemory>
+    ensures { IfOk result (λ text. text.items ≡ spec.place_of symbols.now row.now row.now.entry) }
 {
     match row.entry {
-        Entry::Stepped(_) | Entry::Paused(..) => instruction_text(alloc, image, row.pc, row.word),
+        Entry::Stepped(_) | Entry::Paused(..) => instruction_text(alloc, symbols, row.pc, row.word),
         Entry::Resumed(_) => Ok(Vec::new(alloc)),
-        Entry::Armed(address) | Entry::Disarmed(address) => address_text(alloc, image, address),
+        Entry::Armed(address) | Entry::Disarmed(address) => address_text(alloc, symbols, address),
     }
 }
 
 fn end_of_row(
     alloc: Global,
-    image: &Image,
+    symbols: &SymbolTable,
     told: &Ending,
     second: u32,
     row: &Row,
 ) -> Result<Vec<u8>, NoMemory>
-    ensures { IfOk result (λ text. text.items ≡ spec.end_of_row image.now told.now second row.now row.now.entry) }
+    ensures { IfOk result (λ text. text.items ≡ spec.end_of_row symbols.now told.now second row.now row.now.entry) }
 {
     if let Entry::Resumed(_) = row.entry {
         return joined(alloc, &[b"resumed"]);
@@ -171,7 +171,7 @@ fn end_of_row(
     let mark = at_left(alloc, 9, &mark)?;
     let bytes = bytes_of(alloc, told, row)?;
     let bytes = at_left(alloc, 8, &bytes)?;
-    let place = place_of(alloc, image, row)?;
+    let place = place_of(alloc, symbols, row)?;
     joined(alloc, &[&mark, b"  ", &bytes, b"  ", &place])
 }
 
@@ -179,18 +179,18 @@ fn end_of_row(
 #[tactic(auto, unfolding(crate::specs::Rows::row_line))]
 fn row_line(
     alloc: Global,
-    image: &Image,
+    symbols: &SymbolTable,
     told: &Ending,
     second: u32,
     row: &Row,
 ) -> Result<Vec<u8>, NoMemory>
-    ensures { IfOk result (λ text. text.items ≡ spec.row_line image.now told.now second row.now) }
+    ensures { IfOk result (λ text. text.items ≡ spec.row_line symbols.now told.now second row.now) }
 {
     let number = Decimal::new(u64::from(row.place));
     let number = at_right(alloc, 9, number.as_bytes())?;
     let hart = hart_of(alloc, row.entry)?;
     let hart = at_right(alloc, 6, &hart)?;
-    let end = end_of_row(alloc, image, told, second, row)?;
+    let end = end_of_row(alloc, symbols, told, second, row)?;
     joined(alloc, &[&number, &hart, b"  ", &end])
 }
 
@@ -223,15 +223,15 @@ fn gap_line(alloc: Global, entries: u32, meeting: u32) -> Result<Vec<u8>, NoMemo
 /// The line of an entry, or of some that are left out.
 pub(crate) fn shown_line(
     alloc: Global,
-    image: &Image,
+    symbols: &SymbolTable,
     told: &Ending,
     second: u32,
     shown: &Shown,
 ) -> Result<Vec<u8>, NoMemory>
-    ensures { IfOk result (λ text. text.items ≡ spec.shown_line image.now told.now second shown.now) }
+    ensures { IfOk result (λ text. text.items ≡ spec.shown_line symbols.now told.now second shown.now) }
 {
     match shown {
-        Shown::Row(row) => row_line(alloc, image, told, second, row),
+        Shown::Row(row) => row_line(alloc, symbols, told, second, row),
         Shown::Gap { entries, meeting } => gap_line(alloc, *entries, *meeting),
     }
 }

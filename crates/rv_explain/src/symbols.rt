@@ -1,5 +1,5 @@
 //! Which symbol an address is told by, as `specs/Symbols.antt` has it.
-ghost use Rattle.std.specs.Prelude.{◌≡◌, find, take};
+ghost use Rattle.std.specs.Prelude.{◌≡◌, find};
 ghost use Rattle.std.specs.Option.{option_copied};
 ghost use Rattle.rv_explain.specs.Symbols as spec;
 
@@ -7,7 +7,7 @@ use rv_elf::{Image, Symbol};
 use rv_memory::region::Region;
 
 /// Assemblers and compilers mark places by names that begin so.
-fn is_mark(name: &[u8]) -> bool
+pub(crate) fn is_mark(name: &[u8]) -> bool
     ensures { result ≡ spec.is_mark name.now }
 {
     match name {
@@ -23,7 +23,7 @@ fn is_typed(symbol: &Symbol) -> bool
     symbol.kind != 0
 }
 
-fn has_size(symbol: &Symbol) -> bool
+pub(crate) fn has_size(symbol: &Symbol) -> bool
     ensures { result ≡ spec.has_size symbol.now }
 {
     symbol.size > 0
@@ -43,7 +43,7 @@ fn is_inner(one: &Symbol, other: &Symbol) -> bool
     other.value < one.value || one.value == other.value && one.size < other.size
 }
 
-fn holds_closer(one: &Symbol, other: &Symbol) -> bool
+pub(crate) fn holds_closer(one: &Symbol, other: &Symbol) -> bool
     ensures { result ≡ spec.holds_closer one.now other.now }
 {
     if is_typed(one) {
@@ -77,14 +77,14 @@ fn closer<'a>(best: Option<&'a Symbol>, symbol: &'a Symbol) -> Option<&'a Symbol
     }
 }
 
-fn is_inside(address: u32, segment: &Region) -> bool
+pub(crate) fn is_inside(address: u32, segment: &Region) -> bool
     ensures { result ≡ spec.is_inside address segment.now }
 {
     segment.start <= address
         && u64::from(address) < u64::from(segment.start) + u64::from(segment.len)
 }
 
-fn segment_of(image: &Image, address: u32) -> Option<&Region>
+pub(crate) fn segment_of(image: &Image, address: u32) -> Option<&Region>
     ensures { option_copied result ≡ find (spec.is_inside address) image.now.segments }
 {
     image
@@ -99,7 +99,7 @@ fn is_below(address: u32, segment: &Region, symbol: &Symbol) -> bool
     !is_mark(symbol.name.as_bytes()) && segment.start <= symbol.value && symbol.value <= address
 }
 
-fn is_nearer(one: &Symbol, other: &Symbol) -> bool
+pub(crate) fn is_nearer(one: &Symbol, other: &Symbol) -> bool
     ensures { result ≡ spec.is_nearer one.now other.now }
 {
     other.value < one.value || one.value == other.value && is_preferred(one, other)

@@ -4,6 +4,8 @@ use crate::classes::{class_of, stronger};
 use crate::fault::ExplainFault;
 use crate::names::{address_text, name_text};
 use crate::row::{After, Row, Shown};
+use crate::symbol_table::SymbolTable;
+use crate::symbols::symbol_of;
 use rv_break::claim::Seen;
 use rv_collide::ending::{Ending, Verdict};
 use rv_collide::entry::Entry;
@@ -18,6 +20,7 @@ use std::test::Fail;
 
 mod blocks;
 mod picture;
+mod runs;
 mod symbols;
 mod told;
 

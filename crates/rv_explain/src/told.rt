@@ -1,14 +1,14 @@
 //! What is told of an entry of a run, as `specs/Told.antt` has it.
-ghost use Rattle.std.specs.Prelude.{◌≡◌, ◌+◌, ◌<◌, Some, IfOk, OnErr, OnOk, slice_get, unwrap_or};
+ghost use Rattle.std.specs.Prelude.{◌≡◌, ◌+◌, Some, IfOk, OnErr, OnOk, slice_get};
 ghost use Rattle.rv_collide.specs.Entries.{stepped_hart};
-ghost use Rattle.rv_debug.specs.Answers.{word_at};
 ghost use Rattle.rv_debug.specs.Placed.{moved};
 ghost use Rattle.rv_explain.specs.Told as spec;
-ghost use Rattle.rv_memory.specs.Memory as memory;
 
 use crate::row::{After, Row};
 use rv_collide::entry::Entry;
+use rv_collide::number::number_at;
 use rv_debug::session::{Session, SessionFault};
+use rv_debug::word::word_at;
 use rv_hart::access::Access;
 use rv_hart::hart::Status;
 use rv_hart::machine::Machine;
@@ -25,7 +25,7 @@ fn acting(entry: Entry) -> Option<u8>
     }
 }
 
-fn stepped(entry: Entry) -> Option<u8>
+pub(crate) fn stepped(entry: Entry) -> Option<u8>
     ensures { result ≡ stepped_hart entry }
 {
     match entry {
@@ -34,69 +34,14 @@ fn stepped(entry: Entry) -> Option<u8>
     }
 }
 
-/// A byte at an offset, or None outside of memory.
-fn byte_at(machine: &Machine<Paged>, first: u32, offset: u32) -> Option<u8>
-    ensures { result ≡ memory.byte machine.now.state.memory (first + offset) }
-{
-    machine.no_byte_past_the_last();
-    match first.checked_add(offset) {
-        None => None,
-        Some(address) => machine.byte(address),
-    }
-}
-
-/// The word at an address, where memory has its four bytes.
-fn word(machine: &Machine<Paged>, address: u32) -> Option<u32>
-    ensures { result ≡ word_at machine.now.state.memory address }
-{
-    let a = byte_at(machine, address, 0)?;
-    let b = byte_at(machine, address, 1)?;
-    let c = byte_at(machine, address, 2)?;
-    let d = byte_at(machine, address, 3)?;
-    Some(u32::from_le_bytes([a, b, c, d]))
-}
-
-/// A byte as a number, 0 outside of memory.
-fn value_at(machine: &Machine<Paged>, first: u32, offset: u32) -> u32
-    ensures value { result ≡ unwrap_or (memory.byte machine.now.state.memory (first + offset)) 0 }
-    ensures below { result < 256 }
-{
-    match byte_at(machine, first, offset) {
-        Some(byte) => u32::from(byte),
-        None => 0,
-    }
-}
-
-fn half_value(machine: &Machine<Paged>, first: u32) -> u32
-    ensures value { result ≡ memory.load machine.now.state.memory first 2 }
-{
-    value_at(machine, first, 0) + 256 * value_at(machine, first, 1)
-}
-
-fn word_value(machine: &Machine<Paged>, first: u32) -> u32
-    ensures value { result ≡ memory.load machine.now.state.memory first 4 }
-{
-    let one = value_at(machine, first, 0);
-    let two = value_at(machine, first, 1);
-    let three = value_at(machine, first, 2);
-    let four = value_at(machine, first, 3);
-    one + 256 * (two + 256 * (three + 256 * four))
-}
-
-fn byte_value(machine: &Machine<Paged>, first: u32) -> u32
-    ensures value { result ≡ memory.load machine.now.state.memory first 1 }
-{
-    value_at(machine, first, 0)
-}
-
 /// The bytes of an access.
 fn bytes_in(machine: &Machine<Paged>, access: &Access) -> u32
     ensures { result ≡ spec.bytes_in machine.now.state.memory access.now }
 {
     match access.size {
-        1 => byte_value(machine, access.first),
-        2 => half_value(machine, access.first),
-        _ => word_value(machine, access.first),
+        1 => number_at(machine, access.first, 1),
+        2 => number_at(machine, access.first, 2),
+        _ => number_at(machine, access.first, 4),
     }
 }
 
@@ -112,7 +57,7 @@ fn pc_in(machine: &Machine<Paged>, entry: Entry) -> Option<u32>
     }
 }
 
-fn access_in(machine: &Machine<Paged>, entry: Entry) -> Option<Access>
+pub(crate) fn access_in(machine: &Machine<Paged>, entry: Entry) -> Option<Access>
     ensures { result ≡ spec.access_in machine.now.state entry }
 {
     let hart = stepped(entry)?;
@@ -149,7 +94,7 @@ pub fn row_here(session: &mut Session, entry: Entry, paused: &Access) -> Result<
     let machine = session.machine();
     let pc = pc_in(machine, entry);
     let found = match pc {
-        Some(pc) => word(machine, pc),
+        Some(pc) => word_at(machine, pc),
         None => None,
     };
     let access = access_in(machine, entry);

@@ -1,5 +1,5 @@
 //! The elements of a picture, a function each.
-ghost use Rattle.std.specs.Prelude.{◌≡◌, ◌+◌, ◌≤◌, ◌<◌, ◌^◌, ◌++◌, IfOk, OnOk};
+ghost use Rattle.std.specs.Prelude.{◌≡◌, ◌+◌, ◌<◌, ◌++◌, IfOk, OnOk};
 ghost use Rattle.rv_explain.specs.Picture as spec;
 
 use crate::picture::frame::{Frame, LEGEND, bar_height, bar_left, baseline, lane_x};

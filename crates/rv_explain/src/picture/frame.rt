@@ -1,6 +1,6 @@
 //! Where the lines and the lanes of a picture stand. All lengths are in pixels.
-ghost use Rattle.std.specs.Prelude.{◌≡◌, ℕ, ◌+◌, ◌-◌, ◌*◌, ◌<◌, ◌≤◌, ◌^◌, IfOk, OnOk, length, map, max};
-ghost use Rattle.std.specs.List.{fold};
+ghost use Rattle.std.specs.Prelude.{◌≡◌, ◌+◌, ◌-◌, ◌*◌, ◌<◌, ◌≤◌, ◌^◌, IfOk, OnOk, length, map, max};
+ghost use Rattle.rv_explain.specs.Blocks.{shown_of};
 ghost use Rattle.rv_explain.specs.Picture as spec;
 
 use crate::block::Block;
@@ -43,7 +43,7 @@ fn hart_shown(shown: &Shown) -> Option<u8>
 
 /// The greatest number of a hart that is shown.
 fn last_hart(block: &Block) -> u8
-    ensures { result ≡ spec.last_hart block.now }
+    ensures { result ≡ spec.last_hart (shown_of block.now) }
 {
     let mut most = block.paused.hart.max(block.other.hart);
     for shown in &block.lines {
@@ -77,7 +77,7 @@ fn small(count: usize) -> Result<u32, NoMemory>
 /// Where the lines and lanes of a block stand.
 #[tactic(auto, unfolding(crate::specs::Picture::frame_of))]
 pub(crate) fn frame_of(lines: &[Vec<u8>], block: &Block) -> Result<Frame, NoMemory>
-    ensures frame { IfOk result (λ frame. frame ≡ spec.frame_of (map (λ line. line.items) lines.now) block.now) }
+    ensures frame { IfOk result (λ frame. frame ≡ spec.frame_of (map (λ line. line.items) lines.now) (shown_of block.now)) }
     ensures lines { OnOk result (length lines.now < 2 ^ 32) }
     ensures rows { OnOk result (length block.now.lines.items < 2 ^ 32) }
 {

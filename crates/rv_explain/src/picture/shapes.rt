@@ -1,5 +1,6 @@
 //! The shapes of a picture: those of its rows, and those of the report.
 ghost use Rattle.std.specs.Prelude.{◌≡◌, ◌<◌, ◌^◌, IfOk, IfSome, length};
+ghost use Rattle.rv_explain.specs.Blocks.{shown_of};
 ghost use Rattle.rv_explain.specs.Picture as spec;
 
 use crate::block::Block;
@@ -133,7 +134,7 @@ fn band(
 #[tactic(auto, unfolding(crate::specs::Picture::bands))]
 pub(crate) fn bands(alloc: Global, frame: &Frame, block: &Block) -> Result<Vec<u8>, NoMemory>
     requires { length block.now.lines.items < 2 ^ 32 }
-    ensures { IfOk result (λ elements. elements.items ≡ spec.bands frame.now block.now) }
+    ensures { IfOk result (λ elements. elements.items ≡ spec.bands frame.now (shown_of block.now)) }
 {
     let pause = band(alloc, frame, &block.lines, PAUSE, block.ending.paused_at)?;
     let end = band(alloc, frame, &block.lines, PAUSE, block.ending.resumed_at)?;
@@ -159,7 +160,7 @@ fn bar_between(
 
 fn bar(alloc: Global, frame: &Frame, block: &Block) -> Result<Vec<u8>, NoMemory>
     requires { length block.now.lines.items < 2 ^ 32 }
-    ensures { IfOk result (λ element. element.items ≡ spec.bar frame.now block.now) }
+    ensures { IfOk result (λ element. element.items ≡ spec.bar frame.now (shown_of block.now)) }
 {
     let first = row_at(&block.lines, block.ending.paused_at);
     let last = row_at(&block.lines, block.ending.resumed_at);
@@ -168,7 +169,7 @@ fn bar(alloc: Global, frame: &Frame, block: &Block) -> Result<Vec<u8>, NoMemory>
 
 fn second_access(alloc: Global, frame: &Frame, block: &Block) -> Result<Vec<u8>, NoMemory>
     requires { length block.now.lines.items < 2 ^ 32 }
-    ensures { IfOk result (λ element. element.items ≡ spec.second_access frame.now block.now) }
+    ensures { IfOk result (λ element. element.items ≡ spec.second_access frame.now (shown_of block.now)) }
 {
     match row_at(&block.lines, block.second) {
         Some(row) => access_element(alloc, frame, block.other.hart, block.paused.hart, row),
@@ -184,7 +185,7 @@ pub(crate) fn report_elements(
     block: &Block,
 ) -> Result<Vec<u8>, NoMemory>
     requires { length block.now.lines.items < 2 ^ 32 }
-    ensures { IfOk result (λ elements. elements.items ≡ spec.report_elements frame.now block.now) }
+    ensures { IfOk result (λ elements. elements.items ≡ spec.report_elements frame.now (shown_of block.now)) }
 {
     let bar = bar(alloc, frame, block)?;
     let access = second_access(alloc, frame, block)?;

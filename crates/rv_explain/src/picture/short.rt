@@ -1,13 +1,13 @@
 //! The lines of a picture: those of the block, with long names cut.
 ghost use Rattle.std.specs.Prelude.{◌≡◌, ◌≤◌, [], ◌++◌, if◌then◌else◌, IfOk, OnOk, length, map};
-ghost use Rattle.rv_explain.specs.Blocks.{block_text};
+ghost use Rattle.rv_explain.specs.Blocks.{block_text, shown_of};
 ghost use Rattle.rv_explain.specs.Picture as spec;
 ghost use Rattle.rv_text.specs.Lines.{lines_of};
 
 use crate::block::Block;
 use crate::blocks::write_block;
 use crate::fault::ExplainFault;
-use rv_elf::Image;
+use crate::symbol_table::SymbolTable;
 use rv_memory::flagged::Flagged;
 use rv_memory::store::NoMemory;
 use rv_text::lines::Lines;
@@ -82,13 +82,18 @@ fn short_lines(alloc: Global, text: &[u8]) -> Result<Vec<Vec<u8>>, NoMemory>
 }
 
 /// The text of a race's block.
-fn block_text(alloc: Global, image: &Image, race: u32, block: &Block) -> Result<Vec<u8>, NoMemory>
-    ensures { IfOk result (λ text. text.items ≡ block_text image.now [] race block.now) }
+fn block_text(
+    alloc: Global,
+    symbols: &SymbolTable,
+    race: u64,
+    block: &Block,
+) -> Result<Vec<u8>, NoMemory>
+    ensures { IfOk result (λ text. text.items ≡ block_text symbols.now [] race (shown_of block.now)) }
 {
     let mut writer = Flagged::new(Vec::new(alloc));
-    match write_block(alloc, &mut writer, image, b"", race, block) {
+    match write_block(alloc, &mut writer, symbols, b"", race, block) {
         Ok(()) => Ok(writer.into_inner()),
-        Err(ExplainFault::Write | ExplainFault::NoMemory) => Err(NoMemory),
+        Err(ExplainFault::NoRace | ExplainFault::Write | ExplainFault::NoMemory) => Err(NoMemory),
     }
 }
 
@@ -96,12 +101,12 @@ fn block_text(alloc: Global, image: &Image, race: u32, block: &Block) -> Result<
 #[tactic(auto, unfolding(crate::specs::Picture::picture_lines))]
 pub(crate) fn picture_lines(
     alloc: Global,
-    image: &Image,
-    race: u32,
+    symbols: &SymbolTable,
+    race: u64,
     block: &Block,
 ) -> Result<Vec<Vec<u8>>, NoMemory>
-    ensures { IfOk result (λ lines. map (λ line. line.items) lines.items ≡ spec.picture_lines image.now race block.now) }
+    ensures { IfOk result (λ lines. map (λ line. line.items) lines.items ≡ spec.picture_lines symbols.now race (shown_of block.now)) }
 {
-    let text = block_text(alloc, image, race, block)?;
+    let text = block_text(alloc, symbols, race, block)?;
     short_lines(alloc, &text)
 }

@@ -104,8 +104,9 @@ pub(super) fn ring(alloc: Global) -> Result<Block, Fail> {
 
 fn text(alloc: Global, run: &[u8], block: &Block) -> Result<Vec<u8>, Fail> {
     let image = image(alloc, &RING)?;
+    let symbols = SymbolTable::new(alloc, &image)?;
     let mut writer = Flagged::new(Vec::new(alloc));
-    match write_block(alloc, &mut writer, &image, run, 1, block) {
+    match write_block(alloc, &mut writer, &symbols, run, 1, block) {
         Ok(()) => Ok(writer.into_inner()),
         Err(_) => Err(Fail::from("write")),
     }

@@ -6,9 +6,10 @@ use crate::picture::write_picture;
 /// The picture of the ring's race under the names of an image's symbols.
 fn drawn(alloc: Global, symbols: &[Row4]) -> Result<String, Fail> {
     let image = image(alloc, symbols)?;
+    let table = SymbolTable::new(alloc, &image)?;
     let block = ring(alloc)?;
     let mut writer = Flagged::new(Vec::new(alloc));
-    match write_picture(alloc, &mut writer, &image, 1, &block) {
+    match write_picture(alloc, &mut writer, &table, 1, &block) {
         Ok(()) => Ok(String::from_utf8(writer.into_inner())?),
         Err(_) => Err(Fail::from("write")),
     }

@@ -40,18 +40,68 @@ static NAMES: [(u32, &str); 16] = [
 #[test]
 fn an_address_by_its_symbol(rt: HostRuntime) -> Result<(), Fail> {
     let image = image(rt.alloc(), &SYMBOLS)?;
+    let symbols = SymbolTable::new(rt.alloc(), &image)?;
     for (address, wanted) in &NAMES {
-        let name = name_text(rt.alloc(), &image, *address)?;
+        let name = name_text(rt.alloc(), &symbols, *address)?;
         assert_is(&rt, name.as_slice(), wanted.as_bytes(), "the name");
     }
-    let text = address_text(rt.alloc(), &image, 0x20008)?;
+    let text = address_text(rt.alloc(), &symbols, 0x20008)?;
     assert_is(
         &rt,
         text.as_slice(),
         b"00020008 first+0x4/0x8",
         "with its digits",
     );
-    let text = address_text(rt.alloc(), &image, 0x10050)?;
+    let text = address_text(rt.alloc(), &symbols, 0x10050)?;
     assert_is(&rt, text.as_slice(), b"00010050", "without a name");
     Ok(())
+}
+
+/// At each address a table of these symbols finds what a walk over them finds.
+fn assert_same(rt: &impl Abort, alloc: Global, rows: &[Row4]) -> Result<(), Fail> {
+    let image = image(alloc, rows)?;
+    let symbols = SymbolTable::new(alloc, &image)?;
+    for (first, end) in &ADDRESSES {
+        for address in *first..*end {
+            let found = symbols.symbol_of(address).map(name_and_place);
+            let wanted = symbol_of(&image, address).map(name_and_place);
+            assert_is(rt, found, wanted, "the symbol");
+        }
+    }
+    Ok(())
+}
+
+fn name_and_place(symbol: &Symbol) -> (&str, u32, u32) {
+    (symbol.name.as_str(), symbol.value, symbol.size)
+}
+
+/// Around the code and the data, and at both ends of the memory.
+const ADDRESSES: [(u32, u32); 4] = [
+    (0, 4),
+    (0xfff0, 0x10100),
+    (0x1fff0, 0x20210),
+    (0xffff_fff0, 0xffff_ffff),
+];
+
+/// Symbols that nest and that end where others begin, two of each, one up to the last address, and one past it.
+const NESTED: [Row4; 12] = [
+    ("all", 0x10000, 0x100, 2),
+    ("front", 0x10000, 0x40, 2),
+    ("back", 0x10040, 0x40, 2),
+    ("middle", 0x10020, 0x40, 0),
+    ("same", 0x10040, 0x40, 1),
+    ("none", 0x10060, 0, 1),
+    ("also", 0x10060, 0, 2),
+    ("low", 0xfff8, 0x10, 2),
+    ("last", 0xffff_fff8, 8, 1),
+    ("past", 0xffff_fffc, 0xffff_ffff, 1),
+    ("every", 0, 0xffff_ffff, 0),
+    ("$d", 0x10048, 4, 1),
+];
+
+#[test]
+fn a_table_finds_what_a_walk_finds(rt: HostRuntime) -> Result<(), Fail> {
+    assert_same(&rt, rt.alloc(), &[])?;
+    assert_same(&rt, rt.alloc(), &SYMBOLS)?;
+    assert_same(&rt, rt.alloc(), &NESTED)
 }

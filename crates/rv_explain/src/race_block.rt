@@ -1,0 +1,154 @@
+//! The block of a race of a run, as `specs/BlockOf.antt` has it.
+ghost use Rattle.std.specs.Prelude.{◌≡◌, ◌<◌, IfOk, IfSome, Some, option_map, slice_get};
+ghost use Rattle.std.specs.Option.{option_copied};
+ghost use Rattle.rv_break.specs.declared.claim.Seen.{Seen};
+ghost use Rattle.rv_collide.specs.Verdict.{endings};
+ghost use Rattle.rv_collide.specs.declared.ending.Verdict.TheVariants.{Hit};
+ghost use Rattle.rv_debug.specs.Placed.{moved};
+ghost use Rattle.rv_explain.specs.BlockOf as spec;
+ghost use Rattle.rv_explain.specs.Blocks.{shown_of};
+ghost use Rattle.rv_explain.specs.Explained.{race_of};
+ghost use Rattle.rv_explain.specs.Races.{AreTold, run_of};
+ghost use Rattle.rv_report.specs.OfPause.{IsOfPause};
+
+use crate::block::Block;
+use crate::lines::{About, lines};
+use crate::races::{Race, RunRaces};
+use crate::sides::side_at;
+use crate::walk::walk;
+use rv_break::claim::Seen;
+use rv_collide::ending::{Ending, Verdict};
+use rv_debug::session::Session;
+use rv_elf::Image;
+use rv_memory::store::NoMemory;
+use rv_report::exhibiting::endings_are_of_pauses;
+use std::alloc::Global;
+
+/// The paused access, as if it had been made.
+fn own_access(told: &Ending) -> Seen
+    ensures { result ≡ spec.own_access told.now }
+{
+    Seen {
+        place: told.paused_at,
+        hart: told.hart,
+        access: told.access,
+    }
+}
+
+/// The second access of a report.
+fn second_of(told: &Ending, last: Option<Seen>) -> Seen
+    requires starts { told.now.paused_at < told.now.resumed_at }
+    requires hit { (seen : Seen) → told.now.verdict ≡ Hit seen → seen.place < told.now.resumed_at }
+    requires last { IfSome last (λ seen. seen.place < told.now.resumed_at) }
+    ensures value { result ≡ spec.second_of told.now last told.now.verdict }
+    ensures before { result.place < told.now.resumed_at }
+{
+    match told.verdict {
+        Verdict::Hit(seen) => seen,
+        Verdict::Changed => last.unwrap_or(own_access(told)),
+        Verdict::Quiet => own_access(told),
+    }
+}
+
+/// The places that a block is about.
+fn places_about(
+    alloc: Global,
+    told: &Ending,
+    other: &Seen,
+    last: Option<Seen>,
+) -> Result<Vec<u32>, NoMemory>
+    ensures { IfOk result (λ places. places.items ≡ spec.places_about told.now other.now last) }
+{
+    let mut places = vec![in alloc; told.paused_at, other.place, told.resumed_at]?;
+    if let Some(store) = last {
+        places.push(store.place)?;
+    }
+    Ok(places)
+}
+
+/// The block of a race of a session's run, with so many entries around each place. The session is then at some place.
+/// It goes once over the pause, and to each other place from the checkpoint before.
+pub fn race_block(
+    alloc: Global,
+    session: &mut Session,
+    image: &Image,
+    around: u32,
+    race: &Race,
+) -> Result<Block, NoMemory>
+    requires image { session.old.image ≡ image.now }
+    requires told { slice_get (endings (run_of session.old).start session.old.entries) race.now.told.number ≡ Some race.now.told.ending }
+    ensures block { IfOk result (λ block. shown_of block ≡ spec.race_shown (run_of session.old) around race.now) }
+    ensures same { session.new ≡ moved session.old session.new.place }
+{
+    endings_are_of_pauses();
+    session.facts();
+    block_of(alloc, session, image, around, race)
+}
+
+/// The block of a race whose report is of a pause.
+#[tactic(auto, unfolding(crate::specs::BlockOf::race_shown, crate::specs::BlockOf::second))]
+fn block_of(
+    alloc: Global,
+    session: &mut Session,
+    image: &Image,
+    around: u32,
+    race: &Race,
+) -> Result<Block, NoMemory>
+    requires image { session.old.image ≡ image.now }
+    requires of_pause { IsOfPause (run_of session.old).start session.old.entries race.now.told.ending }
+    ensures block { IfOk result (λ block. shown_of block ≡ spec.race_shown (run_of session.old) around race.now) }
+    ensures same { session.new ≡ moved session.old session.new.place }
+{
+    let told = race.told.ending;
+    let walked = walk(alloc, session, &told)?;
+    let other = second_of(&told, walked.last);
+    let places = places_about(alloc, &told, &other, walked.last)?;
+    let paused = side_at(session, image, &own_access(&told))?;
+    let second = side_at(session, image, &other)?;
+    let about = About {
+        told,
+        places,
+        around,
+        meets: walked.meets,
+    };
+    let lines = lines(alloc, session, &about)?;
+    Ok(Block {
+        reports: race.reports,
+        class: race.told.class,
+        number: race.told.number,
+        ending: told,
+        paused,
+        other: second,
+        second: other.place,
+        lines,
+    })
+}
+
+/// The race of a number, from 1 on.
+pub(crate) fn race_of(found: &RunRaces, k: u64) -> Option<&Race>
+    ensures { option_copied result ≡ race_of found.now.races.items k }
+{
+    let place = k.checked_sub(1)?;
+    found.races.get(place as usize)
+}
+
+/// The block of race K of a session's run, or None where there is no race K.
+pub fn numbered_block(
+    alloc: Global,
+    session: &mut Session,
+    image: &Image,
+    found: &RunRaces,
+    around: u32,
+    k: u64,
+) -> Result<Option<Block>, NoMemory>
+    requires image { session.old.image ≡ image.now }
+    requires told { AreTold (run_of session.old) found.now.races.items }
+    ensures block { IfOk result (λ block. option_map shown_of block
+        ≡ option_map (spec.race_shown (run_of session.old) around) (race_of found.now.races.items k)) }
+    ensures same { session.new ≡ moved session.old session.new.place }
+{
+    match race_of(found, k) {
+        None => Ok(None),
+        Some(race) => Ok(Some(race_block(alloc, session, image, around, race)?)),
+    }
+}
