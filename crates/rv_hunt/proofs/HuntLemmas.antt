@@ -1,0 +1,202 @@
+-- The runs of a hunt, one more.
+use Rattle.std.proofs.Common.{◌≡◌, ℕ, zero, suc, ◌+◌, ◌<◌, ◌≤◌, ◌^◌, ◌⊎◌, inl, inr, true, List, [], ◌∷◌, ◌++◌, length, length-append, map, take, None, Some, refl, sym, ap, subst, ◌∙◌, arith, append-nil, append_assoc}
+use Rattle.std.specs.Prelude.{slice_get, nat_lt, nat_le, not, ◌&&◌}
+use Rattle.std.specs.List.{fold}
+use Rattle.std.proofs.lemmas.Bool.{and_parts, cases_eq}
+use Rattle.std.proofs.lemmas.Bool.Decides.{nat_tests}
+use Rattle.std.proofs.lemmas.List.{map-append, take-append-le, take_all, length-map}
+use Rattle.std.proofs.lemmas.List.Sums.{fold-append}
+use Rattle.std.proofs.lemmas.Option.{slice_get_within}
+use Rattle.rv_campaign.specs.Kept.{AreKept, IsCoreOf, IsKept}
+use Rattle.rv_collide.specs.Numbers.{numbers}
+use Rattle.rv_collide.specs.Plan.{Numbers}
+use Rattle.rv_collide.specs.Stored.{Stored}
+use Rattle.rv_collide.specs.declared.plan.Plan.{Plan}
+use Rattle.rv_hunt.specs.Hunted.{AreNumbers, AreRuns, Hunt, IsHunt, IsOfRun, IsSoFar, rows_from, rows_of, seen_in, summed}
+use Rattle.rv_hunt.specs.KeptRun.{IsKeptRun}
+use Rattle.rv_hunt.specs.Rows as rows
+use Rattle.rv_hunt.specs.declared.hunted.Hunted.{Hunted}
+use Rattle.rv_hunt.specs.declared.kept_run.KeptRun.{KeptRun}
+use Rattle.rv_hunt.specs.declared.row.RaceRow.{RaceRow}
+use Rattle.rv_hunt.specs.internal.Lots.{ArePlans, IsLot, with_run}
+use Rattle.rv_report.specs.declared.key.Key.{Key}
+use Rattle.rv_tally.specs.GoesOn.{cost, goes_on, is_hopeless}
+use Rattle.rv_tally.specs.Kinds.{capped}
+use Rattle.rv_tally.specs.Plans.{plan_of}
+use Rattle.rv_tally.specs.Tally.{Tally, added, nothing, tally_of}
+use Rattle.rv_tally.specs.declared.limit.Limit.{Limit}
+use Rattle.rv_tally.specs.declared.limit.Limit.TheVariants.{Runs, Budget}
+use Rattle.rv_tally.specs.declared.summary.Summary.{Summary}
+
+-- ---- how many runs there were
+
+runs_added : (t : Tally) (s : Summary) → (added t s).runs ≡ capped (t.runs + 1)
+unfolding added
+runs_added t s = refl
+
+capped_more : (a b n : ℕ) → b ≡ capped (a + 1) → capped (b + n) ≡ capped (a + suc n)
+capped_more a b n is = omega (arith, is)
+
+runs_folded : (t : Tally) (xs : List Summary) → t.runs ≡ capped t.runs → (fold added t xs).runs ≡ capped (t.runs + length xs)
+runs_folded t [] small = omega (arith, small)
+runs_folded t (x ∷ xs) small =
+    let next = runs_added t x in
+    runs_folded (added t x) xs (omega (arith, next)) ∙ capped_more t.runs (added t x).runs (length xs) next
+
+pub how_many : (runs : List KeptRun) → (summed runs).runs ≡ capped (length runs)
+unfolding tally_of
+how_many runs =
+    let same = length-map runs (λ (kept : KeptRun). kept.summary) in
+    let from_0 : 0 + length (map (λ (kept : KeptRun). kept.summary) runs) ≡ length runs = omega (arith, same) in
+    runs_folded nothing (map (λ (kept : KeptRun). kept.summary) runs) refl ∙ ap capped from_0
+
+-- ---- one run more
+
+summed_next : (runs : List KeptRun) (kept : KeptRun) → summed (runs ++ kept ∷ []) ≡ added (summed runs) kept.summary
+unfolding tally_of
+summed_next runs kept =
+    ap (fold added nothing) (map-append (λ (k : KeptRun). k.summary) runs (kept ∷ []))
+    ∙ fold-append added nothing (map (λ (k : KeptRun). k.summary) runs) (kept.summary ∷ [])
+
+rows_next : (first : ℕ) (runs : List KeptRun) (kept : KeptRun) → rows_from first (runs ++ kept ∷ []) ≡ rows_from first runs ++ rows_of (first + length runs) kept
+unfolding rows_from
+rows_next first [] kept = append-nil (rows_of first kept) ∙ ap (λ (n : ℕ). rows_of n kept) (omega arith)
+rows_next first (one ∷ runs) kept =
+    ap (λ (rs : List (Key × RaceRow)). rows_of first one ++ rs) (rows_next (first + 1) runs kept)
+    ∙ ap (λ (n : ℕ). rows_of first one ++ (rows_from (first + 1) runs ++ rows_of n kept)) place
+    ∙ sym (append_assoc (rows_of first one) (rows_from (first + 1) runs) (rows_of (first + suc (length runs)) kept))
+  where
+    place : first + 1 + length runs ≡ first + suc (length runs)
+    place = omega arith
+
+table_next : (first : ℕ) (runs : List KeptRun) (kept : KeptRun) → rows.table_of (rows_from first (runs ++ kept ∷ [])) ≡ fold rows.added (rows.table_of (rows_from first runs)) (rows_of (first + length runs) kept)
+unfolding rows.table_of
+table_next first runs kept =
+    ap (fold rows.added []) (rows_next first runs kept)
+    ∙ fold-append rows.added [] (rows_from first runs) (rows_of (first + length runs) kept)
+
+abbrev pub hunted_of : Tally → List (Key × RaceRow) → Hunted
+hunted_of tally rs = record { tally = tally; table = rs }
+
+pub same_hunted : {t t' : Tally} {rs rs' : List (Key × RaceRow)} → t ≡ t' → rs ≡ rs' → hunted_of t rs ≡ hunted_of t' rs'
+same_hunted tallies tables = cc
+
+pub seen_next : (first : ℕ) (runs : List KeptRun) (kept : KeptRun) → seen_in first (runs ++ kept ∷ []) ≡ with_run (seen_in first runs) (first + length runs) kept
+unfolding seen_in with_run
+seen_next first runs kept = same_hunted (summed_next runs kept) (table_next first runs kept)
+
+-- ---- which runs are made
+
+-- the next run's number has 32 bits
+pub next_fits : (limit : Limit) (first : ℕ) (t : Tally) → AreNumbers first limit → goes_on limit first t ≡ true → first + t.runs < 2 ^ 32
+next_fits (Runs runs) first t legal goes = grind (arith, nat_tests)
+next_fits (Budget steps) first t legal goes =
+    let front = and_parts (nat_le (first + t.runs) 4_294_967_295 && nat_lt (cost t) steps) (not (is_hopeless t)) goes in
+    let fits = (and_parts (nat_le (first + t.runs) 4_294_967_295) (nat_lt (cost t) steps) front.0).0 in
+    grind (arith, nat_tests)
+
+pub count_of : (hunt : Hunt) (hunted : Hunted) (runs : List KeptRun) → hunted ≡ seen_in hunt.first runs → hunted.tally.runs < 2 ^ 32 → length runs ≡ hunted.tally.runs
+unfolding seen_in
+count_of hunt hunted runs seen few =
+    let same = ap (λ (h : Hunted). h.tally.runs) seen ∙ how_many runs in
+    omega (arith, same, few)
+
+-- an element of a list with one more
+more : {X : Type 0} (xs : List X) (x : X) (place : ℕ) (one : X) → slice_get (xs ++ x ∷ []) place ≡ Some one → (slice_get xs place ≡ Some one) ⊎ ((place ≡ length xs) × (x ≡ one))
+more [] x zero one there = inr (refl, (let same : Some x ≡ Some one = there in cc))
+more [] x (suc place) one there = (let no : None ≡ Some one = there in cc)
+more (y ∷ xs) x zero one there = inl there
+more (y ∷ xs) x (suc place) one there =
+    elim (more xs x place one there) [
+      | inl before ↦ inl before
+      | inr both ↦ inr (ap (λ n. suc n) both.0, both.1)
+    ]
+
+each_next : (hunt : Hunt) (runs : List KeptRun) (kept : KeptRun) → AreRuns hunt runs → IsOfRun hunt (hunt.first + length runs) kept → (place : ℕ) (one : KeptRun) → slice_get (runs ++ kept ∷ []) place ≡ Some one → IsOfRun hunt (hunt.first + place) one
+each_next hunt runs kept before here place one there =
+    elim (more runs kept place one there) [
+      | inl earlier ↦ before.each place one earlier
+      | inr both ↦
+          subst (λ (n : ℕ). IsOfRun hunt (hunt.first + n) one) (sym both.0)
+          (subst (λ (k : KeptRun). IsOfRun hunt (hunt.first + length runs) k) both.1 here)
+    ]
+
+due_next : (hunt : Hunt) (runs : List KeptRun) (kept : KeptRun) → AreRuns hunt runs → goes_on hunt.limit hunt.first (summed runs) ≡ true → (place : ℕ) → place < length (runs ++ kept ∷ []) → goes_on hunt.limit hunt.first (summed (take place (runs ++ kept ∷ []))) ≡ true
+due_next hunt runs kept before goes place within =
+    let long = length-append runs (kept ∷ []) in
+    let few : place ≤ length runs = omega (arith, long, within) in
+    ap (λ (rs : List KeptRun). goes_on hunt.limit hunt.first (summed rs)) (take-append-le place runs (kept ∷ []) few)
+    ∙ elim (cases_eq place (length runs)) [
+      | inl last ↦
+          ap (λ (rs : List KeptRun). goes_on hunt.limit hunt.first (summed rs)) (take_all place runs (omega (arith, last))) ∙ goes
+      | inr other ↦ before.due place (omega (arith, few, other))
+    ]
+
+pub one_more : (hunt : Hunt) (hunted after : Hunted) (run : ℕ) (kept : KeptRun) → IsHunt hunt → IsSoFar hunt hunted → goes_on hunt.limit hunt.first hunted.tally ≡ true → run ≡ hunt.first + hunted.tally.runs → IsOfRun hunt run kept → after ≡ with_run hunted run kept → IsSoFar hunt after
+unfolding seen_in
+one_more hunt hunted after run kept legal so_far goes is here with =
+    let few : hunted.tally.runs < 2 ^ 32 = (let fits = next_fits hunt.limit hunt.first hunted.tally legal.numbers goes in omega (arith, fits)) in
+    let count = count_of hunt hunted so_far.runs so_far.seen few in
+    let number : run ≡ hunt.first + length so_far.runs = omega (arith, is, count) in
+    let going = ap (λ (h : Hunted). goes_on hunt.limit hunt.first h.tally) (sym so_far.seen) ∙ goes in
+    record {
+      runs = so_far.runs ++ kept ∷ [];
+      are_runs = record {
+        each = each_next hunt so_far.runs kept so_far.are_runs (subst (λ (n : ℕ). IsOfRun hunt n kept) number here);
+        due = due_next hunt so_far.runs kept so_far.are_runs going;
+      };
+      seen =
+          with ∙ ap (λ (h : Hunted). with_run h run kept) so_far.seen
+          ∙ ap (λ (n : ℕ). with_run (seen_in hunt.first so_far.runs) n kept) number
+          ∙ sym (seen_next hunt.first so_far.runs kept);
+    }
+
+pub one_more_counted : (hunt : Hunt) (hunted after : Hunted) (run : ℕ) (kept : KeptRun) → IsHunt hunt → goes_on hunt.limit hunt.first hunted.tally ≡ true → after ≡ with_run hunted run kept → after.tally.runs ≡ hunted.tally.runs + 1
+unfolding with_run
+one_more_counted hunt hunted after run kept legal goes with =
+    let fits = next_fits hunt.limit hunt.first hunted.tally legal.numbers goes in
+    let next = ap (λ (h : Hunted). h.tally.runs) with ∙ runs_added hunted.tally kept.summary in
+    omega (arith, fits, next)
+
+-- ---- the runs that are made together
+
+pub there_is : {X : Type 0} (xs : List X) (n : ℕ) → n < length xs → (x : X) × (slice_get xs n ≡ Some x)
+there_is [] n within = absurd (omega (arith, within))
+there_is (x ∷ xs) zero within = (x, refl)
+there_is (x ∷ xs) (suc n) within = there_is xs n (omega (arith, within))
+
+kept_run : (hunt : Hunt) (plan : Numbers) (run : ℕ) (kept : KeptRun) → plan ≡ plan_of hunt.given run → IsKept (λ (core : Stored) (k : KeptRun). core.image ≡ hunt.source.image → IsKeptRun hunt.ranges core k) hunt.source plan run kept → IsOfRun hunt run kept
+kept_run hunt plan run kept is here = record {
+  core = here.core;
+  is_core = subst (λ (p : Numbers). IsCoreOf hunt.source p run here.core) is here.is_core;
+  is_kept = here.is_kept here.is_core.image_is;
+}
+
+pub lot_is : (hunt : Hunt) (next : ℕ) (plans given : List Plan) (lot : List KeptRun) → given ≡ plans → ArePlans hunt.given next plans → AreKept (λ (core : Stored) (k : KeptRun). core.image ≡ hunt.source.image → IsKeptRun hunt.ranges core k) hunt.source next given lot → IsLot hunt next lot
+lot_is hunt next plans given lot same are_plans are_kept = λ place kept there.
+    let below = slice_get_within lot place kept there in
+    let count = are_kept.count in
+    let plan = there_is given place (omega (arith, below, count)) in
+    kept_run hunt (numbers plan.0) (next + place) kept
+    (are_plans place plan.0 (ap (λ ps. slice_get ps place) (sym same) ∙ plan.1))
+    (are_kept.each place plan.0 kept plan.1 there)
+
+pub none_yet : (hunt : Hunt) (hunted : Hunted) → hunted ≡ record { tally = summed []; table = [] } → IsSoFar hunt hunted
+unfolding seen_in rows_from rows.table_of
+none_yet hunt hunted is = record {
+  runs = [];
+  are_runs = record {
+    each = λ place kept there. (let no : None ≡ Some kept = there in cc);
+    due = λ place within. absurd (omega (arith, within));
+  };
+  seen = is;
+}
+
+-- the plans so far, and one more
+pub plans_next : (given : _) (next : ℕ) (plans all : List Plan) (plan : Plan) (count : ℕ) → all ≡ plans ++ plan ∷ [] → length plans ≡ count → numbers plan ≡ plan_of given (next + count) → ArePlans given next plans → ArePlans given next all
+plans_next given next plans all plan count is long here before = λ place one there.
+    elim (more plans plan place one (ap (λ ps. slice_get ps place) (sym is) ∙ there)) [
+      | inl earlier ↦ before place one earlier
+      | inr both ↦
+          ap numbers (sym both.1) ∙ here ∙ ap (λ (n : ℕ). plan_of given (next + n)) (sym (both.0 ∙ long))
+    ]

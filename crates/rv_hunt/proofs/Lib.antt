@@ -1,0 +1,10 @@
+pub mod HuntLemmas
+pub mod KeptLemmas
+pub mod MergeLemmas
+pub mod NumberLemmas
+pub mod ReadLemmas
+pub mod RemadeLemmas
+pub mod ResultLemmas
+pub mod Rows
+pub mod Says
+pub mod Written

@@ -1,0 +1,278 @@
+-- A hunt has one result, and those of its pieces make it.
+use Rattle.std.proofs.Common.{◌≡◌, ℕ, zero, suc, ◌+◌, ◌-◌, ◌<◌, ◌≤◌, ◌^◌, ◌⊎◌, inl, inr, true, false, List, [], ◌∷◌, ◌++◌, length, length-append, map, take, Some, refl, sym, ap, subst, ◌∙◌, arith, append_assoc}
+use Rattle.std.specs.Prelude.{slice_get, nat_lt, count_by}
+use Rattle.std.specs.List.{fold, list_all, list_any}
+use Rattle.std.proofs.lemmas.Bool.{cases_lt}
+use Rattle.std.proofs.lemmas.Bool.Decides.{nat_tests}
+use Rattle.std.proofs.lemmas.List.{length-take-le, take_all, take_more}
+use Rattle.std.proofs.lemmas.Option.{get_or_from_slice_get}
+use Rattle.rv_campaign.specs.Kept.{IsCoreOf, Source}
+use Rattle.rv_collide.specs.Plan.{Numbers}
+use Rattle.rv_collide.specs.Stored.{Stored, setting_of, stored}
+use Rattle.rv_collide.specs.declared.entry.Entry.{Entry}
+use Rattle.rv_drive.specs.DriverLaws.{OneRunAtMost}
+use Rattle.rv_drive.specs.Sampling.{sampling_of}
+use Rattle.rv_elf.specs.Contents.{Contents}
+use Rattle.rv_hunt.proofs.HuntLemmas.{how_many, same_hunted, seen_next, there_is}
+use Rattle.rv_hunt.proofs.MergeLemmas.{two_merged}
+use Rattle.rv_hunt.specs.Hunted.{AreRuns, Hunt, IsHunted, IsOfRun, rows_from, rows_of, seen_in, summed}
+use Rattle.rv_hunt.specs.HuntedLaws.{OneResult, PiecesAreWhole, piece}
+use Rattle.rv_hunt.specs.KeptRun.{IsKeptRun}
+use Rattle.rv_hunt.specs.Rows as rows
+use Rattle.rv_hunt.specs.declared.hunted.Hunted.{Hunted}
+use Rattle.rv_hunt.specs.declared.kept_run.KeptRun.{KeptRun}
+use Rattle.rv_hunt.specs.declared.row.RaceRow.{RaceRow}
+use Rattle.rv_hunt.specs.internal.Lots.{with_run}
+use Rattle.rv_report.specs.declared.key.Key.{Key}
+use Rattle.rv_tally.specs.GoesOn.{goes_on}
+use Rattle.rv_tally.specs.Kinds.{capped}
+use Rattle.rv_tally.specs.Plans.{plan_of}
+use Rattle.rv_tally.specs.Summary.{AreCounts, IsSummary}
+use Rattle.rv_tally.specs.Tally.{Tally, added, all_ended, is_exit, is_stop, longest_with, one_if, sum, with_addresses}
+use Rattle.rv_tally.specs.declared.counts.Counts.{Counts}
+use Rattle.rv_tally.specs.declared.end.End.{End}
+use Rattle.rv_tally.specs.declared.summary.Summary.{Summary}
+
+-- ---- what is kept of a run, but for how its lists lie in memory
+
+pub same_stored : (i i' : Contents) (p p' : Numbers) (e e' : List Entry) → i ≡ i' → p ≡ p' → e ≡ e' → stored i p e ≡ stored i' p' e'
+same_stored i i' p p' e e' images plans entries = cc
+
+same_core : OneRunAtMost → (source : Source) (plan : Numbers) (run : ℕ) (one other : Stored) → IsCoreOf source plan run one → IsCoreOf source plan run other → one ≡ other
+same_core once source plan run one other a b =
+    same_stored one.image other.image one.plan other.plan one.entries other.entries
+    (a.image_is ∙ sym b.image_is) (a.plan_is ∙ sym b.plan_is)
+    (once (setting_of (stored source.image plan [])) (sampling_of source.sites source.seed run) one.entries other.entries a.drawn b.drawn)
+
+abbrev counts_of : ℕ → ℕ → ℕ → ℕ → ℕ → ℕ → Counts
+counts_of steps quiet hit changed unwatched passed = record {
+  steps = steps;
+  quiet = quiet;
+  hit = hit;
+  changed = changed;
+  unwatched = unwatched;
+  passed = passed;
+}
+
+same_numbers : {s s' q q' h h' c c' u u' p p' : ℕ} → s ≡ s' → q ≡ q' → h ≡ h' → c ≡ c' → u ≡ u' → p ≡ p' → counts_of s q h c u p ≡ counts_of s' q' h' c' u' p'
+same_numbers steps quiet hit changed unwatched passed = cc
+
+same_counts : (core : Stored) (one other : Counts) → AreCounts core one → AreCounts core other → one ≡ other
+same_counts core one other a b =
+    same_numbers (a.steps ∙ sym b.steps) (a.quiet ∙ sym b.quiet) (a.hit ∙ sym b.hit) (a.changed ∙ sym b.changed) (a.unwatched ∙ sym b.unwatched) (a.passed ∙ sym b.passed)
+
+-- a run added by what is told of it
+added_by : Tally → ℕ → List End → List ℕ → List ℕ → Counts → Tally
+added_by t most ends armed paused counts = record {
+  runs = capped (t.runs + 1);
+  ended = all_ended t.ended ends;
+  armed = with_addresses t.armed armed;
+  paused = with_addresses t.paused paused;
+  counts = sum t.counts counts;
+  some_stopped = capped (t.some_stopped + one_if (list_any is_stop ends));
+  each_stopped = capped (t.each_stopped + one_if (list_all is_stop ends));
+  longest = longest_with t.longest most (count_by is_exit ends);
+}
+
+added_is : (t : Tally) (s : Summary) → added t s ≡ added_by t s.most_steps s.ends.items s.armed.items s.paused.items s.counts
+unfolding added added_by
+added_is t s = refl
+
+same_parts : (t : Tally) {m m' : ℕ} {e e' : List End} {a a' p p' : List ℕ} {c c' : Counts} → m ≡ m' → e ≡ e' → a ≡ a' → p ≡ p' → c ≡ c' → added_by t m e a p c ≡ added_by t m' e' a' p' c'
+same_parts t most ends armed paused counts = cc
+
+same_added : (t : Tally) (core : Stored) (one other : Summary) → IsSummary core one → IsSummary core other → added t one ≡ added t other
+same_added t core one other a b =
+    added_is t one
+    ∙ same_parts t (a.most_steps ∙ sym b.most_steps) (a.ends_are ∙ sym b.ends_are) (a.armed_are ∙ sym b.armed_are) (a.paused_are ∙ sym b.paused_are) (same_counts core one.counts other.counts a.counts b.counts)
+    ∙ sym (added_is t other)
+
+same_with : (hunted : Hunted) (run : ℕ) (ranges : List (ℕ × ℕ)) (core : Stored) (one other : KeptRun) → IsKeptRun ranges core one → IsKeptRun ranges core other → with_run hunted run one ≡ with_run hunted run other
+unfolding with_run
+same_with hunted run ranges core one other a b =
+    same_hunted (same_added hunted.tally core one.summary other.summary a.summary b.summary)
+    (ap (λ reports. fold rows.added hunted.table (map (rows.row_of run) reports)) (a.reports_are ∙ sym b.reports_are))
+
+same_run : OneRunAtMost → (hunt : Hunt) (hunted : Hunted) (run : ℕ) (one other : KeptRun) → IsOfRun hunt run one → IsOfRun hunt run other → with_run hunted run one ≡ with_run hunted run other
+same_run once hunt hunted run one other a b =
+    let cores = same_core once hunt.source (plan_of hunt.given run) run b.core a.core b.is_core a.is_core in
+    same_with hunted run hunt.ranges a.core one other a.is_kept (subst (λ (core : Stored). IsKeptRun hunt.ranges core other) cores b.is_kept)
+
+-- ---- two lists of runs of a hunt
+
+take_next : {X : Type 0} (xs : List X) (n : ℕ) (x : X) → n < length xs → slice_get xs n ≡ Some x → take (n + 1) xs ≡ take n xs ++ x ∷ []
+take_next xs n x within there =
+    take_more xs n x within ∙ ap (λ y. take n xs ++ y ∷ []) (get_or_from_slice_get xs n x x there)
+
+seen_after : (first : ℕ) (runs : List KeptRun) (n : ℕ) (kept : KeptRun) → n < length runs → slice_get runs n ≡ Some kept → seen_in first (take (n + 1) runs) ≡ with_run (seen_in first (take n runs)) (first + n) kept
+seen_after first runs n kept within there =
+    ap (seen_in first) (take_next runs n kept within there) ∙ seen_next first (take n runs) kept
+    ∙ ap (λ (k : ℕ). with_run (seen_in first (take n runs)) (first + k) kept) (length-take-le n runs (omega (arith, within)))
+
+alike : OneRunAtMost → (hunt : Hunt) (xs ys : List KeptRun) → AreRuns hunt xs → AreRuns hunt ys → (n : ℕ) → n ≤ length xs → n ≤ length ys → seen_in hunt.first (take n xs) ≡ seen_in hunt.first (take n ys)
+alike once hunt xs ys a b zero in_xs in_ys = refl
+alike once hunt xs ys a b (suc n) in_xs in_ys =
+    let below_x : n < length xs = omega (arith, in_xs) in
+    let below_y : n < length ys = omega (arith, in_ys) in
+    let x = there_is xs n below_x in
+    let y = there_is ys n below_y in
+    let more : suc n ≡ n + 1 = omega arith in
+    let before = alike once hunt xs ys a b n (omega (arith, in_xs)) (omega (arith, in_ys)) in
+    ap (λ (k : ℕ). seen_in hunt.first (take k xs)) more
+    ∙ seen_after hunt.first xs n x.0 below_x x.1
+    ∙ ap (λ (h : Hunted). with_run h (hunt.first + n) x.0) before
+    ∙ same_run once hunt (seen_in hunt.first (take n ys)) (hunt.first + n) x.0 y.0 (a.each n x.0 x.1) (b.each n y.0 y.1)
+    ∙ sym (seen_after hunt.first ys n y.0 below_y y.1)
+    ∙ ap (λ (k : ℕ). seen_in hunt.first (take k ys)) (sym more)
+
+tally_seen : (first : ℕ) (runs : List KeptRun) → (seen_in first runs).tally ≡ summed runs
+unfolding seen_in
+tally_seen first runs = refl
+
+no_longer : OneRunAtMost → (hunt : Hunt) (xs ys : List KeptRun) → AreRuns hunt xs → AreRuns hunt ys → goes_on hunt.limit hunt.first (summed xs) ≡ false → length xs < length ys → ⊥
+no_longer once hunt xs ys a b over longer =
+    let n = length xs in
+    let same = alike once hunt xs ys a b n (omega arith) (omega (arith, longer)) in
+    let all = take_all n xs (omega arith) in
+    let tallies : summed xs ≡ summed (take n ys) =
+    sym (tally_seen hunt.first xs) ∙ ap (λ (rs : List KeptRun). (seen_in hunt.first rs).tally) (sym all)
+    ∙ ap (λ (h : Hunted). h.tally) same ∙ tally_seen hunt.first (take n ys) in
+    let goes = ap (goes_on hunt.limit hunt.first) tallies ∙ b.due n longer in
+    differ (sym goes ∙ over)
+  where
+    differ : true ≡ false → ⊥
+    differ h = cc
+
+over_of : (hunt : Hunt) (hunted : Hunted) (h : IsHunted hunt hunted) → goes_on hunt.limit hunt.first (summed h.so_far.runs) ≡ false
+over_of hunt hunted h =
+    ap (goes_on hunt.limit hunt.first) (sym (ap (λ (x : Hunted). x.tally) h.so_far.seen ∙ tally_seen hunt.first h.so_far.runs)) ∙ h.is_over
+
+pub one_result : OneRunAtMost → OneResult
+one_result once hunt one other a b =
+    elim (cases_lt (length xs) (length ys)) [
+      | inl longer ↦ absurd (no_longer once hunt xs ys a.so_far.are_runs b.so_far.are_runs (over_of hunt one a) longer)
+      | inr no_less ↦
+          elim (cases_lt (length ys) (length xs)) [
+            | inl longer ↦ absurd (no_longer once hunt ys xs b.so_far.are_runs a.so_far.are_runs (over_of hunt other b) longer)
+            | inr no_more ↦ same (omega (arith, no_less, no_more))
+          ]
+    ]
+  where
+    xs : List KeptRun
+    xs = a.so_far.runs
+
+    ys : List KeptRun
+    ys = b.so_far.runs
+
+    same : length xs ≡ length ys → one ≡ other
+    same lengths =
+        a.so_far.seen ∙ ap (seen_in hunt.first) (sym (take_all (length xs) xs (omega arith)))
+        ∙ alike once hunt xs ys a.so_far.are_runs b.so_far.are_runs (length xs) (omega arith) (omega (arith, lengths))
+        ∙ ap (seen_in hunt.first) (take_all (length xs) ys (omega (arith, lengths)))
+        ∙ sym b.so_far.seen
+
+-- ---- pieces
+
+-- where an element of two lists stands
+pub split : {X : Type 0} (xs ys : List X) (place : ℕ) (one : X) → slice_get (xs ++ ys) place ≡ Some one → (slice_get xs place ≡ Some one) ⊎ ((length xs ≤ place) × (slice_get ys (place - length xs) ≡ Some one))
+split [] ys place one there = inr (omega arith, ap (λ n. slice_get ys n) (omega arith) ∙ there)
+split (x ∷ xs) ys zero one there = inl there
+split (x ∷ xs) ys (suc place) one there =
+    elim (split xs ys place one there) [
+      | inl before ↦ inl before
+      | inr both ↦ inr (
+        (let le = both.0 in omega (arith, le)),
+        ap (λ n. slice_get ys n) (omega arith) ∙ both.1,
+      )
+    ]
+
+-- of just so many runs that many are made
+all_made : (hunt : Hunt) (first count : ℕ) (xs : List KeptRun) → count ≤ 2 ^ 32 → AreRuns (piece hunt first count) xs → nat_lt (summed xs).runs count ≡ false → length xs ≡ count
+all_made hunt first count xs few are over =
+    elim (cases_lt count (length xs)) [
+      | inl longer ↦
+          (let due = are.due count longer in
+          let made = how_many (take count xs) in
+          let long = length-take-le count xs (omega (arith, longer)) in
+          grind (arith, nat_tests))
+      | inr no_more ↦
+          (let made = how_many xs in
+          grind (arith, nat_tests))
+    ]
+
+rows_of_both : (first : ℕ) (xs ys : List KeptRun) → rows_from first (xs ++ ys) ≡ rows_from first xs ++ rows_from (first + length xs) ys
+unfolding rows_from
+rows_of_both first [] ys = ap (λ n. rows_from n ys) (omega arith)
+rows_of_both first (x ∷ xs) ys =
+    ap (λ (rs : List (Key × RaceRow)). rows_of first x ++ rs) (rows_of_both (first + 1) xs ys)
+    ∙ ap (λ (n : ℕ). rows_of first x ++ (rows_from (first + 1) xs ++ rows_from n ys)) place
+    ∙ sym (append_assoc (rows_of first x) (rows_from (first + 1) xs) (rows_from (first + suc (length xs)) ys))
+  where
+    place : first + 1 + length xs ≡ first + suc (length xs)
+    place = omega arith
+
+due_in : (runs : List KeptRun) (place count : ℕ) → place < count → place ≤ length runs → nat_lt (summed (take place runs)).runs count ≡ true
+due_in runs place count below within =
+    let made = how_many (take place runs) in
+    let long = length-take-le place runs within in
+    grind (arith, nat_tests)
+
+over_in : (runs : List KeptRun) (count : ℕ) → length runs ≡ count → count ≤ 2 ^ 32 → nat_lt (summed runs).runs count ≡ false
+over_in runs count long few =
+    let made = how_many runs in
+    grind (arith, nat_tests)
+
+each_of : (hunt : Hunt) (first some more : ℕ) (xs ys : List KeptRun) → length xs ≡ some → AreRuns (piece hunt first some) xs → AreRuns (piece hunt (first + some) more) ys → (place : ℕ) (kept : KeptRun) → slice_get (xs ++ ys) place ≡ Some kept → IsOfRun (piece hunt first (some + more)) (first + place) kept
+each_of hunt first some more xs ys long a b place kept there =
+    elim (split xs ys place kept there) [
+      | inl before ↦ a.each place kept before
+      | inr both ↦
+          (let le = both.0 in
+          let number : first + some + (place - length xs) ≡ first + place = omega (arith, long, le) in
+          subst (λ (n : ℕ). IsOfRun (piece hunt first (some + more)) n kept) number (b.each (place - length xs) kept both.1))
+    ]
+
+pub table_seen : (first : ℕ) (runs : List KeptRun) → (seen_in first runs).table ≡ rows.table_of (rows_from first runs)
+unfolding seen_in
+table_seen first runs = refl
+
+whole_of : (hunt : Hunt) (first some more : ℕ) (xs ys : List KeptRun) → first + some + more ≤ 2 ^ 32 → length xs ≡ some → length ys ≡ more → AreRuns (piece hunt first some) xs → AreRuns (piece hunt (first + some) more) ys → IsHunted (piece hunt first (some + more)) (seen_in first (xs ++ ys))
+whole_of hunt first some more xs ys few long_x long_y a b =
+    let long = length-append xs ys in
+    let count : length (xs ++ ys) ≡ some + more = omega (arith, long, long_x, long_y) in
+    record {
+      so_far = record {
+        runs = xs ++ ys;
+        are_runs = record {
+          each = each_of hunt first some more xs ys long_x a b;
+          due = λ place within. due_in (xs ++ ys) place (some + more) (omega (arith, within, count)) (omega (arith, within));
+        };
+        seen = refl;
+      };
+      is_over = ap (λ (t : Tally). nat_lt t.runs (some + more)) (tally_seen first (xs ++ ys)) ∙ over_in (xs ++ ys) (some + more) count (omega (arith, few));
+    }
+
+pub pieces_are_whole : OneRunAtMost → PiecesAreWhole
+pieces_are_whole once hunt first some more earlier later whole few a b c =
+    ap (λ (h : Hunted). h.table) (one_result once (piece hunt first (some + more)) whole (seen_in first (xs ++ ys)) c (whole_of hunt first some more xs ys few long_x long_y a.so_far.are_runs b.so_far.are_runs))
+    ∙ table_seen first (xs ++ ys)
+    ∙ ap rows.table_of (rows_of_both first xs ys)
+    ∙ ap (λ (n : ℕ). rows.table_of (rows_from first xs ++ rows_from (first + n) ys)) long_x
+    ∙ sym (two_merged (rows_from first xs) (rows_from (first + some) ys))
+    ∙ ap (λ (rs : List (Key × RaceRow)). rows.merged rs (rows.table_of (rows_from (first + some) ys))) (sym (table_of_piece first xs earlier a.so_far.seen))
+    ∙ ap (rows.merged earlier.table) (sym (table_of_piece (first + some) ys later b.so_far.seen))
+  where
+    xs : List KeptRun
+    xs = a.so_far.runs
+
+    ys : List KeptRun
+    ys = b.so_far.runs
+
+    long_x : length xs ≡ some
+    long_x = all_made hunt first some xs (omega (arith, few)) a.so_far.are_runs (over_of (piece hunt first some) earlier a)
+
+    long_y : length ys ≡ more
+    long_y = all_made hunt (first + some) more ys (omega (arith, few)) b.so_far.are_runs (over_of (piece hunt (first + some) more) later b)
+
+    table_of_piece : (from : ℕ) (runs : List KeptRun) (hunted : Hunted) → hunted ≡ seen_in from runs → hunted.table ≡ rows.table_of (rows_from from runs)
+    table_of_piece from runs hunted is = ap (λ (h : Hunted). h.table) is ∙ table_seen from runs

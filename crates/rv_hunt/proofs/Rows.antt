@@ -1,0 +1,35 @@
+-- The map's look-up and insertion, by a test that compares keys, are those of the rows.
+use Rattle.std.proofs.Common.{◌≡◌, Bool, true, false, List, [], ◌∷◌, refl, ap}
+use Rattle.std.specs.Prelude.{is_some}
+use Rattle.std.specs.Map.{lookup}
+use Rattle.indexmap.specs.IndexMap.{insert_entry}
+use Rattle.rv_hunt.specs.Rows.{added, has_race}
+use Rattle.rv_hunt.specs.internal.Lookup.{row_at, with_row}
+use Rattle.rv_hunt.specs.declared.row.RaceRow.{RaceRow}
+use Rattle.rv_report.specs.Races.{same_key}
+use Rattle.rv_report.specs.declared.key.Key.{Key}
+
+has-step : (key : Key) (e : Key × RaceRow) (es : List (Key × RaceRow)) (b : Bool) → same_key key e.0 ≡ b → is_some (row_at es key) ≡ has_race key es → is_some (row_at (e ∷ es) key) ≡ has_race key (e ∷ es)
+has-step key e es true is rest = rw is refl
+has-step key e es false is rest = rw is rest
+
+pub has-row : (key : Key) (es : List (Key × RaceRow)) → is_some (row_at es key) ≡ has_race key es
+has-row key [] = refl
+has-row key (e ∷ es) = has-step key e es (same_key key e.0) refl (has-row key es)
+
+module _ (eq : Key → Key → Bool) (same : (a b : Key) → eq a b ≡ same_key a b) where
+  looked-step : (key : Key) (e : Key × RaceRow) (es : List (Key × RaceRow)) (b : Bool) → same_key key e.0 ≡ b → lookup (eq key) es ≡ row_at es key → lookup (eq key) (e ∷ es) ≡ row_at (e ∷ es) key
+  looked-step key e es true is rest = rw (same key e.0, is) refl
+  looked-step key e es false is rest = rw (same key e.0, is) rest
+
+  pub looked-up : (key : Key) (es : List (Key × RaceRow)) → lookup (eq key) es ≡ row_at es key
+  looked-up key [] = refl
+  looked-up key (e ∷ es) = looked-step key e es (same_key key e.0) refl (looked-up key es)
+
+  inserted-step : (key : Key) (row : RaceRow) (e : Key × RaceRow) (es : List (Key × RaceRow)) (b : Bool) → same_key key e.0 ≡ b → insert_entry eq es key (with_row (row_at es key) row) ≡ added es (key, row) → insert_entry eq (e ∷ es) key (with_row (row_at (e ∷ es) key) row) ≡ added (e ∷ es) (key, row)
+  inserted-step key row e es true is rest = rw (same key e.0, is) refl
+  inserted-step key row e es false is rest = rw (same key e.0, is) (ap (λ xs. e ∷ xs) rest)
+
+  pub inserted : (key : Key) (row : RaceRow) (es : List (Key × RaceRow)) → insert_entry eq es key (with_row (row_at es key) row) ≡ added es (key, row)
+  inserted key row [] = refl
+  inserted key row (e ∷ es) = inserted-step key row e es (same_key key e.0) refl (inserted key row es)

@@ -1,0 +1,8 @@
+use Rattle.std.proofs.Common.{◌∙◌, refl}
+use Rattle.rv_hunt.proofs.Rows.{inserted}
+use Rattle.rv_hunt.proofs.table.HuntTable.add.Goals as goal
+
+pub returns-clause-ok : goal.returns-clause-ok
+returns-clause-ok c =
+    let entries = rw (c.self.view_is, c.with_row-row.ensures) at c.in_ok-insert.ensures.entries in
+    entries ∙ inserted _ (λ a b. refl) c.args.key c.args.row c.args.self.now

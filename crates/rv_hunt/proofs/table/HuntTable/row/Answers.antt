@@ -1,0 +1,7 @@
+use Rattle.std.proofs.Common.{◌∙◌, refl}
+use Rattle.rv_hunt.proofs.Rows.{looked-up}
+use Rattle.rv_hunt.proofs.table.HuntTable.row.Goals as goal
+
+pub returns : goal.returns
+returns c =
+    rw (← c.self.view_is) (c.copied.ensures ∙ c.get.ensures.value ∙ looked-up _ (λ a b. refl) c.args.key.now c.self.inside.rows.entries)

@@ -1,0 +1,18 @@
+-- What holds of hunt tables.
+use Rattle.std.specs.Prelude.{◌≡◌, List, [], ◌++◌, map}
+use Rattle.std.specs.List.{fold, flat_map}
+use Rattle.rv_hunt.specs.Rows.{merged, table_of}
+use Rattle.rv_hunt.specs.declared.row.RaceRow.{RaceRow}
+use Rattle.rv_report.specs.declared.key.Key.{Key}
+
+-- Tables of the pieces of a list of rows, merged in the order of the pieces, are the table of the whole list.
+abbrev pub PiecesAreMerged : Type 0
+PiecesAreMerged = (pieces : List (List (Key × RaceRow))) → fold merged [] (map table_of pieces) ≡ table_of (flat_map (λ piece. piece) pieces)
+
+-- of two pieces
+abbrev pub TwoAreMerged : Type 0
+TwoAreMerged = (earlier later : List (Key × RaceRow)) → merged (table_of earlier) (table_of later) ≡ table_of (earlier ++ later)
+
+-- a table's own rows make that table
+abbrev pub TableIsKept : Type 0
+TableIsKept = (rows : List (Key × RaceRow)) → table_of (table_of rows) ≡ table_of rows

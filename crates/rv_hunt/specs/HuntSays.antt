@@ -1,0 +1,78 @@
+-- What a hunt says at its end.
+use Rattle.std.specs.Fmt.{decimal}
+use Rattle.std.specs.Prelude.{ℕ, ◌+◌, ◌==◌, if◌then◌else◌, List, [], ◌++◌, codes, length}
+use Rattle.rv_explain.specs.declared.block.RaceClass.TheVariants.{Named}
+use Rattle.rv_hunt.specs.EndedText.{ended_text}
+use Rattle.rv_hunt.specs.ToldOrder.{benign, bugs, of_class, reports_of}
+use Rattle.rv_hunt.specs.declared.row.RaceRow.{RaceRow}
+use Rattle.rv_report.specs.declared.key.Key.{Key}
+use Rattle.rv_tally.specs.Kinds.{capped}
+use Rattle.rv_tally.specs.Tally.{Tally, pauses}
+use Rattle.rv_tally.specs.declared.counts.Counts.{Counts}
+
+-- What a hunt came to: how many sites the image has without those that are skipped, what its runs saw, the rows of its
+-- races, and those that a line of --ignore fits.
+pub record Outcome : Type 0 where
+  pub sites : ℕ
+  pub saw : Tally
+  pub rows : List (Key × RaceRow)
+  pub ignored : List (Key × RaceRow)
+
+-- a name and its number
+abbrev pub numbered : List ℕ → ℕ → List ℕ
+numbered name number = name ++ decimal number
+
+-- ---- the first line
+
+-- the pauses that ended with a report
+abbrev pub reports : Tally → ℕ
+reports t = capped (t.counts.hit + t.counts.changed)
+
+-- `races N, likely benign B, reports M of E endings in R runs`
+unfoldable pub summary_line : Tally → List (Key × RaceRow) → List ℕ
+summary_line t rows =
+    numbered (codes "races ") (bugs rows) ++ (numbered (codes ", likely benign ") (benign rows) ++ (numbered (codes ", reports ") (reports t)
+    ++ (numbered (codes " of ") (capped (pauses t)) ++ (numbered (codes " endings in ") t.runs ++ codes " runs\n"))))
+
+-- ---- the lines behind the blocks
+
+-- `1 race`, `2 races`
+abbrev pub counted : ℕ → List ℕ → List ℕ
+counted n thing = decimal n ++ (codes " " ++ (thing ++ (if n == 1 then [] else codes "s")))
+
+-- `WORD M reports of N races`, where there are any
+abbrev pub apart_line : List ℕ → List (Key × RaceRow) → List ℕ
+apart_line word rows =
+    if length rows == 0 then [] else (word ++ codes " ") ++ (counted (reports_of rows) (codes "report") ++ (codes " of " ++ (counted (length rows) (codes "race") ++ codes "\n")))
+
+-- `seen sites S, armed A, paused at P`
+abbrev pub sites_text : ℕ → Tally → List ℕ
+sites_text sites t =
+    numbered (codes "seen sites ") sites ++ (numbered (codes ", armed ") (length t.armed) ++ numbered (codes ", paused at ") (length t.paused))
+
+-- `; pauses N: quiet Q, hit H, changed C`
+abbrev pub pauses_text : ℕ → Counts → List ℕ
+pauses_text n counts =
+    numbered (codes "; pauses ") n ++ (numbered (codes ": quiet ") counts.quiet ++ (numbered (codes ", hit ") counts.hit ++ numbered (codes ", changed ") counts.changed))
+
+-- both, and `; unwatched U; steps T`
+unfoldable pub seen_line : ℕ → Tally → List ℕ
+seen_line sites t =
+    sites_text sites t ++ (pauses_text (capped (pauses t)) t.counts ++ (numbered (codes "; unwatched ") t.counts.unwatched
+    ++ (numbered (codes "; steps ") t.counts.steps ++ codes "\n")))
+
+-- which races were counted and not told
+abbrev pub apart_text : Outcome → List ℕ
+apart_text outcome = apart_line (codes "named") (of_class Named outcome.rows) ++ apart_line (codes "ignored") outcome.ignored
+
+-- how its harts ended, and what was seen
+abbrev pub saw_text : ℕ → Tally → List ℕ
+saw_text sites t = ended_text t.ended ++ seen_line sites t
+
+-- ---- the whole
+
+-- The first line; the blocks of the races, before each of which an empty line stands; an empty line, and what is behind
+-- them.
+unfoldable pub hunt_text : Outcome → List ℕ → List ℕ
+hunt_text outcome blocks =
+    summary_line outcome.saw outcome.rows ++ (blocks ++ (codes "\n" ++ (apart_text outcome ++ saw_text outcome.sites outcome.saw)))

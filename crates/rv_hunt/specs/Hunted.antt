@@ -1,0 +1,72 @@
+-- A hunt: which runs it makes, and what they saw.
+use Rattle.std.specs.Prelude.{◌≡◌, ⊤, ℕ, ◌+◌, ◌^◌, ◌≤◌, ◌<◌, true, false, List, [], ◌∷◌, ◌++◌, Some, length, map, slice_get, take}
+use Rattle.rv_campaign.specs.Kept.{IsKept, Source}
+use Rattle.rv_hunt.specs.KeptRun.{IsKeptRun}
+use Rattle.rv_hunt.specs.Rows.{row_of, table_of}
+use Rattle.rv_hunt.specs.declared.hunted.Hunted.{Hunted}
+use Rattle.rv_hunt.specs.declared.kept_run.KeptRun.{KeptRun}
+use Rattle.rv_hunt.specs.declared.row.RaceRow.{RaceRow}
+use Rattle.rv_report.specs.declared.key.Key.{Key}
+use Rattle.rv_tally.specs.GoesOn.{IsLimit, goes_on}
+use Rattle.rv_tally.specs.Plans.{Given, plan_of}
+use Rattle.rv_tally.specs.Tally.{Tally, tally_of}
+use Rattle.rv_tally.specs.declared.limit.Limit.{Limit}
+use Rattle.rv_tally.specs.declared.limit.Limit.TheVariants.{Runs, Budget}
+
+-- What is asked of a hunt: what its runs are made of, what is given of their plans, the ranges of the listed names,
+-- the number of the first run, and how far it goes.
+pub record Hunt : Type 0 where
+  pub source : Source
+  pub given : Given
+  pub ranges : List (ℕ × ℕ)
+  pub first : ℕ
+  pub limit : Limit
+
+-- the runs that are asked for have numbers of 32 bits
+abbrev pub AreNumbers : ℕ → Limit → Type 0
+AreNumbers first (Runs runs) = first + runs ≤ 2 ^ 32
+AreNumbers first (Budget steps) = ⊤
+
+pub record IsHunt (hunt : Hunt) : Type 0 where
+  pub limit : IsLimit hunt.limit
+  pub numbers : AreNumbers hunt.first hunt.limit
+
+-- what is kept of the run of that number
+abbrev pub IsOfRun : Hunt → ℕ → KeptRun → Type 0
+IsOfRun hunt run kept = IsKept (IsKeptRun hunt.ranges) hunt.source (plan_of hunt.given run) run kept
+
+-- ---- what runs saw
+
+abbrev pub summed : List KeptRun → Tally
+summed runs = tally_of (map (λ (kept : KeptRun). kept.summary) runs)
+
+-- a row for each report of the run of that number
+abbrev pub rows_of : ℕ → KeptRun → List (Key × RaceRow)
+rows_of run kept = map (row_of run) kept.reports.items
+
+-- the rows of runs from that number on
+unfoldable pub rows_from : ℕ → List KeptRun → List (Key × RaceRow)
+rows_from first [] = []
+rows_from first (kept ∷ later) = rows_of first kept ++ rows_from (first + 1) later
+
+-- what the runs from that number on saw
+unfoldable pub seen_in : ℕ → List KeptRun → Hunted
+seen_in first runs = record { tally = summed runs; table = table_of (rows_from first runs) }
+
+-- ---- which runs are made
+
+-- The runs from the first on: each has the next number, and each was to be made by what those before it saw.
+pub record AreRuns (hunt : Hunt) (runs : List KeptRun) : Type 0 where
+  pub each : (place : ℕ) (kept : KeptRun) → slice_get runs place ≡ Some kept → IsOfRun hunt (hunt.first + place) kept
+  pub due : (place : ℕ) → place < length runs → goes_on hunt.limit hunt.first (summed (take place runs)) ≡ true
+
+-- This is what so many runs of a hunt saw.
+pub record IsSoFar (hunt : Hunt) (hunted : Hunted) : Type 0 where
+  pub runs : List KeptRun
+  pub are_runs : AreRuns hunt runs
+  pub seen : hunted ≡ seen_in hunt.first runs
+
+-- This is what all runs of a hunt saw: no more is to be made.
+pub record IsHunted (hunt : Hunt) (hunted : Hunted) : Type 0 where
+  pub so_far : IsSoFar hunt hunted
+  pub is_over : goes_on hunt.limit hunt.first hunted.tally ≡ false

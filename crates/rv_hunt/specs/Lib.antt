@@ -1,0 +1,14 @@
+pub mod EndedText
+pub mod Expected
+pub mod HuntLaws
+pub mod HuntRead
+pub mod HuntSays
+pub mod HuntText
+pub mod Hunted
+pub mod HuntedLaws
+pub mod KeptRun
+pub mod Remade
+pub mod Rows
+pub mod ToldOrder
+pub mod WarningText
+pub mod internal

@@ -1,0 +1,51 @@
+//! Why a table's text is refused.
+ghost use Rattle.std.specs.Prelude.{◌≡◌};
+ghost use Rattle.rv_hunt.specs.declared.fault.ReadFault.TheVariants as faults;
+
+use rv_memory::store::NoMemory;
+
+/// What is wrong with a line of a table.
+#[derive(Clone, Copy, Debug, PartialEq, Eq)]
+pub enum TableKind {
+    /// The line is not `races N`, or no row: a hit with `-`, a changed one with two addresses or of class counter or
+    /// ordered is none.
+    Shape,
+    /// A number is outside its field, an address is no multiple of 4, the first address is over the second, or the
+    /// count is 0.
+    Range,
+    /// The race has a row already.
+    Twice,
+    /// There are other rows than the first line says, or the last LF is missing.
+    End,
+}
+
+/// The first line with a fault, from 1 on, and its first fault.
+#[derive(Clone, Copy, Debug, PartialEq, Eq)]
+pub struct TableFault {
+    pub line: u64,
+    pub kind: TableKind,
+}
+
+/// Why there is no table.
+#[derive(Clone, Copy, Debug, PartialEq, Eq)]
+pub enum ReadFault {
+    /// The text is none.
+    Malformed(TableFault),
+    /// A growth was refused.
+    NoMemory,
+}
+
+impl From<NoMemory> for ReadFault {
+    ghost from_gives = { λ _ fault. fault ≡ faults.NoMemory };
+
+    fn from(_: NoMemory) -> ReadFault {
+        ReadFault::NoMemory
+    }
+}
+
+/// The fault of the line of that number, from 1 on.
+pub(crate) fn at(kind: TableKind, line: u64) -> ReadFault
+    ensures { result ≡ faults.Malformed (record { line = line; kind = kind }) }
+{
+    ReadFault::Malformed(TableFault { line, kind })
+}

@@ -1,0 +1,263 @@
+//! Hunts: runs of consecutive numbers, as many as a limit allows.
+ghost use Rattle.std.specs.Prelude.{◌≡◌, ◌↔◌, ◌<◌, ◌≤◌, ◌+◌, ◌^◌, true, length, IfOk, OnOk};
+ghost use Rattle.rv_hunt.specs.Hunted as spec;
+ghost use Rattle.rv_hunt.specs.internal.Lots as internal;
+ghost use Rattle.rv_tally.specs.GoesOn as going;
+
+use crate::hunted::Hunted;
+use crate::kept_run::{Keeper, KeptRun};
+use rv_campaign::{Series, SeriesFault, kept_runs};
+use rv_collide::plan::Plan;
+use rv_elf::Image;
+use rv_memory::store::NoMemory;
+use rv_sample::Sampler;
+use rv_tally::limit::Limit;
+use rv_tally::plans::Plans;
+use std::alloc::Global;
+use std::marker::Model;
+use std::sync::Wait;
+use std::thread::Threads;
+
+/// How many finished runs wait for an earlier one at most, for each worker.
+const MOST_HELD: u32 = 256;
+
+/// How many addresses these arm together at most, where there are more than one.
+const MOST_HELD_ARMS: u32 = 16_384;
+
+/// How many runs are made together at least, for each worker, where the budget may be spent by fewer.
+const LEAST_MADE: u64 = 4;
+
+/// What a run costs besides its steps.
+const COST_OF_A_RUN: u64 = 300;
+
+/// The greatest budget, in steps.
+pub const MOST_BUDGET: u64 = 1_000_000_000_000_000;
+
+/// A hunt: the image, the seed and the sites that its runs are made of, their plans, the ranges of the listed names,
+/// the number of its first run, and how far it goes.
+#[derive(Drop)]
+pub struct Hunt<'a> {
+    pub image: &'a Image,
+    pub seed: u64,
+    pub sampler: &'a Sampler,
+    pub plans: &'a Plans,
+    pub ranges: &'a [(u32, u32)],
+    pub first: u32,
+    pub limit: Limit,
+}
+
+impl<'a> Model for Hunt<'a> {
+    ghost use Rattle.rv_hunt.specs.Hunted.{Hunt as Asked};
+
+    ghost Value = { Asked };
+
+    ghost view = { λ h. record {
+      source = record { image = h.image.now; sites = h.sampler.now; seed = h.seed };
+      given = h.plans.now;
+      ranges = h.ranges.now;
+      first = h.first;
+      limit = h.limit;
+    } };
+}
+
+/// Is told how far a hunt has come.
+pub trait Watch {
+    /// One more run has been added up.
+    fn saw(&mut self, hunted: &Hunted);
+}
+
+/// The plans of so many runs from a number on.
+fn plans_from(alloc: Global, plans: &Plans, next: u32, count: u32) -> Result<Vec<Plan>, NoMemory>
+    requires { next + count ≤ 2 ^ 32 }
+    ensures are { IfOk result (λ made. internal.ArePlans plans.now next made.items) }
+    ensures count { IfOk result (λ made. length made.items ≡ count) }
+{
+    let mut made = Vec::new(alloc);
+    for place in 0..count {
+        made.push(plans.plan(next + place))?;
+    }
+    Ok(made)
+}
+
+impl Hunt<'_> {
+    /// Whether there can be such a hunt: the budget is at most `MOST_BUDGET`, or the numbers of the runs have 32 bits.
+    pub fn is_legal(&self) -> bool
+        ensures { (result ≡ true) ↔ spec.IsHunt self.now }
+    {
+        match self.limit {
+            Limit::Runs(runs) => runs <= (1 << 32) - u64::from(self.first),
+            Limit::Budget(steps) => steps <= MOST_BUDGET,
+        }
+    }
+
+    /// Whether one more run is made.
+    fn goes_on(&self, hunted: &Hunted) -> bool
+        requires { spec.IsHunt self.now }
+        ensures { result ≡ going.goes_on self.now.limit self.now.first hunted.now.tally }
+    {
+        hunted.tally.goes_on(self.limit, self.first)
+    }
+
+    /// The number of the next run.
+    fn next(&self, hunted: &Hunted) -> u32
+        requires hunt { spec.IsHunt self.now }
+        requires goes_on { going.goes_on self.now.limit self.now.first hunted.now.tally ≡ true }
+        ensures { result ≡ self.now.first + hunted.now.tally.runs }
+    {
+        (u64::from(self.first) + hunted.tally.runs()) as u32
+    }
+
+    /// How many finished runs may be held by so many workers, from the run of that number on.
+    fn most_held(&self, next: u32, workers: u8) -> u64
+        ensures { (1 ≤ result) × (result ≤ 65_536) }
+    {
+        let arms = self.plans.plan(next).arms.max(1);
+        let each = (MOST_HELD_ARMS / arms).min(MOST_HELD).max(1);
+        u64::from(each) * u64::from(workers.max(1))
+    }
+
+    /// How many of at most so many runs from a number on are made for certain, where so many steps are left of the
+    /// budget: those before which it can't be spent.
+    fn affordable(&self, next: u32, most: u32, left: u64) -> u32
+        requires { next + most ≤ 2 ^ 32 }
+        ensures { result ≤ most }
+    {
+        let mut spent = 0u64;
+        for place in 0..most {
+            if left <= spent {
+                return place;
+            }
+            let steps = u64::from(self.plans.plan(next + place).steps);
+            spent = spent.saturating_add(steps + COST_OF_A_RUN);
+        }
+        most
+    }
+
+    /// How many runs are made together next: some that are made for certain, and no more than are held.
+    fn lot_len(&self, hunted: &Hunted, next: u32, workers: u8) -> u32
+        ensures some { 1 ≤ result }
+        ensures numbers { next + result ≤ 2 ^ 32 }
+    {
+        let most = self
+            .most_held(next, workers)
+            .min((1 << 32) - u64::from(next)) as u32;
+        let runs = hunted.tally.runs();
+        match self.limit {
+            Limit::Runs(all) => (all.saturating_sub(runs).min(u64::from(most)) as u32).max(1),
+            Limit::Budget(steps) => {
+                let cost = hunted
+                    .tally
+                    .counts()
+                    .steps
+                    .saturating_add(runs.saturating_mul(COST_OF_A_RUN));
+                let some = LEAST_MADE * u64::from(workers.max(1));
+                self.affordable(next, most, steps.saturating_sub(cost))
+                    .max(u64::from(most).min(some) as u32)
+            }
+        }
+    }
+
+    /// Some of the runs from a number on.
+    fn lot<R: Threads + Wait>(
+        &self,
+        rt: &R,
+        alloc: Global,
+        hunted: &Hunted,
+        next: u32,
+        workers: u8,
+    ) -> Result<Vec<KeptRun>, SeriesFault>
+        requires { workers ≤ 16 }
+        ensures lot { IfOk result (λ lot. internal.IsLot self.now next lot.items) }
+        ensures some { IfOk result (λ lot. 1 ≤ length lot.items) }
+        ensures numbers { IfOk result (λ lot. next + length lot.items ≤ 2 ^ 32) }
+    {
+        let count = self.lot_len(hunted, next, workers);
+        let plans = plans_from(alloc, self.plans, next, count)?;
+        let keep = Keeper {
+            image: self.image,
+            ranges: self.ranges,
+        };
+        let series = Series {
+            image: self.image,
+            seed: self.seed,
+            sampler: self.sampler,
+            first: next,
+            plans: &plans,
+            keep: &keep,
+        };
+        let lot = kept_runs(rt, alloc, &series, workers)?;
+        Ok(lot)
+    }
+
+    /// Adds what the next run saw.
+    fn add(
+        &self,
+        alloc: Global,
+        hunted: &mut Hunted,
+        run: u32,
+        kept: &KeptRun,
+    ) -> Result<(), NoMemory>
+        requires so_far { spec.IsSoFar self.now hunted.old }
+        requires goes_on { going.goes_on self.now.limit self.now.first hunted.old.tally ≡ true }
+        requires hunt { spec.IsHunt self.now }
+        requires next { run ≡ self.now.first + hunted.old.tally.runs }
+        requires kept { spec.IsOfRun self.now run kept.now }
+        ensures so_far { OnOk result (spec.IsSoFar self.now hunted.new) }
+        ensures runs { OnOk result (hunted.new.tally.runs ≡ hunted.old.tally.runs + 1) }
+    {
+        hunted.add(alloc, run, kept)?;
+        Ok(())
+    }
+
+    /// Adds what the next runs saw, as long as the hunt goes on.
+    fn add_lot<W: Watch>(
+        &self,
+        alloc: Global,
+        hunted: &mut Hunted,
+        next: u32,
+        lot: &[KeptRun],
+        watch: &mut W,
+    ) -> Result<(), NoMemory>
+        requires so_far { spec.IsSoFar self.now hunted.old }
+        requires goes_on { going.goes_on self.now.limit self.now.first hunted.old.tally ≡ true }
+        requires hunt { spec.IsHunt self.now }
+        requires next { next ≡ self.now.first + hunted.old.tally.runs }
+        requires lot { internal.IsLot self.now next lot.now }
+        requires some { 1 ≤ length lot.now }
+        requires numbers { next + length lot.now ≤ 2 ^ 32 }
+        ensures so_far { OnOk result (spec.IsSoFar self.now hunted.new) }
+        ensures more { OnOk result (hunted.old.tally.runs < hunted.new.tally.runs) }
+    {
+        for place in 0..lot.len() {
+            if !self.goes_on(hunted) {
+                return Ok(());
+            }
+            self.add(alloc, hunted, next + place as u32, &lot[place])?;
+            watch.saw(hunted);
+        }
+        Ok(())
+    }
+
+    /// What the runs of the hunt see: exactly those from the first number on that its limit allows, whatever the number
+    /// of workers (1 to 16). Some runs are made together, which are then added up in the order of their numbers; what
+    /// of them is behind the hunt's end is let go.
+    pub fn hunted<R: Threads + Wait, W: Watch>(
+        &self,
+        rt: &R,
+        alloc: Global,
+        workers: u8,
+        watch: &mut W,
+    ) -> Result<Hunted, SeriesFault>
+        requires hunt { spec.IsHunt self.now }
+        requires workers { workers ≤ 16 }
+        ensures { IfOk result (λ hunted. spec.IsHunted self.now hunted) }
+    {
+        let mut hunted = Hunted::new(alloc);
+        while self.goes_on(&hunted) {
+            let next = self.next(&hunted);
+            let lot = self.lot(rt, alloc, &hunted, next, workers)?;
+            self.add_lot(alloc, &mut hunted, next, &lot, watch)?;
+        }
+        Ok(hunted)
+    }
+}

@@ -1,0 +1,55 @@
+//! What the runs of a hunt saw.
+ghost use Rattle.std.specs.Prelude.{◌≡◌, OnOk, map, [], length};
+ghost use Rattle.std.specs.List.{fold};
+ghost use Rattle.rv_hunt.specs.Hunted as spec;
+ghost use Rattle.rv_hunt.specs.Rows as rows;
+ghost use Rattle.rv_hunt.specs.internal.Lots as internal;
+
+use crate::kept_run::KeptRun;
+use crate::row::row_of;
+use crate::table::HuntTable;
+use rv_explain::races::Report;
+use rv_memory::store::NoMemory;
+use rv_tally::tally::Tally;
+use std::alloc::Global;
+
+/// What runs saw: the sums over all of them, and a row for each race. The row's run is the one that made the report
+/// that the race is told by, and its entry the place of that report's pause.
+#[derive(Drop)]
+pub struct Hunted {
+    pub tally: Tally,
+    pub table: HuntTable,
+}
+
+/// Adds a row for each report of a run.
+fn add_reports(table: &mut HuntTable, run: u32, reports: &[Report]) -> Result<(), NoMemory>
+    ensures { OnOk result (table.new ≡ fold rows.added table.old (map (rows.row_of run) reports.now)) }
+{
+    for report in reports {
+        let (key, row) = row_of(run, report);
+        table.add(key, row)?;
+    }
+    Ok(())
+}
+
+impl Hunted {
+    /// What no run has seen.
+    #[tactic(auto, unfolding(rv_tally::specs::Tally::tally_of))]
+    pub(crate) fn new(alloc: Global) -> Hunted
+        ensures { result ≡ record { tally = spec.summed []; table = [] } }
+    {
+        Hunted {
+            tally: Tally::new(alloc),
+            table: HuntTable::new(alloc),
+        }
+    }
+
+    /// Adds what the run of that number saw. After a refusal of growth it is of no further use.
+    #[tactic(auto, unfolding(crate::specs::internal::Lots::with_run))]
+    pub(crate) fn add(&mut self, alloc: Global, run: u32, kept: &KeptRun) -> Result<(), NoMemory>
+        ensures { OnOk result (self.new ≡ internal.with_run self.old run kept.now) }
+    {
+        self.tally.add(alloc, &kept.summary)?;
+        add_reports(&mut self.table, run, &kept.reports)
+    }
+}

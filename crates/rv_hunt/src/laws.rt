@@ -1,0 +1,22 @@
+//! What holds of hunts and their tables. Each law is the contract of a function that does nothing.
+ghost use Rattle.rv_hunt.specs.HuntLaws.{PiecesAreMerged, TableIsKept, TwoAreMerged};
+ghost use Rattle.rv_hunt.specs.HuntedLaws.{OneResult, PiecesAreWhole, RowsAreTold};
+
+use rv_drive::driver_laws::seeded_runs;
+
+/// Tables of the pieces of a list of rows, merged in the order of the pieces, are the table of the whole list.
+pub fn pieces_are_merged()
+    ensures all { PiecesAreMerged }
+    ensures two { TwoAreMerged }
+    ensures one { TableIsKept }
+{}
+
+/// What is asked of a hunt determines what it sees; the tables of its pieces make the table of the whole; and each row of
+/// its table is told by the run that the row names.
+pub fn hunts_have_one_result()
+    ensures one { OneResult }
+    ensures pieces { PiecesAreWhole }
+    ensures told { RowsAreTold }
+{
+    seeded_runs();
+}

@@ -1,0 +1,173 @@
+use crate::expected::{is_likely_benign, may_be_bug};
+use crate::row::RaceRow;
+use crate::table::HuntTable;
+use rv_explain::block::RaceClass;
+use rv_explain::block::RaceClass::{Counter, Flag, Kept, Named, Ordered};
+use rv_memory::flagged::Flagged;
+use rv_report::key::Key;
+use std::alloc::Global;
+use std::fmt::Debug;
+use std::process::Abort;
+use std::test::Fail;
+
+mod hunts;
+mod reading;
+mod saying;
+
+/// What was found is what is wanted. (Each assertion that a test writes out costs the check a second, and a call of
+/// this one next to nothing.)
+fn assert_is<T: PartialEq + Debug + Drop>(rt: &impl Abort, found: T, wanted: T, what: &str) {
+    assert_eq!(rt; found, wanted, "{what}");
+}
+
+/// A row: its addresses, count, class, run, and a number that its entry and values are made of.
+type Said = (u32, Option<u32>, u64, RaceClass, u32, u32);
+
+fn add(table: &mut HuntTable, said: &Said) -> Result<(), Fail> {
+    let (first, second, count, class, run, number) = *said;
+    let row = RaceRow {
+        count,
+        class,
+        run,
+        entry: number,
+        old: 0,
+        new: number,
+    };
+    table.add(Key { first, second }, row)?;
+    Ok(())
+}
+
+fn table_of(alloc: Global, rows: &[Said]) -> Result<HuntTable, Fail> {
+    let mut table = HuntTable::new(alloc);
+    for row in rows {
+        add(&mut table, row)?;
+    }
+    Ok(table)
+}
+
+fn text(alloc: Global, table: &HuntTable) -> Result<Vec<u8>, Fail> {
+    let mut writer = Flagged::new(Vec::new(alloc));
+    match table.write_table(&mut writer) {
+        Ok(()) => Ok(writer.into_inner()),
+        Err(_) => Err(Fail::from("write")),
+    }
+}
+
+fn shows(rt: &impl Abort, alloc: Global, rows: &[Said], want: &[u8]) -> Result<(), Fail> {
+    let table = table_of(alloc, rows)?;
+    let text = text(alloc, &table)?;
+    assert_is(rt, text.as_slice(), want, "the table");
+    Ok(())
+}
+
+#[test]
+fn an_empty_table(rt: HostRuntime) -> Result<(), Fail> {
+    shows(&rt, rt.alloc(), &[], b"races 0\n")
+}
+
+static ROWS: [Said; 7] = [
+    (0x10054, Some(0x10074), 13, Ordered, 0, 63),
+    (0x1000c, None, 1, Flag, 0, 64),
+    (0x10054, Some(0x10074), 1, Kept, 1, 9),
+    (0x10054, Some(0x10074), 2, Kept, 2, 10),
+    (0x10054, None, 7, Named, 4_294_967_295, 4),
+    (0x1000c, None, u64::MAX, Named, 4, 5),
+    (0x10054, Some(0x10078), 1, Counter, 5, 6),
+];
+
+static WHOLE: &[u8] = b"races 4\n\
+    00010054 00010074 count 16 run 1 entry 9 hit old 00000000 new 00000009 kept\n\
+    0001000c - count 18446744073709551615 run 0 entry 64 changed old 00000000 new 00000040 flag\n\
+    00010054 - count 7 run 4294967295 entry 4 changed old 00000000 new 00000004 named\n\
+    00010054 00010078 count 1 run 5 entry 6 hit old 00000000 new 00000006 counter\n";
+
+#[test]
+fn rows_of_a_race_are_joined(rt: HostRuntime) -> Result<(), Fail> {
+    shows(&rt, rt.alloc(), &ROWS, WHOLE)
+}
+
+/// The tables of the rows before the place and from it on, merged.
+fn merged(alloc: Global, place: usize) -> Result<Vec<u8>, Fail> {
+    let mut table = HuntTable::new(alloc);
+    for piece in [
+        &ROWS[..place.min(ROWS.len())],
+        &ROWS[place.min(ROWS.len())..],
+    ] {
+        table.merge(&table_of(alloc, piece)?)?;
+    }
+    text(alloc, &table)
+}
+
+#[test]
+fn tables_of_pieces_are_merged(rt: HostRuntime) -> Result<(), Fail> {
+    for place in 0..=ROWS.len() {
+        let text = merged(rt.alloc(), place)?;
+        assert_is(&rt, text.as_slice(), WHOLE, "merged");
+    }
+    Ok(())
+}
+
+#[test]
+fn which_races_have_a_row(rt: HostRuntime) -> Result<(), Fail> {
+    let table = table_of(rt.alloc(), &ROWS)?;
+    assert_is(&rt, table.len(), 4, "rows");
+    for (first, second, found) in [
+        (0x10054, Some(0x10074), true),
+        (0x10054, None, true),
+        (0x10074, None, false),
+        (0x1000c, Some(0x1000c), false),
+    ] {
+        assert_is(&rt, table.has(&Key { first, second }), found, "has");
+    }
+    Ok(())
+}
+
+/// A table that has all of the races, some of them, or none. Only those that may be a bug are asked for, and of which
+/// class the expected row is does not matter.
+#[test]
+fn which_races_were_not_expected(rt: HostRuntime) -> Result<(), Fail> {
+    let alloc = rt.alloc();
+    let found = table_of(alloc, &ROWS)?;
+    for (expected, unexpected) in [
+        (ROWS.as_slice(), false),
+        (&ROWS[..1], true),
+        (&ROWS[6..], true),
+        (&[ROWS[0], ROWS[6]], false),
+        (&[(0x10054, Some(0x10074), 1, Named, 9, 9), ROWS[6]], false),
+        (
+            &[
+                (0x10054, Some(0x10074), 1, Kept, 9, 9),
+                (0x10078, None, 1, Counter, 9, 9),
+            ],
+            true,
+        ),
+        (&[], true),
+    ] {
+        let table = table_of(alloc, expected)?;
+        assert_is(&rt, found.has_unexpected(&table), unexpected, "unexpected");
+    }
+    let benign = table_of(alloc, &ROWS[4..6])?;
+    let none = HuntTable::new(alloc);
+    assert_is(
+        &rt,
+        benign.has_unexpected(&none),
+        false,
+        "of none that may be a bug",
+    );
+    assert_is(&rt, none.has_unexpected(&none), false, "of none");
+    Ok(())
+}
+
+#[test]
+fn which_classes_are_counted(rt: HostRuntime) {
+    for (class, bug, benign) in [
+        (Kept, true, false),
+        (Counter, true, false),
+        (Flag, false, true),
+        (Ordered, false, true),
+        (Named, false, false),
+    ] {
+        let found = (may_be_bug(class), is_likely_benign(class));
+        assert_is(&rt, found, (bug, benign), "a class");
+    }
+}

@@ -1,0 +1,285 @@
+//! Hunts: what they see, and when they end.
+use super::{assert_is, text};
+use crate::hunt::{Hunt, Watch};
+use crate::hunted::Hunted;
+use crate::row::RaceRow;
+use rv_elf::Image;
+use rv_explain::block::RaceClass;
+use rv_memory::region::Region;
+use rv_report::key::Key;
+use rv_sample::Sampler;
+use rv_tally::counts::Counts;
+use rv_tally::limit::Limit::{self, Budget, Runs};
+use rv_tally::plans::{Lengths, Plans};
+use std::alloc::Global;
+use std::process::Abort;
+use std::sync::Wait;
+use std::test::Fail;
+use std::thread::Threads;
+
+/// The words of `examples/ring.elf`.
+const RING: [u32; 37] = [
+    0x0002_0437,
+    0x0004_0413,
+    0x0015_5293,
+    0x0062_9293,
+    0x0054_0433,
+    0x0044_0493,
+    0x0084_0913,
+    0x0640_0993,
+    0x0000_0a13,
+    0x0000_0a93,
+    0x0015_7293,
+    0x0202_9a63,
+    0x1404_a2af,
+    0x405a_82b3,
+    0x0080_0313,
+    0xfe62_8ae3,
+    0x007a_f393,
+    0x0023_9393,
+    0x0123_83b3,
+    0x001a_8a93,
+    0x0b54_202f,
+    0x0153_a023,
+    0xfd3a_9ce3,
+    0x02c0_006f,
+    0x1404_22af,
+    0xff52_8ee3,
+    0x007a_f393,
+    0x0023_9393,
+    0x0123_83b3,
+    0x0003_ae03,
+    0x01ca_0a33,
+    0x001a_8a93,
+    0x0b54_a02f,
+    0xfd3a_9ee3,
+    0x05d0_0893,
+    0x000a_0513,
+    0x0000_0073,
+];
+
+/// `lui x6,0x20`, and an exit with the number of the hart.
+const NO_SITES: [u32; 3] = [0x0002_0337, 0x05d0_0893, 0x0000_0073];
+
+/// `lui x6,0x20`, `lw x5,0(x6)`, `addi x5,x5,1`, `sw x5,0(x6)`, and a jump to the load.
+const ENDLESS: [u32; 5] = [
+    0x0002_0337,
+    0x0003_2283,
+    0x0012_8293,
+    0x0053_2023,
+    0xff5f_f06f,
+];
+
+/// An illegal word.
+const TRAP: [u32; 1] = [0];
+
+/// Counts the runs that it is told of.
+#[derive(Drop)]
+struct Seen {
+    runs: u64,
+}
+
+impl Watch for Seen {
+    fn saw(&mut self, _: &Hunted) {
+        self.runs = self.runs.saturating_add(1);
+    }
+}
+
+/// An image of words at 00010000, and 4,096 zero bytes at 00020000.
+fn image(rt: &impl Abort, alloc: Global, words: &[u32]) -> Result<Image, Fail> {
+    let mut bytes = Vec::new(alloc);
+    for word in words {
+        bytes.extend_from_slice(&word.to_le_bytes())?;
+    }
+    let len = bytes.len();
+    assert!(rt; 1 <= len && len <= 65_536);
+    let code = Region {
+        start: 0x10000,
+        bytes,
+        len: len as u32,
+        r: true,
+        w: false,
+        x: true,
+    };
+    let zeros = Region {
+        start: 0x20000,
+        bytes: Vec::new(alloc),
+        len: 4096,
+        r: true,
+        w: true,
+        x: false,
+    };
+    let segments = vec![in alloc; code, zeros]?;
+    Ok(Image::new(0x10000, segments, Vec::new(alloc)).ok_or("an image")?)
+}
+
+/// A hunt that is tried: the image's words, its harts and lengths where they are given, the first run, and the limit.
+type Tried = (
+    &'static [u32],
+    Option<u8>,
+    Option<(u32, u32, u32)>,
+    u32,
+    Limit,
+);
+
+/// Three runs of the ring by the plan of its example.
+const RING_HUNT: Tried = (&RING, None, Some((2000, 64, 100)), 0, Runs(3));
+
+fn plans_of(tried: &Tried) -> Result<Plans, Fail> {
+    let (_, harts, lengths, _, _) = tried;
+    let lengths = lengths.map(|(steps, arms, pause)| Lengths { steps, arms, pause });
+    Ok(Plans::new(*harts, 4, lengths).ok_or("plans")?)
+}
+
+fn hunted<R: Threads + Wait + Abort>(
+    rt: &R,
+    alloc: Global,
+    tried: &Tried,
+    workers: u8,
+    seen: &mut Seen,
+) -> Result<Hunted, Fail> {
+    let (words, _, _, first, limit) = tried;
+    let image = image(rt, alloc, words)?;
+    let plans = plans_of(tried)?;
+    let sampler = Sampler::sites(alloc, &image, &[])?;
+    let hunt = Hunt {
+        image: &image,
+        seed: 1,
+        sampler: &sampler,
+        plans: &plans,
+        ranges: &[],
+        first: *first,
+        limit: *limit,
+    };
+    assert!(rt; hunt.is_legal() && workers <= 16);
+    Ok(hunt.hunted(rt, alloc, workers, seen)?)
+}
+
+/// How many runs there were, how many harts had no steps left, and the numbers.
+type Numbers = (u64, u64, Counts);
+
+fn numbers(hunted: &Hunted) -> Numbers {
+    let tally = &hunted.tally;
+    (tally.runs(), tally.ended().out_of_steps(), tally.counts())
+}
+
+/// The table and the numbers of a hunt by so many workers, which told each run.
+fn told<R: Threads + Wait + Abort>(
+    rt: &R,
+    alloc: Global,
+    tried: &Tried,
+    workers: u8,
+) -> Result<(Vec<u8>, Numbers), Fail> {
+    let mut seen = Seen { runs: 0 };
+    let hunted = hunted(rt, alloc, tried, workers, &mut seen)?;
+    assert_is(rt, seen.runs, hunted.tally.runs(), "runs told");
+    Ok((text(alloc, &hunted.table)?, numbers(&hunted)))
+}
+
+const RING_ROWS: &[u8] = b"races 1\n\
+    00010054 00010074 count 13 run 0 entry 63 hit old 00000000 new 00000001 kept\n";
+
+const RING_COUNTS: Counts = Counts {
+    steps: 6000,
+    quiet: 71,
+    hit: 13,
+    changed: 0,
+    unwatched: 0,
+    passed: 84,
+};
+
+#[test]
+fn the_rings_races(rt: HostRuntime) -> Result<(), Fail> {
+    let (rows, numbers) = told(&rt, rt.alloc(), &RING_HUNT, 2)?;
+    assert_is(&rt, rows.as_slice(), RING_ROWS, "rows");
+    assert_is(&rt, numbers, (3, 14, RING_COUNTS), "numbers");
+    Ok(())
+}
+
+/// The number and the count of what is found again of a row of the ring's hunt, whose pause began at the entry.
+fn found_again(
+    rt: &impl Abort,
+    alloc: Global,
+    run: u32,
+    entry: u32,
+) -> Result<Option<(u32, u64)>, Fail> {
+    let image = image(rt, alloc, &RING)?;
+    let plans = plans_of(&RING_HUNT)?;
+    let sampler = Sampler::sites(alloc, &image, &[])?;
+    let hunt = Hunt {
+        image: &image,
+        seed: 1,
+        sampler: &sampler,
+        plans: &plans,
+        ranges: &[],
+        first: 0,
+        limit: Runs(3),
+    };
+    let key = Key {
+        first: 0x10054,
+        second: Some(0x10074),
+    };
+    let row = RaceRow {
+        count: 13,
+        class: RaceClass::Kept,
+        run,
+        entry,
+        old: 0,
+        new: 1,
+    };
+    let again = hunt.remade(alloc, &[], &key, &row)?;
+    Ok(again.race.map(|race| (race.told.number, race.reports)))
+}
+
+#[test]
+fn the_run_of_a_row_is_made_again(rt: HostRuntime) -> Result<(), Fail> {
+    let found = found_again(&rt, rt.alloc(), 0, 63)?;
+    assert_is(&rt, found, Some((1, 13)), "the row's");
+    let none = found_again(&rt, rt.alloc(), 0, 64)?;
+    assert_is(&rt, none, None, "no row's");
+    Ok(())
+}
+
+/// Hunts, and how many runs they make.
+static HUNTS: [(Tried, u64); 8] = [
+    ((&ENDLESS, None, None, 0, Budget(1)), 1),
+    ((&ENDLESS, None, None, 7, Budget(1300)), 1),
+    ((&ENDLESS, None, Some((1000, 64, 50)), 0, Budget(1301)), 2),
+    ((&NO_SITES, None, None, 0, Runs(300)), 300),
+    ((&RING, Some(1), None, 8, Runs(5)), 5),
+    ((&TRAP, None, None, 0, Budget(20_000)), 48),
+    (
+        (&NO_SITES, None, None, 4_294_967_295, Budget(50_000_000)),
+        1,
+    ),
+    ((&NO_SITES, None, None, 4_294_967_294, Runs(2)), 2),
+];
+
+#[test]
+fn how_many_runs_are_made(rt: HostRuntime) -> Result<(), Fail> {
+    for (tried, runs) in &HUNTS {
+        let (_, (made, _, _)) = told(&rt, rt.alloc(), tried, 2)?;
+        assert_is(&rt, made, *runs, "runs");
+    }
+    Ok(())
+}
+
+/// Hunts that many workers make: of few runs and of many, some of which arm most.
+static SHARED: [Tried; 3] = [
+    (&RING, None, Some((300, 64, 15)), 3, Budget(10_000)),
+    (&ENDLESS, Some(3), Some((300, 4096, 5)), 0, Budget(3000)),
+    (&NO_SITES, None, None, 0, Runs(600)),
+];
+
+#[test]
+fn any_number_of_workers_sees_the_same(rt: HostRuntime) -> Result<(), Fail> {
+    for tried in &SHARED {
+        let one = told(&rt, rt.alloc(), tried, 1)?;
+        for workers in [2u8, 16] {
+            let other = told(&rt, rt.alloc(), tried, workers)?;
+            assert_is(&rt, other.0.as_slice(), one.0.as_slice(), "rows");
+            assert_is(&rt, other.1, one.1, "numbers");
+        }
+    }
+    Ok(())
+}
