@@ -1,1 +1,3 @@
 pub mod DecodedLemmas
+mod SearchLemmas
+pub mod TextLemmas

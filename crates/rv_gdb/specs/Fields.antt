@@ -1,7 +1,5 @@
 -- What the packets of GDB's remote protocol are made of: words, hexadecimal numbers, threads, points and actions.
-use Rattle.std.specs.Prelude.{ℕ, ◌-◌, ◌^◌, ◌==◌, Bool, true, false, ◌&&◌, nat_le, is_some, if◌then◌else◌, Option, Some, None, option_and_then, option_map, List, [], ◌∷◌, codes, length, take, drop, filter_map}
-use Rattle.std.specs.List.{list_all}
-use Rattle.std.specs.Option.{option_map_or}
+use Rattle.std.specs.Prelude.{ℕ, ◌-◌, ◌^◌, ◌==◌, nat_le, if◌then◌else◌, Option, Some, None, option_and_then, option_map, List, [], ◌∷◌, codes, length, take, drop}
 use Rattle.std.specs.Str.{bytes_eq}
 use Rattle.rv_text.specs.Numeral.{number_of, up_to}
 use Rattle.rv_text.specs.Pieces.{pieces_of}

@@ -1,5 +1,14 @@
 pub mod Action
+pub mod Chosen
+pub mod Features
 pub mod Fields
+pub mod Framed
 pub mod Framing
 pub mod Monitor
 pub mod Packet
+pub mod Points
+pub mod Replies
+pub mod Search
+pub mod Sheet
+pub mod Shown
+pub mod Stops

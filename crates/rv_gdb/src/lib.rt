@@ -1,15 +1,24 @@
-//! GDB's remote protocol over a stored schedule: packets, and what they ask.
+//! GDB's remote protocol over a stored schedule: packets, what they ask, and what is answered of a state.
 //!
-//! To the layer above, `specs/` says which packets some bytes make, and what each of them asks. No command uses this crate
-//! yet.
+//! To the layer above, `specs/` says which packets some bytes make, what each of them asks, and the answers that need no
+//! more than the state and what is chosen. No command uses this crate yet.
 #![tactic(auto)]
 
 pub mod action;
+pub mod chosen;
 mod decoded;
+pub mod features;
 pub mod fields;
+pub mod framed;
 pub mod framing;
+mod hexadecimal;
 pub mod monitor;
 pub mod packet;
 pub mod point;
+pub mod points;
+pub mod replies;
+pub mod sheet;
+pub mod shown;
+pub mod stop;
 #[cfg(test)]
 mod tests;

@@ -1,0 +1,30 @@
+//! The packets that are written, as `specs/Framed.antt` has them.
+ghost use Rattle.std.specs.Prelude.{◌≡◌, ◌%◌, ◌||◌, is_err, sum, OnOk};
+ghost use Rattle.std.specs.Io.KnownBytes.{Appends};
+ghost use Rattle.rv_gdb.specs.Framed as spec;
+
+use rv_memory::flagged::WriteFault;
+use rv_memory::output::{Output, put_pieces};
+use rv_text::hexadecimal::byte_digits;
+
+/// The sum of some bytes modulo 256.
+fn sum_of(bytes: &[u8]) -> u8
+    ensures { result ≡ sum bytes.now % 256 }
+{
+    let mut total: u8 = 0;
+    for byte in bytes {
+        total = total.wrapping_add(*byte);
+    }
+    total
+}
+
+/// Writes the packet of some data.
+pub fn write_packet<O: Output>(writer: &mut O, bytes: &[u8]) -> Result<(), WriteFault>
+    ensures ok { OnOk result (Appends (O.written writer.old) (O.written writer.new) (spec.packet_of bytes.now)) }
+    ensures failed { O.has_failed writer.new ≡ (O.has_failed writer.old || is_err result) }
+{
+    put_pieces(writer, &[b"$", bytes, b"#", &byte_digits(sum_of(bytes))])
+}
+
+#[cfg(test)]
+mod tests;

@@ -1,0 +1,112 @@
+use super::*;
+use crate::fields::Range;
+use crate::tests::assert_is;
+use std::test::Fail;
+
+fn point(kind: Kind, from: u32, length: u32) -> Point {
+    Point {
+        kind,
+        bytes: Range { from, length },
+    }
+}
+
+/// Points that are set: a point of kind 0 and one of kind 1, one of each kind that watches, and one of more bytes than
+/// there are addresses.
+const SET: [(Kind, u32, u32); 6] = [
+    (Kind::Software, 0x10004, 4),
+    (Kind::Hardware, 0x10008, 2),
+    (Kind::Access, 0x20000, 2),
+    (Kind::Read, 0x20001, 1),
+    (Kind::Write, 0x20001, 2),
+    (Kind::Write, 0xffff_fffe, 0x1000),
+];
+
+fn points(alloc: Global) -> Result<Points, Fail> {
+    let mut points = Points::new(alloc);
+    for (kind, from, length) in SET {
+        points.set(point(kind, from, length))?;
+    }
+    Ok(points)
+}
+
+#[test]
+fn breaks_at_points_of_kinds_0_and_1(rt: HostRuntime) -> Result<(), Fail> {
+    let points = points(rt.alloc())?;
+    let table = [
+        (0x10004, true),
+        (0x10005, false),
+        (0x10008, true),
+        (0x20000, false),
+    ];
+    for (pc, wanted) in table {
+        assert_is(&rt, points.breaks(pc), wanted, "pc");
+    }
+    Ok(())
+}
+
+/// An access's first byte, its size, whether it reads and writes; the kind and the byte that see it.
+const SEEN: [(u32, u8, bool, bool, Option<(Kind, u32)>); 11] = [
+    (0x20000, 4, true, false, Some((Kind::Access, 0x20000))),
+    (0x20001, 1, true, false, Some((Kind::Read, 0x20001))),
+    (0x20001, 1, true, true, Some((Kind::Write, 0x20001))),
+    (0x20002, 2, false, true, Some((Kind::Write, 0x20002))),
+    (0x20002, 2, true, false, None),
+    (0x20003, 1, true, true, None),
+    (0x1fffe, 2, true, true, None),
+    (
+        0xffff_fffc,
+        4,
+        false,
+        true,
+        Some((Kind::Write, 0xffff_fffe)),
+    ),
+    (0xffff_fffc, 4, true, false, None),
+    (0, 4, false, true, None),
+    (
+        0xffff_ffff,
+        4,
+        false,
+        true,
+        Some((Kind::Write, 0xffff_ffff)),
+    ),
+];
+
+#[test]
+fn sees_the_least_byte_and_there_the_least_kind(rt: HostRuntime) -> Result<(), Fail> {
+    let points = points(rt.alloc())?;
+    for (first, size, read, write, wanted) in SEEN {
+        let access = Access {
+            pc: 0x10000,
+            first,
+            size,
+            read,
+            write,
+        };
+        let found = points.seen(&access);
+        let found = found.map(|sight| (sight.kind, sight.address));
+        assert_is(&rt, found, wanted, "access");
+    }
+    Ok(())
+}
+
+#[test]
+fn holds_256_points(rt: HostRuntime) -> Result<(), Fail> {
+    let mut points = Points::new(rt.alloc());
+    for from in 0..256 {
+        assert_is(
+            &rt,
+            points.set(point(Kind::Write, from, 1)).is_ok(),
+            true,
+            "set",
+        );
+    }
+    let again = points.set(point(Kind::Write, 255, 1)).is_ok();
+    assert_is(&rt, again, true, "set again");
+    assert_is(
+        &rt,
+        points.set(point(Kind::Read, 255, 1)).is_ok(),
+        false,
+        "257",
+    );
+    Ok(())
+}

@@ -1,0 +1,163 @@
+ghost use Rattle.std.specs.Prelude.{All, IfOk};
+ghost use Rattle.rv_memory.specs.Extent.{IsExtent};
+
+use super::*;
+use crate::packet::read_request;
+use crate::shown::{Pause, write_standing};
+use crate::tests::assert_is;
+use rv_hart::access::Access;
+use rv_hart::hart::Status;
+use rv_memory::flat::Flat;
+use rv_memory::region::Region;
+use std::process::Abort;
+use std::test::Fail;
+
+fn region(rt: &impl Abort, start: u32, bytes: Vec<u8>) -> Region
+    ensures { IsExtent result }
+{
+    assert!(rt; bytes.len() <= 16);
+    Region {
+        start,
+        bytes,
+        len: 16,
+        r: true,
+        w: true,
+        x: true,
+    }
+}
+
+fn two(alloc: Global, first: Region, second: Region) -> Result<Vec<Region>, Fail>
+    requires first { IsExtent first }
+    requires second { IsExtent second }
+    ensures { IfOk result (λ all. All IsExtent all.items) }
+{
+    Ok(vec![in alloc; first, second]?)
+}
+
+/// Two harts at 00010000, with 16 bytes there and 16 at the last addresses.
+fn machine(rt: &impl Abort, alloc: Global) -> Result<Machine<Flat>, Fail> {
+    let code = [0x13, 0, 0, 0, 0x73, 0, 0, 0].to_vec(alloc)?;
+    let code = region(rt, 0x10000, code);
+    let last = region(rt, 0xffff_fff0, Vec::new(alloc));
+    let regions = two(alloc, code, last)?;
+    Ok(Machine::new(alloc, &regions, 0x10000, 2, 0)?)
+}
+
+const CHOSEN: Chosen = Chosen {
+    focus: 1,
+    shown: Some(0),
+    going: None,
+};
+
+/// A packet of a stopped run, and its answer: none where it is no question about the state.
+const STATE: [(&str, Option<&str>); 13] = [
+    ("qC", Some("QC2")),
+    ("qfThreadInfo", Some("m1,2")),
+    ("p0", Some("00000000")),
+    ("p2", Some("000001c0")),
+    ("pb", Some("02000000")),
+    ("p20", Some("00000100")),
+    ("p21", Some("E02")),
+    ("m10000,8", Some("1300000073000000")),
+    ("m1000c,100", Some("00000000")),
+    ("mffffffff,4", Some("00")),
+    ("m20000,1", Some("E02")),
+    ("qC2", None),
+    ("?", None),
+];
+
+fn assert_state(
+    rt: &impl Abort,
+    alloc: Global,
+    machine: &Machine<Flat>,
+    text: &str,
+    wanted: Option<&str>,
+) {
+    assert!(rt; text.len() <= 512);
+    assert!(rt; machine.harts() == 2);
+    let mut sheet = Sheet::new(alloc);
+    let Some(request) = read_request(text.as_bytes()) else {
+        assert_is(rt, false, true, text);
+        return;
+    };
+    let answered = write_state_reply(alloc, &mut sheet, machine, &CHOSEN, &request);
+    let found = match answered {
+        Ok(true) => Some(sheet.as_bytes()),
+        _ => None,
+    };
+    assert_is(rt, found, wanted.map(str::as_bytes), text);
+}
+
+#[test]
+fn answers_what_the_state_is(rt: HostRuntime) -> Result<(), Fail> {
+    let alloc = rt.alloc();
+    let machine = machine(&rt, alloc)?;
+    for (text, wanted) in &STATE {
+        assert_state(&rt, alloc, &machine, text, *wanted);
+    }
+    Ok(())
+}
+
+const KNOWN: [(&str, Option<&str>); 8] = [
+    ("QStartNoAckMode", Some("OK")),
+    ("qAttached", Some("1")),
+    ("qsThreadInfo", Some("l")),
+    ("vCont?", Some("vCont;c;C;s;S")),
+    ("qXfer:features:read:other.xml:0,1fb", Some("E02")),
+    ("M20000,1:01", Some("E03")),
+    ("vMustReplyEmpty", Some("")),
+    ("g", None),
+];
+
+#[test]
+fn knows_answers(rt: HostRuntime) {
+    for (text, wanted) in &KNOWN {
+        assert!(rt; text.len() <= 512);
+        let known = match read_request(text.as_bytes()) {
+            Some(request) => known_reply(&request),
+            None => None,
+        };
+        assert_is(&rt, known, wanted.map(str::as_bytes), text);
+    }
+}
+
+fn assert_standing(
+    rt: &impl Abort,
+    alloc: Global,
+    status: Status,
+    pause: Option<Pause>,
+    wanted: &str,
+) {
+    let mut sheet = Sheet::new(alloc);
+    let written = write_standing(&mut sheet, 1, status, &pause);
+    assert_is(rt, written.is_ok(), true, "written");
+    assert_is(rt, sheet.as_bytes(), wanted.as_bytes(), wanted);
+}
+
+#[test]
+fn says_how_a_hart_stands(rt: HostRuntime) {
+    let alloc = rt.alloc();
+    let access = Access {
+        pc: 0x10010,
+        first: 0x20000,
+        size: 4,
+        read: false,
+        write: true,
+    };
+    let pause = Some(Pause { access, slot: 3 });
+    assert_standing(
+        &rt,
+        alloc,
+        Status::Running,
+        pause,
+        "hart 1 paused at pc 00010010 store 00020000 4 slot 3",
+    );
+    assert_standing(&rt, alloc, Status::Running, None, "hart 1 running");
+    assert_standing(
+        &rt,
+        alloc,
+        Status::Exited(5),
+        None,
+        "hart 1 exited 00000005",
+    );
+}
