@@ -6,9 +6,9 @@ use Rattle.std.proofs.lemmas.Bool.Decides.{nat_tests}
 use Rattle.std.proofs.lemmas.Slice.Eq.{bytes_eq-Decides}
 use Rattle.rv_text.specs.Numeral.{number_of, up_to}
 use Rattle.clap.specs.Walk.{Text}
-use Rattle.rvcollide.specs.Command.{Asked, Exhibit, IsEndingGiven, IsGiven, arguments, asm_of, command_job, debug_of, ending_of, exhibit_of, is_option, job_of, list_of, options_job, replay_of, run_of, threads_of, words_of}
+use Rattle.rvcollide.specs.Command.{Asked, Exhibit, IsEndingGiven, IsGiven, arguments, asm_of, command_job, debug_of, ending_of, exhibit_of, explain_of, is_option, job_of, list_of, options_job, replay_of, run_of, threads_of, words_of}
 use Rattle.rvcollide.specs.declared.command.exhibit.TheConstants.{MOST_ENDING}
-use Rattle.rvcollide.proofs.RunGiven.{run_given, threads_given}
+use Rattle.rvcollide.proofs.RunGiven.{explain_given, run_given, threads_given}
 
 later : (x word : Text) (words : List Text) → Contains words x → Contains (word ∷ words) x
 later x word words (k, below, is) = (suc k, omega arith, is)
@@ -136,11 +136,16 @@ job_given (n ∷ name ∷ rest) = by_run (bytes_eq (codes "run") name) refl
 
     Means : Text → Type 0
     Means w = IfSome (cond (bytes_eq (codes "run") w) (options_job run_of (n ∷ w ∷ rest))
-        (cond (bytes_eq (codes "threads") w) (options_job threads_of (n ∷ w ∷ rest)) (command_job w rest))) (IsGiven (n ∷ w ∷ rest))
+        (cond (bytes_eq (codes "threads") w) (options_job threads_of (n ∷ w ∷ rest))
+        (cond (bytes_eq (codes "explain") w) (options_job explain_of (n ∷ w ∷ rest)) (command_job w rest)))) (IsGiven (n ∷ w ∷ rest))
+
+    by_explain : (b : Bool) → bytes_eq (codes "run") name ≡ false → bytes_eq (codes "threads") name ≡ false → bytes_eq (codes "explain") name ≡ b → Means name
+    by_explain true no_run no_threads explain = subst Means ((bytes_eq-Decides (codes "explain") name).0 explain) (explain_given n rest)
+    by_explain false no_run no_threads no_explain = rw (no_run, no_threads, no_explain) (by_words (bytes_eq (codes "words") name) refl)
 
     by_threads : (b : Bool) → bytes_eq (codes "run") name ≡ false → bytes_eq (codes "threads") name ≡ b → Means name
     by_threads true no_run threads = subst Means ((bytes_eq-Decides (codes "threads") name).0 threads) (threads_given n rest)
-    by_threads false no_run no_threads = rw (no_run, no_threads) (by_words (bytes_eq (codes "words") name) refl)
+    by_threads false no_run no_threads = by_explain (bytes_eq (codes "explain") name) no_run no_threads refl
 
     by_run : (b : Bool) → bytes_eq (codes "run") name ≡ b → Means name
     by_run true run = subst Means ((bytes_eq-Decides (codes "run") name).0 run) (run_given n rest)

@@ -1,5 +1,6 @@
 pub mod DebugLemmas
 pub mod ExhibitLemmas
+pub mod ExplainLemmas
 pub mod GivenLemmas
 pub mod LeafLemmas
 pub mod LineLemmas

@@ -112,12 +112,16 @@ spelled (x ∷ y ∷ rest) = go (x == 45) (y == 45) refl refl rest
 
 -- ---- where a value stands
 
--- after its argument's name, or alone where it is the image
+-- the arguments that have no name in the words, of a command with options
+abbrev pub is_place : Text → Bool
+is_place id = bytes_eq (codes "IMAGE") id || bytes_eq (codes "SCHEDULE") id
+
+-- a value stands after its argument's name, or alone where the argument is a place
 abbrev pub IsOption : Text → Type 0
-IsOption id = bytes_eq (codes "IMAGE") id ≡ false
+IsOption id = is_place id ≡ false
 
 abbrev pub Origin : List Text → Text → Text → Type 0
-Origin words id v = (IsOption id × Gives words id v) ⊎ ((codes "IMAGE" ≡ id) × Contains words v)
+Origin words id v = (IsOption id × Gives words id v) ⊎ ((is_place id ≡ true) × Contains words v)
 
 abbrev RowStands : List Text → Row → Type 0
 RowStands words r = Each (Origin words r.id) r.values
@@ -131,7 +135,7 @@ PendingStands words pending = IfSome pending (λ p. Each (Origin words p.0) p.1)
 abbrev HeldStands : List Text → Held → Type 0
 HeldStands words h = RowsStand words h.rows × PendingStands words h.pending
 
--- an argument with a long name that is its id, or the image, or a flag, with no default
+-- an argument with a long name that is its id, or a place, or a flag, with no default
 pub record Told (a : Rule) : Type 0 where
   pub missing : a.missing ≡ []
   pub defaults : a.defaults ≡ []
@@ -141,7 +145,7 @@ pub record Told (a : Rule) : Type 0 where
   pub long : (a.long ≡ None) ⊎ ((a.long ≡ Some a.id) × IsOption a.id)
   pub short : (a.short ≡ None) ⊎ (takes_values a ≡ false)
   pub most : most_values a ≤ 1
-  pub place : (a.index ≡ None) ⊎ ((codes "IMAGE" ≡ a.id) × (takes_several a ≡ false))
+  pub place : (a.index ≡ None) ⊎ ((is_place a.id ≡ true) × (takes_several a ≡ false))
 
 -- ---- rows
 
@@ -406,7 +410,7 @@ module _ (words : List Text) where
       place_good w h stand waiting going =
           go (arg_by_index c w.position) (find_has (λ a. option_map_or (λ i. i == w.position) a.index false) Told c told)
         where
-          placed : (a : Rule) → codes "IMAGE" ≡ a.id → takes_several a ≡ false → HeldStands words (positional_held c a word h)
+          placed : (a : Rule) → is_place a.id ≡ true → takes_several a ≡ false → HeldStands words (positional_held c a word h)
           placed a image one = subst (λ (g : Held). HeldStands words (pushed a.id word g))
               (sym (if_false (is_pending a h.pending && takes_several a) h (settled c h) (and_none (is_pending a h.pending) (takes_several a) one)))
               (push_stands a.id (settled c h) (inr (image, stands_alone)) tt (settles h stand))
@@ -459,12 +463,12 @@ rows_stand c told words =
     held = (fold (walked c []) (walk_from nothing_held) words).held
 
 -- the value that is found for an option stands in the words
-pub value_stands : (words : List Text) (name : Text) (rows : List Row) → bytes_eq (codes "IMAGE") name ≡ false → RowsStand words rows → IfSome (first_of name rows) (Gives words name)
+pub value_stands : (words : List Text) (name : Text) (rows : List Row) → is_place name ≡ false → RowsStand words rows → IfSome (first_of name rows) (Gives words name)
 value_stands words name rows other stand = go (find (λ r. bytes_eq r.id name) rows) (find_has (λ r. bytes_eq r.id name) (RowStands words) rows stand)
   where
     given : (id v : Text) → id ≡ name → Origin words id v → Gives words name v
     given id v same (inl gives) = subst (λ (i : Text). Gives words i v) same gives.1
-    given id v same (inr image) = absurd (true≢false (subst (λ (i : Text). bytes_eq (codes "IMAGE") i ≡ false) (sym (image.0 ∙ same)) other))
+    given id v same (inr place) = absurd (true≢false (sym (subst (λ (i : Text). is_place i ≡ true) same place.0) ∙ other))
 
     first : (id : Text) (values : List Text) → id ≡ name → Each (Origin words id) values → IfSome (slice_get values 0) (Gives words name)
     first id [] same stand = tt
@@ -474,18 +478,18 @@ value_stands words name rows other stand = go (find (λ r. bytes_eq r.id name) r
     go None is = tt
     go (Some r) is = first r.id r.values (same_text r.id name is.0) is.1
 
--- the image is one of the words
-pub image_stands : (words : List Text) (rows : List Row) → RowsStand words rows → IfSome (first_of (codes "IMAGE") rows) (Contains words)
-image_stands words rows stand = go (find (λ r. bytes_eq r.id (codes "IMAGE")) rows) (find_has (λ r. bytes_eq r.id (codes "IMAGE")) (RowStands words) rows stand)
+-- the value of a place is one of the words
+pub place_stands : (words : List Text) (name : Text) (rows : List Row) → is_place name ≡ true → RowsStand words rows → IfSome (first_of name rows) (Contains words)
+place_stands words name rows place stand = go (find (λ r. bytes_eq r.id name) rows) (find_has (λ r. bytes_eq r.id name) (RowStands words) rows stand)
   where
-    first : (values : List Text) → Each (Origin words (codes "IMAGE")) values → IfSome (slice_get values 0) (Contains words)
+    first : (values : List Text) → Each (Origin words name) values → IfSome (slice_get values 0) (Contains words)
     first [] stand = tt
     first (v ∷ vs) stand = elim stand.0 [
-      | inl gives ↦ absurd (true≢false gives.0)
-      | inr image ↦ image.1
+      | inl gives ↦ absurd (true≢false (sym place ∙ gives.0))
+      | inr alone ↦ alone.1
     ]
 
-    go : (o : Option Row) → IfSome o (λ r. (bytes_eq r.id (codes "IMAGE") ≡ true) × RowStands words r)
+    go : (o : Option Row) → IfSome o (λ r. (bytes_eq r.id name ≡ true) × RowStands words r)
         → IfSome (option_and_then (λ r. slice_get r.values 0) o) (Contains words)
     go None is = tt
-    go (Some r) is = first r.values (subst (λ (i : Text). Each (Origin words i) r.values) (same_text r.id (codes "IMAGE") is.0) is.1)
+    go (Some r) is = first r.values (subst (λ (i : Text). Each (Origin words i) r.values) (same_text r.id name is.0) is.1)

@@ -11,7 +11,7 @@ use Rattle.clap.proofs.FaultLemmas.{stopped_fault}
 use Rattle.clap.proofs.WalkLemmas.{walk_stopped}
 use Rattle.rvcollide.proofs.WordLemmas.{Requests, first_stays, turn_is}
 use Rattle.rvcollide.proofs.LeafLemmas.{asm_leaf, asm_outcome, debug_leaf, debug_outcome, exhibit_leaf, exhibit_outcome, if_false, is_dashes, leaf, list_leaf, list_outcome, outcome, replay_leaf, replay_outcome, request_or, words_at, words_job, words_leaf, words_outcome}
-use Rattle.rvcollide.specs.Command.{command_job, job_of, options_job, run_of, threads_of}
+use Rattle.rvcollide.specs.Command.{command_job, explain_of, job_of, options_job, run_of, threads_of}
 use Rattle.rvcollide.specs.ClapProgram.{program}
 use Rattle.rvcollide.specs.internal.FoundJob.{asm_in, debug_in, exhibit_in, job_in, job_read, list_in, replay_in}
 
@@ -117,6 +117,14 @@ threads_job_is : (n : Text) (rest : List Text) → job_read (n ∷ codes "thread
 unfolding job_read
 threads_job_is n rest = rw (threads_rows n rest) refl
 
+pub explain_rows : (n : Text) (rest : List Text) → subcommand_of program (n ∷ codes "explain" ∷ rest) ≡ Some (codes "explain", rows_after (leaf 8).rules [] rest)
+unfolding clap_on_literals
+explain_rows n rest = ap (λ (w : Walk). entered Built w.stopped) (all_left (codes "explain") rest)
+
+explain_job_is : (n : Text) (rest : List Text) → job_read (n ∷ codes "explain" ∷ rest) ≡ options_job explain_of (n ∷ codes "explain" ∷ rest)
+unfolding job_read
+explain_job_is n rest = rw (explain_rows n rest) refl
+
 -- ---- no other word is a command
 
 help_is_none : (n : Text) (rest : List Text) → job_read (n ∷ codes "help" ∷ rest) ≡ None
@@ -146,9 +154,10 @@ record Unmet (word : Text) : Type 0 where
   pub no_run : bytes_eq (codes "run") word ≡ false
   pub no_threads : bytes_eq (codes "threads") word ≡ false
   pub no_exhibit : bytes_eq (codes "exhibit") word ≡ false
+  pub no_explain : bytes_eq (codes "explain") word ≡ false
 
 none_met : (word : Text) → Unmet word → bytes_eq (codes "help") word ≡ false → subcommand_met (names_of Built) idle word ≡ None
-none_met word unmet no_help = rw (unmet.no_words, unmet.no_asm, unmet.no_list, unmet.no_replay, unmet.no_debug, unmet.no_run, unmet.no_threads, unmet.no_exhibit, no_help) refl
+none_met word unmet no_help = rw (unmet.no_words, unmet.no_asm, unmet.no_list, unmet.no_replay, unmet.no_debug, unmet.no_run, unmet.no_threads, unmet.no_exhibit, unmet.no_explain, no_help) refl
 
 turn_refused : (n word : Text) (rest : List Text) → is_empty (turn_fault Built.top (names_of Built) (words_at false) word) ≡ false → job_read (n ∷ word ∷ rest) ≡ None
 unfolding clap_on_literals job_read
@@ -187,10 +196,11 @@ reads_line (n ∷ word ∷ rest) = by_run (bytes_eq (codes "run") word) refl
   where
     Means : Text → Type 0
     Means w = job_read (n ∷ w ∷ rest) ≡ cond (bytes_eq (codes "run") w) (options_job run_of (n ∷ w ∷ rest))
-        (cond (bytes_eq (codes "threads") w) (options_job threads_of (n ∷ w ∷ rest)) (command_job w rest))
+        (cond (bytes_eq (codes "threads") w) (options_job threads_of (n ∷ w ∷ rest))
+        (cond (bytes_eq (codes "explain") w) (options_job explain_of (n ∷ w ∷ rest)) (command_job w rest)))
 
     WithoutOptions : Type 0
-    WithoutOptions = (bytes_eq (codes "run") word ≡ false) × (bytes_eq (codes "threads") word ≡ false)
+    WithoutOptions = (bytes_eq (codes "run") word ≡ false) × (bytes_eq (codes "threads") word ≡ false) × (bytes_eq (codes "explain") word ≡ false)
 
     Same : Text → Type 0
     Same w = job_read (n ∷ w ∷ rest) ≡ command_job w rest
@@ -210,6 +220,7 @@ reads_line (n ∷ word ∷ rest) = by_run (bytes_eq (codes "run") word) refl
           no_debug = no_debug;
           no_run = plain.0;
           no_threads = plain.1;
+          no_explain = plain.2;
           no_exhibit = no_exhibit;
         } in
         no_command n word rest unmet ∙ nothing unmet
@@ -237,13 +248,20 @@ reads_line (n ∷ word ∷ rest) = by_run (bytes_eq (codes "run") word) refl
     by_words true plain words = subst Same (is_word (codes "words") word words) (words_job_is n rest ∙ words_outcome rest)
     by_words false plain no_words = by_asm (bytes_eq (codes "asm") word) plain no_words refl
 
+    by_explain : (b : Bool) → bytes_eq (codes "run") word ≡ false → bytes_eq (codes "threads") word ≡ false → bytes_eq (codes "explain") word ≡ b → Means word
+    by_explain true no_run no_threads explain = subst Means (is_word (codes "explain") word explain) (explain_job_is n rest)
+    by_explain false no_run no_threads no_explain =
+        subst (λ (b : Bool). job_read (n ∷ word ∷ rest) ≡ cond b (options_job run_of (n ∷ word ∷ rest))
+        (cond (bytes_eq (codes "threads") word) (options_job threads_of (n ∷ word ∷ rest))
+        (cond (bytes_eq (codes "explain") word) (options_job explain_of (n ∷ word ∷ rest)) (command_job word rest)))) (sym no_run)
+        (subst (λ (b : Bool). job_read (n ∷ word ∷ rest) ≡ cond b (options_job threads_of (n ∷ word ∷ rest))
+        (cond (bytes_eq (codes "explain") word) (options_job explain_of (n ∷ word ∷ rest)) (command_job word rest))) (sym no_threads)
+        (subst (λ (b : Bool). job_read (n ∷ word ∷ rest) ≡ cond b (options_job explain_of (n ∷ word ∷ rest)) (command_job word rest)) (sym no_explain)
+        (by_words (bytes_eq (codes "words") word) (no_run, no_threads, no_explain) refl)))
+
     by_threads : (b : Bool) → bytes_eq (codes "run") word ≡ false → bytes_eq (codes "threads") word ≡ b → Means word
     by_threads true no_run threads = subst Means (is_word (codes "threads") word threads) (threads_job_is n rest)
-    by_threads false no_run no_threads =
-        subst (λ (b : Bool). job_read (n ∷ word ∷ rest) ≡ cond b (options_job run_of (n ∷ word ∷ rest))
-        (cond (bytes_eq (codes "threads") word) (options_job threads_of (n ∷ word ∷ rest)) (command_job word rest))) (sym no_run)
-        (subst (λ (b : Bool). job_read (n ∷ word ∷ rest) ≡ cond b (options_job threads_of (n ∷ word ∷ rest)) (command_job word rest)) (sym no_threads)
-        (by_words (bytes_eq (codes "words") word) (no_run, no_threads) refl))
+    by_threads false no_run no_threads = by_explain (bytes_eq (codes "explain") word) no_run no_threads refl
 
     by_run : (b : Bool) → bytes_eq (codes "run") word ≡ b → Means word
     by_run true run = subst Means (is_word (codes "run") word run) (run_job_is n rest)

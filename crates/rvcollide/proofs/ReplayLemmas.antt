@@ -77,7 +77,7 @@ run_is : (i s : List ℕ) (contents : Contents) (said : Schedule) → image_of i
 run_is i s contents said is says =
     run_after i s contents is ∙ ap (λ r. told_schedule r >>= λ said. Ok (stored contents said.numbers said.entries)) says
 
-entry_told : (i s : List ℕ) (run : Stored) (given : ReplayFault) → run_of i s ≡ Ok run → IsReplayFault (setting_of run) run.entries given → IsReplayRefusal i s (fault_of_replay given)
+pub entry_told : (i s : List ℕ) (run : Stored) (given : ReplayFault) → run_of i s ≡ Ok run → IsReplayFault (setting_of run) run.entries given → IsReplayRefusal i s (fault_of_replay given)
 entry_told i s run replay.NoMemory is told = tt
 entry_told i s run (replay.Entry place why) is told = rw is told
 

@@ -1,4 +1,4 @@
--- Each option of a line of `run` or `threads` that gives a job stands in its words.
+-- Each option of a line of `run`, `threads` or `explain` that gives a job stands in its words.
 use Rattle.std.proofs.Common.{◌≡◌, ◌<◌, ℕ, refl, cond, true, false, List, Option, Some, None, [], ◌∷◌, inl, inr, arith, codes, nat_le, nat_lt}
 use Rattle.std.proofs.lemmas.Bool.Decides.{nat_tests}
 use Rattle.std.specs.Prelude.{Bool, ◌⊎◌, Contains, IfSome, is_some, option_and_then, option_map}
@@ -9,9 +9,9 @@ use Rattle.clap.proofs.OnLiterals.{clap_on_literals}
 use Rattle.rv_collide.specs.Plan.{Numbers}
 use Rattle.rv_text.specs.Numeral.{number_of, up_to}
 use Rattle.rvcollide.proofs.LeafLemmas.{leaf}
-use Rattle.rvcollide.proofs.OptionLemmas.{Each, RowsStand, Told, image_stands, rows_stand, value_stands}
-use Rattle.rvcollide.proofs.ReadsLine.{run_rows, threads_rows}
-use Rattle.rvcollide.specs.Command.{Asked, IsGiven, options_job, run_of, threads_of}
+use Rattle.rvcollide.proofs.OptionLemmas.{Each, RowsStand, Told, is_place, place_stands, rows_stand, value_stands}
+use Rattle.rvcollide.proofs.ReadsLine.{explain_rows, run_rows, threads_rows}
+use Rattle.rvcollide.specs.Command.{Asked, IsGiven, explain_of, options_job, run_of, threads_of}
 use Rattle.rvcollide.specs.ClapProgram.{is_accepted, program}
 use Rattle.rvcollide.specs.Request.{Request}
 use Rattle.rv_campaign.specs.declared.runs.TheConstants.{MOST_RUNS, MOST_WORKERS}
@@ -19,6 +19,9 @@ use Rattle.rv_collide.specs.declared.plan.TheConstants.{DEFAULT_SLOTS, MOST_ARMS
 use Rattle.rv_break.specs.declared.claim.TheConstants.{MOST_SLOTS}
 use Rattle.rv_hart.specs.declared.machine.TheConstants.{MOST_HARTS}
 use Rattle.rvcollide.specs.declared.command.run.TheConstants.{MOST_KEEP, MOST_SEED}
+use Rattle.rvcollide.specs.Asking.{Asking}
+use Rattle.rvcollide.specs.ExplainLine.{IsExplainGiven, asking_at, most_around, race_at}
+use Rattle.rvcollide.specs.declared.command.explain.TheConstants.{DEFAULT_AROUND, MOST_RACE}
 use Rattle.rvcollide.specs.RunLine.{Gives, GivesNumber, IsPlanGiven, IsRunGiven, request_at, keep_at, number_at, number_in, number_or, plan_at}
 
 -- ---- the arguments of `run`
@@ -102,6 +105,33 @@ threads_told = (
   ),
 )
 
+-- ---- the arguments of `explain`
+
+explain_told : Each Told (leaf 8).rules
+unfolding clap_on_literals
+explain_told = (
+  record { missing = refl; defaults = refl; aliases = refl; short_aliases = refl; acts = inl refl; long = inl refl; short = inl refl; most = omega arith; place = inr (refl, refl) },
+  (
+    record { missing = refl; defaults = refl; aliases = refl; short_aliases = refl; acts = inl refl; long = inl refl; short = inl refl; most = omega arith; place = inr (refl, refl) },
+    (
+      record { missing = refl; defaults = refl; aliases = refl; short_aliases = refl; acts = inl refl; long = inr (refl, refl); short = inl refl; most = omega arith; place = inl refl },
+      (
+        record { missing = refl; defaults = refl; aliases = refl; short_aliases = refl; acts = inl refl; long = inr (refl, refl); short = inl refl; most = omega arith; place = inl refl },
+        (
+          record { missing = refl; defaults = refl; aliases = refl; short_aliases = refl; acts = inl refl; long = inr (refl, refl); short = inl refl; most = omega arith; place = inl refl },
+          (
+            record { missing = refl; defaults = refl; aliases = refl; short_aliases = refl; acts = inl refl; long = inr (refl, refl); short = inl refl; most = omega arith; place = inl refl },
+            (
+              record { missing = refl; defaults = refl; aliases = refl; short_aliases = refl; acts = inr refl; long = inr (refl, refl); short = inr refl; most = omega arith; place = inl refl },
+              tt,
+            ),
+          ),
+        ),
+      ),
+    ),
+  ),
+)
+
 -- ---- numbers
 
 then_holds : {X Y : Type 0} (P : X → Type 0) (Q : Y → Type 0) (f : X → Option Y) (o : Option X) → IfSome o P → ((x : X) → P x → IfSome (f x) Q) → IfSome (option_and_then f o) Q
@@ -129,16 +159,16 @@ number_holds words name text least most stands = go (number_of 10 text) refl
     go (Some n) reads = within n (nat_le least n) (nat_le n most) reads refl refl
 
 module _ (words : List Text) (rows : List Row) (stand : RowsStand words rows) where
-  value : (name : Text) → bytes_eq (codes "IMAGE") name ≡ false → IfSome (first_of name rows) (Gives words name)
+  value : (name : Text) → is_place name ≡ false → IfSome (first_of name rows) (Gives words name)
   value name other = value_stands words name rows other stand
 
-  number : (name : Text) (least most : ℕ) → bytes_eq (codes "IMAGE") name ≡ false → IfSome (number_at name least most rows) (GivesNumber words name least most)
+  number : (name : Text) (least most : ℕ) → is_place name ≡ false → IfSome (number_at name least most rows) (GivesNumber words name least most)
   number name least most other =
       then_holds (Gives words name) (GivesNumber words name least most) (λ text. number_in least most text) (first_of name rows) (value name other)
       (λ text stands. number_holds words name text least most stands)
 
   -- the number of an option that may be left out
-  number_or_default : (default : ℕ) (name : Text) (least most : ℕ) → bytes_eq (codes "IMAGE") name ≡ false
+  number_or_default : (default : ℕ) (name : Text) (least most : ℕ) → is_place name ≡ false
       → IfSome (number_or default name least most rows) (λ n. (n ≡ default) ⊎ GivesNumber words name least most n)
   number_or_default default name least most other = which (is_some (first_of name rows))
     where
@@ -198,17 +228,53 @@ module _ (words : List Text) (rows : List Row) (stand : RowsStand words rows) wh
       })))))
 
   rows_given : (n : Text) → IfSome (run_of rows) (IsGiven (n ∷ codes "run" ∷ words))
-  rows_given n = then_holds (Contains words) (IsGiven (n ∷ codes "run" ∷ words)) _ (first_of (codes "IMAGE") rows) (image_stands words rows stand) (λ path image.
+  rows_given n = then_holds (Contains words) (IsGiven (n ∷ codes "run" ∷ words)) _ (first_of (codes "IMAGE") rows) (place_stands words (codes "IMAGE") rows refl stand) (λ path image.
       map_holds (RequestGiven path) (IsGiven (n ∷ codes "run" ∷ words)) _ (request_at rows) (request_given path image) (λ request given. (refl, given)))
 
   threads_rows_given : (n : Text) → IfSome (threads_of rows) (IsGiven (n ∷ codes "threads" ∷ words))
-  threads_rows_given n = then_holds (Contains words) Given _ (first_of (codes "IMAGE") rows) (image_stands words rows stand) (λ path image.
+  threads_rows_given n = then_holds (Contains words) Given _ (first_of (codes "IMAGE") rows) (place_stands words (codes "IMAGE") rows refl stand) (λ path image.
       then_holds PlanGiven Given _ (plan_at rows) plan_given (λ plan p.
       map_holds _ Given _ (number_at (codes "seed") 0 MOST_SEED rows) (number (codes "seed") 0 MOST_SEED refl) (λ seed s.
       (refl, record { image = image; plan = p; seed = s; save = value (codes "save") refl }))))
     where
       Given : Asked → Type 0
       Given = IsGiven (n ∷ codes "threads" ∷ words)
+
+  abbrev RaceGiven : Option ℕ → Type 0
+  RaceGiven race = IfSome race (GivesNumber words (codes "race") 1 MOST_RACE)
+
+  race_given : IfSome (race_at rows) RaceGiven
+  race_given = which (is_some (first_of (codes "race") rows))
+    where
+      which : (given : Bool) → IfSome (cond given (option_map (λ k. Some k) (number_at (codes "race") 1 MOST_RACE rows)) (Some None)) RaceGiven
+      which true = map_holds (GivesNumber words (codes "race") 1 MOST_RACE) RaceGiven (λ k. Some k) (number_at (codes "race") 1 MOST_RACE rows) (number (codes "race") 1 MOST_RACE refl) (λ k given. given)
+      which false = tt
+
+  -- what stands in the words of what is asked of `explain`
+  abbrev AskingGiven : Text → Text → Asking → Type 0
+  AskingGiven path schedule asking = IsExplainGiven words path schedule asking (first_of (codes "picture") rows)
+
+  asking_given : (path schedule : Text) → Contains words path → Contains words schedule → IfSome (asking_at rows) (AskingGiven path schedule)
+  asking_given path schedule stands other =
+      let most = most_around (first_of (codes "picture") rows) in
+      then_holds _ (AskingGiven path schedule) _ (number_or DEFAULT_AROUND (codes "around") 0 most rows) (number_or_default DEFAULT_AROUND (codes "around") 0 most refl) (λ around a.
+      map_holds RaceGiven (AskingGiven path schedule) _ (race_at rows) race_given (λ race r.
+      record {
+        image = stands;
+        schedule = other;
+        around = a;
+        race = r;
+        named = value (codes "named") refl;
+        picture = value (codes "picture") refl;
+      }))
+
+  explain_rows_given : (n : Text) → IfSome (explain_of rows) (IsGiven (n ∷ codes "explain" ∷ words))
+  explain_rows_given n = then_holds (Contains words) Given _ (first_of (codes "IMAGE") rows) (place_stands words (codes "IMAGE") rows refl stand) (λ path image.
+      then_holds (Contains words) Given _ (first_of (codes "SCHEDULE") rows) (place_stands words (codes "SCHEDULE") rows refl stand) (λ schedule other.
+      map_holds (AskingGiven path schedule) Given _ (asking_at rows) (asking_given path schedule image other) (λ asking given. (refl, given))))
+    where
+      Given : Asked → Type 0
+      Given = IsGiven (n ∷ codes "explain" ∷ words)
 
 -- what holds of the job in what `clap` finds holds of the line's
 line_given : (meaning : List Row → Option Asked) (words : List Text) (name : Text) (rows : List Row) → subcommand_of program words ≡ Some (name, rows)
@@ -226,3 +292,7 @@ run_given n rest = line_given run_of (n ∷ codes "run" ∷ rest) (codes "run") 
 pub threads_given : (n : Text) (rest : List Text) → IfSome (options_job threads_of (n ∷ codes "threads" ∷ rest)) (IsGiven (n ∷ codes "threads" ∷ rest))
 threads_given n rest = line_given threads_of (n ∷ codes "threads" ∷ rest) (codes "threads") (rows_after (leaf 6).rules [] rest) (threads_rows n rest)
     (threads_rows_given rest (rows_after (leaf 6).rules [] rest) (rows_stand (leaf 6).rules threads_told rest) n)
+
+pub explain_given : (n : Text) (rest : List Text) → IfSome (options_job explain_of (n ∷ codes "explain" ∷ rest)) (IsGiven (n ∷ codes "explain" ∷ rest))
+explain_given n rest = line_given explain_of (n ∷ codes "explain" ∷ rest) (codes "explain") (rows_after (leaf 8).rules [] rest) (explain_rows n rest)
+    (explain_rows_given rest (rows_after (leaf 8).rules [] rest) (rows_stand (leaf 8).rules explain_told rest) n)

@@ -2,6 +2,7 @@
 use Rattle.std.proofs.Common.{◌≡◌, ℕ, List, [], get_or, Option, Some, None, Result, Ok, Err, refl, sym, ap, subst, ◌∙◌}
 use Rattle.std.specs.Prelude.{Bool, true, false, ◌||◌, All, IfSome, IsOkAnd, ◌⊎◌}
 use Rattle.std.proofs.Common.{inl, inr}
+use Rattle.std.specs.Result.{IsOk, is_ok}
 use Rattle.std.proofs.lemmas.Option.{slice_get-get_or}
 use Rattle.rv_campaign.specs.Campaign.{AreRuns, fault_of, number_fault}
 use Rattle.rv_campaign.specs.Run.{Hunt, IsRun, sampling_of}
@@ -24,21 +25,25 @@ use Rattle.rvcollide.specs.Request.{Request}
 use Rattle.rvcollide.specs.Campaigns.{Campaign, campaign_of, elements, listed, skipped, unless_some}
 use Rattle.rvcollide.specs.Fault.{IsToldFault}
 use Rattle.rvcollide.specs.Images.{image_of}
-use Rattle.rvcollide.specs.CommandFault.{Refusal, Plain, Campaign as Numbered, IsTold, plainly, refusal_of_campaign}
+use Rattle.rvcollide.specs.CommandFault.{Refusal, Plain, Campaign as Numbered, NoThread, IsTold, is_thread, plainly, refusal_of_campaign}
 use Rattle.rvcollide.specs.declared.fault.Fault.{Fault}
 use Rattle.rvcollide.specs.declared.fault.Fault.TheVariants.{Read, Write, NoMemory}
 
 -- ---- a refusal, where more steps would follow
 
+never : {P : Type 0} → true ≡ false → P
+never h = cc
+
 err_then : {A B : Type 0} (r : Result A Refusal) (next : A → Result B Refusal) (told : Refusal) → r ≡ Err told → (r >>= next) ≡ Err told
 err_then (Ok a) next told h = cc
 err_then (Err e) next told h = cc
 
-told_then : {A B : Type 0} (r : Result A Refusal) (next : A → Result B Refusal) (told : Refusal) → IsTold r told → IsTold (r >>= next) told
-told_then r next (Plain Read) h = tt
-told_then r next (Plain Write) h = tt
-told_then r next (Plain NoMemory) h = tt
-told_then r next told h = err_then r next told h
+told_then : {A B : Type 0} (r : Result A Refusal) (next : A → Result B Refusal) (told : Refusal) → is_thread told ≡ false → IsTold r told → IsTold (r >>= next) told
+told_then r next (Plain Read) other h = tt
+told_then r next (Plain Write) other h = tt
+told_then r next (Plain NoMemory) other h = tt
+told_then r next NoThread other h = never other
+told_then r next told other h = err_then r next told h
 
 plainly_told : {A : Type 0} (r : Result A Fault) (fault : Fault) → IsToldFault r fault → IsTold (plainly r) (Plain fault)
 plainly_told r Read h = tt
@@ -73,27 +78,30 @@ pub image_refused : (known : Option (List ℕ)) (r : Request) (fault : Fault) (t
 unfolding campaign_of
 image_refused None r fault told is h = tt
 image_refused (Some bytes) r fault told is h =
-    subst (λ (t : Refusal). IsTold (campaign_of r bytes) t) (sym is) (told_then (plainly (image_of bytes)) (with_image r) (Plain fault) (plainly_told (image_of bytes) fault h))
+    subst (λ (t : Refusal). IsTold (campaign_of r bytes) t) (sym is) (told_then (plainly (image_of bytes)) (with_image r) (Plain fault) refl (plainly_told (image_of bytes) fault h))
 
-pub skip_refused : (known : Option (List ℕ)) (r : Request) (image : Contents) (told : Refusal) → IfSome known (λ bytes. image_of bytes ≡ Ok image) → IsTold (skipped (elements r.skip)) told → IfSome known (λ bytes. IsTold (campaign_of r bytes) told)
-skip_refused None r image told is h = tt
-skip_refused (Some bytes) r image told is h =
-    subst (λ (o : Result Campaign Refusal). IsTold o told) (sym (of_image r bytes image is)) (told_then (skipped (elements r.skip)) (with_names r image) told h)
+pub skip_refused : (known : Option (List ℕ)) (r : Request) (image : Contents) (told : Refusal) → is_thread told ≡ false → IfSome known (λ bytes. image_of bytes ≡ Ok image) → IsTold (skipped (elements r.skip)) told → IfSome known (λ bytes. IsTold (campaign_of r bytes) told)
+skip_refused None r image told other is h = tt
+skip_refused (Some bytes) r image told other is h =
+    subst (λ (o : Result Campaign Refusal). IsTold o told) (sym (of_image r bytes image is)) (told_then (skipped (elements r.skip)) (with_names r image) told other h)
 
-pub names_refused : (known : Option (List ℕ)) (r : Request) (image : Contents) (excluded : List ℕ) (told : Refusal) → IfSome known (λ bytes. image_of bytes ≡ Ok image) → skipped (elements r.skip) ≡ Ok excluded → IsTold (listed image (elements r.named)) told → IfSome known (λ bytes. IsTold (campaign_of r bytes) told)
-names_refused None r image excluded told is skips h = tt
-names_refused (Some bytes) r image excluded told is skips h =
-    subst (λ (o : Result Campaign Refusal). IsTold o told) (sym (of_skipped r bytes image excluded is skips)) (told_then (listed image (elements r.named)) (numbered r image excluded) told h)
+pub names_refused : (known : Option (List ℕ)) (r : Request) (image : Contents) (excluded : List ℕ) (told : Refusal) → is_thread told ≡ false → IfSome known (λ bytes. image_of bytes ≡ Ok image) → skipped (elements r.skip) ≡ Ok excluded → IsTold (listed image (elements r.named)) told → IfSome known (λ bytes. IsTold (campaign_of r bytes) told)
+names_refused None r image excluded told other is skips h = tt
+names_refused (Some bytes) r image excluded told other is skips h =
+    subst (λ (o : Result Campaign Refusal). IsTold o told) (sym (of_skipped r bytes image excluded is skips)) (told_then (listed image (elements r.named)) (numbered r image excluded) told other h)
 
 number_told : (r : Request) (image : Contents) (excluded : List ℕ) (named : List (ℕ × ℕ)) (number : NumberFault) → fault_of r.plan r.runs r.workers ≡ Some number → numbered r image excluded named ≡ Err (Numbered number)
 number_told r image excluded named number h = ap (λ o. unless_some o Numbered >>= λ _. Ok (record { hunt = record { image = image; plan = r.plan; seed = r.seed; excluded = excluded }; listed = named })) h
+
+numbers_accepted : (r : Request) (image : Contents) (excluded : List ℕ) (named : List (ℕ × ℕ)) → fault_of r.plan r.runs r.workers ≡ None → IsOk (numbered r image excluded named)
+numbers_accepted r image excluded named h = ap (λ o. is_ok {T = Campaign} (unless_some o Numbered >>= λ _. Ok (record { hunt = record { image = image; plan = r.plan; seed = r.seed; excluded = excluded }; listed = named }))) h
 
 fault_told : (r : Request) (image : Contents) (excluded : List ℕ) (named : List (ℕ × ℕ)) (fault : CampaignFault Infallible) → fault_of r.plan r.runs r.workers ≡ number_fault fault → IsTold (numbered r image excluded named) (refusal_of_campaign fault)
 fault_told r image excluded named campaign.NoMemory h = tt
 fault_told r image excluded named campaign.TooLarge h = number_told r image excluded named number.TooLarge h
 fault_told r image excluded named campaign.Runs h = number_told r image excluded named number.Runs h
 fault_told r image excluded named campaign.Workers h = number_told r image excluded named number.Workers h
-fault_told r image excluded named campaign.NoThread h = tt
+fault_told r image excluded named campaign.NoThread h = numbers_accepted r image excluded named h
 fault_told r image excluded named (campaign.GateClosed worker shut) h = elim shut [ ]
 
 pub numbers_refused : (known : Option (List ℕ)) (r : Request) (image : Contents) (excluded : List ℕ) (named : List (ℕ × ℕ)) (fault : CampaignFault Infallible) (told : Refusal) → told ≡ refusal_of_campaign fault → IfSome known (λ bytes. image_of bytes ≡ Ok image) → skipped (elements r.skip) ≡ Ok excluded → listed image (elements r.named) ≡ Ok named → fault_of r.plan r.runs r.workers ≡ number_fault fault → IfSome known (λ bytes. IsTold (campaign_of r bytes) told)

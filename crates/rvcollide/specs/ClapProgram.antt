@@ -39,6 +39,10 @@ run_options = plan_options ++ required_option (codes "seed") ∷ required_option
 abbrev pub threads_options : List Rule
 threads_options = plan_options ++ required_option (codes "seed") ∷ option (codes "save") ∷ []
 
+-- the options of `explain`
+abbrev pub explain_options : List Rule
+explain_options = option (codes "named") ∷ option (codes "around") ∷ option (codes "race") ∷ option (codes "picture") ∷ []
+
 -- a command's name, and what it takes
 abbrev pub command : Text → List Rule → Shape
 command name rules = record (new_shape name) { rules = rules }
@@ -52,6 +56,7 @@ commands = command (codes "words") []
     ∷ command (codes "run") (image ∷ run_options)
     ∷ command (codes "threads") (image ∷ threads_options)
     ∷ command (codes "exhibit") (image ∷ schedule ∷ required_word (codes "N") ∷ [])
+    ∷ command (codes "explain") (image ∷ schedule ∷ explain_options)
     ∷ []
 
 abbrev pub without_commands : App

@@ -6,7 +6,9 @@ use Rattle.clap.specs.Words.{Row, first_of, subcommand_of}
 use Rattle.rv_collide.specs.Numbers.{numbers}
 use Rattle.rv_collide.specs.Plan.{Numbers}
 use Rattle.rv_text.specs.Numeral.{number_of, up_to}
+use Rattle.rvcollide.specs.Asking.{Asking, asking}
 use Rattle.rvcollide.specs.ClapProgram.{is_accepted, program}
+use Rattle.rvcollide.specs.ExplainLine.{IsExplainGiven, asking_at}
 use Rattle.rvcollide.specs.Request.{Request, request}
 use Rattle.rvcollide.specs.RunLine.{IsRunGiven, IsThreadsGiven, number_at, plan_at, request_at}
 use Rattle.rvcollide.specs.declared.command.Job.{Job}
@@ -30,6 +32,7 @@ pub data Asked : Type 0 where
   Run : (image : List ℕ) → (wanted : Request) → (save : Option (List ℕ)) → Asked
   Threads : (image : List ℕ) → (plan : Numbers) → (seed : ℕ) → (save : Option (List ℕ)) → Asked
   Exhibit : (image schedule : List ℕ) → (number : ℕ) → Asked
+  Explain : (image schedule : List ℕ) → (wanted : Asking) → (picture : Option (List ℕ)) → Asked
 
 -- what a job asks for: each of its paths in its own role
 abbrev pub asked : Job → Asked
@@ -41,8 +44,9 @@ asked (job.Debug image schedule) = Debug image.0.now schedule.0.now
 asked (job.Run image options save) = Run image.0.now (request options) (option_map (λ path. path.0.now) save)
 asked (job.Threads image plan seed save) = Threads image.0.now (numbers plan) seed (option_map (λ path. path.0.now) save)
 asked (job.Exhibit image schedule number) = Exhibit image.0.now schedule.0.now number
+asked (job.Explain image schedule options picture) = Explain image.0.now schedule.0.now (asking options) (option_map (λ path. path.0.now) picture)
 
--- a hyphen and a character after it begin an option. No command but `run` and `threads` has options.
+-- a hyphen and a character after it begin an option. No command but `run`, `threads` and `explain` has options.
 abbrev pub is_option : List ℕ → Bool
 is_option [] = false
 is_option (byte ∷ rest) = byte == 45 && is_some (slice_get (chars rest) 0)
@@ -99,6 +103,11 @@ abbrev pub threads_of : List Row → Option Asked
 threads_of rows = option_and_then (λ image. option_and_then (λ plan. option_map (λ seed. Threads image plan seed (first_of (codes "save") rows))
     (number_at (codes "seed") 0 MOST_SEED rows)) (plan_at rows)) (first_of (codes "IMAGE") rows)
 
+-- `explain IMAGE SCHEDULE` with its options
+abbrev pub explain_of : List Row → Option Asked
+explain_of rows = option_and_then (λ image. option_and_then (λ schedule. option_map (λ wanted. Explain image schedule wanted (first_of (codes "picture") rows))
+    (asking_at rows)) (first_of (codes "SCHEDULE") rows)) (first_of (codes "IMAGE") rows)
+
 -- the job of a line whose command has options: `clap` finds no fault in it, and each number is in its range
 abbrev pub options_job : (List Row → Option Asked) → List (List ℕ) → Option Asked
 options_job meaning words = if is_accepted words then option_and_then (λ found. meaning found.1) (subcommand_of program words) else None
@@ -119,7 +128,8 @@ unfoldable pub job_of : List (List ℕ) → Option Asked
 job_of (name ∷ command ∷ rest) =
     if bytes_eq (codes "run") command then options_job run_of (name ∷ command ∷ rest)
     else (if bytes_eq (codes "threads") command then options_job threads_of (name ∷ command ∷ rest)
-    else command_job command rest)
+    else (if bytes_eq (codes "explain") command then options_job explain_of (name ∷ command ∷ rest)
+    else command_job command rest))
 job_of _ = None
 
 -- the number stands among the words, and lies in its range
@@ -139,3 +149,4 @@ IsGiven words (Debug image schedule) = (slice_get words 1 ≡ Some (codes "debug
 IsGiven words (Run image wanted save) = (slice_get words 1 ≡ Some (codes "run")) × IsRunGiven (drop 2 words) image wanted save
 IsGiven words (Threads image plan seed save) = (slice_get words 1 ≡ Some (codes "threads")) × IsThreadsGiven (drop 2 words) image plan seed save
 IsGiven words (Exhibit image schedule number) = (slice_get words 1 ≡ Some (codes "exhibit")) × Contains (drop 2 words) image × Contains (drop 2 words) schedule × IsEndingGiven (drop 2 words) number
+IsGiven words (Explain image schedule wanted picture) = (slice_get words 1 ≡ Some (codes "explain")) × IsExplainGiven (drop 2 words) image schedule wanted picture

@@ -1,5 +1,6 @@
 -- Why `run` is refused. A text that a refusal tells is its bytes.
-use Rattle.std.specs.Prelude.{◌≡◌, ⊤, ℕ, Bool, false, Option, Some, List, ◌++◌, codes, Result, Ok, Err}
+use Rattle.std.specs.Prelude.{◌≡◌, ⊤, ℕ, Bool, true, false, Option, Some, List, ◌++◌, codes, Result, Ok, Err}
+use Rattle.std.specs.Result.{IsOk}
 use Rattle.rv_campaign.specs.declared.runs.CampaignFault.{CampaignFault}
 use Rattle.rv_campaign.specs.declared.runs.CampaignFault.TheVariants as campaign
 use Rattle.rv_campaign.specs.declared.runs.NumberFault.{NumberFault}
@@ -13,27 +14,31 @@ use Rattle.rvcollide.specs.declared.run.fault.CommandFault.{CommandFault}
 use Rattle.rvcollide.specs.declared.run.fault.CommandFault.TheVariants as run
 
 -- a fault that any command may tell; an element of the list of addresses that is none; a name that no symbol has;
--- and why the numbers of a campaign are refused
+-- why the numbers of a campaign are refused; that a worker's thread could not be started; and that there is no race of
+-- the number that was asked for
 pub data Refusal : Type 0 where
   Plain : Fault → Refusal
   Skip : (element : List ℕ) → Refusal
   Name : (name : List ℕ) → Refusal
   Campaign : NumberFault → Refusal
+  NoThread : Refusal
+  NoRace : Refusal
 
 abbrev pub refusal : CommandFault → Refusal
 refusal (run.Plain fault) = Plain fault
 refusal (run.Skip element) = Skip element.now
 refusal (run.Name name) = Name name.now
 refusal (run.Campaign fault) = Campaign fault
+refusal run.NoThread = NoThread
+refusal run.NoRace = NoRace
 
--- that a worker can't be started is told as want of memory, which is no fault of a campaign's numbers; and a gate
--- that always lets in gives no value to refuse with
+-- a gate that always lets in gives no value to refuse with
 abbrev pub refusal_of_campaign : CampaignFault Infallible → Refusal
 refusal_of_campaign campaign.NoMemory = Plain NoMemory
 refusal_of_campaign campaign.TooLarge = Campaign number.TooLarge
 refusal_of_campaign campaign.Runs = Campaign number.Runs
 refusal_of_campaign campaign.Workers = Campaign number.Workers
-refusal_of_campaign campaign.NoThread = Plain NoMemory
+refusal_of_campaign campaign.NoThread = NoThread
 refusal_of_campaign (campaign.GateClosed worker shut) = elim shut [ ]
 
 -- a fault that any command may tell, as one of `run`
@@ -41,7 +46,8 @@ abbrev pub plainly : {A : Type 0} → Result A Fault → Result A Refusal
 plainly (Ok a) = Ok a
 plainly (Err fault) = Err (Plain fault)
 
--- The refusal is the one that is told of the inputs; that a device failed or memory is out says nothing of them.
+-- The refusal is the one that is told of the inputs; that a device failed or memory is out says nothing of them, and
+-- that a thread could not be started is told only where there is nothing to refuse in them.
 abbrev pub IsTold : {A : Type 0} → Result A Refusal → Refusal → Type 0
 IsTold told (Plain (Line number)) = told ≡ Err (Plain (Line number))
 IsTold told (Plain (Step number fault)) = told ≡ Err (Plain (Step number fault))
@@ -58,6 +64,8 @@ IsTold told (Plain NoMemory) = ⊤
 IsTold told (Skip element) = told ≡ Err (Skip element)
 IsTold told (Name name) = told ≡ Err (Name name)
 IsTold told (Campaign fault) = told ≡ Err (Campaign fault)
+IsTold told NoThread = IsOk told
+IsTold told NoRace = told ≡ Err NoRace
 
 -- the refusal is that the reader failed
 abbrev pub is_read : Refusal → Bool
@@ -65,6 +73,8 @@ is_read (Plain fault) = plain.is_read fault
 is_read (Skip element) = false
 is_read (Name name) = false
 is_read (Campaign fault) = false
+is_read NoThread = false
+is_read NoRace = false
 
 -- the refusal is that a writer failed
 abbrev pub is_write : Refusal → Bool
@@ -72,6 +82,17 @@ is_write (Plain fault) = plain.is_write fault
 is_write (Skip element) = false
 is_write (Name name) = false
 is_write (Campaign fault) = false
+is_write NoThread = false
+is_write NoRace = false
+
+-- the refusal is that a thread could not be started
+abbrev pub is_thread : Refusal → Bool
+is_thread (Plain fault) = false
+is_thread (Skip element) = false
+is_thread (Name name) = false
+is_thread (Campaign fault) = false
+is_thread NoThread = true
+is_thread NoRace = false
 
 -- something was refused, and the refusal passes the test
 abbrev pub fails_by : {A : Type 0} → (Refusal → Bool) → Result A CommandFault → Bool
@@ -91,6 +112,8 @@ refusal_output (run.Plain fault) = text.fault_output fault
 refusal_output (run.Skip element) = Some (codes "skip " ++ element.now)
 refusal_output (run.Name name) = Some (codes "name " ++ name.now)
 refusal_output (run.Campaign fault) = Some (codes "campaign " ++ number_fault_name fault)
+refusal_output run.NoThread = Some (codes "campaign NoThread")
+refusal_output run.NoRace = Some (codes "explain NoRace")
 
 -- the exit status
 abbrev pub status : CommandFault → ℕ
@@ -98,3 +121,5 @@ status (run.Plain fault) = text.status fault
 status (run.Skip element) = 1
 status (run.Name name) = 1
 status (run.Campaign fault) = 1
+status run.NoThread = 1
+status run.NoRace = 1

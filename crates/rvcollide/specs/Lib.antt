@@ -1,9 +1,12 @@
+pub mod Asking
 pub mod Campaigns
 pub mod ClapProgram
 pub mod Command
 pub mod CommandFault
 pub mod Debug
 pub mod Exhibits
+pub mod ExplainLine
+pub mod Explains
 pub mod Failure
 pub mod Fault
 pub mod FaultText
@@ -12,6 +15,8 @@ pub mod Notice
 pub mod Replay
 pub mod Request
 pub mod RunLine
+pub mod Sentences
+pub mod Shown
 pub mod Sources
 pub mod Threads
 pub mod Words

@@ -2,3 +2,4 @@
 pub mod Commands
 pub mod FoundJob
 pub mod Hunted
+pub mod Opened

@@ -15,3 +15,7 @@ pub struct SchedulePath<'a>(pub &'a str);
 /// The path of a file for a schedule that is saved.
 #[derive(Clone, Copy, Debug, PartialEq, Eq)]
 pub struct SavePath<'a>(pub &'a str);
+
+/// The path of a file for a picture.
+#[derive(Clone, Copy, Debug, PartialEq, Eq)]
+pub struct PicturePath<'a>(pub &'a str);

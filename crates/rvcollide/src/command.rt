@@ -1,6 +1,6 @@
 //! The command line: which job its words ask for. `clap` reads the words, and this module says which
 //! commands there are.
-ghost use Rattle.std.specs.Prelude.{◌≡◌, ◌⊎◌, ◌≢◌, IfErr, IfOk, IfSome, MatchResult, Some, None, true, false, option_and_then, option_map, codes};
+ghost use Rattle.std.specs.Prelude.{◌≡◌, ◌⊎◌, ◌≢◌, IfErr, IfOk, IfSome, MatchResult, Some, None, true, false, option_and_then, option_map, map, codes};
 ghost use Rattle.std.specs.Str.{bytes_eq};
 ghost use Rattle.std.specs.String.{string_bytes};
 ghost use Rattle.clap.specs.Faults.{fault_of};
@@ -12,23 +12,30 @@ ghost use Rattle.clap.specs.Walk.{first_of, rows_of};
 ghost use Rattle.rvcollide.specs.Command as spec;
 ghost use Rattle.rvcollide.specs.Notice as notice;
 ghost use Rattle.rvcollide.specs.ClapProgram as known;
+ghost use Rattle.rvcollide.specs.Shown.{shown as escaped};
 ghost use Rattle.rvcollide.specs.internal.FoundJob as jobs;
 
 pub mod commands;
 pub mod complaint;
 pub mod exhibit;
+pub mod explain;
+pub mod help;
 pub mod run;
 pub mod subcommand;
 pub mod threads;
 
-use crate::arguments::{ImagePath, SavePath, SchedulePath, SourcePath};
+use crate::arguments::{ImagePath, PicturePath, SavePath, SchedulePath, SourcePath};
 use crate::command::commands::COMMANDS;
 use crate::command::complaint::Complaint;
 use crate::command::exhibit::exhibit_of;
+use crate::command::explain::explain_of;
+use crate::command::help::{FAULTS, OVERVIEW};
 use crate::command::run::run_of;
 use crate::command::subcommand::with_subcommands;
 use crate::command::threads::threads_of;
+use crate::explain::options::ExplainOptions;
 use crate::run::options::Options;
+use crate::shown::Shown;
 use clap::error::ErrorKind;
 use clap::{ArgMatches, Command, Error};
 use rv_collide::plan::Plan;
@@ -79,6 +86,14 @@ pub enum Job<'a> {
         schedule: SchedulePath<'a>,
         number: u32,
     },
+    /// `explain IMAGE SCHEDULE` with its options: tell the races of a schedule for a person, and draw one where a file
+    /// is given.
+    Explain {
+        image: ImagePath<'a>,
+        schedule: SchedulePath<'a>,
+        options: ExplainOptions<'a>,
+        picture: Option<PicturePath<'a>>,
+    },
 }
 
 /// Why a command line gives no job.
@@ -112,30 +127,86 @@ pub fn command_of<'a>(alloc: Global, words: &'a [&'a str]) -> Result<Job<'a>, Li
     }
 }
 
-/// What to write of a line that `command_of` refuses. The words are the same, and the text is `clap`'s.
+/// What to write of a line that `command_of` refuses. The words are the same.
 pub fn notice_of<'a>(alloc: Global, words: &'a [&'a str]) -> Result<Notice, LineFault>
     ensures answer { IfOk result (λ n. notice.is_answer n ≡ true → notice.asks (spec.texts words.entry.now) ≡ true) }
     ensures refusal { IfOk result (λ n. notice.is_answer n ≡ false → notice.only_asks (spec.texts words.entry.now) ≡ false) }
+    ensures faults { IfOk result (λ n. notice.asks_faults (spec.texts words.entry.now) ≡ true → notice.is_answer n ≡ true) }
+    ensures memory { IfErr result (λ e. e ≡ LineFault.NoMemory) }
+{
+    if asks_for_faults(words) {
+        return Ok(Notice::Answer(text(alloc, &FAULTS)?));
+    }
+    notice_by_clap(alloc, words)
+}
+
+/// Whether the line is `help faults`.
+fn asks_for_faults(words: &[&str]) -> bool
+    ensures { result ≡ notice.asks_faults (spec.texts words.now) }
+{
+    match words {
+        [_, command, topic] => *command == "help" && *topic == "faults",
+        _ => false,
+    }
+}
+
+/// What `clap` says of a line that is no job.
+fn notice_by_clap<'a>(alloc: Global, words: &'a [&'a str]) -> Result<Notice, LineFault>
+    ensures answer { IfOk result (λ n. notice.is_answer n ≡ true → notice.asks_clap (spec.texts words.entry.now) ≡ true) }
+    ensures refusal { IfOk result (λ n. notice.is_answer n ≡ false → notice.only_asks_clap (spec.texts words.entry.now) ≡ false) }
     ensures memory { IfErr result (λ e. e ≡ LineFault.NoMemory) }
 {
     match read_line(alloc, words) {
         Ok(matches) => refused(alloc, &matches),
-        Err(error) => shown(alloc, &error),
+        Err(error) => notice_in(alloc, words, &error),
     }
 }
 
-fn shown(alloc: Global, error: &Error) -> Result<Notice, LineFault>
+fn notice_in(alloc: Global, words: &[&str], error: &Error) -> Result<Notice, LineFault>
     ensures notice { IfOk result (λ n. (notice.is_answer n ≡ notice.is_request (kind_of error.now))
         × (kind_of error.now ≢ ErrorKind.OutOfMemory)) }
     ensures memory { IfErr result (λ e. e ≡ LineFault.NoMemory) }
 {
     match error.kind() {
         ErrorKind::OutOfMemory => Err(LineFault::NoMemory),
-        ErrorKind::DisplayHelp | ErrorKind::DisplayVersion => Ok(Notice::Answer(text(
-            alloc, error,
+        ErrorKind::DisplayHelp | ErrorKind::DisplayVersion => Ok(Notice::Answer(clap_text(
+            alloc, words,
         )?)),
-        _ => Ok(Notice::Refusal(text(alloc, error)?)),
+        _ => Ok(Notice::Refusal(clap_text(alloc, words)?)),
     }
+}
+
+/// What `clap` writes of the words. It prints them as they are, the program's name too, so it is asked of the words as messages
+/// show them: none becomes a command or an option by that, or stops being one.
+fn clap_text(alloc: Global, words: &[&str]) -> Result<String, LineFault>
+    ensures memory { IfErr result (λ e. e ≡ LineFault.NoMemory) }
+{
+    let texts = shown_words(alloc, words)?;
+    let shown: Result<Vec<&str>, AllocError> = texts
+        .iter()
+        .map(|word| word.as_str())
+        .collect(alloc);
+    let shown = shown.map_err(|_| LineFault::NoMemory)?;
+    match read_line(alloc, &shown) {
+        Ok(_) => text(alloc, &Complaint::Words),
+        Err(error) => match error.kind() {
+            ErrorKind::OutOfMemory => Err(LineFault::NoMemory),
+            _ => text(alloc, &error),
+        },
+    }
+}
+
+/// The words as messages show them.
+fn shown_words(alloc: Global, words: &[&str]) -> Result<Vec<String>, LineFault>
+    ensures shown { IfOk result (λ shown. map string_bytes shown.items ≡ map escaped (spec.texts words.now)) }
+    ensures memory { IfErr result (λ e. e ≡ LineFault.NoMemory) }
+{
+    let mut shown = Vec::new(alloc);
+    for word in words {
+        let text = text(alloc, &Shown(*word))?;
+        shown.push(text).map_err(|_| LineFault::NoMemory)?;
+    }
+    Ok(shown)
 }
 
 /// The refusal of a line in which `clap` finds no fault.
@@ -181,7 +252,7 @@ fn program<'a>(alloc: Global) -> Result<Command<'a>, AllocError>
 {
     let program = Command::new(alloc, "rvcollide")
         .version("0.1.0")
-        .about("Hunts data races in RV32IMA programs.")
+        .override_help(OVERVIEW)
         .subcommand_required(true);
     with_subcommands(alloc, program, &COMMANDS)
 }
@@ -204,6 +275,7 @@ fn job_at<'a>(name: &str, given: &ArgMatches<'a>) -> Result<Job<'a>, Complaint<'
         "run" => run_of(given),
         "threads" => threads_of(given),
         "exhibit" => exhibit_of(given),
+        "explain" => explain_of(given),
         _ => path_job_at(name, given).ok_or(Complaint::Words),
     }
 }
@@ -213,6 +285,7 @@ fn path_job_at<'a>(name: &str, given: &ArgMatches<'a>) -> Option<Job<'a>>
     requires run { bytes_eq name.now (codes "run") ≡ false }
     requires threads { bytes_eq name.now (codes "threads") ≡ false }
     requires exhibit { bytes_eq name.now (codes "exhibit") ≡ false }
+    requires explain { bytes_eq name.now (codes "explain") ≡ false }
     ensures { option_map spec.asked result ≡ jobs.job_in (name.now, rows_of (found_of given.now)) }
 {
     match name {

@@ -2,6 +2,6 @@
 //! each is answered before the next is read.
 
 pub mod engine;
-mod input;
+pub mod input;
 #[cfg(test)]
 mod tests;

@@ -2,4 +2,4 @@
 
 pub mod engine;
 #[cfg(test)]
-mod tests;
+pub mod tests;

@@ -5,6 +5,7 @@ ghost use Rattle.rvcollide.specs.Failure as spec;
 use crate::command::LineFault;
 use crate::fault::Fault;
 use crate::run::fault::CommandFault;
+use crate::sentences::FaultLine;
 use std::alloc::AllocError;
 use std::{fmt, io};
 
@@ -17,6 +18,8 @@ pub enum Failure<'a> {
     NotText,
     /// A fault that is told in one line.
     Told(CommandFault<'a>),
+    /// One that is told with the file that is at fault and a sentence.
+    Filed(FaultLine<'a>),
 }
 
 impl Failure<'_> {
@@ -26,7 +29,7 @@ impl Failure<'_> {
     {
         match self {
             Failure::Line => true,
-            Failure::NotText | Failure::Told(_) => false,
+            Failure::NotText | Failure::Told(_) | Failure::Filed(_) => false,
         }
     }
 
@@ -37,6 +40,7 @@ impl Failure<'_> {
         match self {
             Failure::Line | Failure::NotText => 2,
             Failure::Told(fault) => fault.status(),
+            Failure::Filed(line) => line.fault.status(),
         }
     }
 }
@@ -50,6 +54,7 @@ impl fmt::Display for Failure<'_> {
             Failure::Line => Ok(()),
             Failure::NotText => f.write_str("an argument is not UTF-8"),
             Failure::Told(fault) => write!(f, "{fault}"),
+            Failure::Filed(line) => write!(f, "{line}"),
         }
     }
 }
@@ -67,6 +72,14 @@ impl<'a> From<CommandFault<'a>> for Failure<'a> {
 
     fn from(fault: CommandFault<'a>) -> Failure<'a> {
         Failure::Told(fault)
+    }
+}
+
+impl<'a> From<FaultLine<'a>> for Failure<'a> {
+    ghost from_gives = { λ line made. made ≡ spec.filed line };
+
+    fn from(line: FaultLine<'a>) -> Failure<'a> {
+        Failure::Filed(line)
     }
 }
 

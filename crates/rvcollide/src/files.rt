@@ -67,6 +67,13 @@ impl<'a, R: Files> OutputFile<'a, R> {
             failed: false,
         }
     }
+
+    /// Whether making or writing the file has failed.
+    pub fn has_failed(&self) -> bool
+        ensures { result ≡ self.now.failed }
+    {
+        self.failed
+    }
 }
 
 /// Makes a file of the bytes at the path, or puts them in place of those of the file that is there.

@@ -15,6 +15,7 @@ pub mod debug;
 #[cfg(test)]
 pub mod devices;
 pub mod exhibit;
+pub mod explain;
 pub mod failure;
 pub mod fault;
 pub mod files;
@@ -23,14 +24,18 @@ pub mod list;
 pub mod new_file;
 pub mod replay;
 pub mod run;
+pub mod sentences;
+pub mod shown;
 pub mod threads;
 pub mod words;
 
-use crate::arguments::{ImagePath, SavePath, SchedulePath};
+use crate::arguments::{ImagePath, PicturePath, SavePath, SchedulePath};
 use crate::asm::run_asm;
 use crate::command::{Job, LineFault, Notice, command_of, notice_of};
 use crate::debug::engine::run_debug;
 use crate::exhibit::engine::run_exhibit;
+use crate::explain::engine::run_explain;
+use crate::explain::options::ExplainOptions;
 use crate::failure::Failure;
 use crate::fault::Fault;
 use crate::files::{InputFile, OutputFile};
@@ -39,6 +44,7 @@ use crate::replay::engine::run_replay;
 use crate::run::engine::run_campaign;
 use crate::run::fault::CommandFault;
 use crate::run::options::Options;
+use crate::sentences::{FaultLine, Paths};
 use crate::threads::engine::run_by_threads;
 use crate::words::engine::run_words;
 use rv_memory::buffered::Buffered;
@@ -87,18 +93,19 @@ fn run_line<'a>(
     words: &'a [&'a str],
 ) -> Result<(), Failure<'a>> {
     match command_of(rt.alloc(), words) {
-        Ok(job) => Ok(run_job(rt, threads, job)?),
+        Ok(job) => run_job(rt, threads, job),
         Err(LineFault::Line) => tell(rt, words),
         Err(fault) => Err(Failure::from(fault)),
     }
 }
 
-/// Runs the engine of a job. Here, in `debug_files` and in `run_files` a path becomes a file, and nowhere else.
+/// Runs the engine of a job. Here, in `debug_files`, in `run_files` and in `explain_files` a path becomes a file, and
+/// nowhere else.
 fn run_job<'a>(
     rt: &HostRuntime,
     threads: &(impl Threads + Wait + Sync),
     job: Job<'a>,
-) -> Result<(), CommandFault<'a>> {
+) -> Result<(), Failure<'a>> {
     let alloc = rt.alloc();
     let mut writer = Buffered::new(alloc, rt.stdout());
     let plain = match job {
@@ -130,7 +137,13 @@ fn run_job<'a>(
             image,
             options,
             save,
-        } => return run_files(rt, threads, image, &options, save),
+        } => return Ok(run_files(rt, threads, image, &options, save)?),
+        Job::Explain {
+            image,
+            schedule,
+            options,
+            picture,
+        } => return Ok(explain_files(rt, image, schedule, &options, picture)?),
         Job::Threads {
             image,
             plan,
@@ -180,6 +193,59 @@ fn run_files<'a>(
     let mut file = save.map(|path| OutputFile::new(rt, path.0));
     let mut writer = Buffered::new(alloc, rt.stdout());
     run_campaign(threads, alloc, options, &mut image, &mut file, &mut writer)
+}
+
+/// Runs the engine of `explain` on two files, and on one that it makes where that is asked for.
+fn explain_files<'a>(
+    rt: &HostRuntime,
+    image: ImagePath<'a>,
+    schedule: SchedulePath<'a>,
+    options: &ExplainOptions<'a>,
+    picture: Option<PicturePath<'a>>,
+) -> Result<(), FaultLine<'a>> {
+    let alloc = rt.alloc();
+    let mut image_file = Flagged::new(InputFile::new(rt, image.0));
+    let mut schedule_file = Flagged::new(InputFile::new(rt, schedule.0));
+    let mut made = made_file(rt, picture);
+    let mut writer = Buffered::new(alloc, rt.stdout());
+    let told = run_explain(
+        alloc,
+        options,
+        &mut image_file,
+        &mut schedule_file,
+        &mut made,
+        &mut writer,
+    );
+    let Err(fault) = told else {
+        return Ok(());
+    };
+    let failed = if image_file.failed() {
+        Some(image.0)
+    } else if schedule_file.failed() {
+        Some(schedule.0)
+    } else if made.is_some_and(|file| file.has_failed()) {
+        picture.map(|path| path.0)
+    } else {
+        None
+    };
+    let paths = Paths {
+        image: image.0,
+        schedule: Some(schedule.0),
+        failed,
+    };
+    Err(FaultLine {
+        file: paths.at_fault(fault),
+        fault,
+    })
+}
+
+/// The file that is made of a picture, where one is wanted.
+fn made_file<'a>(
+    rt: &'a HostRuntime,
+    picture: Option<PicturePath<'a>>,
+) -> Option<OutputFile<'a, HostRuntime>> {
+    let path = picture?;
+    Some(OutputFile::new(rt, path.0))
 }
 
 /// Writes why the words give no job, or the help that they ask for.

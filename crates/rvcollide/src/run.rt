@@ -3,7 +3,8 @@
 pub mod engine;
 pub mod fault;
 mod hunting;
-mod lists;
+pub mod lists;
+mod memory;
 pub mod options;
 pub mod saving;
 mod table;

@@ -1,7 +1,7 @@
 use Rattle.std.specs.Prelude.{List, Option, Some, None, option_and_then, option_map, codes, if◌then◌else◌}
 use Rattle.std.specs.Str.{bytes_eq}
 use Rattle.clap.specs.Words.{Row, Text, first_of, subcommand_of}
-use Rattle.rvcollide.specs.Command.{Asked, Words, Asm, Listing, Replay, Debug, Exhibit, ending_of, run_of, threads_of}
+use Rattle.rvcollide.specs.Command.{Asked, Words, Asm, Listing, Replay, Debug, Exhibit, ending_of, explain_of, run_of, threads_of}
 use Rattle.rvcollide.specs.ClapProgram.{is_accepted, program}
 
 -- The job in what `clap` finds. It is proved to be the one that the words spell.
@@ -41,7 +41,8 @@ job_in p =
     else (if bytes_eq p.0 (codes "run") then run_of p.1
     else (if bytes_eq p.0 (codes "threads") then threads_of p.1
     else (if bytes_eq p.0 (codes "exhibit") then exhibit_in p.1
-    else None)))))))
+    else (if bytes_eq p.0 (codes "explain") then explain_of p.1
+    else None))))))))
 
 -- the job that `clap` finds
 unfoldable pub job_read : List Text → Option Asked

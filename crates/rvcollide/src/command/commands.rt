@@ -2,49 +2,49 @@
 
 use crate::command::subcommand::{Argument, Subcommand};
 
-pub const COMMANDS: [Subcommand; 8] = [
+pub const COMMANDS: [Subcommand; 9] = [
     Subcommand {
         name: "words",
-        about: "Runs the words of the standard input",
-        after: None,
+        about: "Run instruction words from the standard input",
+        after: Some(WORDS),
         arguments: &[],
     },
     Subcommand {
         name: "asm",
-        about: "Makes the image of a source",
-        after: None,
+        about: "Assemble a source into an image",
+        after: Some(SOURCES),
         arguments: &[
             Argument::Word {
                 name: "SOURCE",
-                help: "File with a source, in the assembler's language",
+                help: "File with the assembly source",
             },
             Argument::Word {
                 name: "IMAGE",
-                help: "File that is made, ELF32; a refused source makes none",
+                help: "ELF32 file to write; a refused source writes none",
             },
         ],
     },
     Subcommand {
         name: "list",
-        about: "Lists the instructions of an image",
-        after: None,
+        about: "Disassemble an image",
+        after: Some(IMAGES),
         arguments: &[IMAGE],
     },
     Subcommand {
         name: "replay",
-        about: "Runs a schedule again, and writes its endings and the state after it",
-        after: None,
+        about: "Make a saved run again and print how its pauses ended and the final state",
+        after: Some(SCHEDULES),
         arguments: &[IMAGE, SCHEDULE],
     },
     Subcommand {
         name: "debug",
-        about: "Shows the places of a schedule, by commands on the standard input",
+        about: "Go to any place of a saved run, by commands on the standard input",
         after: Some(DEBUGGER),
         arguments: &[IMAGE, SCHEDULE],
     },
     Subcommand {
         name: "run",
-        about: "Hunts data races in many runs, and writes the table of those that it found",
+        about: "Make many runs from a seed and print the table of the races they found",
         after: Some(HUNT),
         arguments: &[
             IMAGE,
@@ -60,33 +60,33 @@ pub const COMMANDS: [Subcommand; 8] = [
             },
             Argument::Required {
                 name: "workers",
-                help: "Threads that make the runs, 1 to 16; what is written does not depend on it",
+                help: "Threads that make the runs, 1 to 16; the output does not depend on it",
             },
             Argument::Optional {
                 name: "named",
                 value: "LIST",
-                help: "Symbols, separated by commas: reports on their bytes are counted apart",
+                help: "Symbols, separated by commas: races on their bytes are counted, not reported",
             },
             Argument::Optional {
                 name: "skip",
                 value: "LIST",
-                help: "Addresses that are never armed, eight hexadecimal digits each, separated by commas",
+                help: "Addresses of instructions never to pause at, separated by commas",
             },
             Argument::Optional {
                 name: "keep",
                 value: "RUN",
-                help: "Run whose schedule is saved, 0 to 999 and less than the number of runs [default: 0]",
+                help: "Run that --save saves, 0 to 999 and less than the number of runs [default: 0]",
             },
             Argument::Optional {
                 name: "save",
                 value: "FILE",
-                help: "File for the schedule of that run, which replay, debug and exhibit read",
+                help: "File for that run's schedule, which explain, replay, debug and exhibit read",
             },
         ],
     },
     Subcommand {
         name: "threads",
-        about: "Runs an image once by a thread for each hart, and writes the endings of its pauses",
+        about: "Make one run with a real thread for each hart and print how its pauses ended",
         after: Some(BY_THREADS),
         arguments: &[
             IMAGE,
@@ -99,20 +99,49 @@ pub const COMMANDS: [Subcommand; 8] = [
             Argument::Optional {
                 name: "save",
                 value: "FILE",
-                help: "File for the schedule of the run, which replay, debug and exhibit read",
+                help: "File for the run's schedule, which explain, replay, debug and exhibit read",
             },
         ],
     },
     Subcommand {
         name: "exhibit",
-        about: "Shows a report of a schedule as a plain list of hart steps, which any emulator can check",
+        about: "Turn a report into a list of steps that any emulator can check",
         after: Some(EXHIBIT),
         arguments: &[
             IMAGE,
             SCHEDULE,
             Argument::Word {
                 name: "N",
-                help: "Number of the ending, as replay counts them: 0 to 4294967295",
+                help: "Number of the ending, as replay prints it: 0 to 4294967295",
+            },
+        ],
+    },
+    Subcommand {
+        name: "explain",
+        about: "Report the races of a saved run with names, instructions and values",
+        after: Some(EXPLAIN),
+        arguments: &[
+            IMAGE,
+            SCHEDULE,
+            Argument::Optional {
+                name: "named",
+                value: "LIST",
+                help: "Symbols, separated by commas: races on their bytes are marked as named",
+            },
+            Argument::Optional {
+                name: "around",
+                value: "N",
+                help: "Entries to show around each place, 0 to 1000, with --picture 0 to 32 [default: 3]",
+            },
+            Argument::Optional {
+                name: "race",
+                value: "K",
+                help: "Show only this race, counted from 1",
+            },
+            Argument::Optional {
+                name: "picture",
+                value: "FILE",
+                help: "SVG file to write, with a picture of the first race or that of --race",
             },
         ],
     },
@@ -120,94 +149,200 @@ pub const COMMANDS: [Subcommand; 8] = [
 
 const IMAGE: Argument = Argument::Word {
     name: "IMAGE",
-    help: "ELF32 file",
+    help: "ELF32 file: a static RISC-V executable",
 };
 
 const SCHEDULE: Argument = Argument::Word {
     name: "SCHEDULE",
-    help: "File with a schedule",
+    help: "File with the schedule of a run",
 };
 
 const HARTS: Argument = Argument::Required {
     name: "harts",
-    help: "Harts of the machine, 1 to 16",
+    help: "Number of harts, 1 to 16",
 };
 
 const STEPS: Argument = Argument::Required {
     name: "steps",
-    help: "Steps of all harts together in a run, 1 to 1000000",
+    help: "Steps in a run, of all harts together, 1 to 1000000",
 };
 
 const ARMS: Argument = Argument::Required {
     name: "arms",
-    help: "Sampled accesses that are armed in a run, 0 to 4096",
+    help: "Loads and stores to pause at in a run, 0 to 4096",
 };
 
 const PAUSE: Argument = Argument::Required {
     name: "pause",
-    help: "Steps of other harts that a pause lasts, 1 to 65535",
+    help: "Length of a pause in steps of other harts, 1 to 65535",
 };
 
 const SLOTS: Argument = Argument::Optional {
     name: "slots",
     value: "N",
-    help: "Pauses that are watched at once, 1 to 8 [default: 4]",
+    help: "Pauses that can be watched at once, 1 to 8 [default: 4]",
 };
 
 const SEED: Argument = Argument::Required {
     name: "seed",
-    help: "Seed of the draws, 0 to 4294967295",
+    help: "Seed of the random choices, 0 to 4294967295",
 };
+
+/// What the help of `words` says after its options.
+const WORDS: &str = "\
+The standard input has one item a line:
+  harts 2       the number of harts, 1 to 16
+  steps 0 1 0   the hart that takes each step, in order; only steps if none takes any
+  00500093      then the instructions, one word of eight hexadecimal digits a line
+The words lie from address 00010000 on, and at 00020000 there are 4096 bytes of zeros.
+The output is a line for each hart with the registers that are not 0, and a line with the bytes printed.
+
+Example:
+  printf 'harts 1\\nsteps 0\\n00500093\\n' | rvcollide words
+
+Exit status: 0 done; 1 the input is refused (see rvcollide help faults); 2 the command line is refused;
+3 a file or stream cannot be read or written; 4 there is not enough memory.";
+
+/// What the help of `asm` says after its arguments.
+const SOURCES: &str = "\
+A source has one statement a line, after a label if need be, and # starts a comment:
+  loop: addi x5, x5, -1     # registers are x0 to x31, or by their ABI names
+Instructions are written as in the RISC-V manual: RV32IMA, and nop, mv, j, ret, li and la.
+Directives: .text, .data, .word, .byte and .zero; .globl is accepted and does nothing.
+The text lies at 00010000 and the data at 00020000. All harts start at _start, or else at 00010000.
+
+Example:
+  rvcollide asm guest.s guest.elf
+
+Exit status: 0 done; 1 the input is refused (see rvcollide help faults); 2 the command line is refused;
+3 a file or stream cannot be read or written; 4 there is not enough memory.";
+
+/// What the help of `list` says after its arguments.
+const IMAGES: &str = "\
+An image is an executable for RV32IMA, statically linked at fixed addresses, little-endian:
+  made by       rvcollide asm, or a C compiler with -march=rv32ima -static
+  size          at most 67108864 bytes in the file and 16777216 in memory
+  kept clear    c0000000 to c00fffff, where each hart has its stack
+  used          its segments and entry point; its symbols, where it has any, name places in reports
+The output is a line for each word of the segments that may be executed:
+  00010000: 00020337 lui x6, 0x20
+
+Example:
+  rvcollide list guest.elf
+
+Exit status: 0 done; 1 the input is refused (see rvcollide help faults); 2 the command line is refused;
+3 a file or stream cannot be read or written; 4 there is not enough memory.";
+
+/// What the help of `replay` says after its arguments.
+const SCHEDULES: &str = "\
+A schedule is what run --save and threads --save write. After two lines that name the format and the
+plan each line is an entry:
+  a 00010004    the instruction at this address is armed (d: disarmed)
+  s 0           hart 0 takes a step
+  p 0 2         hart 0 is paused before an armed access, which slot 2 watches (-: none was free)
+  r 0           hart 0 goes on
+  end           the last line
+The output is a line for each pause, in the order in which they ended, with the number of the ending,
+then a line for each hart and one with the bytes printed. A pause ended with a hit (another hart's
+access), changed (other bytes, but no access was seen) or quiet.
+
+Example:
+  rvcollide replay guest.elf guest.schedule
+
+Exit status: 0 done; 1 the input is refused (see rvcollide help faults); 2 the command line is refused;
+3 a file or stream cannot be read or written; 4 there is not enough memory.";
 
 /// What the help of `debug` says of the debugger's commands.
 const DEBUGGER: &str = "\
-Place N is the state after the first N entries of the schedule, and the session begins at place 0.
-Commands, one in each line:
+Place N is the state after the first N entries of the schedule. The session starts at place 0.
+Each line of the standard input is a command:
   g N           go to place N, as in g 4; the answer is the place: at 4
-  f             one place forwards: at 5
-  b             one place back: at 4
-  x H           the registers of hart H, as in x 0: hart 0 running pc 00010004 x2 c0010000
-  m ADDR LEN    LEN bytes of memory, 1 to 256, as in m 00020000 4: 00020000: 01 00 00 00
-  l ADDR COUNT  COUNT instructions, 1 to 64, as in l 00010000 1: 00010000: 00020337 lui x6, 0x20
-  w ADDR        find the next entry that touches the byte, as in w 00020000: found 4; the session then
-                stands behind that entry
-  q             end the session, as the end of the input does
+  f             go one place forwards: at 5
+  b             go one place back: at 4
+  x H           show the registers of hart H, as in x 0: hart 0 running pc 00010004 x2 c0010000
+  m ADDR LEN    show LEN bytes of memory, 1 to 256, as in m 00020000 4: 00020000: 01 00 00 00
+  l ADDR COUNT  disassemble COUNT words, 1 to 64, as in l 00010000 1: 00010000: 00020337 lui x6, 0x20
+  w ADDR        find the next entry that touches the byte and go to the place after it, as in
+                w 00020000: found 4
+  q             quit, as the end of the input does
 
-Numbers are decimal without leading zeros, addresses eight hexadecimal digits. What is refused leaves
-the place as it was and is answered by a line such as fault 1 NoPlace:
-  fault 0 Command  the line is no command       fault 3 NoBytes   no memory there, or misaligned
+Numbers are decimal without leading zeros, addresses eight hexadecimal digits. A command that is refused
+leaves the place as it was. The answer is one of these lines:
+  fault 0 Command  the line is not a command    fault 3 NoBytes   no memory there, or misaligned
   fault 1 NoPlace  the schedule is shorter      fault 4 NotFound  no such entry from here on
-  fault 2 NoHart   the machine has fewer harts  fault 5 NoMemory  want of memory";
+  fault 2 NoHart   the machine has fewer harts  fault 5 NoMemory  there is not enough memory
+
+Example:
+  printf 'g 63\\nx 1\\n' | rvcollide debug guest.elf guest.schedule
+
+Exit status: 0 done; 1 the input is refused (see rvcollide help faults); 2 the command line is refused;
+3 a file or stream cannot be read or written; 4 there is not enough memory.";
 
 /// What the help of `run` says after its options.
 const HUNT: &str = "\
-The runs are numbered from 0. Each takes its draws from the seed and its number alone, so the same line
-finds the same races, with any number of workers: each is a thread that makes runs of its own, so as
-many as there are idle processors are the fastest. The table has a row for each pair of instructions
-that raced, in the order of their first report, and counts the reports that were pruned.
+Runs are numbered from 0. The random choices of a run depend only on the seed and its number, so the same
+command prints the same table, with any number of workers. Use as many workers as there are idle cores.
+IMAGE is as rvcollide list --help says. An address of --skip is eight hexadecimal digits.
+
+The output is a row for each pair of instructions that raced, in the order of their first report, with
+the number of reports and the run and entry of the first, then how many reports were pruned as benign:
+  races 1
+  00010054 00010074 count 187 run 0 entry 63 hit old 00000000 new 00000001
+  pruned named 0 flag 0 counter 0
 
 Example:
-  rvcollide run guest.elf --harts 2 --steps 10000 --arms 50 --pause 20 --seed 1 --runs 100 --workers 4";
+  rvcollide run guest.elf --harts 2 --steps 10000 --arms 50 --pause 20 --seed 1 --runs 100 --workers 4
+
+Exit status: 0 done; 1 the input is refused (see rvcollide help faults); 2 the command line is refused;
+3 a file or stream cannot be read or written; 4 there is not enough memory.";
 
 /// What the help of `threads` says after its options.
 const BY_THREADS: &str = "\
-Each hart takes its turns in a thread of its own. The seed draws the addresses that are armed, one after
-another; the threads decide when each hart goes on, and so what is hit, and the same line may find other
-endings when it is given again. The schedule that --save keeps is the whole run: replay makes it again,
-with the same endings, debug shows its places, and exhibit the steps to a report.
+Each hart takes its steps in a thread of its own. The seed decides which addresses are armed, but the
+host's scheduler decides which hart goes next, so the same command may print something else next time.
+The schedule of --save holds the whole run: replay makes it again with the same endings, debug shows its
+places, explain and exhibit its races. IMAGE is as rvcollide list --help says.
+
+The output is a line for each pause, as replay prints it, and the number of turns that were taken.
 
 Example:
-  rvcollide threads guest.elf --harts 2 --steps 10000 --arms 50 --pause 20 --seed 1 --save run.txt";
+  rvcollide threads guest.elf --harts 2 --steps 10000 --arms 50 --pause 20 --seed 1 --save run.txt
+
+Exit status: 0 done; 1 the input is refused (see rvcollide help faults); 2 the command line is refused;
+3 a file or stream cannot be read or written; 4 there is not enough memory.";
 
 /// What the help of `exhibit` says after its arguments.
 const EXHIBIT: &str = "\
-Writes the two accesses that conflict, and the numbers of harts: the steps from the start, one after
-another, on a plain machine without breakpoints. The last two steps make the two accesses.
+Prints the two accesses that met, and the harts that take the steps from the start, in order, on a plain
+machine without breakpoints or pauses. The last two steps make the two accesses:
+  first pc 00010004 store 00020000 4
+  second pc 00010004 store 00020000 4
+  steps 0 1 1 0
+IMAGE is as rvcollide list --help says, SCHEDULE as rvcollide replay --help says.
 
-What is refused is told by a line such as exhibit NotReport:
+A report that cannot be shown is refused with one of these names, as in exhibit NotReport:
   NoEnding     the schedule has no such ending
   NotReport    the ending is quiet
-  TextChanged  the instruction of the paused hart was written over before the second access
+  TextChanged  the paused instruction was overwritten before the second access
 
 Example:
-  rvcollide exhibit guest.elf run.txt 0";
+  rvcollide exhibit guest.elf run.txt 0
+
+Exit status: 0 done; 1 the input is refused (see rvcollide help faults); 2 the command line is refused;
+3 a file or stream cannot be read or written; 4 there is not enough memory.";
+
+/// What the help of `explain` says after its arguments.
+const EXPLAIN: &str = "\
+For each race it prints both instructions with their symbols, what each hart did or was about to do, who
+called it, the bytes before and after, and the entries of the schedule around them. Endings have the
+numbers that replay prints and exhibit takes. IMAGE is as rvcollide list --help says, SCHEDULE as
+rvcollide replay --help says.
+
+A fault is told with its file and what is wrong:
+  rvcollide: run.txt: explain NoRace: there is no race with this number
+
+Example:
+  rvcollide explain guest.elf run.txt --picture race.svg
+
+Exit status: 0 done; 1 the input is refused (see rvcollide help faults); 2 the command line is refused;
+3 a file or stream cannot be read or written; 4 there is not enough memory.";

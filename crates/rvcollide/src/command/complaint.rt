@@ -1,6 +1,7 @@
 ghost use Rattle.rvcollide.specs.Notice as notice;
 
 use crate::command::exhibit::MOST_ENDING;
+use crate::shown::Shown;
 use std::fmt;
 
 /// An option whose value is a decimal number, and its range.
@@ -39,16 +40,21 @@ impl<'a> fmt::Display for Complaint<'a> {
         match self {
             Complaint::Number { option, value } => write!(
                 f,
-                "error: invalid value '{value}' for '--{}': it is a decimal number from {} to {}\n",
-                option.name, option.least, option.most
+                "error: invalid value '{}' for '--{}': it is a decimal number from {} to {}\n",
+                Shown(*value),
+                option.name,
+                option.least,
+                option.most
             ),
             Complaint::Keep { value, runs } => write!(
                 f,
-                "error: invalid value '{value}' for '--keep': it is less than '--runs', which is {runs}\n"
+                "error: invalid value '{}' for '--keep': it is less than '--runs', which is {runs}\n",
+                Shown(*value)
             ),
             Complaint::Ending { value } => write!(
                 f,
-                "error: invalid value '{value}' for 'N': it is a decimal number from 0 to {}\n",
+                "error: invalid value '{}' for 'N': it is a decimal number from 0 to {}\n",
+                Shown(*value),
                 MOST_ENDING
             ),
             Complaint::Words => f.write_str("error: the command line is refused\n"),

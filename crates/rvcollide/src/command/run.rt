@@ -169,7 +169,7 @@ pub fn number_of<'a>(given: &ArgMatches<'a>, option: NumberOption) -> Result<u32
 }
 
 /// The number of an option that may be left out.
-fn number_or<'a>(
+pub fn number_or<'a>(
     given: &ArgMatches<'a>,
     option: NumberOption,
     default: u32,

@@ -171,6 +171,26 @@ fn says_what_a_line_lacks(rt: HostRuntime) -> Result<(), Fail> {
         (["rvcollide"].as_slice(), false, "error: "),
         (["rvcollide", "asm", "a.s"].as_slice(), false, "<IMAGE>"),
         (["rvcollide", "list", "a", "b"].as_slice(), false, "'b'"),
+        (
+            ["rvcollide", "wo\x1brds\n"].as_slice(),
+            false,
+            "'wo\\x1brds\\x0a'",
+        ),
+        (
+            ["rvcollide", "list", "a", "b\x1b[2J"].as_slice(),
+            false,
+            "'b\\x1b[2J'",
+        ),
+        (
+            ["\x1b[2J", "list", "-h"].as_slice(),
+            true,
+            "Usage: \\x1b[2J list <IMAGE>",
+        ),
+        (
+            ["rvcollide", "exhibit", "a.elf", "a.txt", "\x1b"].as_slice(),
+            false,
+            "invalid value '\\x1b' for 'N'",
+        ),
     ] {
         let notice = notice_of(alloc, words);
         let (is_answer, text) = parts(notice.ok().ok_or("memory")?);

@@ -15,7 +15,7 @@ use std::process::Abort;
 use std::test::Fail;
 
 /// `lui x6,0x20`, `sw x10,0(x6)`, `lw x5,0(x6)`, `ecall`.
-const P: &[u32] = &[0x0002_0337, 0x00a3_2023, 0x0003_2283, 0x0000_0073];
+pub const P: &[u32] = &[0x0002_0337, 0x00a3_2023, 0x0003_2283, 0x0000_0073];
 
 /// `lui x6,0x10`, `sw x10,4(x6)`, `ecall`: the store is at the address that it stores to.
 const OVERWRITES: &[u32] = &[0x0001_0337, 0x00a3_2223, 0x0000_0073];
@@ -54,23 +54,23 @@ fn image_of(rt: &impl Abort, alloc: Global, words: &[u32]) -> Result<Image, Fail
 }
 
 /// Its file.
-fn file_of(rt: &impl Abort, alloc: Global, words: &[u32]) -> Result<Vec<u8>, Fail> {
+pub fn file_of(rt: &impl Abort, alloc: Global, words: &[u32]) -> Result<Vec<u8>, Fail> {
     let image = image_of(rt, alloc, words)?;
     Ok(write(alloc, &image)?)
 }
 
-const HIT: &[u8] = b"rvcollide schedule 2\nharts 2 steps 100 arms 8 pause 10 slots 4\n\
+pub const HIT: &[u8] = b"rvcollide schedule 2\nharts 2 steps 100 arms 8 pause 10 slots 4\n\
     a 00010004\ns 0\ns 1\np 0 0\ns 1\nr 0\nend\n";
 
 /// The same in format 1.
 const FIRST_HIT: &[u8] = b"rvcollide schedule 1\nharts 2 steps 100 arms 8 pause 10\n\
     a 00010004\ns 0\ns 1\np 0 0\ns 1\nr 0\nend\n";
 
-const QUIET: &[u8] = b"rvcollide schedule 2\nharts 2 steps 100 arms 8 pause 10 slots 4\n\
+pub const QUIET: &[u8] = b"rvcollide schedule 2\nharts 2 steps 100 arms 8 pause 10 slots 4\n\
     a 00010004\ns 0\ns 1\np 0 0\nr 0\ns 1\nend\n";
 
 /// Hart 5's pause is unwatched, and hart 1 stores after its own.
-const CHANGED: &[u8] = b"rvcollide schedule 2\nharts 6 steps 100 arms 8 pause 10 slots 4\n\
+pub const CHANGED: &[u8] = b"rvcollide schedule 2\nharts 6 steps 100 arms 8 pause 10 slots 4\n\
     s 0\ns 1\ns 2\ns 3\ns 4\ns 5\n\
     a 00010004\np 1 0\na 00010004\np 2 1\na 00010004\np 3 2\na 00010004\np 4 3\na 00010004\np 5 -\n\
     s 0\nr 1\ns 1\nr 2\nr 3\nr 4\nr 5\nend\n";
@@ -81,10 +81,10 @@ const WATCHED: &[u8] = b"rvcollide schedule 2\nharts 6 steps 100 arms 8 pause 10
     a 00010004\np 1 0\na 00010004\np 2 1\na 00010004\np 3 2\na 00010004\np 4 3\na 00010004\np 5 4\n\
     s 0\nr 1\ns 1\nr 2\nr 3\nr 4\nr 5\nend\n";
 
-const ILLEGAL: &[u8] = b"rvcollide schedule 2\nharts 2 steps 100 arms 8 pause 10 slots 4\n\
+pub const ILLEGAL: &[u8] = b"rvcollide schedule 2\nharts 2 steps 100 arms 8 pause 10 slots 4\n\
     a 00010004\ns 3\nend\n";
 
-const NO_PLAN: &[u8] = b"rvcollide schedule 2\nharts 2\nend\n";
+pub const NO_PLAN: &[u8] = b"rvcollide schedule 2\nharts 2\nend\n";
 
 /// The two stores, and the harts.
 const FOUR_STEPS: &[u8] = b"first pc 00010004 store 00020000 4\n\
@@ -192,10 +192,10 @@ fn tells_why_there_is_no_exhibit(rt: HostRuntime) -> Result<(), Fail> {
 }
 
 /// `lui x6,0x20`, `sw x10,0(x6)`, and back to the store.
-const STORES: &[u32] = &[0x0002_0337, 0x00a3_2023, 0xffdf_f06f];
+pub const STORES: &[u32] = &[0x0002_0337, 0x00a3_2023, 0xffdf_f06f];
 
 /// A schedule whose exhibit is longer than a writer gathers.
-fn long_schedule(alloc: Global) -> Result<String, Fail> {
+pub fn long_schedule(alloc: Global) -> Result<String, Fail> {
     let mut text = String::from_str(
         alloc,
         "rvcollide schedule 2\nharts 2 steps 4000 arms 1 pause 10 slots 1\ns 0\n",

@@ -16,6 +16,7 @@ use crate::fault::Fault;
 use crate::new_file::NewFile;
 use crate::run::fault::CommandFault;
 use crate::run::hunting::{Hunted, hunt};
+use crate::run::memory::give_back;
 use crate::run::options::Options;
 use crate::run::saving::save_run;
 use rv_memory::buffered::Buffered;
@@ -88,7 +89,9 @@ pub fn run_campaign<'a, R: Read, F: NewFile, W: Write>(
         ≡ (spec.passes F.has_failed save.old || buffer.has_failed writer.old || fails_by is_write result) }
 {
     let hunted = hunt(rt, alloc, options, image)?;
-    match publish(alloc, &hunted, options.keep, save, writer) {
+    let published = publish(alloc, &hunted, options.keep, save, writer);
+    give_back(rt, alloc, hunted.runs, options.workers);
+    match published {
         Ok(()) => Ok(()),
         Err(fault) => Err(CommandFault::from(fault)),
     }

@@ -22,6 +22,10 @@ pub enum CommandFault<'a> {
     Name(&'a str),
     /// The first number of the campaign that is refused.
     Campaign(NumberFault),
+    /// A worker's thread could not be started; those that were started have ended.
+    NoThread,
+    /// `explain` finds no race of the number that was asked for.
+    NoRace,
 }
 
 impl CommandFault<'_> {
@@ -31,7 +35,11 @@ impl CommandFault<'_> {
     {
         match self {
             CommandFault::Plain(fault) => fault.status(),
-            CommandFault::Skip(_) | CommandFault::Name(_) | CommandFault::Campaign(_) => 1,
+            CommandFault::Skip(_)
+            | CommandFault::Name(_)
+            | CommandFault::Campaign(_)
+            | CommandFault::NoThread
+            | CommandFault::NoRace => 1,
         }
     }
 }
@@ -44,15 +52,13 @@ impl<'a> From<Fault> for CommandFault<'a> {
     }
 }
 
-/// A worker that can't be started is told as want of memory.
 impl<'a> From<CampaignFault<Infallible>> for CommandFault<'a> {
     ghost from_gives = { λ given made. spec.refusal made ≡ spec.refusal_of_campaign given };
 
     fn from(given: CampaignFault<Infallible>) -> CommandFault<'a> {
         match given {
-            CampaignFault::NoMemory | CampaignFault::NoThread => CommandFault::Plain(
-                Fault::NoMemory,
-            ),
+            CampaignFault::NoMemory => CommandFault::Plain(Fault::NoMemory),
+            CampaignFault::NoThread => CommandFault::NoThread,
             CampaignFault::TooLarge => CommandFault::Campaign(NumberFault::TooLarge),
             CampaignFault::Runs => CommandFault::Campaign(NumberFault::Runs),
             CampaignFault::Workers => CommandFault::Campaign(NumberFault::Workers),
@@ -94,6 +100,8 @@ impl fmt::Display for CommandFault<'_> {
             CommandFault::Skip(element) => write!(f, "skip {element}"),
             CommandFault::Name(name) => write!(f, "name {name}"),
             CommandFault::Campaign(fault) => { write!(f, "campaign {}", number_fault_name(*fault)) }
+            CommandFault::NoThread => f.write_str("campaign NoThread"),
+            CommandFault::NoRace => f.write_str("explain NoRace"),
         }
     }
 }

@@ -3,7 +3,7 @@ ghost use Rattle.std.specs.Prelude.{◌≡◌, false, IfOk, IfErr, Ok, map, opti
 ghost use Rattle.rv_text.specs.Hexadecimal.{word_of};
 ghost use Rattle.rv_text.specs.Pieces.{pieces_of};
 ghost use Rattle.rvcollide.specs.Campaigns as spec;
-ghost use Rattle.rvcollide.specs.CommandFault.{IsTold, refusal, fails_by, is_read, is_write};
+ghost use Rattle.rvcollide.specs.CommandFault.{IsTold, refusal, fails_by, is_read, is_write, is_thread};
 
 use crate::run::fault::CommandFault;
 use rv_elf::Image;
@@ -64,6 +64,7 @@ pub fn read_skipped<'a>(alloc: Global, list: Option<&'a str>) -> Result<Vec<u32>
         IsTold (spec.skipped (spec.elements (option_map (λ text. text.now) list.entry))) (refusal fault)) }
     ensures reader { fails_by is_read result ≡ false }
     ensures writer { fails_by is_write result ≡ false }
+    ensures thread { fails_by is_thread result ≡ false }
 {
     let given = elements(alloc, list)?;
     match first_malformed(&given) {
@@ -84,6 +85,7 @@ pub fn read_named<'a>(
         IsTold (spec.listed image.now (spec.elements (option_map (λ text. text.now) list.entry))) (refusal fault)) }
     ensures reader { fails_by is_read result ≡ false }
     ensures writer { fails_by is_write result ≡ false }
+    ensures thread { fails_by is_thread result ≡ false }
 {
     let names = elements(alloc, list)?;
     match ranges(alloc, image, &names) {

@@ -7,7 +7,7 @@ use crate::fault::Fault;
 use crate::run::engine::run_campaign;
 use crate::run::fault::CommandFault;
 use crate::run::options::Options;
-use rv_campaign::NumberFault;
+use rv_campaign::{CampaignFault, NumberFault};
 use rv_collide::plan::Plan;
 use rv_elf::{Image, LoadFault, Symbol, write};
 use rv_memory::buffered::Buffered;
@@ -339,6 +339,17 @@ fn refuses_in_order(rt: HostRuntime) -> Result<(), Fail> {
     refuses(&rt, alloc, &file, &asked, fault, "skip 0001000g")?;
     let fault = CommandFault::Plain(Fault::Load(LoadFault::Truncated));
     refuses(&rt, alloc, b"", &asked, fault, "load Truncated")
+}
+
+/// What is told where a worker can't be started, which no input brings about.
+#[test]
+fn names_a_thread_that_is_refused(rt: HostRuntime) -> Result<(), Fail> {
+    let fault = CommandFault::from(CampaignFault::NoThread);
+    assert_is(&rt, fault, CommandFault::NoThread, "the fault");
+    assert_is(&rt, fault.status(), 1, "the status");
+    let told = format!(in rt.alloc(); "{fault}")?;
+    assert_is(&rt, told.as_str(), "campaign NoThread", "what is told");
+    Ok(())
 }
 
 /// An empty element of a list is one.

@@ -323,6 +323,25 @@ fn refuses_a_list_twice(rt: HostRuntime) -> Result<(), Fail> {
     assert_changes_refused(&rt, rt.alloc(), &changes)
 }
 
+/// Values with control bytes are shown without them.
+#[test]
+fn shows_no_control_byte_of_a_value(rt: HostRuntime) -> Result<(), Fail> {
+    let changes = [
+        (
+            "--harts 2",
+            "--harts \x1b[2J",
+            "invalid value '\\x1b[2J' for '--harts': it is",
+        ),
+        (
+            "a.elf",
+            "a.elf --keep \u{9b}3",
+            "invalid value '\\xc2\\x9b3' for '--keep': it is",
+        ),
+        ("a.elf", "a.elf \x07", "'\\x07'"),
+    ];
+    assert_changes_refused(&rt, rt.alloc(), &changes)
+}
+
 /// One option without its value, unknown ones, and two images.
 #[test]
 fn refuses_other_options(rt: HostRuntime) -> Result<(), Fail> {

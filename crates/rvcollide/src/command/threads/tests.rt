@@ -69,7 +69,7 @@ fn help_says_what_the_seed_does(rt: HostRuntime) -> Result<(), Fail> {
     for part in [
         "Usage: rvcollide threads [OPTIONS] --harts <N>",
         "--save <FILE>",
-        "The seed draws the addresses",
+        "The seed decides which addresses are armed",
         "Example:\n  rvcollide threads",
     ] {
         assert!(rt; text.as_str().contains(part), "at {part}: {text}");

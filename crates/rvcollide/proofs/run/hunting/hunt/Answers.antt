@@ -14,12 +14,12 @@ returns-in_err-contents-clause-err g c =
 pub returns-in_err-excluded-clause-err : goal.returns-in_err-excluded-clause-err
 returns-in_err-excluded-clause-err g c =
     let p = err_from_is_err_and c.from_residual-in_err-excluded.result c.from_residual-in_err-excluded.ensures.1 in
-    rw (p.1, p.2) (skip_refused (g.R.Read.remaining (flag.device c.args.image.now)) (request c.args.options.now) c.in_ok-contents.contents (refusal c.in_err-excluded.field-0.0) c.in_ok-contents.ensures.ok c.in_err-excluded.ensures.err)
+    rw (p.1, p.2) (skip_refused (g.R.Read.remaining (flag.device c.args.image.now)) (request c.args.options.now) c.in_ok-contents.contents (refusal c.in_err-excluded.field-0.0) c.in_err-excluded.ensures.thread c.in_ok-contents.ensures.ok c.in_err-excluded.ensures.err)
 
 pub returns-in_err-ranges-clause-err : goal.returns-in_err-ranges-clause-err
 returns-in_err-ranges-clause-err g c =
     let p = err_from_is_err_and c.from_residual-in_err-ranges.result c.from_residual-in_err-ranges.ensures.1 in
-    rw (p.1, p.2) (names_refused (g.R.Read.remaining (flag.device c.args.image.now)) (request c.args.options.now) c.in_ok-contents.contents c.in_ok-excluded.excluded.items (refusal c.in_err-ranges.field-0.0) c.in_ok-contents.ensures.ok c.in_ok-excluded.ensures.ok c.in_err-ranges.ensures.err)
+    rw (p.1, p.2) (names_refused (g.R.Read.remaining (flag.device c.args.image.now)) (request c.args.options.now) c.in_ok-contents.contents c.in_ok-excluded.excluded.items (refusal c.in_err-ranges.field-0.0) c.in_err-ranges.ensures.thread c.in_ok-contents.ensures.ok c.in_ok-excluded.ensures.ok c.in_err-ranges.ensures.err)
 
 pub returns-in_err-runs-clause-err : goal.returns-in_err-runs-clause-err
 returns-in_err-runs-clause-err g c =

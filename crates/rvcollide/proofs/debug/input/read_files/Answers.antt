@@ -4,7 +4,7 @@ use Rattle.rv_collide.specs.Numbers.{numbers}
 use Rattle.rv_collide.specs.Stored.{stored}
 use Rattle.rv_memory.specs.Flagged as flag
 use Rattle.rvcollide.proofs.ReplayLemmas.{image_refused, schedule_refused, entry_refused, run_known}
-use Rattle.rvcollide.proofs.debug.input.read_session.Goals as goal
+use Rattle.rvcollide.proofs.debug.input.read_files.Goals as goal
 
 pub returns-in_err-contents-clause-err : goal.returns-in_err-contents-clause-err
 returns-in_err-contents-clause-err g c =
@@ -22,7 +22,7 @@ returns-in-Ok-clause-ok g c =
     run_known (g.R.Read.remaining (flag.device c.args.image.now)) (g.Q.Read.remaining (flag.device c.args.schedule.now)) c.in_ok-contents.contents (record { numbers = numbers c.in_ok-plan.plan; entries = c.in_ok-plan.entries.items })
     (stored s.image s.plan s.entries) c.in_ok-contents.ensures.ok c.in_ok-plan.ensures.ok (rw c.in-Ok.ensures.ok refl)
 
-pub returns-clause-err : goal.returns-clause-err
-returns-clause-err g c =
+pub returns-in-Err-clause-err : goal.returns-in-Err-clause-err
+returns-in-Err-clause-err g c =
     entry_refused (g.R.Read.remaining (flag.device c.args.image.now)) (g.Q.Read.remaining (flag.device c.args.schedule.now)) c.in_ok-contents.contents (record { numbers = numbers c.in_ok-plan.plan; entries = c.in_ok-plan.entries.items })
     c.in-Err.fault c.from.result c.in_ok-contents.ensures.ok c.in_ok-plan.ensures.ok c.in-Err.ensures.err c.from.ensures

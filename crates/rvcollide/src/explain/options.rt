@@ -1,0 +1,10 @@
+/// The options of `explain`.
+#[derive(Clone, Copy, Debug, PartialEq, Eq)]
+pub struct ExplainOptions<'a> {
+    /// Symbols, separated by commas, whose bytes' races are told as named.
+    pub named: Option<&'a str>,
+    /// How many entries are told before and after each place.
+    pub around: u32,
+    /// The number of the one race that is told, from 1 on; without it all are.
+    pub race: Option<u64>,
+}
