@@ -1,12 +1,16 @@
 // Preloaded by tests/growths. It counts the growths of a process, the calls that ask for memory, refuses the one whose number
-// is in GROWTH, and writes to the file at GROWTH_TOLD who asked for it: the program, or the library by its name.
+// is in GROWTH, and with GROWTH_ON all later ones too, and writes to the file at GROWTH_TOLD who asked for the first of them: the
+// program, or the library by its name. With GROWTH_MARKS it counts those alone that stand between the marks that rv_probe writes,
+// and at the second mark it writes to the file at GROWTH_THREADS how many threads there are.
 #define _GNU_SOURCE
+#include <dirent.h>
 #include <dlfcn.h>
 #include <errno.h>
 #include <fcntl.h>
 #include <stdatomic.h>
 #include <stdlib.h>
 #include <string.h>
+#include <sys/syscall.h>
 #include <unistd.h>
 
 // The C library's own, under the names that a preloaded file doesn't take from them.
@@ -15,25 +19,34 @@ void *__libc_calloc(size_t, size_t);
 void *__libc_realloc(void *, size_t);
 void *__libc_memalign(size_t, size_t);
 
-static atomic_ulong growths;
+static const char BEGIN[] = "growths begin\n";
+static const char END[] = "growths end\n";
 
-// Tells who asked, by the address that the call returns to. It asks for no memory itself.
-static void tell(void *caller) {
-  const char *path = getenv("GROWTH_TOLD");
+static atomic_ulong growths;
+static atomic_int is_between;
+
+// Writes a text to a file of its own, where there is a path. It asks for no memory itself.
+static void tell(const char *path, const char *text) {
   int file = path ? open(path, O_WRONLY | O_CREAT | O_TRUNC | O_CLOEXEC, 0600) : -1;
-  Dl_info from;
-  const char *name = dladdr(caller, &from) && from.dli_fname ? from.dli_fname : "?";
-  const char *slash = strrchr(name, '/');
-  name = slash ? slash + 1 : name;
-  if (file < 0 || write(file, name, strlen(name)) < 0) abort();
+  if (file < 0 || syscall(SYS_write, file, text, strlen(text)) < 0) abort();
   close(file);
 }
 
-// Whether this growth is the one to refuse.
+// Tells who asked, by the address that the call returns to.
+static void tell_caller(void *caller) {
+  Dl_info from;
+  const char *name = dladdr(caller, &from) && from.dli_fname ? from.dli_fname : "?";
+  const char *slash = strrchr(name, '/');
+  tell(getenv("GROWTH_TOLD"), slash ? slash + 1 : name);
+}
+
+// Whether this growth is one to refuse.
 static int is_refused(void *caller) {
-  const char *number = getenv("GROWTH");
-  if (!number || atomic_fetch_add(&growths, 1) + 1 != strtoul(number, NULL, 10)) return 0;
-  tell(caller);
+  const char *text = getenv("GROWTH");
+  if (!text || (getenv("GROWTH_MARKS") && !atomic_load(&is_between))) return 0;
+  unsigned long number = strtoul(text, NULL, 10), growth = atomic_fetch_add(&growths, 1) + 1;
+  if (growth < number || (growth > number && !getenv("GROWTH_ON"))) return 0;
+  if (growth == number) tell_caller(caller);
   errno = ENOMEM;
   return 1;
 }
@@ -56,4 +69,29 @@ int posix_memalign(void **made, size_t alignment, size_t size) {
   if (!block) return ENOMEM;
   *made = block;
   return 0;
+}
+
+// How many threads the process has.
+static int threads(void) {
+  DIR *tasks = opendir("/proc/self/task");
+  if (!tasks) abort();
+  int count = 0;
+  for (struct dirent *task; (task = readdir(tasks));) count += task->d_name[0] != '.';
+  closedir(tasks);
+  return count;
+}
+
+// Tells whether there is one thread. One that was joined may be in the system's list for a moment longer.
+static void tell_threads(void) {
+  for (int tries = 0; tries < 1000 && threads() != 1; tries++) usleep(1000);
+  tell(getenv("GROWTH_THREADS"), threads() == 1 ? "one" : "more");
+}
+
+ssize_t write(int file, const void *bytes, size_t size) {
+  if (getenv("GROWTH_MARKS") && size == sizeof BEGIN - 1 && !memcmp(bytes, BEGIN, size)) atomic_store(&is_between, 1);
+  if (getenv("GROWTH_MARKS") && size == sizeof END - 1 && !memcmp(bytes, END, size)) {
+    atomic_store(&is_between, 0);
+    tell_threads();
+  }
+  return syscall(SYS_write, file, bytes, size);
 }

@@ -1,0 +1,225 @@
+//! Calls on images and their texts.
+use crate::failure::Failure;
+use crate::fixtures::{SOURCE, image};
+use crate::probed::{Probed, probe};
+use crate::refusal::Refusal;
+use crate::shown::{write_address, write_bytes, write_image};
+use rv_asm::{assemble, line_of, list};
+use rv_elf::{Image, load, write};
+use rv_memory::flagged::{Flagged, WriteFault};
+use rv_memory::output::{Output, put_pieces};
+use rv_prune::names::ranges;
+use rv_sample::Sampler;
+use std::alloc::Global;
+
+#[derive(Drop)]
+struct Loading {
+    alloc: Global,
+    file: Vec<u8>,
+}
+
+impl Probed for Loading {
+    type Answer = Image;
+
+    fn call(&mut self) -> Result<Image, Refusal> {
+        Ok(load(self.alloc, &self.file)?)
+    }
+
+    fn write_answer<O: Output>(answer: &Image, screen: &mut O) -> Result<(), WriteFault> {
+        write_image(screen, answer)
+    }
+}
+
+pub(crate) fn loads<O: Output>(alloc: Global, screen: &mut O) -> Result<(), Failure> {
+    let file = write(alloc, &image(alloc)?)?;
+    Ok(probe(screen, &mut Loading { alloc, file })?)
+}
+
+#[derive(Drop)]
+struct Writing {
+    alloc: Global,
+    image: Image,
+}
+
+impl Probed for Writing {
+    type Answer = Vec<u8>;
+
+    fn call(&mut self) -> Result<Vec<u8>, Refusal> {
+        Ok(write(self.alloc, &self.image)?)
+    }
+
+    fn write_answer<O: Output>(answer: &Vec<u8>, screen: &mut O) -> Result<(), WriteFault> {
+        write_bytes(screen, answer)
+    }
+}
+
+pub(crate) fn writes<O: Output>(alloc: Global, screen: &mut O) -> Result<(), Failure> {
+    let image = image(alloc)?;
+    Ok(probe(screen, &mut Writing { alloc, image })?)
+}
+
+#[derive(Drop)]
+struct Copying {
+    alloc: Global,
+    image: Image,
+}
+
+impl Probed for Copying {
+    type Answer = Image;
+
+    fn call(&mut self) -> Result<Image, Refusal> {
+        Ok(self.image.copy(self.alloc)?)
+    }
+
+    fn write_answer<O: Output>(answer: &Image, screen: &mut O) -> Result<(), WriteFault> {
+        write_image(screen, answer)
+    }
+}
+
+pub(crate) fn copies<O: Output>(alloc: Global, screen: &mut O) -> Result<(), Failure> {
+    let image = image(alloc)?;
+    Ok(probe(screen, &mut Copying { alloc, image })?)
+}
+
+#[derive(Drop)]
+struct Assembling {
+    alloc: Global,
+}
+
+impl Probed for Assembling {
+    type Answer = Image;
+
+    fn call(&mut self) -> Result<Image, Refusal> {
+        Ok(assemble(self.alloc, SOURCE)?)
+    }
+
+    fn write_answer<O: Output>(answer: &Image, screen: &mut O) -> Result<(), WriteFault> {
+        write_image(screen, answer)
+    }
+}
+
+pub(crate) fn assembles<O: Output>(alloc: Global, screen: &mut O) -> Result<(), Failure> {
+    Ok(probe(screen, &mut Assembling { alloc })?)
+}
+
+#[derive(Drop)]
+struct Line {
+    alloc: Global,
+}
+
+impl Probed for Line {
+    type Answer = String;
+
+    fn call(&mut self) -> Result<String, Refusal> {
+        Ok(line_of(self.alloc, 0x00a3_2023, 0x10004)?)
+    }
+
+    fn write_answer<O: Output>(answer: &String, screen: &mut O) -> Result<(), WriteFault> {
+        put_pieces(screen, &[answer.as_bytes(), b"\n"])
+    }
+}
+
+pub(crate) fn tells_a_line<O: Output>(alloc: Global, screen: &mut O) -> Result<(), Failure> {
+    Ok(probe(screen, &mut Line { alloc })?)
+}
+
+/// How many bytes there is room for in each of the writers of a listing.
+const ROOM: usize = 1024;
+
+/// The writers have their room before the call, so that the listing alone asks for memory.
+#[derive(Drop)]
+struct Listing {
+    alloc: Global,
+    image: Image,
+    rooms: Vec<Vec<u8>>,
+}
+
+impl Probed for Listing {
+    type Answer = Vec<u8>;
+
+    fn call(&mut self) -> Result<Vec<u8>, Refusal> {
+        let Some(room) = self.rooms.pop() else {
+            return Err(Refusal::Other);
+        };
+        let mut writer = Flagged::new(room);
+        list(self.alloc, &self.image, &mut writer)?;
+        Ok(writer.into_inner())
+    }
+
+    fn write_answer<O: Output>(answer: &Vec<u8>, screen: &mut O) -> Result<(), WriteFault> {
+        screen.put(answer)
+    }
+}
+
+fn rooms(alloc: Global) -> Result<Vec<Vec<u8>>, Refusal> {
+    let mut rooms = Vec::new(alloc);
+    for _ in 0..2 {
+        rooms.push(Vec::with_capacity(alloc, ROOM)?)?;
+    }
+    Ok(rooms)
+}
+
+pub(crate) fn lists<O: Output>(alloc: Global, screen: &mut O) -> Result<(), Failure> {
+    let image = image(alloc)?;
+    let rooms = rooms(alloc)?;
+    Ok(probe(
+        screen,
+        &mut Listing {
+            alloc,
+            image,
+            rooms,
+        },
+    )?)
+}
+
+#[derive(Drop)]
+struct Sites {
+    alloc: Global,
+    image: Image,
+}
+
+impl Probed for Sites {
+    type Answer = Sampler;
+
+    fn call(&mut self) -> Result<Sampler, Refusal> {
+        Ok(Sampler::sites(self.alloc, &self.image, &[])?)
+    }
+
+    fn write_answer<O: Output>(answer: &Sampler, screen: &mut O) -> Result<(), WriteFault> {
+        write_address(screen, answer.pick(0))?;
+        write_address(screen, answer.pick(1))?;
+        write_address(screen, answer.pick(2))
+    }
+}
+
+pub(crate) fn finds_sites<O: Output>(alloc: Global, screen: &mut O) -> Result<(), Failure> {
+    let image = image(alloc)?;
+    Ok(probe(screen, &mut Sites { alloc, image })?)
+}
+
+#[derive(Drop)]
+struct NamedRanges {
+    alloc: Global,
+    image: Image,
+}
+
+impl Probed for NamedRanges {
+    type Answer = Vec<(u32, u32)>;
+
+    fn call(&mut self) -> Result<Vec<(u32, u32)>, Refusal> {
+        Ok(ranges(self.alloc, &self.image, &["shared"])?)
+    }
+
+    fn write_answer<O: Output>(answer: &Vec<(u32, u32)>, screen: &mut O) -> Result<(), WriteFault> {
+        for (first, size) in answer.iter() {
+            write_address(screen, Some(*first))?;
+            write_address(screen, Some(*size))?;
+        }
+        Ok(())
+    }
+}
+
+pub(crate) fn finds_ranges<O: Output>(alloc: Global, screen: &mut O) -> Result<(), Failure> {
+    let image = image(alloc)?;
+    Ok(probe(screen, &mut NamedRanges { alloc, image })?)
+}

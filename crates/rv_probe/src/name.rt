@@ -1,0 +1,116 @@
+//! The calls, by the words that name them.
+ghost use Rattle.std.specs.Prelude.{◌≡◌};
+ghost use Rattle.rv_probe.specs.Names as spec;
+
+/// A call that is probed.
+#[derive(Clone, Copy)]
+pub enum Name {
+    Load,
+    Write,
+    Copy,
+    Assemble,
+    LineOf,
+    List,
+    Sites,
+    Ranges,
+    ReadSchedule,
+    NewMachine,
+    SharePages,
+    ShareMachine,
+    Step,
+    NewCollider,
+    Replay,
+    Turn,
+    RowSeven,
+    NewSession,
+    Go,
+    Forward,
+    Back,
+    Bytes,
+    Lines,
+    Find,
+    RunOne,
+    NewWatched,
+    AddEnding,
+    Campaign,
+    RunThreads,
+}
+
+/// All calls.
+pub const NAMES: [Name; 29] = [
+    Name::Load,
+    Name::Write,
+    Name::Copy,
+    Name::Assemble,
+    Name::LineOf,
+    Name::List,
+    Name::Sites,
+    Name::Ranges,
+    Name::ReadSchedule,
+    Name::NewMachine,
+    Name::SharePages,
+    Name::ShareMachine,
+    Name::Step,
+    Name::NewCollider,
+    Name::Replay,
+    Name::Turn,
+    Name::RowSeven,
+    Name::NewSession,
+    Name::Go,
+    Name::Forward,
+    Name::Back,
+    Name::Bytes,
+    Name::Lines,
+    Name::Find,
+    Name::RunOne,
+    Name::NewWatched,
+    Name::AddEnding,
+    Name::Campaign,
+    Name::RunThreads,
+];
+
+impl Name {
+    /// How the call is named: as in its library, with its type before it.
+    pub fn text(self) -> &'static [u8]
+        ensures { result.now ≡ spec.text_of self }
+    {
+        match self {
+            Name::Load => b"load",
+            Name::Write => b"write",
+            Name::Copy => b"copy",
+            Name::Assemble => b"assemble",
+            Name::LineOf => b"line_of",
+            Name::List => b"list",
+            Name::Sites => b"sites",
+            Name::Ranges => b"ranges",
+            Name::ReadSchedule => b"read_schedule",
+            Name::NewMachine => b"Machine::new",
+            Name::SharePages => b"Paged::share",
+            Name::ShareMachine => b"Machine::share",
+            Name::Step => b"Machine::step",
+            Name::NewCollider => b"Collider::new",
+            Name::Replay => b"replay",
+            Name::Turn => b"Collider::turn",
+            Name::RowSeven => b"row_seven",
+            Name::NewSession => b"Session::new",
+            Name::Go => b"Session::go",
+            Name::Forward => b"Session::forward",
+            Name::Back => b"Session::back",
+            Name::Bytes => b"Session::bytes",
+            Name::Lines => b"Session::list",
+            Name::Find => b"Session::find",
+            Name::RunOne => b"run_one",
+            Name::NewWatched => b"Watched::new",
+            Name::AddEnding => b"RaceTable::add",
+            Name::Campaign => b"campaign",
+            Name::RunThreads => b"run_threads",
+        }
+    }
+}
+
+/// The call that a word names.
+pub fn name_of(word: &[u8]) -> Option<Name>
+    ensures { result ≡ spec.name_of word.now }
+{
+    NAMES.iter().copied().find(|name| name.text() == word)
+}

@@ -1,0 +1,68 @@
+//! A call between two marks, and once more where it is refused.
+use crate::refusal::Refusal;
+use rv_memory::flagged::WriteFault;
+use rv_memory::output::{Output, put_pieces};
+
+/// The mark after which `tests/growths` counts growths, and refuses some.
+pub(crate) const BEGIN: &[u8] = b"growths begin\n";
+
+/// The mark after which it no longer does.
+pub(crate) const END: &[u8] = b"growths end\n";
+
+/// A call, with what its caller holds. It may be made twice.
+pub(crate) trait Probed {
+    type Answer: Drop;
+
+    /// Makes the call, and asks for no memory beside it.
+    fn call(&mut self) -> Result<Self::Answer, Refusal>;
+
+    /// Writes what the call answered.
+    fn write_answer<O: Output>(answer: &Self::Answer, screen: &mut O) -> Result<(), WriteFault>;
+
+    /// Writes what the caller holds, where the call could change it.
+    fn write_held<O: Output>(&self, screen: &mut O) -> Result<(), WriteFault> {
+        screen.put(b"lent\n")
+    }
+}
+
+/// Makes a call, and once more where it is refused, and writes what it answers each time and what its caller holds before
+/// and after.
+pub(crate) fn probe<P: Probed, O: Output>(
+    screen: &mut O,
+    probed: &mut P,
+) -> Result<(), WriteFault> {
+    screen.put(b"before\n")?;
+    probed.write_held(screen)?;
+    if is_refused(screen, probed)? {
+        let again = probed.call();
+        tell(screen, probed, &again)?;
+    }
+    Ok(())
+}
+
+/// Makes a call between the marks, writes what it answers, and says whether it was refused.
+fn is_refused<P: Probed, O: Output>(screen: &mut O, probed: &mut P) -> Result<bool, WriteFault> {
+    screen.put(BEGIN)?;
+    let answered = probed.call();
+    let ended = screen.put(END);
+    ended?;
+    tell(screen, probed, &answered)?;
+    Ok(answered.is_err())
+}
+
+/// Writes what a call answered, and what its caller holds now.
+fn tell<P: Probed, O: Output>(
+    screen: &mut O,
+    probed: &P,
+    answered: &Result<P::Answer, Refusal>,
+) -> Result<(), WriteFault> {
+    match answered {
+        Ok(answer) => {
+            screen.put(b"answer\n")?;
+            P::write_answer(answer, screen)?;
+        }
+        Err(refusal) => put_pieces(screen, &[b"refused ", refusal.text(), b"\n"])?,
+    }
+    screen.put(b"after\n")?;
+    probed.write_held(screen)
+}
