@@ -1,13 +1,15 @@
 -- What a job says of the words that spell it.
-use Rattle.std.proofs.Common.{◌≡◌, ℕ, nat_le, zero, suc, refl, subst, true, false, List, Option, Some, None, [], ◌∷◌, arith, codes, cond}
-use Rattle.std.specs.Prelude.{Bool, Contains, IfSome, option_and_then, option_map}
+use Rattle.std.proofs.Common.{◌≡◌, ℕ, nat_le, zero, suc, refl, sym, subst, true, false, true≢false, List, Option, Some, None, [], ◌∷◌, arith, codes, cond}
+use Rattle.std.specs.Prelude.{Bool, Contains, drop, IfSome, option_and_then, option_map}
 use Rattle.std.specs.Str.{bytes_eq}
 use Rattle.std.proofs.lemmas.Bool.Decides.{nat_tests}
 use Rattle.std.proofs.lemmas.Slice.Eq.{bytes_eq-Decides}
 use Rattle.rv_text.specs.Numeral.{number_of, up_to}
 use Rattle.clap.specs.Walk.{Text}
-use Rattle.rvcollide.specs.Command.{Asked, Exhibit, IsEndingGiven, IsGiven, arguments, asm_of, command_job, debug_of, ending_of, exhibit_of, explain_of, is_option, job_of, list_of, options_job, replay_of, run_of, threads_of, words_of}
+use Rattle.rvcollide.specs.Command.{Asked, Exhibit, IsEndingGiven, IsGiven, arguments, asm_of, clap_job_of, command_job, debug_of, ending_of, exhibit_of, explain_of, gdb_of, hunt_of, is_merge, is_option, job_of, list_of, merge_of, options_job, replay_of, run_of, threads_of, words_of}
 use Rattle.rvcollide.specs.declared.command.exhibit.TheConstants.{MOST_ENDING}
+use Rattle.rvcollide.proofs.HuntGiven.{hunt_given}
+use Rattle.rvcollide.proofs.MergeGiven.{merge_given}
 use Rattle.rvcollide.proofs.RunGiven.{explain_given, run_given, threads_given}
 
 later : (x word : Text) (words : List Text) → Contains words x → Contains (word ∷ words) x
@@ -68,6 +70,12 @@ debug_given n rest (image ∷ []) stand = tt
 debug_given n rest (image ∷ schedule ∷ []) stand = (refl, stand.each image (first image (schedule ∷ [])), stand.each schedule (later schedule image (schedule ∷ []) (first schedule [])))
 debug_given n rest (image ∷ schedule ∷ more ∷ others) stand = tt
 
+gdb_given : (n : Text) (rest given : List Text) → Stand rest given → IfSome (gdb_of given) (IsGiven (n ∷ codes "gdb" ∷ rest))
+gdb_given n rest [] stand = tt
+gdb_given n rest (image ∷ []) stand = tt
+gdb_given n rest (image ∷ schedule ∷ []) stand = (refl, stand.each image (first image (schedule ∷ [])), stand.each schedule (later schedule image (schedule ∷ []) (first schedule [])))
+gdb_given n rest (image ∷ schedule ∷ more ∷ others) stand = tt
+
 -- the number that a text writes stands where the text does
 ending_given : (words : List Text) (text : Text) → Contains words text → IfSome (ending_of text) (IsEndingGiven words)
 ending_given words text stands = by_number (number_of 10 text) refl
@@ -95,11 +103,11 @@ exhibit_given n rest (image ∷ schedule ∷ number ∷ []) stand =
     map_given (λ k. Exhibit image schedule k) (IsEndingGiven rest) (IsGiven (n ∷ codes "exhibit" ∷ rest)) (ending_of number) (ending_given rest number last) (λ k given. (refl, path, other, given))
 exhibit_given n rest (image ∷ schedule ∷ number ∷ more ∷ others) stand = tt
 
-pub job_given : (words : List Text) → IfSome (job_of words) (IsGiven words)
-unfolding job_of
-job_given [] = tt
-job_given (n ∷ []) = tt
-job_given (n ∷ name ∷ rest) = by_run (bytes_eq (codes "run") name) refl
+clap_job_given : (words : List Text) → IfSome (clap_job_of words) (IsGiven words)
+unfolding clap_job_of
+clap_job_given [] = tt
+clap_job_given (n ∷ []) = tt
+clap_job_given (n ∷ name ∷ rest) = by_run (bytes_eq (codes "run") name) refl
   where
     Given : Text → Option Asked → Type 0
     Given w o = IfSome o (IsGiven (n ∷ w ∷ rest))
@@ -107,10 +115,16 @@ job_given (n ∷ name ∷ rest) = by_run (bytes_eq (codes "run") name) refl
     found : (w : Text) → bytes_eq w name ≡ true → Given w (command_job w rest) → Given name (command_job name rest)
     found w same given = subst (λ (v : Text). Given v (command_job v rest)) ((bytes_eq-Decides w name).0 same) given
 
+    by_gdb : (b : Bool) → bytes_eq (codes "words") name ≡ false → bytes_eq (codes "asm") name ≡ false → bytes_eq (codes "list") name ≡ false
+        → bytes_eq (codes "replay") name ≡ false → bytes_eq (codes "debug") name ≡ false → bytes_eq (codes "exhibit") name ≡ false → bytes_eq (codes "gdb") name ≡ b
+        → Given name (command_job name rest)
+    by_gdb true no_words no_asm no_list no_replay no_debug no_exhibit gdb = found (codes "gdb") gdb (given_by rest gdb_of _ (gdb_given n rest) (arguments rest) (arguments_stand rest))
+    by_gdb false no_words no_asm no_list no_replay no_debug no_exhibit no_gdb = rw (no_words, no_asm, no_list, no_replay, no_debug, no_exhibit, no_gdb) tt
+
     by_exhibit : (b : Bool) → bytes_eq (codes "words") name ≡ false → bytes_eq (codes "asm") name ≡ false → bytes_eq (codes "list") name ≡ false
         → bytes_eq (codes "replay") name ≡ false → bytes_eq (codes "debug") name ≡ false → bytes_eq (codes "exhibit") name ≡ b → Given name (command_job name rest)
     by_exhibit true no_words no_asm no_list no_replay no_debug exhibit = found (codes "exhibit") exhibit (given_by rest exhibit_of _ (exhibit_given n rest) (arguments rest) (arguments_stand rest))
-    by_exhibit false no_words no_asm no_list no_replay no_debug no_exhibit = rw (no_words, no_asm, no_list, no_replay, no_debug, no_exhibit) tt
+    by_exhibit false no_words no_asm no_list no_replay no_debug no_exhibit = by_gdb (bytes_eq (codes "gdb") name) no_words no_asm no_list no_replay no_debug no_exhibit refl
 
     by_debug : (b : Bool) → bytes_eq (codes "words") name ≡ false → bytes_eq (codes "asm") name ≡ false → bytes_eq (codes "list") name ≡ false
         → bytes_eq (codes "replay") name ≡ false → bytes_eq (codes "debug") name ≡ b → Given name (command_job name rest)
@@ -137,11 +151,17 @@ job_given (n ∷ name ∷ rest) = by_run (bytes_eq (codes "run") name) refl
     Means : Text → Type 0
     Means w = IfSome (cond (bytes_eq (codes "run") w) (options_job run_of (n ∷ w ∷ rest))
         (cond (bytes_eq (codes "threads") w) (options_job threads_of (n ∷ w ∷ rest))
-        (cond (bytes_eq (codes "explain") w) (options_job explain_of (n ∷ w ∷ rest)) (command_job w rest)))) (IsGiven (n ∷ w ∷ rest))
+        (cond (bytes_eq (codes "explain") w) (options_job explain_of (n ∷ w ∷ rest))
+        (cond (bytes_eq (codes "hunt") w) (options_job hunt_of (n ∷ w ∷ rest)) (command_job w rest))))) (IsGiven (n ∷ w ∷ rest))
+
+    by_hunt : (b : Bool) → bytes_eq (codes "run") name ≡ false → bytes_eq (codes "threads") name ≡ false → bytes_eq (codes "explain") name ≡ false
+        → bytes_eq (codes "hunt") name ≡ b → Means name
+    by_hunt true no_run no_threads no_explain hunt = subst Means ((bytes_eq-Decides (codes "hunt") name).0 hunt) (hunt_given n rest)
+    by_hunt false no_run no_threads no_explain no_hunt = rw (no_run, no_threads, no_explain, no_hunt) (by_words (bytes_eq (codes "words") name) refl)
 
     by_explain : (b : Bool) → bytes_eq (codes "run") name ≡ false → bytes_eq (codes "threads") name ≡ false → bytes_eq (codes "explain") name ≡ b → Means name
     by_explain true no_run no_threads explain = subst Means ((bytes_eq-Decides (codes "explain") name).0 explain) (explain_given n rest)
-    by_explain false no_run no_threads no_explain = rw (no_run, no_threads, no_explain) (by_words (bytes_eq (codes "words") name) refl)
+    by_explain false no_run no_threads no_explain = by_hunt (bytes_eq (codes "hunt") name) no_run no_threads no_explain refl
 
     by_threads : (b : Bool) → bytes_eq (codes "run") name ≡ false → bytes_eq (codes "threads") name ≡ b → Means name
     by_threads true no_run threads = subst Means ((bytes_eq-Decides (codes "threads") name).0 threads) (threads_given n rest)
@@ -150,6 +170,20 @@ job_given (n ∷ name ∷ rest) = by_run (bytes_eq (codes "run") name) refl
     by_run : (b : Bool) → bytes_eq (codes "run") name ≡ b → Means name
     by_run true run = subst Means ((bytes_eq-Decides (codes "run") name).0 run) (run_given n rest)
     by_run false no_run = by_threads (bytes_eq (codes "threads") name) no_run refl
+
+at_merge : (words : List Text) → is_merge words ≡ true → IfSome (merge_of (drop 2 words)) (IsGiven words)
+at_merge [] is = absurd (true≢false (sym is))
+at_merge (n ∷ []) is = absurd (true≢false (sym is))
+at_merge (n ∷ name ∷ rest) is =
+    subst (λ (w : Text). IfSome (merge_of rest) (IsGiven (n ∷ w ∷ rest))) (sym ((bytes_eq-Decides name (codes "merge")).0 is)) (merge_given n rest)
+
+pub job_given : (words : List Text) → IfSome (job_of words) (IsGiven words)
+unfolding job_of
+job_given words = go (is_merge words) refl
+  where
+    go : (b : Bool) → is_merge words ≡ b → IfSome (cond b (merge_of (drop 2 words)) (clap_job_of words)) (IsGiven words)
+    go true is = at_merge words is
+    go false is = clap_job_given words
 
 pub given_at : (words : List Text) (asked : Asked) → job_of words ≡ Some asked → IsGiven words asked
 given_at words asked is = rw is at (job_given words)

@@ -11,9 +11,9 @@ use Rattle.clap.specs.declared.parser.matches.ValueSource.TheVariants.{CommandLi
 use Rattle.clap.proofs.OnLiterals.{clap_on_literals}
 use Rattle.std.proofs.lemmas.Slice.Eq.{bytes_eq-Decides}
 use Rattle.rvcollide.proofs.WordLemmas.{IsRequestOr, Requests, first_stays, held, stand, turn_is}
-use Rattle.rvcollide.specs.Command.{Asked, Words, arguments, asm_of, exhibit_of, is_option, debug_of, list_of, replay_of, words_of}
+use Rattle.rvcollide.specs.Command.{Asked, Words, arguments, asm_of, exhibit_of, is_option, debug_of, gdb_of, list_of, replay_of, words_of}
 use Rattle.rvcollide.specs.ClapProgram.{program}
-use Rattle.rvcollide.specs.internal.FoundJob.{asm_in, debug_in, exhibit_in, list_in, replay_in}
+use Rattle.rvcollide.specs.internal.FoundJob.{asm_in, debug_in, exhibit_in, gdb_in, list_in, replay_in}
 
 -- the commands as `clap` builds them
 abbrev pub leaf : ℕ → Shape
@@ -349,6 +349,38 @@ exhibit_reads = next_reads exhibit_leaf exhibit_in at_first exhibit_of (at_secon
     (record { trailing_pass = λ word. refl; trailing_goes_on = λ word. refl; pass = λ word. refl; goes_on = λ word. refl })
     exhibit_second
 
+-- ---- `gdb IMAGE SCHEDULE`
+
+abbrev pub gdb_leaf : Shape
+gdb_leaf = leaf 9
+
+gdb_requests : Requests gdb_leaf.rules
+gdb_requests = record {
+  long = λ name. request_or (bytes_eq (codes "help") name || false) _ None (refl, λ again rows. refl) tt;
+  short = λ x. request_or (104 == x || false) _ None (refl, λ again rows. refl) tt;
+}
+
+gdb_third : (image schedule : Text)
+    → Reads gdb_leaf gdb_in (at_third (codes "IMAGE") image (codes "SCHEDULE") schedule) (λ rest. gdb_of (image ∷ schedule ∷ rest))
+unfolding clap_on_literals
+gdb_third image schedule = full_reads gdb_leaf gdb_in (at_third (codes "IMAGE") image (codes "SCHEDULE") schedule) (λ rest. gdb_of (image ∷ schedule ∷ rest))
+    (record { requests = gdb_requests; trailing = refl; plain = refl; dashes_pass = refl; dashes_go_on = refl })
+    (record { trailing = λ word. refl; plain = refl; none = λ word rest. refl })
+
+gdb_second : (image : Text) → Reads gdb_leaf gdb_in (at_second (codes "IMAGE") image) (λ rest. gdb_of (image ∷ rest))
+unfolding clap_on_literals
+gdb_second image = next_reads gdb_leaf gdb_in (at_second (codes "IMAGE") image) (λ rest. gdb_of (image ∷ rest)) (at_third (codes "IMAGE") image (codes "SCHEDULE"))
+    (record { requests = gdb_requests; trailing = refl; plain = refl; dashes_pass = refl; dashes_go_on = refl })
+    (record { trailing_pass = λ word. refl; trailing_goes_on = λ word. refl; pass = λ word. refl; goes_on = λ word. refl })
+    (gdb_third image)
+
+gdb_reads : Reads gdb_leaf gdb_in at_first gdb_of
+unfolding clap_on_literals
+gdb_reads = next_reads gdb_leaf gdb_in at_first gdb_of (at_second (codes "IMAGE"))
+    (record { requests = gdb_requests; trailing = refl; plain = refl; dashes_pass = refl; dashes_go_on = refl })
+    (record { trailing_pass = λ word. refl; trailing_goes_on = λ word. refl; pass = λ word. refl; goes_on = λ word. refl })
+    gdb_second
+
 -- ---- what each command's words give
 
 abbrev pub words_at : Bool → Walk
@@ -371,3 +403,6 @@ debug_outcome = debug_reads.plain
 
 pub exhibit_outcome : (rest : List Text) → outcome exhibit_leaf exhibit_in (words_at false) rest ≡ option_and_then exhibit_of (arguments rest)
 exhibit_outcome = exhibit_reads.plain
+
+pub gdb_outcome : (rest : List Text) → outcome gdb_leaf gdb_in (words_at false) rest ≡ option_and_then gdb_of (arguments rest)
+gdb_outcome = gdb_reads.plain

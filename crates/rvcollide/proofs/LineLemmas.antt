@@ -15,7 +15,7 @@ use Rattle.std.specs.List.{list_all, list_any}
 use Rattle.clap.specs.declared.parser.matches.Found.{Found}
 use Rattle.clap.proofs.OnLiterals.{clap_on_literals}
 use Rattle.clap.proofs.WalkLemmas.{first_value-rows}
-use Rattle.rvcollide.specs.Command.{job_of}
+use Rattle.rvcollide.specs.Command.{clap_job_of}
 use Rattle.rvcollide.specs.Notice.{is_request}
 use Rattle.rvcollide.specs.ClapProgram.{program}
 use Rattle.rvcollide.specs.internal.FoundJob.{job_in, job_read}
@@ -46,7 +46,7 @@ refused words some = if_false _ _ _ some
 -- a parse finds the job that the words spell, and fails for want of memory or where there is none
 pub job_told : (words : List Text) (r : Result ArgMatches Error) → FailsBy (fault_of program words) r
     → IfOk r (λ m. subcommand_rows_of m ≡ subcommand_of program words)
-    → MatchResult r (λ m. option_and_then job_in (subcommand_rows_of m) ≡ job_of words) (λ e. (kind_of e ≡ kind.OutOfMemory) ⊎ (job_of words ≡ None))
+    → MatchResult r (λ m. option_and_then job_in (subcommand_rows_of m) ≡ clap_job_of words) (λ e. (kind_of e ≡ kind.OutOfMemory) ⊎ (clap_job_of words ≡ None))
 job_told words (Ok m) none rows = ap (option_and_then job_in) rows ∙ sym (accepted words none) ∙ reads_line words
 job_told words (Err e) (inl memory) rows = inl memory
 job_told words (Err e) (inr among) rows = inr (sym (reads_line words) ∙ refused words (among_some (kind_of e) _ among))

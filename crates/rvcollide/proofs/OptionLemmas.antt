@@ -10,10 +10,12 @@ use Rattle.std.specs.Str.{bytes_eq, chars}
 use Rattle.clap.specs.Lexer.{long_of, short_of, has_byte}
 use Rattle.clap.specs.Walk.{Held, Outcome, Row, Rule, Step, Text, Waiting, Walk, action_of, after_flag, after_step, arg_by_id, arg_by_index, arg_by_long, arg_by_short, at_row, bundle, bundle_met, bundle_step, default_rows, done, first_of, flag_met, has_long, has_row, has_short, idle, is_multiple, is_pending, long_or_other, more_values, most_values, next, nothing_held, option, option_met, option_word, pending_count, plain, plain_word, positional, positional_held, pushed, reacted, refused, rows_after, settled, settled_rows, short_met, short_or_plain, started, subcommand, subcommand_met, subcommand_or_other, takes_several, takes_values, to_positional, trailing, used, used_as, used_by_id, value, values_or_missing, waits, walk_from, walked, walked_from, long_met, word_met, with_default, with_values, without, reading_by}
 use Rattle.clap.specs.declared.builder.action.ArgAction.{ArgAction}
-use Rattle.clap.specs.declared.builder.action.ArgAction.TheVariants.{Set, Help}
+use Rattle.clap.specs.declared.builder.action.ArgAction.TheVariants.{Set, SetTrue, Help}
 use Rattle.clap.specs.declared.builder.value_parser.Reading.{Reading}
 use Rattle.clap.specs.declared.parser.matches.ValueSource.{ValueSource}
+use Rattle.clap.specs.declared.parser.matches.ValueSource.TheVariants.{CommandLine, DefaultValue}
 use Rattle.rvcollide.proofs.LeafLemmas.{if_false}
+use Rattle.rvcollide.specs.HuntLine.{flag_at}
 use Rattle.rvcollide.specs.RunLine.{Gives, apart, joined}
 
 -- ---- lists and tests
@@ -116,12 +118,20 @@ spelled (x ∷ y ∷ rest) = go (x == 45) (y == 45) refl refl rest
 abbrev pub is_place : Text → Bool
 is_place id = bytes_eq (codes "IMAGE") id || bytes_eq (codes "SCHEDULE") id
 
--- a value stands after its argument's name, or alone where the argument is a place
-abbrev pub IsOption : Text → Type 0
-IsOption id = is_place id ≡ false
+-- the arguments that have no value in the words
+abbrev pub is_flag : Text → Bool
+is_flag id = bytes_eq (codes "table") id || (bytes_eq (codes "check") id || (bytes_eq (codes "check-all") id || bytes_eq (codes "quiet") id))
 
+abbrev pub IsOption : Text → Type 0
+IsOption id = (is_place id ≡ false) × (is_flag id ≡ false)
+
+-- a flag's value is `false`, or its name stands in the words
+abbrev FlagStands : List Text → Text → Text → Type 0
+FlagStands words id v = (v ≡ codes "false") ⊎ Contains words (codes "--" ++ id)
+
+-- a value stands after its argument's name, or alone where the argument is a place
 abbrev pub Origin : List Text → Text → Text → Type 0
-Origin words id v = (IsOption id × Gives words id v) ⊎ ((is_place id ≡ true) × Contains words v)
+Origin words id v = (IsOption id × Gives words id v) ⊎ (((is_place id ≡ true) × Contains words v) ⊎ ((is_flag id ≡ true) × FlagStands words id v))
 
 abbrev RowStands : List Text → Row → Type 0
 RowStands words r = Each (Origin words r.id) r.values
@@ -130,22 +140,25 @@ abbrev pub RowsStand : List Text → List Row → Type 0
 RowsStand words rows = Each (RowStands words) rows
 
 abbrev PendingStands : List Text → Option (Text × List Text) → Type 0
-PendingStands words pending = IfSome pending (λ p. Each (Origin words p.0) p.1)
+PendingStands words pending = IfSome pending (λ p. Each (Origin words p.0) p.1 × (is_flag p.0 ≡ false))
 
 abbrev HeldStands : List Text → Held → Type 0
 HeldStands words h = RowsStand words h.rows × PendingStands words h.pending
 
--- an argument with a long name that is its id, or a place, or a flag, with no default
+-- the values that stand for a use without one, and for no use: a flag alone has them
+abbrev HasValues : Rule → List Text → List Text → Type 0
+HasValues a missing defaults = (a.missing ≡ missing) × (a.defaults ≡ defaults)
+
+-- an argument with a long name that is its id, or a place, or a flag
 pub record Told (a : Rule) : Type 0 where
-  pub missing : a.missing ≡ []
-  pub defaults : a.defaults ≡ []
+  pub flag : ((is_flag a.id ≡ false) × HasValues a [] []) ⊎ ((is_flag a.id ≡ true) × HasValues a (codes "true" ∷ []) (codes "false" ∷ []))
   pub aliases : a.aliases ≡ []
   pub short_aliases : a.short_aliases ≡ []
-  pub acts : (action_of a ≡ Set) ⊎ (action_of a ≡ Help)
-  pub long : (a.long ≡ None) ⊎ ((a.long ≡ Some a.id) × IsOption a.id)
-  pub short : (a.short ≡ None) ⊎ (takes_values a ≡ false)
+  pub acts : (action_of a ≡ Set) ⊎ ((action_of a ≡ Help) ⊎ (action_of a ≡ SetTrue))
+  pub long : (a.long ≡ None) ⊎ ((a.long ≡ Some a.id) × (IsOption a.id ⊎ (takes_values a ≡ false)))
+  pub short : (a.short ≡ None) ⊎ ((takes_values a ≡ false) × (is_flag a.id ≡ false))
   pub most : most_values a ≤ 1
-  pub place : (a.index ≡ None) ⊎ ((is_place a.id ≡ true) × (takes_several a ≡ false))
+  pub place : (a.index ≡ None) ⊎ ((is_place a.id ≡ true) × (takes_several a ≡ false) × (is_flag a.id ≡ false))
 
 -- ---- rows
 
@@ -169,16 +182,35 @@ module _ (words : List Text) where
   without_stands : (id : Text) (rows : List Row) → RowsStand words rows → RowsStand words (without id rows)
   without_stands id rows stand = at_row_stands (RowStands words) id (λ _. []) [] (λ r same row. tt) tt rows stand
 
-  missing_stand : (a : Rule) (values : List Text) → Told a → Each (Origin words a.id) values → Each (Origin words a.id) (values_or_missing a values)
-  missing_stand a [] told given = subst (λ (vs : List Text). Each (Origin words a.id) vs) (sym told.missing) tt
-  missing_stand a (v ∷ vs) told given = given
-
-  used_stand : (a : Rule) (values : List Text) (rows : List Row) → Told a → Each (Origin words a.id) values → RowsStand words rows → RowsStand words (used a values rows)
-  used_stand a values rows told given stand = elim told.acts [
-    | inl set ↦ subst (λ (act : ArgAction). RowsStand words (used_as act a.id (reading_by a) (values_or_missing a values) rows)) (sym set)
-        (with_values_stand a.id _ _ (values_or_missing a values) (without a.id rows) (missing_stand a values told given) (without_stands a.id rows stand))
-    | inr help ↦ subst (λ (act : ArgAction). RowsStand words (used_as act a.id (reading_by a) (values_or_missing a values) rows)) (sym help) stand
+  missing_stand : (a : Rule) (values : List Text) → Told a → is_flag a.id ≡ false → Each (Origin words a.id) values → Each (Origin words a.id) (values_or_missing a values)
+  missing_stand a [] told no_flag given = elim told.flag [
+    | inl unset ↦ subst (λ (vs : List Text). Each (Origin words a.id) vs) (sym unset.1.0) tt
+    | inr flag ↦ absurd (true≢false (sym flag.0 ∙ no_flag))
   ]
+  missing_stand a (v ∷ vs) told no_flag given = given
+
+  -- the value of a flag that stands in the words
+  flag_stand : (a : Rule) → Told a → Contains words (codes "--" ++ a.id) → Each (Origin words a.id) (values_or_missing a [])
+  flag_stand a told name = elim told.flag [
+    | inl unset ↦ subst (λ (vs : List Text). Each (Origin words a.id) vs) (sym unset.1.0) tt
+    | inr flag ↦ subst (λ (vs : List Text). Each (Origin words a.id) vs) (sym flag.1.0) (inr (inr (flag.0, inr name)), tt)
+  ]
+
+  used_stand : (a : Rule) (values : List Text) (rows : List Row) → Told a → Each (Origin words a.id) (values_or_missing a values) → RowsStand words rows
+      → RowsStand words (used a values rows)
+  used_stand a values rows told given stand = elim told.acts [
+    | inl set ↦ by_action Set set replaced
+    | inr other ↦ elim other [
+      | inl help ↦ by_action Help help stand
+      | inr flag ↦ by_action SetTrue flag replaced
+    ]
+  ]
+    where
+      replaced : RowsStand words (with_values a.id (reading_by a) CommandLine (values_or_missing a values) (without a.id rows))
+      replaced = with_values_stand a.id (reading_by a) CommandLine (values_or_missing a values) (without a.id rows) given (without_stands a.id rows stand)
+
+      by_action : (act : ArgAction) → action_of a ≡ act → RowsStand words (used_as act a.id (reading_by a) (values_or_missing a values) rows) → RowsStand words (used a values rows)
+      by_action act is stands = subst (λ (it : ArgAction). RowsStand words (used_as it a.id (reading_by a) (values_or_missing a values) rows)) (sym is) stands
 
   module _ (c : List Rule) (told : Each Told c) where
     settled_stand : (pending : Option (Text × List Text)) (rows : List Row) → PendingStands words pending → RowsStand words rows → RowsStand words (settled_rows c pending rows)
@@ -187,12 +219,14 @@ module _ (words : List Text) where
       where
         go : (o : Option Rule) → IfSome o (λ a. (bytes_eq a.id p.0 ≡ true) × Told a) → RowsStand words (used_by_id o p.1 rows)
         go None is = stand
-        go (Some a) is = used_stand a p.1 rows is.1 (subst (λ (i : Text). Each (Origin words i) p.1) (sym (same_text a.id p.0 is.0)) given) stand
+        go (Some a) is =
+            let same : p.0 ≡ a.id = sym (same_text a.id p.0 is.0) in
+            used_stand a p.1 rows is.1 (missing_stand a p.1 is.1 (subst (λ (i : Text). is_flag i ≡ false) same given.1) (subst (λ (i : Text). Each (Origin words i) p.1) same given.0)) stand
 
     settles : (h : Held) → HeldStands words h → HeldStands words (settled c h)
     settles h stand = (settled_stand h.pending h.rows stand.1 stand.0, tt)
 
-    reacts : (a : Rule) (values : List Text) (h : Held) → Told a → Each (Origin words a.id) values → HeldStands words h → HeldStands words (reacted c a values h)
+    reacts : (a : Rule) (values : List Text) (h : Held) → Told a → Each (Origin words a.id) (values_or_missing a values) → HeldStands words h → HeldStands words (reacted c a values h)
     reacts a values h one given stand = (used_stand a values _ one given (settled_stand h.pending h.rows stand.1 stand.0), tt)
 
     -- ---- flags in one word
@@ -201,7 +235,7 @@ module _ (words : List Text) where
     Ends (waits id) = ⊥
     Ends _ = ⊤
 
-    short_flag : (a : Rule) (x : ℕ) → Told a → has_short a x ≡ true → takes_values a ≡ false
+    short_flag : (a : Rule) (x : ℕ) → Told a → has_short a x ≡ true → (takes_values a ≡ false) × (is_flag a.id ≡ false)
     short_flag a x one has = elim one.short [
       | inl none ↦ absurd (true≢false (sym has ∙ no_short none))
       | inr flag ↦ flag
@@ -210,7 +244,7 @@ module _ (words : List Text) where
         no_short : a.short ≡ None → has_short a x ≡ false
         no_short none = rw (none, one.short_aliases) refl
 
-    bundle_keeps : (P : Held → Type 0) → ((a : Rule) (h : Held) → Told a → P h → P (reacted c a [] h)) → (k : ℕ) (flags : Text) (skip : ℕ) (so_far : Outcome) (h : Held)
+    bundle_keeps : (P : Held → Type 0) → ((a : Rule) (h : Held) → Told a → is_flag a.id ≡ false → P h → P (reacted c a [] h)) → (k : ℕ) (flags : Text) (skip : ℕ) (so_far : Outcome) (h : Held)
         → P h → Ends so_far → P (bundle_met c k flags skip so_far h).0 × Ends (bundle_met c k flags skip so_far h).1
     unfolding bundle_met
     bundle_keeps P keeps zero flags skip so_far h holds ends = (holds, ends)
@@ -222,7 +256,10 @@ module _ (words : List Text) where
         met : (o : Option Rule) (x : ℕ) (rest : Text) → IfSome o (λ a. ((not (is_some a.index) && has_short a x) ≡ true) × Told a) → Again
             → P (short_met c o rest h (bundle_met c k rest 0 done)).0 × Ends (short_met c o rest h (bundle_met c k rest 0 done)).1
         met None x rest is again = (holds, tt)
-        met (Some a) x rest is again = rw (short_flag a x is.1 (and_last (not (is_some a.index)) (has_short a x) is.0)) (again rest 0 done (reacted c a [] h) (keeps a h is.1 holds) tt)
+        met (Some a) x rest is again =
+            let short = short_flag a x is.1 (and_last (not (is_some a.index)) (has_short a x) is.0) in
+            let takes_none : takes_values a ≡ false = short.0 in
+            rw takes_none (again rest 0 done (reacted c a [] h) (keeps a h is.1 short.1 holds) tt)
 
         step : (o : Option ℕ) (skip : ℕ) → Again
             → P (bundle_step c o flags skip so_far h (bundle_met c k)).0 × Ends (bundle_step c o flags skip so_far h (bundle_met c k)).1
@@ -281,12 +318,13 @@ module _ (words : List Text) where
       after_name id (place, here, name) = apart place name (subst (λ (j : ℕ). slice_get words j ≡ Some word) (here ∙ omega arith) at)
 
       -- a value more for what is pending
-      push_stands : (id : Text) (h : Held) → Origin words id word → IfSome h.pending (λ p. p.0 ≡ id) → HeldStands words h → HeldStands words (pushed id word h)
-      push_stands id h origin is stand = (stand.0, go h.pending is stand.1)
+      push_stands : (id : Text) (h : Held) → Origin words id word → is_flag id ≡ false → IfSome h.pending (λ p. p.0 ≡ id) → HeldStands words h → HeldStands words (pushed id word h)
+      push_stands id h origin no_flag is stand = (stand.0, go h.pending is stand.1)
         where
-          go : (o : Option (Text × List Text)) → IfSome o (λ p. p.0 ≡ id) → PendingStands words o → Each (Origin words (started id o).0) ((started id o).1 ++ word ∷ [])
-          go None same given = (origin, tt)
-          go (Some p) same given = each_append _ p.1 (word ∷ []) given (subst (λ (i : Text). Origin words i word) (sym same) origin, tt)
+          go : (o : Option (Text × List Text)) → IfSome o (λ p. p.0 ≡ id) → PendingStands words o
+              → Each (Origin words (started id o).0) ((started id o).1 ++ word ∷ []) × (is_flag (started id o).0 ≡ false)
+          go None same given = ((origin, tt), no_flag)
+          go (Some p) same given = (each_append _ p.1 (word ∷ []) given.0 (subst (λ (i : Text). Origin words i word) (sym same) origin, tt), given.1)
 
       full : (a : Rule) (id : Text) (h : Held) → Told a → bytes_eq a.id id ≡ true → IfSome h.pending (λ p. p.0 ≡ id)
           → nat_lt (pending_count a (pushed id word h).pending) (most_values a) ≡ false
@@ -313,7 +351,7 @@ module _ (words : List Text) where
           go None none is = (stand, inl none)
           go (Some a) some is = elim waiting [
             | inl none ↦ absurd (some_none (sym some ∙ none))
-            | inr follows ↦ rw (full a id h is.1 is.0 follows.1) (push_stands id h (inl (follows.0.0, after_name id follows.0.1)) follows.1 stand, tt)
+            | inr follows ↦ rw (full a id h is.1 is.0 follows.1) (push_stands id h (inl (follows.0.0, after_name id follows.0.1)) follows.0.0.1 follows.1 stand, tt)
           ]
             where
               some_none : Some a ≡ None → ⊥
@@ -336,17 +374,17 @@ module _ (words : List Text) where
       bundle_good : (before : Waiting) (h : Held) (flags : Text) → Waits k before h → HeldStands words h
           → Good before (after_flag c before word (bundle c flags h).0 (bundle c flags h).1)
       bundle_good before h flags waiting stand =
-          let stands = bundle_keeps (HeldStands words) (λ a g one held. reacts a [] g one tt held) (length flags) flags h.skip plain (record h { skip = 0 }) stand tt in
+          let stands = bundle_keeps (HeldStands words) (λ a g one no_flag held. reacts a [] g one (missing_stand a [] one no_flag tt) held) (length flags) flags h.skip plain (record h { skip = 0 }) stand tt in
           after_good before (bundle c flags h).0 (bundle c flags h).1 stands.1
           (still_waits before h (bundle c flags h).0 (λ id is.
-          (bundle_keeps (λ g. IfSome g.pending (λ p. p.0 ≡ id)) (λ a g one held. tt) (length flags) flags h.skip plain (record h { skip = 0 }) is tt).0) waiting)
+          (bundle_keeps (λ g. IfSome g.pending (λ p. p.0 ≡ id)) (λ a g one no_flag held. tt) (length flags) flags h.skip plain (record h { skip = 0 }) is tt).0) waiting)
           stands.0
 
       short_good : (before : Waiting) (h : Held) (o : Option Text) → Waits k before h → HeldStands words h → Good before (short_or_plain c before word o h)
       short_good before h None waiting stand = plain_good before h waiting stand
       short_good before h (Some flags) waiting stand = bundle_good before h flags waiting stand
 
-      named : (a : Rule) (name : Text) → Told a → has_long a name ≡ true → (a.id ≡ name) × IsOption a.id
+      named : (a : Rule) (name : Text) → Told a → has_long a name ≡ true → (a.id ≡ name) × (IsOption a.id ⊎ (takes_values a ≡ false))
       named a name one has = elim one.long [
         | inl none ↦ absurd (true≢false (sym has ∙ rw (none, one.aliases) refl))
         | inr some ↦ (same_text a.id name (or_none (bytes_eq a.id name) (rw (some.0, one.aliases) at has)), some.1)
@@ -359,23 +397,28 @@ module _ (words : List Text) where
           valued : (a : Rule) (v : Option Text) → Told a → (a.id ≡ name) × IsOption a.id → Spells word name v → Good before (after_flag c before word (option_met c a v h).0 (option_met c a v h).1)
           valued a (Some text) one id is = (reacts a (text ∷ []) h one (inl (id.1, joined (subst (λ (w : Text). Contains words w) (is ∙ ap (λ (i : Text). codes "--" ++ i ++ codes "=" ++ text) (sym id.0)) stands_alone)), tt) stand, tt)
           valued a None one id is = (
-            (settled_stand h.pending h.rows stand.1 stand.0, tt),
+            (settled_stand h.pending h.rows stand.1 stand.0, (tt, id.1.1)),
             inr ((id.1, (k, refl, at ∙ ap (λ (w : Text). Some w) (is ∙ ap (λ (i : Text). codes "--" ++ i) (sym id.0)))), refl),
           )
 
-          flagged : (a : Rule) (v : Option Text) → Told a → Good before (after_flag c before word (flag_met c a v h).0 (flag_met c a v h).1)
-          flagged a (Some text) one = plain_good before h waiting stand
-          flagged a None one = (reacts a [] h one tt stand, tt)
+          flagged : (a : Rule) (v : Option Text) → Told a → a.id ≡ name → Spells word name v → Good before (after_flag c before word (flag_met c a v h).0 (flag_met c a v h).1)
+          flagged a (Some text) one id is = plain_good before h waiting stand
+          flagged a None one id is =
+              let stands : Contains words (codes "--" ++ a.id) = subst (λ (w : Text). Contains words w) (is ∙ ap (λ (i : Text). codes "--" ++ i) (sym id)) stands_alone in
+              (reacts a [] h one (flag_stand a one stands) stand, tt)
 
-          by_kind : (b : Bool) (a : Rule) → Told a → (a.id ≡ name) × IsOption a.id
+          by_kind : (b : Bool) (a : Rule) → takes_values a ≡ b → Told a → (a.id ≡ name) × (IsOption a.id ⊎ (takes_values a ≡ false))
               → Good before (after_flag c before word (cond b (option_met c a v h) (flag_met c a v h)).0 (cond b (option_met c a v h) (flag_met c a v h)).1)
-          by_kind true a one id = valued a v one id spells
-          by_kind false a one id = flagged a v one
+          by_kind true a takes one id = elim id.1 [
+            | inl named ↦ valued a v one (id.0, named) spells
+            | inr none ↦ absurd (true≢false (sym takes ∙ none))
+          ]
+          by_kind false a takes one id = flagged a v one id.0 spells
 
           go : (o : Option Rule) → IfSome o (λ a. ((not (is_some a.index) && has_long a name) ≡ true) × Told a)
               → Good before (after_flag c before word (long_met c o v h).0 (long_met c o v h).1)
           go None is = plain_good before h waiting stand
-          go (Some a) is = by_kind (takes_values a) a is.1 (named a name is.1 (and_last _ _ is.0))
+          go (Some a) is = by_kind (takes_values a) a refl is.1 (named a name is.1 (and_last _ _ is.0))
 
       none_met : (before : Waiting) → subcommand_met [] before word ≡ None
       none_met idle = refl
@@ -410,16 +453,16 @@ module _ (words : List Text) where
       place_good w h stand waiting going =
           go (arg_by_index c w.position) (find_has (λ a. option_map_or (λ i. i == w.position) a.index false) Told c told)
         where
-          placed : (a : Rule) → is_place a.id ≡ true → takes_several a ≡ false → HeldStands words (positional_held c a word h)
-          placed a image one = subst (λ (g : Held). HeldStands words (pushed a.id word g))
+          placed : (a : Rule) → is_place a.id ≡ true → takes_several a ≡ false → is_flag a.id ≡ false → HeldStands words (positional_held c a word h)
+          placed a image one no_flag = subst (λ (g : Held). HeldStands words (pushed a.id word g))
               (sym (if_false (is_pending a h.pending && takes_several a) h (settled c h) (and_none (is_pending a h.pending) (takes_several a) one)))
-              (push_stands a.id (settled c h) (inr (image, stands_alone)) tt (settles h stand))
+              (push_stands a.id (settled c h) (inr (inl (image, stands_alone))) no_flag tt (settles h stand))
 
           go : (o : Option Rule) → IfSome o (λ a. (option_map_or (λ i. i == w.position) a.index false ≡ true) × Told a) → Walks (suc k) (to_positional c o word w h)
           go None is = record { held = stand; waiting = waiting; going = going }
           go (Some a) is = elim is.1.place [
             | inl none ↦ absurd (true≢false (sym is.0 ∙ ap (λ (o : Option ℕ). option_map_or (λ i. i == w.position) o false) none))
-            | inr image ↦ record { held = placed a image.0 image.1; waiting = λ _. after_place (is_multiple a) _; going = refl }
+            | inr image ↦ record { held = placed a image.0 image.1 image.2; waiting = λ _. after_place (is_multiple a) _; going = refl }
           ]
 
       step_good : (step : Step) (w : Walk) (h : Held) → HeldStands words h → StepWaits (suc k) w.waiting step h → w.stopped ≡ None → Walks (suc k) (after_step c word w h step)
@@ -451,7 +494,11 @@ module _ (words : List Text) where
     where
       go : (b : Bool) → RowsStand words (cond b rows (default_rows a.id (reading_by a) a.defaults rows))
       go true = stand
-      go false = subst (λ (vs : List Text). RowsStand words (default_rows a.id (reading_by a) vs rows)) (sym told.0.defaults) stand
+      go false = elim told.0.flag [
+        | inl unset ↦ subst (λ (vs : List Text). RowsStand words (default_rows a.id (reading_by a) vs rows)) (sym unset.1.1) stand
+        | inr flag ↦ subst (λ (vs : List Text). RowsStand words (default_rows a.id (reading_by a) vs rows)) (sym flag.1.1)
+            (with_values_stand a.id (reading_by a) DefaultValue (codes "false" ∷ []) rows (inr (inr (flag.0, inl refl)), tt) stand)
+      ]
 
 -- each value that is found stands in the words
 pub rows_stand : (c : List Rule) → Each Told c → (words : List Text) → RowsStand words (rows_after c [] words)
@@ -463,12 +510,13 @@ rows_stand c told words =
     held = (fold (walked c []) (walk_from nothing_held) words).held
 
 -- the value that is found for an option stands in the words
-pub value_stands : (words : List Text) (name : Text) (rows : List Row) → is_place name ≡ false → RowsStand words rows → IfSome (first_of name rows) (Gives words name)
+pub value_stands : (words : List Text) (name : Text) (rows : List Row) → IsOption name → RowsStand words rows → IfSome (first_of name rows) (Gives words name)
 value_stands words name rows other stand = go (find (λ r. bytes_eq r.id name) rows) (find_has (λ r. bytes_eq r.id name) (RowStands words) rows stand)
   where
     given : (id v : Text) → id ≡ name → Origin words id v → Gives words name v
     given id v same (inl gives) = subst (λ (i : Text). Gives words i v) same gives.1
-    given id v same (inr place) = absurd (true≢false (sym (subst (λ (i : Text). is_place i ≡ true) same place.0) ∙ other))
+    given id v same (inr (inl place)) = absurd (true≢false (sym (subst (λ (i : Text). is_place i ≡ true) same place.0) ∙ other.0))
+    given id v same (inr (inr flag)) = absurd (true≢false (sym (subst (λ (i : Text). is_flag i ≡ true) same flag.0) ∙ other.1))
 
     first : (id : Text) (values : List Text) → id ≡ name → Each (Origin words id) values → IfSome (slice_get values 0) (Gives words name)
     first id [] same stand = tt
@@ -479,17 +527,46 @@ value_stands words name rows other stand = go (find (λ r. bytes_eq r.id name) r
     go (Some r) is = first r.id r.values (same_text r.id name is.0) is.1
 
 -- the value of a place is one of the words
-pub place_stands : (words : List Text) (name : Text) (rows : List Row) → is_place name ≡ true → RowsStand words rows → IfSome (first_of name rows) (Contains words)
-place_stands words name rows place stand = go (find (λ r. bytes_eq r.id name) rows) (find_has (λ r. bytes_eq r.id name) (RowStands words) rows stand)
+pub place_stands : (words : List Text) (name : Text) (rows : List Row) → is_place name ≡ true → is_flag name ≡ false → RowsStand words rows
+    → IfSome (first_of name rows) (Contains words)
+place_stands words name rows place no_flag stand = go (find (λ r. bytes_eq r.id name) rows) (find_has (λ r. bytes_eq r.id name) (RowStands words) rows stand)
   where
     first : (values : List Text) → Each (Origin words name) values → IfSome (slice_get values 0) (Contains words)
     first [] stand = tt
     first (v ∷ vs) stand = elim stand.0 [
-      | inl gives ↦ absurd (true≢false (sym place ∙ gives.0))
-      | inr alone ↦ alone.1
+      | inl gives ↦ absurd (true≢false (sym place ∙ gives.0.0))
+      | inr other ↦ elim other [
+        | inl alone ↦ alone.1
+        | inr flag ↦ absurd (true≢false (sym flag.0 ∙ no_flag))
+      ]
     ]
 
     go : (o : Option Row) → IfSome o (λ r. (bytes_eq r.id name ≡ true) × RowStands words r)
         → IfSome (option_and_then (λ r. slice_get r.values 0) o) (Contains words)
     go None is = tt
     go (Some r) is = first r.values (subst (λ (i : Text). Each (Origin words i) r.values) (same_text r.id name is.0) is.1)
+
+-- a flag whose value is `true` stands in the words
+pub flag_stands : (words : List Text) (name : Text) (rows : List Row) → is_place name ≡ false → is_flag name ≡ true → RowsStand words rows → flag_at name rows ≡ true
+    → Contains words (codes "--" ++ name)
+flag_stands words name rows no_place flag stand = go (find (λ r. bytes_eq r.id name) rows) (find_has (λ r. bytes_eq r.id name) (RowStands words) rows stand)
+  where
+    is_true : Option Text → Bool
+    is_true o = option_map_or (λ text. bytes_eq text (codes "true")) o false
+
+    given : (v : Text) → Origin words name v → bytes_eq v (codes "true") ≡ true → Contains words (codes "--" ++ name)
+    given v (inl gives) holds = absurd (true≢false (sym flag ∙ gives.0.1))
+    given v (inr (inl place)) holds = absurd (true≢false (sym place.0 ∙ no_place))
+    given v (inr (inr stands)) holds = elim stands.1 [
+      | inl unset ↦ absurd (true≢false (sym (subst (λ (text : Text). bytes_eq text (codes "true") ≡ true) unset holds)))
+      | inr there ↦ there
+    ]
+
+    first : (values : List Text) → Each (Origin words name) values → is_true (slice_get values 0) ≡ true → Contains words (codes "--" ++ name)
+    first [] stand holds = absurd (true≢false (sym holds))
+    first (v ∷ vs) stand holds = given v stand.0 holds
+
+    go : (o : Option Row) → IfSome o (λ r. (bytes_eq r.id name ≡ true) × RowStands words r) → is_true (option_and_then (λ r. slice_get r.values 0) o) ≡ true
+        → Contains words (codes "--" ++ name)
+    go None is holds = absurd (true≢false (sym holds))
+    go (Some r) is holds = first r.values (subst (λ (i : Text). Each (Origin words i) r.values) (same_text r.id name is.0) is.1) holds

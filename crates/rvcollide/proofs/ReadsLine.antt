@@ -1,4 +1,4 @@
-use Rattle.std.proofs.Common.{◌≡◌, ◌∙◌, refl, ap, subst, ap₂, sym, true, false, List, Some, None, [], ◌∷◌, inl, inr, fold, codes, cond}
+use Rattle.std.proofs.Common.{◌≡◌, ◌∙◌, refl, ap, subst, ap₂, sym, true, false, List, Option, Some, None, [], ◌∷◌, inl, inr, fold, codes, cond}
 use Rattle.std.proofs.lemmas.Slice.Eq.{bytes_eq-Decides}
 use Rattle.std.specs.Prelude.{Bool, ◌==◌, ◌||◌, if◌then◌else◌, option_and_then, is_some}
 use Rattle.std.specs.Str.{bytes_eq}
@@ -10,10 +10,10 @@ use Rattle.clap.proofs.OnLiterals.{clap_on_literals}
 use Rattle.clap.proofs.FaultLemmas.{stopped_fault}
 use Rattle.clap.proofs.WalkLemmas.{walk_stopped}
 use Rattle.rvcollide.proofs.WordLemmas.{Requests, first_stays, turn_is}
-use Rattle.rvcollide.proofs.LeafLemmas.{asm_leaf, asm_outcome, debug_leaf, debug_outcome, exhibit_leaf, exhibit_outcome, if_false, is_dashes, leaf, list_leaf, list_outcome, outcome, replay_leaf, replay_outcome, request_or, words_at, words_job, words_leaf, words_outcome}
-use Rattle.rvcollide.specs.Command.{command_job, explain_of, job_of, options_job, run_of, threads_of}
+use Rattle.rvcollide.proofs.LeafLemmas.{asm_leaf, asm_outcome, debug_leaf, debug_outcome, exhibit_leaf, exhibit_outcome, gdb_leaf, gdb_outcome, if_false, is_dashes, leaf, list_leaf, list_outcome, outcome, replay_leaf, replay_outcome, request_or, words_at, words_job, words_leaf, words_outcome}
+use Rattle.rvcollide.specs.Command.{Asked, clap_job_of, command_job, explain_of, hunt_of, options_job, run_of, threads_of}
 use Rattle.rvcollide.specs.ClapProgram.{program}
-use Rattle.rvcollide.specs.internal.FoundJob.{asm_in, debug_in, exhibit_in, job_in, job_read, list_in, replay_in}
+use Rattle.rvcollide.specs.internal.FoundJob.{asm_in, debug_in, exhibit_in, gdb_in, job_in, job_read, list_in, replay_in}
 
 abbrev Built : App
 Built = built program
@@ -101,6 +101,17 @@ unfolding clap_on_literals job_read
 exhibit_job_is n rest =
     ap₂ (λ (kinds : Kinds) (w : Walk). if is_empty kinds then option_and_then job_in (entered Built w.stopped) else None) (exhibit_fault n rest) (all_left (codes "exhibit") rest)
 
+gdb_fault : (n : Text) (rest : List Text) → fault_of program (n ∷ codes "gdb" ∷ rest) ≡ level_fault (leaf 9) [] nothing_held rest false []
+unfolding clap_on_literals
+gdb_fault n rest =
+    ap₂ through (all_left (codes "gdb") rest) (stopped_fault Built.top (names_of Built) (walk_from nothing_held) (codes "gdb", []) rest)
+    ∙ nothing_next (level_fault (leaf 9) [] nothing_held rest false [])
+
+gdb_job_is : (n : Text) (rest : List Text) → job_read (n ∷ codes "gdb" ∷ rest) ≡ outcome gdb_leaf gdb_in (words_at false) rest
+unfolding clap_on_literals job_read
+gdb_job_is n rest =
+    ap₂ (λ (kinds : Kinds) (w : Walk). if is_empty kinds then option_and_then job_in (entered Built w.stopped) else None) (gdb_fault n rest) (all_left (codes "gdb") rest)
+
 pub run_rows : (n : Text) (rest : List Text) → subcommand_of program (n ∷ codes "run" ∷ rest) ≡ Some (codes "run", rows_after (leaf 5).rules [] rest)
 unfolding clap_on_literals
 run_rows n rest = ap (λ (w : Walk). entered Built w.stopped) (all_left (codes "run") rest)
@@ -124,6 +135,27 @@ explain_rows n rest = ap (λ (w : Walk). entered Built w.stopped) (all_left (cod
 explain_job_is : (n : Text) (rest : List Text) → job_read (n ∷ codes "explain" ∷ rest) ≡ options_job explain_of (n ∷ codes "explain" ∷ rest)
 unfolding job_read
 explain_job_is n rest = rw (explain_rows n rest) refl
+
+pub hunt_rows : (n : Text) (rest : List Text) → subcommand_of program (n ∷ codes "hunt" ∷ rest) ≡ Some (codes "hunt", rows_after (leaf 10).rules [] rest)
+unfolding clap_on_literals
+hunt_rows n rest = ap (λ (w : Walk). entered Built w.stopped) (all_left (codes "hunt") rest)
+
+hunt_job_is : (n : Text) (rest : List Text) → job_read (n ∷ codes "hunt" ∷ rest) ≡ options_job hunt_of (n ∷ codes "hunt" ∷ rest)
+unfolding job_read
+hunt_job_is n rest = rw (hunt_rows n rest) refl
+
+-- `clap` reads `merge` too, for its help
+merge_rows : (n : Text) (rest : List Text) → subcommand_of program (n ∷ codes "merge" ∷ rest) ≡ Some (codes "merge", rows_after (leaf 11).rules [] rest)
+unfolding clap_on_literals
+merge_rows n rest = ap (λ (w : Walk). entered Built w.stopped) (all_left (codes "merge") rest)
+
+none_either : (b : Bool) → ◌≡◌ {A = Option Asked} (cond b None None) None
+none_either true = refl
+none_either false = refl
+
+merge_is_none : (n : Text) (rest : List Text) → job_read (n ∷ codes "merge" ∷ rest) ≡ None
+unfolding job_read
+merge_is_none n rest = rw (merge_rows n rest) (none_either _)
 
 -- ---- no other word is a command
 
@@ -155,9 +187,12 @@ record Unmet (word : Text) : Type 0 where
   pub no_threads : bytes_eq (codes "threads") word ≡ false
   pub no_exhibit : bytes_eq (codes "exhibit") word ≡ false
   pub no_explain : bytes_eq (codes "explain") word ≡ false
+  pub no_gdb : bytes_eq (codes "gdb") word ≡ false
+  pub no_hunt : bytes_eq (codes "hunt") word ≡ false
+  pub no_merge : bytes_eq (codes "merge") word ≡ false
 
 none_met : (word : Text) → Unmet word → bytes_eq (codes "help") word ≡ false → subcommand_met (names_of Built) idle word ≡ None
-none_met word unmet no_help = rw (unmet.no_words, unmet.no_asm, unmet.no_list, unmet.no_replay, unmet.no_debug, unmet.no_run, unmet.no_threads, unmet.no_exhibit, unmet.no_explain, no_help) refl
+none_met word unmet no_help = rw (unmet.no_words, unmet.no_asm, unmet.no_list, unmet.no_replay, unmet.no_debug, unmet.no_run, unmet.no_threads, unmet.no_exhibit, unmet.no_explain, unmet.no_gdb, unmet.no_hunt, unmet.no_merge, no_help) refl
 
 turn_refused : (n word : Text) (rest : List Text) → is_empty (turn_fault Built.top (names_of Built) (words_at false) word) ≡ false → job_read (n ∷ word ∷ rest) ≡ None
 unfolding clap_on_literals job_read
@@ -187,9 +222,9 @@ no_command n word rest unmet = by_help (bytes_eq (codes "help") word) refl
     by_help true help = subst None_at (is_word (codes "help") word help) (help_is_none n rest)
     by_help false no_help = by_dashes (bytes_eq word (codes "--")) no_help refl
 
--- the job that `clap` finds is the one that the line spells
-pub reads_line : (words : List Text) → job_read words ≡ job_of words
-unfolding clap_on_literals job_read job_of
+-- the job that `clap` finds is the one that the line spells to it
+pub reads_line : (words : List Text) → job_read words ≡ clap_job_of words
+unfolding clap_on_literals job_read clap_job_of
 reads_line [] = refl
 reads_line (n ∷ []) = refl
 reads_line (n ∷ word ∷ rest) = by_run (bytes_eq (codes "run") word) refl
@@ -197,21 +232,23 @@ reads_line (n ∷ word ∷ rest) = by_run (bytes_eq (codes "run") word) refl
     Means : Text → Type 0
     Means w = job_read (n ∷ w ∷ rest) ≡ cond (bytes_eq (codes "run") w) (options_job run_of (n ∷ w ∷ rest))
         (cond (bytes_eq (codes "threads") w) (options_job threads_of (n ∷ w ∷ rest))
-        (cond (bytes_eq (codes "explain") w) (options_job explain_of (n ∷ w ∷ rest)) (command_job w rest)))
+        (cond (bytes_eq (codes "explain") w) (options_job explain_of (n ∷ w ∷ rest))
+        (cond (bytes_eq (codes "hunt") w) (options_job hunt_of (n ∷ w ∷ rest)) (command_job w rest))))
 
     WithoutOptions : Type 0
     WithoutOptions = (bytes_eq (codes "run") word ≡ false) × (bytes_eq (codes "threads") word ≡ false) × (bytes_eq (codes "explain") word ≡ false)
+        × (bytes_eq (codes "hunt") word ≡ false) × (bytes_eq (codes "merge") word ≡ false)
 
     Same : Text → Type 0
     Same w = job_read (n ∷ w ∷ rest) ≡ command_job w rest
 
     nothing : Unmet word → None ≡ command_job word rest
-    nothing unmet = rw (unmet.no_words, unmet.no_asm, unmet.no_list, unmet.no_replay, unmet.no_debug, unmet.no_exhibit) refl
+    nothing unmet = rw (unmet.no_words, unmet.no_asm, unmet.no_list, unmet.no_replay, unmet.no_debug, unmet.no_exhibit, unmet.no_gdb) refl
 
-    by_exhibit : (b : Bool) → WithoutOptions → bytes_eq (codes "words") word ≡ false → bytes_eq (codes "asm") word ≡ false → bytes_eq (codes "list") word ≡ false
-        → bytes_eq (codes "replay") word ≡ false → bytes_eq (codes "debug") word ≡ false → bytes_eq (codes "exhibit") word ≡ b → Same word
-    by_exhibit true plain no_words no_asm no_list no_replay no_debug exhibit = subst Same (is_word (codes "exhibit") word exhibit) (exhibit_job_is n rest ∙ exhibit_outcome rest)
-    by_exhibit false plain no_words no_asm no_list no_replay no_debug no_exhibit =
+    by_gdb : (b : Bool) → WithoutOptions → bytes_eq (codes "words") word ≡ false → bytes_eq (codes "asm") word ≡ false → bytes_eq (codes "list") word ≡ false
+        → bytes_eq (codes "replay") word ≡ false → bytes_eq (codes "debug") word ≡ false → bytes_eq (codes "exhibit") word ≡ false → bytes_eq (codes "gdb") word ≡ b → Same word
+    by_gdb true plain no_words no_asm no_list no_replay no_debug no_exhibit gdb = subst Same (is_word (codes "gdb") word gdb) (gdb_job_is n rest ∙ gdb_outcome rest)
+    by_gdb false plain no_words no_asm no_list no_replay no_debug no_exhibit no_gdb =
         let unmet : Unmet word = record {
           no_words = no_words;
           no_asm = no_asm;
@@ -222,8 +259,17 @@ reads_line (n ∷ word ∷ rest) = by_run (bytes_eq (codes "run") word) refl
           no_threads = plain.1;
           no_explain = plain.2;
           no_exhibit = no_exhibit;
+          no_gdb = no_gdb;
+          no_hunt = plain.3;
+          no_merge = plain.4;
         } in
         no_command n word rest unmet ∙ nothing unmet
+
+    by_exhibit : (b : Bool) → WithoutOptions → bytes_eq (codes "words") word ≡ false → bytes_eq (codes "asm") word ≡ false → bytes_eq (codes "list") word ≡ false
+        → bytes_eq (codes "replay") word ≡ false → bytes_eq (codes "debug") word ≡ false → bytes_eq (codes "exhibit") word ≡ b → Same word
+    by_exhibit true plain no_words no_asm no_list no_replay no_debug exhibit = subst Same (is_word (codes "exhibit") word exhibit) (exhibit_job_is n rest ∙ exhibit_outcome rest)
+    by_exhibit false plain no_words no_asm no_list no_replay no_debug no_exhibit =
+        by_gdb (bytes_eq (codes "gdb") word) plain no_words no_asm no_list no_replay no_debug no_exhibit refl
 
     by_debug : (b : Bool) → WithoutOptions → bytes_eq (codes "words") word ≡ false → bytes_eq (codes "asm") word ≡ false → bytes_eq (codes "list") word ≡ false
         → bytes_eq (codes "replay") word ≡ false → bytes_eq (codes "debug") word ≡ b → Same word
@@ -248,16 +294,30 @@ reads_line (n ∷ word ∷ rest) = by_run (bytes_eq (codes "run") word) refl
     by_words true plain words = subst Same (is_word (codes "words") word words) (words_job_is n rest ∙ words_outcome rest)
     by_words false plain no_words = by_asm (bytes_eq (codes "asm") word) plain no_words refl
 
-    by_explain : (b : Bool) → bytes_eq (codes "run") word ≡ false → bytes_eq (codes "threads") word ≡ false → bytes_eq (codes "explain") word ≡ b → Means word
-    by_explain true no_run no_threads explain = subst Means (is_word (codes "explain") word explain) (explain_job_is n rest)
-    by_explain false no_run no_threads no_explain =
+    by_merge : (b : Bool) → bytes_eq (codes "run") word ≡ false → bytes_eq (codes "threads") word ≡ false → bytes_eq (codes "explain") word ≡ false
+        → bytes_eq (codes "hunt") word ≡ false → bytes_eq (codes "merge") word ≡ b → Means word
+    by_merge true no_run no_threads no_explain no_hunt merge = subst Means (is_word (codes "merge") word merge) (merge_is_none n rest)
+    by_merge false no_run no_threads no_explain no_hunt no_merge =
         subst (λ (b : Bool). job_read (n ∷ word ∷ rest) ≡ cond b (options_job run_of (n ∷ word ∷ rest))
         (cond (bytes_eq (codes "threads") word) (options_job threads_of (n ∷ word ∷ rest))
-        (cond (bytes_eq (codes "explain") word) (options_job explain_of (n ∷ word ∷ rest)) (command_job word rest)))) (sym no_run)
+        (cond (bytes_eq (codes "explain") word) (options_job explain_of (n ∷ word ∷ rest))
+        (cond (bytes_eq (codes "hunt") word) (options_job hunt_of (n ∷ word ∷ rest)) (command_job word rest))))) (sym no_run)
         (subst (λ (b : Bool). job_read (n ∷ word ∷ rest) ≡ cond b (options_job threads_of (n ∷ word ∷ rest))
-        (cond (bytes_eq (codes "explain") word) (options_job explain_of (n ∷ word ∷ rest)) (command_job word rest))) (sym no_threads)
-        (subst (λ (b : Bool). job_read (n ∷ word ∷ rest) ≡ cond b (options_job explain_of (n ∷ word ∷ rest)) (command_job word rest)) (sym no_explain)
-        (by_words (bytes_eq (codes "words") word) (no_run, no_threads, no_explain) refl)))
+        (cond (bytes_eq (codes "explain") word) (options_job explain_of (n ∷ word ∷ rest))
+        (cond (bytes_eq (codes "hunt") word) (options_job hunt_of (n ∷ word ∷ rest)) (command_job word rest)))) (sym no_threads)
+        (subst (λ (b : Bool). job_read (n ∷ word ∷ rest) ≡ cond b (options_job explain_of (n ∷ word ∷ rest))
+        (cond (bytes_eq (codes "hunt") word) (options_job hunt_of (n ∷ word ∷ rest)) (command_job word rest))) (sym no_explain)
+        (subst (λ (b : Bool). job_read (n ∷ word ∷ rest) ≡ cond b (options_job hunt_of (n ∷ word ∷ rest)) (command_job word rest)) (sym no_hunt)
+        (by_words (bytes_eq (codes "words") word) (no_run, no_threads, no_explain, no_hunt, no_merge) refl))))
+
+    by_hunt : (b : Bool) → bytes_eq (codes "run") word ≡ false → bytes_eq (codes "threads") word ≡ false → bytes_eq (codes "explain") word ≡ false
+        → bytes_eq (codes "hunt") word ≡ b → Means word
+    by_hunt true no_run no_threads no_explain hunt = subst Means (is_word (codes "hunt") word hunt) (hunt_job_is n rest)
+    by_hunt false no_run no_threads no_explain no_hunt = by_merge (bytes_eq (codes "merge") word) no_run no_threads no_explain no_hunt refl
+
+    by_explain : (b : Bool) → bytes_eq (codes "run") word ≡ false → bytes_eq (codes "threads") word ≡ false → bytes_eq (codes "explain") word ≡ b → Means word
+    by_explain true no_run no_threads explain = subst Means (is_word (codes "explain") word explain) (explain_job_is n rest)
+    by_explain false no_run no_threads no_explain = by_hunt (bytes_eq (codes "hunt") word) no_run no_threads no_explain refl
 
     by_threads : (b : Bool) → bytes_eq (codes "run") word ≡ false → bytes_eq (codes "threads") word ≡ b → Means word
     by_threads true no_run threads = subst Means (is_word (codes "threads") word threads) (threads_job_is n rest)

@@ -2,60 +2,59 @@
 use Rattle.std.proofs.Common.{◌≡◌, ◌<◌, ℕ, refl, cond, true, false, List, Option, Some, None, [], ◌∷◌, inl, inr, arith, codes, nat_le, nat_lt}
 use Rattle.std.proofs.lemmas.Bool.Decides.{nat_tests}
 use Rattle.std.specs.Prelude.{Bool, ◌⊎◌, Contains, IfSome, is_some, option_and_then, option_map}
-use Rattle.std.specs.Str.{bytes_eq}
 use Rattle.clap.specs.Simple.{subcommand_of}
 use Rattle.clap.specs.Walk.{Row, Text, first_of, rows_after}
 use Rattle.clap.proofs.OnLiterals.{clap_on_literals}
 use Rattle.rv_collide.specs.Plan.{Numbers}
 use Rattle.rv_text.specs.Numeral.{number_of, up_to}
 use Rattle.rvcollide.proofs.LeafLemmas.{leaf}
-use Rattle.rvcollide.proofs.OptionLemmas.{Each, RowsStand, Told, is_place, place_stands, rows_stand, value_stands}
+use Rattle.rvcollide.proofs.OptionLemmas.{Each, IsOption, RowsStand, Told, place_stands, rows_stand, value_stands}
 use Rattle.rvcollide.proofs.ReadsLine.{explain_rows, run_rows, threads_rows}
 use Rattle.rvcollide.specs.Command.{Asked, IsGiven, explain_of, options_job, run_of, threads_of}
 use Rattle.rvcollide.specs.ClapProgram.{is_accepted, program}
-use Rattle.rvcollide.specs.Request.{Request}
+use Rattle.rv_engines.specs.Request.{Request}
 use Rattle.rv_campaign.specs.declared.runs.TheConstants.{MOST_RUNS, MOST_WORKERS}
 use Rattle.rv_collide.specs.declared.plan.TheConstants.{DEFAULT_SLOTS, MOST_ARMS, MOST_PAUSE, MOST_STEPS}
 use Rattle.rv_break.specs.declared.claim.TheConstants.{MOST_SLOTS}
 use Rattle.rv_hart.specs.declared.machine.TheConstants.{MOST_HARTS}
 use Rattle.rvcollide.specs.declared.command.run.TheConstants.{MOST_KEEP, MOST_SEED}
-use Rattle.rvcollide.specs.Asking.{Asking}
+use Rattle.rv_engines.specs.Asking.{Asking}
 use Rattle.rvcollide.specs.ExplainLine.{IsExplainGiven, asking_at, most_around, race_at}
 use Rattle.rvcollide.specs.declared.command.explain.TheConstants.{DEFAULT_AROUND, MOST_RACE}
-use Rattle.rvcollide.specs.RunLine.{Gives, GivesNumber, IsPlanGiven, IsRunGiven, request_at, keep_at, number_at, number_in, number_or, plan_at}
+use Rattle.rvcollide.specs.RunLine.{Gives, GivesNumber, IsPlanGiven, IsRunGiven, if_given, request_at, keep_at, number_at, number_if, number_in, number_or, plan_at}
 
 -- ---- the arguments of `run`
 
 run_told : Each Told (leaf 5).rules
 unfolding clap_on_literals
 run_told = (
-  record { missing = refl; defaults = refl; aliases = refl; short_aliases = refl; acts = inl refl; long = inl refl; short = inl refl; most = omega arith; place = inr (refl, refl) },
+  record { flag = inl (refl, (refl, refl)); aliases = refl; short_aliases = refl; acts = inl refl; long = inl refl; short = inl refl; most = omega arith; place = inr (refl, refl, refl) },
   (
-    record { missing = refl; defaults = refl; aliases = refl; short_aliases = refl; acts = inl refl; long = inr (refl, refl); short = inl refl; most = omega arith; place = inl refl },
+    record { flag = inl (refl, (refl, refl)); aliases = refl; short_aliases = refl; acts = inl refl; long = inr (refl, inl (refl, refl)); short = inl refl; most = omega arith; place = inl refl },
     (
-      record { missing = refl; defaults = refl; aliases = refl; short_aliases = refl; acts = inl refl; long = inr (refl, refl); short = inl refl; most = omega arith; place = inl refl },
+      record { flag = inl (refl, (refl, refl)); aliases = refl; short_aliases = refl; acts = inl refl; long = inr (refl, inl (refl, refl)); short = inl refl; most = omega arith; place = inl refl },
       (
-        record { missing = refl; defaults = refl; aliases = refl; short_aliases = refl; acts = inl refl; long = inr (refl, refl); short = inl refl; most = omega arith; place = inl refl },
+        record { flag = inl (refl, (refl, refl)); aliases = refl; short_aliases = refl; acts = inl refl; long = inr (refl, inl (refl, refl)); short = inl refl; most = omega arith; place = inl refl },
         (
-          record { missing = refl; defaults = refl; aliases = refl; short_aliases = refl; acts = inl refl; long = inr (refl, refl); short = inl refl; most = omega arith; place = inl refl },
+          record { flag = inl (refl, (refl, refl)); aliases = refl; short_aliases = refl; acts = inl refl; long = inr (refl, inl (refl, refl)); short = inl refl; most = omega arith; place = inl refl },
           (
-            record { missing = refl; defaults = refl; aliases = refl; short_aliases = refl; acts = inl refl; long = inr (refl, refl); short = inl refl; most = omega arith; place = inl refl },
+            record { flag = inl (refl, (refl, refl)); aliases = refl; short_aliases = refl; acts = inl refl; long = inr (refl, inl (refl, refl)); short = inl refl; most = omega arith; place = inl refl },
             (
-              record { missing = refl; defaults = refl; aliases = refl; short_aliases = refl; acts = inl refl; long = inr (refl, refl); short = inl refl; most = omega arith; place = inl refl },
+              record { flag = inl (refl, (refl, refl)); aliases = refl; short_aliases = refl; acts = inl refl; long = inr (refl, inl (refl, refl)); short = inl refl; most = omega arith; place = inl refl },
               (
-                record { missing = refl; defaults = refl; aliases = refl; short_aliases = refl; acts = inl refl; long = inr (refl, refl); short = inl refl; most = omega arith; place = inl refl },
+                record { flag = inl (refl, (refl, refl)); aliases = refl; short_aliases = refl; acts = inl refl; long = inr (refl, inl (refl, refl)); short = inl refl; most = omega arith; place = inl refl },
                 (
-                  record { missing = refl; defaults = refl; aliases = refl; short_aliases = refl; acts = inl refl; long = inr (refl, refl); short = inl refl; most = omega arith; place = inl refl },
+                  record { flag = inl (refl, (refl, refl)); aliases = refl; short_aliases = refl; acts = inl refl; long = inr (refl, inl (refl, refl)); short = inl refl; most = omega arith; place = inl refl },
                   (
-                    record { missing = refl; defaults = refl; aliases = refl; short_aliases = refl; acts = inl refl; long = inr (refl, refl); short = inl refl; most = omega arith; place = inl refl },
+                    record { flag = inl (refl, (refl, refl)); aliases = refl; short_aliases = refl; acts = inl refl; long = inr (refl, inl (refl, refl)); short = inl refl; most = omega arith; place = inl refl },
                     (
-                      record { missing = refl; defaults = refl; aliases = refl; short_aliases = refl; acts = inl refl; long = inr (refl, refl); short = inl refl; most = omega arith; place = inl refl },
+                      record { flag = inl (refl, (refl, refl)); aliases = refl; short_aliases = refl; acts = inl refl; long = inr (refl, inl (refl, refl)); short = inl refl; most = omega arith; place = inl refl },
                       (
-                        record { missing = refl; defaults = refl; aliases = refl; short_aliases = refl; acts = inl refl; long = inr (refl, refl); short = inl refl; most = omega arith; place = inl refl },
+                        record { flag = inl (refl, (refl, refl)); aliases = refl; short_aliases = refl; acts = inl refl; long = inr (refl, inl (refl, refl)); short = inl refl; most = omega arith; place = inl refl },
                         (
-                          record { missing = refl; defaults = refl; aliases = refl; short_aliases = refl; acts = inl refl; long = inr (refl, refl); short = inl refl; most = omega arith; place = inl refl },
+                          record { flag = inl (refl, (refl, refl)); aliases = refl; short_aliases = refl; acts = inl refl; long = inr (refl, inl (refl, refl)); short = inl refl; most = omega arith; place = inl refl },
                           (
-                            record { missing = refl; defaults = refl; aliases = refl; short_aliases = refl; acts = inr refl; long = inr (refl, refl); short = inr refl; most = omega arith; place = inl refl },
+                            record { flag = inl (refl, (refl, refl)); aliases = refl; short_aliases = refl; acts = inr (inl refl); long = inr (refl, inl (refl, refl)); short = inr (refl, refl); most = omega arith; place = inl refl },
                             tt,
                           ),
                         ),
@@ -77,23 +76,23 @@ run_told = (
 threads_told : Each Told (leaf 6).rules
 unfolding clap_on_literals
 threads_told = (
-  record { missing = refl; defaults = refl; aliases = refl; short_aliases = refl; acts = inl refl; long = inl refl; short = inl refl; most = omega arith; place = inr (refl, refl) },
+  record { flag = inl (refl, (refl, refl)); aliases = refl; short_aliases = refl; acts = inl refl; long = inl refl; short = inl refl; most = omega arith; place = inr (refl, refl, refl) },
   (
-    record { missing = refl; defaults = refl; aliases = refl; short_aliases = refl; acts = inl refl; long = inr (refl, refl); short = inl refl; most = omega arith; place = inl refl },
+    record { flag = inl (refl, (refl, refl)); aliases = refl; short_aliases = refl; acts = inl refl; long = inr (refl, inl (refl, refl)); short = inl refl; most = omega arith; place = inl refl },
     (
-      record { missing = refl; defaults = refl; aliases = refl; short_aliases = refl; acts = inl refl; long = inr (refl, refl); short = inl refl; most = omega arith; place = inl refl },
+      record { flag = inl (refl, (refl, refl)); aliases = refl; short_aliases = refl; acts = inl refl; long = inr (refl, inl (refl, refl)); short = inl refl; most = omega arith; place = inl refl },
       (
-        record { missing = refl; defaults = refl; aliases = refl; short_aliases = refl; acts = inl refl; long = inr (refl, refl); short = inl refl; most = omega arith; place = inl refl },
+        record { flag = inl (refl, (refl, refl)); aliases = refl; short_aliases = refl; acts = inl refl; long = inr (refl, inl (refl, refl)); short = inl refl; most = omega arith; place = inl refl },
         (
-          record { missing = refl; defaults = refl; aliases = refl; short_aliases = refl; acts = inl refl; long = inr (refl, refl); short = inl refl; most = omega arith; place = inl refl },
+          record { flag = inl (refl, (refl, refl)); aliases = refl; short_aliases = refl; acts = inl refl; long = inr (refl, inl (refl, refl)); short = inl refl; most = omega arith; place = inl refl },
           (
-            record { missing = refl; defaults = refl; aliases = refl; short_aliases = refl; acts = inl refl; long = inr (refl, refl); short = inl refl; most = omega arith; place = inl refl },
+            record { flag = inl (refl, (refl, refl)); aliases = refl; short_aliases = refl; acts = inl refl; long = inr (refl, inl (refl, refl)); short = inl refl; most = omega arith; place = inl refl },
             (
-              record { missing = refl; defaults = refl; aliases = refl; short_aliases = refl; acts = inl refl; long = inr (refl, refl); short = inl refl; most = omega arith; place = inl refl },
+              record { flag = inl (refl, (refl, refl)); aliases = refl; short_aliases = refl; acts = inl refl; long = inr (refl, inl (refl, refl)); short = inl refl; most = omega arith; place = inl refl },
               (
-                record { missing = refl; defaults = refl; aliases = refl; short_aliases = refl; acts = inl refl; long = inr (refl, refl); short = inl refl; most = omega arith; place = inl refl },
+                record { flag = inl (refl, (refl, refl)); aliases = refl; short_aliases = refl; acts = inl refl; long = inr (refl, inl (refl, refl)); short = inl refl; most = omega arith; place = inl refl },
                 (
-                  record { missing = refl; defaults = refl; aliases = refl; short_aliases = refl; acts = inr refl; long = inr (refl, refl); short = inr refl; most = omega arith; place = inl refl },
+                  record { flag = inl (refl, (refl, refl)); aliases = refl; short_aliases = refl; acts = inr (inl refl); long = inr (refl, inl (refl, refl)); short = inr (refl, refl); most = omega arith; place = inl refl },
                   tt,
                 ),
               ),
@@ -110,19 +109,19 @@ threads_told = (
 explain_told : Each Told (leaf 8).rules
 unfolding clap_on_literals
 explain_told = (
-  record { missing = refl; defaults = refl; aliases = refl; short_aliases = refl; acts = inl refl; long = inl refl; short = inl refl; most = omega arith; place = inr (refl, refl) },
+  record { flag = inl (refl, (refl, refl)); aliases = refl; short_aliases = refl; acts = inl refl; long = inl refl; short = inl refl; most = omega arith; place = inr (refl, refl, refl) },
   (
-    record { missing = refl; defaults = refl; aliases = refl; short_aliases = refl; acts = inl refl; long = inl refl; short = inl refl; most = omega arith; place = inr (refl, refl) },
+    record { flag = inl (refl, (refl, refl)); aliases = refl; short_aliases = refl; acts = inl refl; long = inl refl; short = inl refl; most = omega arith; place = inr (refl, refl, refl) },
     (
-      record { missing = refl; defaults = refl; aliases = refl; short_aliases = refl; acts = inl refl; long = inr (refl, refl); short = inl refl; most = omega arith; place = inl refl },
+      record { flag = inl (refl, (refl, refl)); aliases = refl; short_aliases = refl; acts = inl refl; long = inr (refl, inl (refl, refl)); short = inl refl; most = omega arith; place = inl refl },
       (
-        record { missing = refl; defaults = refl; aliases = refl; short_aliases = refl; acts = inl refl; long = inr (refl, refl); short = inl refl; most = omega arith; place = inl refl },
+        record { flag = inl (refl, (refl, refl)); aliases = refl; short_aliases = refl; acts = inl refl; long = inr (refl, inl (refl, refl)); short = inl refl; most = omega arith; place = inl refl },
         (
-          record { missing = refl; defaults = refl; aliases = refl; short_aliases = refl; acts = inl refl; long = inr (refl, refl); short = inl refl; most = omega arith; place = inl refl },
+          record { flag = inl (refl, (refl, refl)); aliases = refl; short_aliases = refl; acts = inl refl; long = inr (refl, inl (refl, refl)); short = inl refl; most = omega arith; place = inl refl },
           (
-            record { missing = refl; defaults = refl; aliases = refl; short_aliases = refl; acts = inl refl; long = inr (refl, refl); short = inl refl; most = omega arith; place = inl refl },
+            record { flag = inl (refl, (refl, refl)); aliases = refl; short_aliases = refl; acts = inl refl; long = inr (refl, inl (refl, refl)); short = inl refl; most = omega arith; place = inl refl },
             (
-              record { missing = refl; defaults = refl; aliases = refl; short_aliases = refl; acts = inr refl; long = inr (refl, refl); short = inr refl; most = omega arith; place = inl refl },
+              record { flag = inl (refl, (refl, refl)); aliases = refl; short_aliases = refl; acts = inr (inl refl); long = inr (refl, inl (refl, refl)); short = inr (refl, refl); most = omega arith; place = inl refl },
               tt,
             ),
           ),
@@ -134,11 +133,11 @@ explain_told = (
 
 -- ---- numbers
 
-then_holds : {X Y : Type 0} (P : X → Type 0) (Q : Y → Type 0) (f : X → Option Y) (o : Option X) → IfSome o P → ((x : X) → P x → IfSome (f x) Q) → IfSome (option_and_then f o) Q
+pub then_holds : {X Y : Type 0} (P : X → Type 0) (Q : Y → Type 0) (f : X → Option Y) (o : Option X) → IfSome o P → ((x : X) → P x → IfSome (f x) Q) → IfSome (option_and_then f o) Q
 then_holds P Q f None holds then = tt
 then_holds P Q f (Some x) holds then = then x holds
 
-map_holds : {X Y : Type 0} (P : X → Type 0) (Q : Y → Type 0) (f : X → Y) (o : Option X) → IfSome o P → ((x : X) → P x → Q (f x)) → IfSome (option_map f o) Q
+pub map_holds : {X Y : Type 0} (P : X → Type 0) (Q : Y → Type 0) (f : X → Y) (o : Option X) → IfSome o P → ((x : X) → P x → Q (f x)) → IfSome (option_map f o) Q
 map_holds P Q f None holds then = tt
 map_holds P Q f (Some x) holds then = then x holds
 
@@ -159,16 +158,16 @@ number_holds words name text least most stands = go (number_of 10 text) refl
     go (Some n) reads = within n (nat_le least n) (nat_le n most) reads refl refl
 
 module _ (words : List Text) (rows : List Row) (stand : RowsStand words rows) where
-  value : (name : Text) → is_place name ≡ false → IfSome (first_of name rows) (Gives words name)
+  pub value : (name : Text) → IsOption name → IfSome (first_of name rows) (Gives words name)
   value name other = value_stands words name rows other stand
 
-  number : (name : Text) (least most : ℕ) → is_place name ≡ false → IfSome (number_at name least most rows) (GivesNumber words name least most)
+  number : (name : Text) (least most : ℕ) → IsOption name → IfSome (number_at name least most rows) (GivesNumber words name least most)
   number name least most other =
       then_holds (Gives words name) (GivesNumber words name least most) (λ text. number_in least most text) (first_of name rows) (value name other)
       (λ text stands. number_holds words name text least most stands)
 
-  -- the number of an option that may be left out
-  number_or_default : (default : ℕ) (name : Text) (least most : ℕ) → is_place name ≡ false
+  -- the number of an option that may be left out and has a default
+  pub number_or_default : (default : ℕ) (name : Text) (least most : ℕ) → IsOption name
       → IfSome (number_or default name least most rows) (λ n. (n ≡ default) ⊎ GivesNumber words name least most n)
   number_or_default default name least most other = which (is_some (first_of name rows))
     where
@@ -180,16 +179,30 @@ module _ (words : List Text) (rows : List Row) (stand : RowsStand words rows) wh
       which true = or_default (number_at name least most rows) (number name least most other)
       which false = inl refl
 
+  -- what is read of an option that may be left out
+  pub given_holds : {X : Type 0} (P : X → Type 0) (meaning : Text → Option X) (name : Text) → IsOption name → ((text : Text) → Gives words name text → IfSome (meaning text) P)
+      → IfSome (if_given meaning (first_of name rows)) (λ o. IfSome o P)
+  given_holds P meaning name other each = go (first_of name rows) (value name other)
+    where
+      go : (o : Option Text) → IfSome o (Gives words name) → IfSome (if_given meaning o) (λ x. IfSome x P)
+      go None is = tt
+      go (Some text) is = map_holds P (λ x. IfSome x P) (λ x. Some x) (meaning text) (each text is) (λ x holds. holds)
+
+  -- the number of an option that may be left out and has no default
+  pub number_if_given : (name : Text) (least most : ℕ) → IsOption name → IfSome (number_if name least most rows) (λ o. IfSome o (GivesNumber words name least most))
+  number_if_given name least most other =
+      given_holds (GivesNumber words name least most) (number_in least most) name other (λ text stands. number_holds words name text least most stands)
+
   abbrev PlanGiven : Numbers → Type 0
   PlanGiven = IsPlanGiven words
 
   plan_given : IfSome (plan_at rows) PlanGiven
   plan_given =
-      then_holds _ PlanGiven _ (number_at (codes "harts") 1 MOST_HARTS rows) (number (codes "harts") 1 MOST_HARTS refl) (λ harts h.
-      then_holds _ PlanGiven _ (number_at (codes "steps") 1 MOST_STEPS rows) (number (codes "steps") 1 MOST_STEPS refl) (λ steps s.
-      then_holds _ PlanGiven _ (number_at (codes "arms") 0 MOST_ARMS rows) (number (codes "arms") 0 MOST_ARMS refl) (λ arms a.
-      then_holds _ PlanGiven _ (number_at (codes "pause") 1 MOST_PAUSE rows) (number (codes "pause") 1 MOST_PAUSE refl) (λ pause p.
-      map_holds _ PlanGiven _ (number_or DEFAULT_SLOTS (codes "slots") 1 MOST_SLOTS rows) (number_or_default DEFAULT_SLOTS (codes "slots") 1 MOST_SLOTS refl) (λ slots l.
+      then_holds _ PlanGiven _ (number_at (codes "harts") 1 MOST_HARTS rows) (number (codes "harts") 1 MOST_HARTS (refl, refl)) (λ harts h.
+      then_holds _ PlanGiven _ (number_at (codes "steps") 1 MOST_STEPS rows) (number (codes "steps") 1 MOST_STEPS (refl, refl)) (λ steps s.
+      then_holds _ PlanGiven _ (number_at (codes "arms") 0 MOST_ARMS rows) (number (codes "arms") 0 MOST_ARMS (refl, refl)) (λ arms a.
+      then_holds _ PlanGiven _ (number_at (codes "pause") 1 MOST_PAUSE rows) (number (codes "pause") 1 MOST_PAUSE (refl, refl)) (λ pause p.
+      map_holds _ PlanGiven _ (number_or DEFAULT_SLOTS (codes "slots") 1 MOST_SLOTS rows) (number_or_default DEFAULT_SLOTS (codes "slots") 1 MOST_SLOTS (refl, refl)) (λ slots l.
       record { harts = h; steps = s; arms = a; pause = p; slots = l })))))
 
   abbrev KeepGiven : ℕ → Type 0
@@ -197,7 +210,7 @@ module _ (words : List Text) (rows : List Row) (stand : RowsStand words rows) wh
 
   keep_given : (runs : ℕ) → IfSome (keep_at runs rows) (λ keep. KeepGiven keep × (keep < runs))
   keep_given runs = then_holds KeepGiven (λ keep. KeepGiven keep × (keep < runs)) (λ keep. cond (nat_lt keep runs) (Some keep) None) (number_or 0 (codes "keep") 0 MOST_KEEP rows)
-      (number_or_default 0 (codes "keep") 0 MOST_KEEP refl) (λ keep given. below keep given (nat_lt keep runs) refl)
+      (number_or_default 0 (codes "keep") 0 MOST_KEEP (refl, refl)) (λ keep given. below keep given (nat_lt keep runs) refl)
     where
       below : (keep : ℕ) → KeepGiven keep → (b : Bool) → nat_lt keep runs ≡ b → IfSome (cond b (Some keep) None) (λ k. KeepGiven k × (k < runs))
       below keep given true is = (given, grind (arith, nat_tests))
@@ -210,9 +223,9 @@ module _ (words : List Text) (rows : List Row) (stand : RowsStand words rows) wh
   request_given : (path : Text) → Contains words path → IfSome (request_at rows) (RequestGiven path)
   request_given path stands =
       then_holds _ (RequestGiven path) _ (plan_at rows) plan_given (λ plan p.
-      then_holds _ (RequestGiven path) _ (number_at (codes "seed") 0 MOST_SEED rows) (number (codes "seed") 0 MOST_SEED refl) (λ seed s.
-      then_holds _ (RequestGiven path) _ (number_at (codes "runs") 1 MOST_RUNS rows) (number (codes "runs") 1 MOST_RUNS refl) (λ runs r.
-      then_holds _ (RequestGiven path) _ (number_at (codes "workers") 1 MOST_WORKERS rows) (number (codes "workers") 1 MOST_WORKERS refl) (λ workers w.
+      then_holds _ (RequestGiven path) _ (number_at (codes "seed") 0 MOST_SEED rows) (number (codes "seed") 0 MOST_SEED (refl, refl)) (λ seed s.
+      then_holds _ (RequestGiven path) _ (number_at (codes "runs") 1 MOST_RUNS rows) (number (codes "runs") 1 MOST_RUNS (refl, refl)) (λ runs r.
+      then_holds _ (RequestGiven path) _ (number_at (codes "workers") 1 MOST_WORKERS rows) (number (codes "workers") 1 MOST_WORKERS (refl, refl)) (λ workers w.
       map_holds _ (RequestGiven path) _ (keep_at runs rows) (keep_given runs) (λ keep k.
       record {
         image = stands;
@@ -222,20 +235,20 @@ module _ (words : List Text) (rows : List Row) (stand : RowsStand words rows) wh
         workers = w;
         keep = k.0;
         keep_is_run = k.1;
-        named = value (codes "named") refl;
-        skip = value (codes "skip") refl;
-        save = value (codes "save") refl;
+        named = value (codes "named") (refl, refl);
+        skip = value (codes "skip") (refl, refl);
+        save = value (codes "save") (refl, refl);
       })))))
 
   rows_given : (n : Text) → IfSome (run_of rows) (IsGiven (n ∷ codes "run" ∷ words))
-  rows_given n = then_holds (Contains words) (IsGiven (n ∷ codes "run" ∷ words)) _ (first_of (codes "IMAGE") rows) (place_stands words (codes "IMAGE") rows refl stand) (λ path image.
+  rows_given n = then_holds (Contains words) (IsGiven (n ∷ codes "run" ∷ words)) _ (first_of (codes "IMAGE") rows) (place_stands words (codes "IMAGE") rows refl refl stand) (λ path image.
       map_holds (RequestGiven path) (IsGiven (n ∷ codes "run" ∷ words)) _ (request_at rows) (request_given path image) (λ request given. (refl, given)))
 
   threads_rows_given : (n : Text) → IfSome (threads_of rows) (IsGiven (n ∷ codes "threads" ∷ words))
-  threads_rows_given n = then_holds (Contains words) Given _ (first_of (codes "IMAGE") rows) (place_stands words (codes "IMAGE") rows refl stand) (λ path image.
+  threads_rows_given n = then_holds (Contains words) Given _ (first_of (codes "IMAGE") rows) (place_stands words (codes "IMAGE") rows refl refl stand) (λ path image.
       then_holds PlanGiven Given _ (plan_at rows) plan_given (λ plan p.
-      map_holds _ Given _ (number_at (codes "seed") 0 MOST_SEED rows) (number (codes "seed") 0 MOST_SEED refl) (λ seed s.
-      (refl, record { image = image; plan = p; seed = s; save = value (codes "save") refl }))))
+      map_holds _ Given _ (number_at (codes "seed") 0 MOST_SEED rows) (number (codes "seed") 0 MOST_SEED (refl, refl)) (λ seed s.
+      (refl, record { image = image; plan = p; seed = s; save = value (codes "save") (refl, refl) }))))
     where
       Given : Asked → Type 0
       Given = IsGiven (n ∷ codes "threads" ∷ words)
@@ -244,11 +257,7 @@ module _ (words : List Text) (rows : List Row) (stand : RowsStand words rows) wh
   RaceGiven race = IfSome race (GivesNumber words (codes "race") 1 MOST_RACE)
 
   race_given : IfSome (race_at rows) RaceGiven
-  race_given = which (is_some (first_of (codes "race") rows))
-    where
-      which : (given : Bool) → IfSome (cond given (option_map (λ k. Some k) (number_at (codes "race") 1 MOST_RACE rows)) (Some None)) RaceGiven
-      which true = map_holds (GivesNumber words (codes "race") 1 MOST_RACE) RaceGiven (λ k. Some k) (number_at (codes "race") 1 MOST_RACE rows) (number (codes "race") 1 MOST_RACE refl) (λ k given. given)
-      which false = tt
+  race_given = number_if_given (codes "race") 1 MOST_RACE (refl, refl)
 
   -- what stands in the words of what is asked of `explain`
   abbrev AskingGiven : Text → Text → Asking → Type 0
@@ -257,27 +266,27 @@ module _ (words : List Text) (rows : List Row) (stand : RowsStand words rows) wh
   asking_given : (path schedule : Text) → Contains words path → Contains words schedule → IfSome (asking_at rows) (AskingGiven path schedule)
   asking_given path schedule stands other =
       let most = most_around (first_of (codes "picture") rows) in
-      then_holds _ (AskingGiven path schedule) _ (number_or DEFAULT_AROUND (codes "around") 0 most rows) (number_or_default DEFAULT_AROUND (codes "around") 0 most refl) (λ around a.
+      then_holds _ (AskingGiven path schedule) _ (number_or DEFAULT_AROUND (codes "around") 0 most rows) (number_or_default DEFAULT_AROUND (codes "around") 0 most (refl, refl)) (λ around a.
       map_holds RaceGiven (AskingGiven path schedule) _ (race_at rows) race_given (λ race r.
       record {
         image = stands;
         schedule = other;
         around = a;
         race = r;
-        named = value (codes "named") refl;
-        picture = value (codes "picture") refl;
+        named = value (codes "named") (refl, refl);
+        picture = value (codes "picture") (refl, refl);
       }))
 
   explain_rows_given : (n : Text) → IfSome (explain_of rows) (IsGiven (n ∷ codes "explain" ∷ words))
-  explain_rows_given n = then_holds (Contains words) Given _ (first_of (codes "IMAGE") rows) (place_stands words (codes "IMAGE") rows refl stand) (λ path image.
-      then_holds (Contains words) Given _ (first_of (codes "SCHEDULE") rows) (place_stands words (codes "SCHEDULE") rows refl stand) (λ schedule other.
+  explain_rows_given n = then_holds (Contains words) Given _ (first_of (codes "IMAGE") rows) (place_stands words (codes "IMAGE") rows refl refl stand) (λ path image.
+      then_holds (Contains words) Given _ (first_of (codes "SCHEDULE") rows) (place_stands words (codes "SCHEDULE") rows refl refl stand) (λ schedule other.
       map_holds (AskingGiven path schedule) Given _ (asking_at rows) (asking_given path schedule image other) (λ asking given. (refl, given))))
     where
       Given : Asked → Type 0
       Given = IsGiven (n ∷ codes "explain" ∷ words)
 
 -- what holds of the job in what `clap` finds holds of the line's
-line_given : (meaning : List Row → Option Asked) (words : List Text) (name : Text) (rows : List Row) → subcommand_of program words ≡ Some (name, rows)
+pub line_given : (meaning : List Row → Option Asked) (words : List Text) (name : Text) (rows : List Row) → subcommand_of program words ≡ Some (name, rows)
     → IfSome (meaning rows) (IsGiven words) → IfSome (options_job meaning words) (IsGiven words)
 line_given meaning words name rows is given = go (is_accepted words)
   where

@@ -1,9 +1,11 @@
 -- The commands and options as `clap` knows them, and what it finds in the words.
 use Rattle.std.specs.Prelude.{Bool, true, List, [], ◌∷◌, ◌++◌, fold, Some, codes}
 use Rattle.clap.specs.Words.{App, Rule, Shape, Text, new_app, new_rule, with_subcommand}
+use Rattle.clap.specs.Lexer.{usize_max}
 use Rattle.clap.specs.Walk.{is_empty}
 use Rattle.clap.specs.Simple.{new_shape, on_top}
 use Rattle.clap.specs.Faults.{fault_of}
+use Rattle.clap.specs.declared.builder.action.ArgAction.TheVariants.{SetTrue}
 
 -- The commands as `clap` knows them, and what it finds in the words. What a line means is said without
 -- `clap` by `job_of`, and the two are proved the same.
@@ -12,12 +14,20 @@ use Rattle.clap.specs.Faults.{fault_of}
 abbrev pub required_word : Text → Rule
 required_word name = record (new_rule name) { required = true }
 
+-- one word or more at the end of the line
+abbrev pub required_words : Text → Rule
+required_words name = record (required_word name) { range = Some (record { start_inclusive = 1; end_inclusive = usize_max }) }
+
 -- an option `--name VALUE` that may be left out, and one that has to be given
 abbrev pub option : Text → Rule
 option name = record (new_rule name) { long = Some name; value_names = 1 }
 
 abbrev pub required_option : Text → Rule
 required_option name = record (option name) { required = true }
+
+-- a flag `--name`
+abbrev pub flag : Text → Rule
+flag name = record (new_rule name) { long = Some name; action = Some SetTrue }
 
 abbrev pub image : Rule
 image = required_word (codes "IMAGE")
@@ -43,6 +53,12 @@ threads_options = plan_options ++ required_option (codes "seed") ∷ option (cod
 abbrev pub explain_options : List Rule
 explain_options = option (codes "named") ∷ option (codes "around") ∷ option (codes "race") ∷ option (codes "picture") ∷ []
 
+-- the options of `hunt`
+abbrev pub hunt_options : List Rule
+hunt_options = option (codes "harts") ∷ option (codes "seed") ∷ option (codes "first") ∷ option (codes "runs") ∷ option (codes "budget")
+    ∷ option (codes "workers") ∷ option (codes "plan") ∷ option (codes "slots") ∷ option (codes "named") ∷ option (codes "skip")
+    ∷ flag (codes "table") ∷ flag (codes "check") ∷ flag (codes "check-all") ∷ flag (codes "quiet") ∷ []
+
 -- a command's name, and what it takes
 abbrev pub command : Text → List Rule → Shape
 command name rules = record (new_shape name) { rules = rules }
@@ -57,6 +73,9 @@ commands = command (codes "words") []
     ∷ command (codes "threads") (image ∷ threads_options)
     ∷ command (codes "exhibit") (image ∷ schedule ∷ required_word (codes "N") ∷ [])
     ∷ command (codes "explain") (image ∷ schedule ∷ explain_options)
+    ∷ command (codes "gdb") (image ∷ schedule ∷ [])
+    ∷ command (codes "hunt") (image ∷ hunt_options)
+    ∷ command (codes "merge") (required_words (codes "TABLE") ∷ option (codes "expect") ∷ [])
     ∷ []
 
 abbrev pub without_commands : App

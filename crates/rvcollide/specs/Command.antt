@@ -1,15 +1,17 @@
 -- Which job a command line asks for. A word is the list of its bytes.
-use Rattle.std.specs.Prelude.{◌≡◌, ◌≤◌, ℕ, ◌==◌, ◌&&◌, Bool, false, is_some, drop, slice_get, List, [], ◌∷◌, map, Contains, Option, Some, None, option_map, option_and_then, codes, if◌then◌else◌}
+use Rattle.std.specs.Prelude.{◌≡◌, ◌≤◌, ℕ, ◌==◌, ◌&&◌, Bool, false, is_some, drop, take, slice_get, List, [], ◌∷◌, map, Contains, Option, Some, None, option_map, option_and_then, codes, if◌then◌else◌}
 use Rattle.std.specs.Borrow.{Bor}
 use Rattle.std.specs.Str.{bytes_eq, chars}
 use Rattle.clap.specs.Words.{Row, first_of, subcommand_of}
 use Rattle.rv_collide.specs.Numbers.{numbers}
 use Rattle.rv_collide.specs.Plan.{Numbers}
 use Rattle.rv_text.specs.Numeral.{number_of, up_to}
-use Rattle.rvcollide.specs.Asking.{Asking, asking}
+use Rattle.rv_engines.specs.Asking.{Asking, asking}
 use Rattle.rvcollide.specs.ClapProgram.{is_accepted, program}
 use Rattle.rvcollide.specs.ExplainLine.{IsExplainGiven, asking_at}
-use Rattle.rvcollide.specs.Request.{Request, request}
+use Rattle.rvcollide.specs.HuntLine.{Hunting, IsHuntGiven, hunting, hunting_at}
+use Rattle.rvcollide.specs.MergeLine.{IsMergeGiven, are_tables, is_expect, option_last, tables_before}
+use Rattle.rv_engines.specs.Request.{Request, request}
 use Rattle.rvcollide.specs.RunLine.{IsRunGiven, IsThreadsGiven, number_at, plan_at, request_at}
 use Rattle.rvcollide.specs.declared.command.Job.{Job}
 use Rattle.rvcollide.specs.declared.command.exhibit.TheConstants.{MOST_ENDING}
@@ -33,6 +35,9 @@ pub data Asked : Type 0 where
   Threads : (image : List ℕ) → (plan : Numbers) → (seed : ℕ) → (save : Option (List ℕ)) → Asked
   Exhibit : (image schedule : List ℕ) → (number : ℕ) → Asked
   Explain : (image schedule : List ℕ) → (wanted : Asking) → (picture : Option (List ℕ)) → Asked
+  Gdb : (image schedule : List ℕ) → Asked
+  Hunt : (image : List ℕ) → (wanted : Hunting) → Asked
+  Merge : (tables : List (List ℕ)) → (expected : Option (List ℕ)) → Asked
 
 -- what a job asks for: each of its paths in its own role
 abbrev pub asked : Job → Asked
@@ -45,8 +50,11 @@ asked (job.Run image options save) = Run image.0.now (request options) (option_m
 asked (job.Threads image plan seed save) = Threads image.0.now (numbers plan) seed (option_map (λ path. path.0.now) save)
 asked (job.Exhibit image schedule number) = Exhibit image.0.now schedule.0.now number
 asked (job.Explain image schedule options picture) = Explain image.0.now schedule.0.now (asking options) (option_map (λ path. path.0.now) picture)
+asked (job.Gdb image schedule) = Gdb image.0.now schedule.0.now
+asked (job.Hunt image line) = Hunt image.0.now (hunting line)
+asked (job.Merge tables expected) = Merge (texts tables.0.now) (option_map (λ path. path.0.now) expected)
 
--- a hyphen and a character after it begin an option. No command but `run`, `threads` and `explain` has options.
+-- a hyphen and a character after it begin an option. No command but `run`, `threads`, `explain` and `hunt` has options.
 abbrev pub is_option : List ℕ → Bool
 is_option [] = false
 is_option (byte ∷ rest) = byte == 45 && is_some (slice_get (chars rest) 0)
@@ -84,6 +92,11 @@ abbrev pub debug_of : List (List ℕ) → Option Asked
 debug_of (image ∷ schedule ∷ []) = Some (Debug image schedule)
 debug_of _ = None
 
+-- `gdb IMAGE SCHEDULE`
+abbrev pub gdb_of : List (List ℕ) → Option Asked
+gdb_of (image ∷ schedule ∷ []) = Some (Gdb image schedule)
+gdb_of _ = None
+
 -- the number of an ending that a text writes in decimal digits, if it lies in the range
 abbrev pub ending_of : List ℕ → Option ℕ
 ending_of text = up_to MOST_ENDING (number_of 10 text)
@@ -108,6 +121,10 @@ abbrev pub explain_of : List Row → Option Asked
 explain_of rows = option_and_then (λ image. option_and_then (λ schedule. option_map (λ wanted. Explain image schedule wanted (first_of (codes "picture") rows))
     (asking_at rows)) (first_of (codes "SCHEDULE") rows)) (first_of (codes "IMAGE") rows)
 
+-- `hunt IMAGE` with its options
+abbrev pub hunt_of : List Row → Option Asked
+hunt_of rows = option_and_then (λ image. option_map (λ wanted. Hunt image wanted) (hunting_at rows)) (first_of (codes "IMAGE") rows)
+
 -- the job of a line whose command has options: `clap` finds no fault in it, and each number is in its range
 abbrev pub options_job : (List Row → Option Asked) → List (List ℕ) → Option Asked
 options_job meaning words = if is_accepted words then option_and_then (λ found. meaning found.1) (subcommand_of program words) else None
@@ -121,16 +138,37 @@ command_job name rest =
     else (if bytes_eq (codes "replay") name then option_and_then replay_of (arguments rest)
     else (if bytes_eq (codes "debug") name then option_and_then debug_of (arguments rest)
     else (if bytes_eq (codes "exhibit") name then option_and_then exhibit_of (arguments rest)
-    else None)))))
+    else (if bytes_eq (codes "gdb") name then option_and_then gdb_of (arguments rest)
+    else None))))))
 
--- the job that a line asks for: the program's name, the command's, and the command's words
-unfoldable pub job_of : List (List ℕ) → Option Asked
-job_of (name ∷ command ∷ rest) =
+-- the job of a line that `clap` reads: the program's name, the command's, and the command's words
+unfoldable pub clap_job_of : List (List ℕ) → Option Asked
+clap_job_of (name ∷ command ∷ rest) =
     if bytes_eq (codes "run") command then options_job run_of (name ∷ command ∷ rest)
     else (if bytes_eq (codes "threads") command then options_job threads_of (name ∷ command ∷ rest)
     else (if bytes_eq (codes "explain") command then options_job explain_of (name ∷ command ∷ rest)
-    else command_job command rest))
-job_of _ = None
+    else (if bytes_eq (codes "hunt") command then options_job hunt_of (name ∷ command ∷ rest)
+    else command_job command rest)))
+clap_job_of _ = None
+
+-- `merge` with the option before the tables
+abbrev pub option_first : List (List ℕ) → Option Asked
+option_first (option ∷ value ∷ tables) = if is_expect option value && are_tables tables then Some (Merge tables (Some value)) else None
+option_first _ = None
+
+-- `merge` with its words: where tables come first, only the option may follow
+abbrev pub merge_of : List (List ℕ) → Option Asked
+merge_of words = if tables_before words == 0 then option_first words
+    else option_map (λ expected. Merge (take (tables_before words) words) expected) (option_last (drop (tables_before words) words))
+
+-- the line's command is `merge`
+abbrev pub is_merge : List (List ℕ) → Bool
+is_merge (name ∷ command ∷ rest) = bytes_eq command (codes "merge")
+is_merge _ = false
+
+-- the job that a line asks for
+unfoldable pub job_of : List (List ℕ) → Option Asked
+job_of words = if is_merge words then merge_of (drop 2 words) else clap_job_of words
 
 -- the number stands among the words, and lies in its range
 pub record IsEndingGiven (words : List (List ℕ)) (number : ℕ) : Type 0 where
@@ -150,3 +188,6 @@ IsGiven words (Run image wanted save) = (slice_get words 1 ≡ Some (codes "run"
 IsGiven words (Threads image plan seed save) = (slice_get words 1 ≡ Some (codes "threads")) × IsThreadsGiven (drop 2 words) image plan seed save
 IsGiven words (Exhibit image schedule number) = (slice_get words 1 ≡ Some (codes "exhibit")) × Contains (drop 2 words) image × Contains (drop 2 words) schedule × IsEndingGiven (drop 2 words) number
 IsGiven words (Explain image schedule wanted picture) = (slice_get words 1 ≡ Some (codes "explain")) × IsExplainGiven (drop 2 words) image schedule wanted picture
+IsGiven words (Gdb image schedule) = (slice_get words 1 ≡ Some (codes "gdb")) × Contains (drop 2 words) image × Contains (drop 2 words) schedule
+IsGiven words (Hunt image wanted) = (slice_get words 1 ≡ Some (codes "hunt")) × IsHuntGiven (drop 2 words) image wanted
+IsGiven words (Merge tables expected) = (slice_get words 1 ≡ Some (codes "merge")) × IsMergeGiven (drop 2 words) tables expected

@@ -1,8 +1,8 @@
 -- The options of `explain`: what each value means, and that it stands in the line.
-use Rattle.std.specs.Prelude.{◌≡◌, ℕ, ◌⊎◌, IfSome, is_some, Contains, List, Option, Some, None, option_and_then, option_map, codes, if◌then◌else◌}
+use Rattle.std.specs.Prelude.{◌≡◌, ℕ, ◌⊎◌, IfSome, Contains, List, Option, Some, None, option_and_then, option_map, codes}
 use Rattle.clap.specs.Words.{Row, Text, first_of}
-use Rattle.rvcollide.specs.Asking.{Asking}
-use Rattle.rvcollide.specs.RunLine.{Gives, GivesNumber, number_at, number_or}
+use Rattle.rv_engines.specs.Asking.{Asking}
+use Rattle.rvcollide.specs.RunLine.{Gives, GivesNumber, number_if, number_or}
 use Rattle.rvcollide.specs.declared.command.explain.TheConstants.{DEFAULT_AROUND, MOST_AROUND, MOST_AROUND_IN_PICTURE, MOST_RACE}
 
 -- the most entries around a place, by whether a picture is wanted, which shows them all
@@ -12,7 +12,7 @@ most_around (Some path) = MOST_AROUND_IN_PICTURE
 
 -- the number of the race, which may be left out
 abbrev pub race_at : List Row → Option (Option ℕ)
-race_at rows = if is_some (first_of (codes "race") rows) then option_map (λ k. Some k) (number_at (codes "race") 1 MOST_RACE rows) else Some None
+race_at rows = number_if (codes "race") 1 MOST_RACE rows
 
 abbrev pub asking_at : List Row → Option Asking
 asking_at rows =

@@ -1,25 +1,38 @@
 -- The exit status of a failure, and what is printed of it.
-use Rattle.std.specs.Prelude.{ℕ, Bool, true, false, Option, Some, List, [], codes}
+use Rattle.std.specs.Prelude.{ℕ, Bool, true, false, Option, Some, option_map, List, [], ◌++◌, codes}
 use Rattle.std.specs.declared.io.ErrorKind.{ErrorKind}
 use Rattle.std.specs.declared.io.ErrorKind.TheVariants as kind
-use Rattle.rvcollide.specs.CommandFault.{refusal_output, status}
+use Rattle.rv_engines.specs.CommandFault.{refusal_output, status}
 use Rattle.rvcollide.specs.declared.command.LineFault.{LineFault}
 use Rattle.rvcollide.specs.declared.command.LineFault.TheVariants as fault
 use Rattle.rvcollide.specs.declared.failure.Failure.{Failure}
-use Rattle.rvcollide.specs.declared.failure.Failure.TheVariants.{Line, NotText, Told, Filed}
-use Rattle.rvcollide.specs.declared.fault.Fault.{Fault}
-use Rattle.rvcollide.specs.declared.fault.Fault.TheVariants.{NoMemory, Write}
-use Rattle.rvcollide.specs.declared.run.fault.CommandFault.{CommandFault}
-use Rattle.rvcollide.specs.declared.run.fault.CommandFault.TheVariants.{Plain}
-use Rattle.rvcollide.specs.declared.sentences.FaultLine.{FaultLine}
-use Rattle.rvcollide.specs.Sentences.{line_output}
+use Rattle.rvcollide.specs.declared.failure.Failure.TheVariants.{Line, NotText, Told, Filed, OfFile, Found}
+use Rattle.rv_engines.specs.declared.fault.Fault.{Fault}
+use Rattle.rv_engines.specs.declared.fault.Fault.TheVariants.{NoMemory, Write}
+use Rattle.rv_engines.specs.declared.run.fault.CommandFault.{CommandFault}
+use Rattle.rv_engines.specs.declared.run.fault.CommandFault.TheVariants.{Plain}
+use Rattle.rv_engines.specs.declared.sentences.FaultLine.{FaultLine}
+use Rattle.rv_engines.specs.Sentences.{in_file, line_output}
+use Rattle.rv_merge.specs.FileFaultText as file
+use Rattle.rv_merge.specs.declared.fault.FileFault.{FileFault}
+use Rattle.rvcollide.specs.declared.file_line.FileLine.{FileLine}
 
--- the exit status: 2 for a refused command line, and else the fault's
+-- `FAULT: SENTENCE`, of a file of a hunt
+abbrev pub file_said_output : FileFault → Option (List ℕ)
+file_said_output fault = option_map (λ words. words ++ (codes ": " ++ file.sentence fault)) (file.fault_output fault)
+
+-- the same after the file, where one is at fault
+abbrev pub file_line_output : FileLine → Option (List ℕ)
+file_line_output line = option_map (in_file line.file) (file_said_output line.fault)
+
+-- the exit status: 2 for a refused command line, 5 where a hunt found what it was to look for, and else the fault's
 abbrev pub status_of : Failure → ℕ
 status_of Line = 2
 status_of NotText = 2
 status_of (Told fault) = status fault
 status_of (Filed line) = status line.fault
+status_of (OfFile line) = file.status line.fault
+status_of Found = 5
 
 -- what is wrong was told already
 abbrev pub is_told : Failure → Bool
@@ -27,6 +40,8 @@ is_told Line = true
 is_told NotText = false
 is_told (Told fault) = false
 is_told (Filed line) = false
+is_told (OfFile line) = false
+is_told Found = true
 
 -- what the program still tells of it, after its own name
 abbrev pub failure_output : Failure → Option (List ℕ)
@@ -34,6 +49,8 @@ failure_output Line = Some []
 failure_output NotText = Some (codes "an argument is not UTF-8")
 failure_output (Told fault) = refusal_output fault
 failure_output (Filed line) = line_output line
+failure_output (OfFile line) = file_line_output line
+failure_output Found = Some []
 
 abbrev pub told : CommandFault → Failure
 told fault = Told fault

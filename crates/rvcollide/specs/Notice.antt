@@ -11,10 +11,11 @@ use Rattle.rvcollide.specs.ClapProgram.{is_accepted, program}
 use Rattle.std.specs.Fmt.{decimal}
 use Rattle.rvcollide.specs.declared.command.complaint.Complaint.{Complaint}
 use Rattle.rvcollide.specs.declared.command.complaint.Complaint.TheVariants as complaint
+use Rattle.rv_collide.specs.declared.plan.TheConstants.{MOST_ARMS, MOST_PAUSE, MOST_STEPS}
 use Rattle.rvcollide.specs.declared.command.exhibit.TheConstants.{MOST_ENDING}
 use Rattle.rvcollide.specs.declared.command.Notice.{Notice}
 use Rattle.rvcollide.specs.declared.command.Notice.TheVariants.{Answer, Refusal}
-use Rattle.rvcollide.specs.Shown.{shown}
+use Rattle.rv_engines.specs.Shown.{shown}
 
 -- What is written of a line that gives no job.
 
@@ -57,10 +58,14 @@ abbrev pub complaint_output : Complaint → Option Text
 complaint_output (complaint.Number option value) =
     Some (codes "error: invalid value '" ++ shown value.now ++ codes "' for '--" ++ option.name.now ++ codes "': it is a decimal number from "
     ++ decimal option.least ++ codes " to " ++ decimal option.most ++ codes "\n")
+complaint_output (complaint.Lengths value) =
+    Some (codes "error: invalid value '" ++ (shown value.now ++ (codes "' for '--plan': it is STEPS,ARMS,PAUSE: numbers from 1 to "
+    ++ (decimal MOST_STEPS ++ (codes ", 0 to " ++ (decimal MOST_ARMS ++ (codes " and 1 to " ++ (decimal MOST_PAUSE ++ codes "\n"))))))))
 complaint_output (complaint.Keep value runs) =
     Some (codes "error: invalid value '" ++ (shown value.now ++ (codes "' for '--keep': it is less than '--runs', which is "
     ++ (decimal runs ++ codes "\n"))))
 complaint_output (complaint.Ending value) =
     Some (codes "error: invalid value '" ++ (shown value.now ++ (codes "' for 'N': it is a decimal number from 0 to "
     ++ (decimal MOST_ENDING ++ codes "\n"))))
+complaint_output complaint.Tables = Some (codes "error: merge takes its tables together, with '--expect TABLE' before them or behind\n")
 complaint_output complaint.Words = Some (codes "error: the command line is refused\n")

@@ -3,7 +3,7 @@ use Rattle.std.specs.Prelude.{ℕ, ◌+◌, ◌≡◌, ◌≤◌, ◌<◌, IfSom
 use Rattle.clap.specs.Words.{Row, Text, first_of}
 use Rattle.rv_collide.specs.Plan.{Numbers}
 use Rattle.rv_text.specs.Numeral.{number_of, up_to}
-use Rattle.rvcollide.specs.Request.{Request}
+use Rattle.rv_engines.specs.Request.{Request}
 use Rattle.rv_campaign.specs.declared.runs.TheConstants.{MOST_RUNS, MOST_WORKERS}
 use Rattle.rv_collide.specs.declared.plan.TheConstants.{DEFAULT_SLOTS, MOST_ARMS, MOST_PAUSE, MOST_STEPS}
 use Rattle.rv_break.specs.declared.claim.TheConstants.{MOST_SLOTS}
@@ -20,9 +20,18 @@ number_in least most text = option_and_then (λ n. if nat_le least n then Some n
 abbrev pub number_at : Text → ℕ → ℕ → List Row → Option ℕ
 number_at name least most rows = option_and_then (λ text. number_in least most text) (first_of name rows)
 
--- the number of an option that may be left out
+-- the number of an option that may be left out and has a default
 abbrev pub number_or : ℕ → Text → ℕ → ℕ → List Row → Option ℕ
 number_or default name least most rows = if is_some (first_of name rows) then number_at name least most rows else Some default
+
+-- what the value of an option means that may be left out
+abbrev pub if_given : {X : Type 0} → (Text → Option X) → Option Text → Option (Option X)
+if_given meaning None = Some None
+if_given meaning (Some text) = option_map (λ x. Some x) (meaning text)
+
+-- the number of an option that may be left out and has no default
+abbrev pub number_if : Text → ℕ → ℕ → List Row → Option (Option ℕ)
+number_if name least most rows = if_given (number_in least most) (first_of name rows)
 
 abbrev pub plan_at : List Row → Option Numbers
 plan_at rows =

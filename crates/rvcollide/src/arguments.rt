@@ -19,3 +19,11 @@ pub struct SavePath<'a>(pub &'a str);
 /// The path of a file for a picture.
 #[derive(Clone, Copy, Debug, PartialEq, Eq)]
 pub struct PicturePath<'a>(pub &'a str);
+
+/// The path of a table of races.
+#[derive(Clone, Copy, Debug, PartialEq, Eq)]
+pub struct TablePath<'a>(pub &'a str);
+
+/// The paths of tables of races, in order.
+#[derive(Clone, Copy, Debug, PartialEq, Eq)]
+pub struct TablePaths<'a>(pub &'a [&'a str]);

@@ -1,6 +1,6 @@
 //! The command line: which job its words ask for. `clap` reads the words, and this module says which
 //! commands there are.
-ghost use Rattle.std.specs.Prelude.{◌≡◌, ◌⊎◌, ◌≢◌, IfErr, IfOk, IfSome, MatchResult, Some, None, true, false, option_and_then, option_map, map, codes};
+ghost use Rattle.std.specs.Prelude.{◌≡◌, ◌≤◌, ◌⊎◌, ◌≢◌, length, IfErr, IfOk, IfSome, MatchResult, Some, None, true, false, option_and_then, option_map, map, codes};
 ghost use Rattle.std.specs.Str.{bytes_eq};
 ghost use Rattle.std.specs.String.{string_bytes};
 ghost use Rattle.clap.specs.Faults.{fault_of};
@@ -12,7 +12,7 @@ ghost use Rattle.clap.specs.Walk.{first_of, rows_of};
 ghost use Rattle.rvcollide.specs.Command as spec;
 ghost use Rattle.rvcollide.specs.Notice as notice;
 ghost use Rattle.rvcollide.specs.ClapProgram as known;
-ghost use Rattle.rvcollide.specs.Shown.{shown as escaped};
+ghost use Rattle.rv_engines.specs.Shown.{shown as escaped};
 ghost use Rattle.rvcollide.specs.internal.FoundJob as jobs;
 
 pub mod commands;
@@ -20,25 +20,32 @@ pub mod complaint;
 pub mod exhibit;
 pub mod explain;
 pub mod help;
+pub mod hunt;
+pub mod merge;
+pub mod number;
 pub mod run;
 pub mod subcommand;
 pub mod threads;
 
-use crate::arguments::{ImagePath, PicturePath, SavePath, SchedulePath, SourcePath};
+use crate::arguments::{
+    ImagePath, PicturePath, SavePath, SchedulePath, SourcePath, TablePath, TablePaths,
+};
 use crate::command::commands::COMMANDS;
 use crate::command::complaint::Complaint;
 use crate::command::exhibit::exhibit_of;
 use crate::command::explain::explain_of;
 use crate::command::help::{FAULTS, OVERVIEW};
+use crate::command::hunt::{HuntLine, hunt_of};
+use crate::command::merge::merge_of;
 use crate::command::run::run_of;
 use crate::command::subcommand::with_subcommands;
 use crate::command::threads::threads_of;
-use crate::explain::options::ExplainOptions;
-use crate::run::options::Options;
-use crate::shown::Shown;
 use clap::error::ErrorKind;
 use clap::{ArgMatches, Command, Error};
 use rv_collide::plan::Plan;
+use rv_engines::explain::options::ExplainOptions;
+use rv_engines::run::options::Options;
+use rv_engines::shown::Shown;
 use std::alloc::{AllocError, Global};
 use std::fmt::Display;
 
@@ -94,6 +101,21 @@ pub enum Job<'a> {
         options: ExplainOptions<'a>,
         picture: Option<PicturePath<'a>>,
     },
+    /// `gdb IMAGE SCHEDULE`: serve a schedule to GDB.
+    Gdb {
+        image: ImagePath<'a>,
+        schedule: SchedulePath<'a>,
+    },
+    /// `hunt IMAGE` with its options: hunt races in runs of all scales, and tell each for a person.
+    Hunt {
+        image: ImagePath<'a>,
+        line: HuntLine<'a>,
+    },
+    /// `merge TABLE..`: add up the tables of a hunt's pieces, and compare them with what is expected.
+    Merge {
+        tables: TablePaths<'a>,
+        expected: Option<TablePath<'a>>,
+    },
 }
 
 /// Why a command line gives no job.
@@ -120,6 +142,37 @@ pub fn command_of<'a>(alloc: Global, words: &'a [&'a str]) -> Result<Job<'a>, Li
     ensures job { IfOk result (λ job. spec.job_of (spec.texts words.entry.now) ≡ Some (spec.asked job)) }
     ensures given { IfOk result (λ job. spec.IsGiven (spec.texts words.entry.now) (spec.asked job)) }
     ensures line { IfErr result (λ e. e ≡ LineFault.Line → spec.job_of (spec.texts words.entry.now) ≡ None) }
+{
+    line_job(alloc, words)
+}
+
+/// The job of a line.
+#[tactic(auto, unfolding(crate::specs::Command::job_of), using(crate::proofs::TextLists::drop_texts))]
+fn line_job<'a>(alloc: Global, words: &'a [&'a str]) -> Result<Job<'a>, LineFault>
+    ensures job { IfOk result (λ job. spec.job_of (spec.texts words.entry.now) ≡ Some (spec.asked job)) }
+    ensures line { IfErr result (λ e. e ≡ LineFault.Line → spec.job_of (spec.texts words.entry.now) ≡ None) }
+{
+    if is_merge(words) {
+        return merge_of(&words[2..]).ok_or(LineFault::Line);
+    }
+    clap_job_of(alloc, words)
+}
+
+/// Whether the line's command is `merge`.
+fn is_merge(words: &[&str]) -> bool
+    ensures merge { result ≡ spec.is_merge (spec.texts words.now) }
+    ensures long { result ≡ true → 2 ≤ length words.now }
+{
+    match words {
+        [_, command, ..] => *command == "merge",
+        _ => false,
+    }
+}
+
+/// The job of a line of another command.
+fn clap_job_of<'a>(alloc: Global, words: &'a [&'a str]) -> Result<Job<'a>, LineFault>
+    ensures job { IfOk result (λ job. spec.clap_job_of (spec.texts words.entry.now) ≡ Some (spec.asked job)) }
+    ensures line { IfErr result (λ e. e ≡ LineFault.Line → spec.clap_job_of (spec.texts words.entry.now) ≡ None) }
 {
     match read_line(alloc, words) {
         Ok(matches) => job_in(&matches).map_err(|_| LineFault::Line),
@@ -238,8 +291,8 @@ fn line_fault(error: &Error) -> LineFault
 /// What `clap` finds in the words.
 fn read_line<'a>(alloc: Global, words: &'a [&'a str]) -> Result<ArgMatches<'a>, Error>
     ensures job { MatchResult result
-        (λ m. option_and_then jobs.job_in (subcommand_rows_of m) ≡ spec.job_of (spec.texts words.entry.now))
-        (λ e. (kind_of e ≡ ErrorKind.OutOfMemory) ⊎ (spec.job_of (spec.texts words.entry.now) ≡ None)) }
+        (λ m. option_and_then jobs.job_in (subcommand_rows_of m) ≡ spec.clap_job_of (spec.texts words.entry.now))
+        (λ e. (kind_of e ≡ ErrorKind.OutOfMemory) ⊎ (spec.clap_job_of (spec.texts words.entry.now) ≡ None)) }
     ensures rows { IfOk result (λ m. subcommand_rows_of m ≡ subcommand_of known.program (spec.texts words.entry.now)) }
     ensures kinds { FailsBy (fault_of known.program (spec.texts words.entry.now)) result }
 {
@@ -276,6 +329,9 @@ fn job_at<'a>(name: &str, given: &ArgMatches<'a>) -> Result<Job<'a>, Complaint<'
         "threads" => threads_of(given),
         "exhibit" => exhibit_of(given),
         "explain" => explain_of(given),
+        "hunt" => hunt_of(given),
+        // Its tables do not stand together, or it were a job before `clap` read it.
+        "merge" => Err(Complaint::Tables),
         _ => path_job_at(name, given).ok_or(Complaint::Words),
     }
 }
@@ -286,6 +342,8 @@ fn path_job_at<'a>(name: &str, given: &ArgMatches<'a>) -> Option<Job<'a>>
     requires threads { bytes_eq name.now (codes "threads") ≡ false }
     requires exhibit { bytes_eq name.now (codes "exhibit") ≡ false }
     requires explain { bytes_eq name.now (codes "explain") ≡ false }
+    requires hunt { bytes_eq name.now (codes "hunt") ≡ false }
+    requires merge { bytes_eq name.now (codes "merge") ≡ false }
     ensures { option_map spec.asked result ≡ jobs.job_in (name.now, rows_of (found_of given.now)) }
 {
     match name {
@@ -294,6 +352,7 @@ fn path_job_at<'a>(name: &str, given: &ArgMatches<'a>) -> Option<Job<'a>>
         "list" => list_of(given),
         "replay" => replay_of(given),
         "debug" => debug_of(given),
+        "gdb" => gdb_of(given),
         _ => None,
     }
 }
@@ -335,6 +394,17 @@ fn debug_of<'a>(given: &ArgMatches<'a>) -> Option<Job<'a>>
     let image = text_of(given, "IMAGE")?;
     let schedule = text_of(given, "SCHEDULE")?;
     Some(Job::Debug {
+        image: ImagePath(image),
+        schedule: SchedulePath(schedule),
+    })
+}
+
+fn gdb_of<'a>(given: &ArgMatches<'a>) -> Option<Job<'a>>
+    ensures { option_map spec.asked result ≡ jobs.gdb_in (rows_of (found_of given.now)) }
+{
+    let image = text_of(given, "IMAGE")?;
+    let schedule = text_of(given, "SCHEDULE")?;
+    Some(Job::Gdb {
         image: ImagePath(image),
         schedule: SchedulePath(schedule),
     })

@@ -3,9 +3,10 @@ ghost use Rattle.std.specs.IoError.{error_kind};
 ghost use Rattle.rvcollide.specs.Failure as spec;
 
 use crate::command::LineFault;
-use crate::fault::Fault;
-use crate::run::fault::CommandFault;
-use crate::sentences::FaultLine;
+use crate::file_line::FileLine;
+use rv_engines::fault::Fault;
+use rv_engines::run::fault::CommandFault;
+use rv_engines::sentences::FaultLine;
 use std::alloc::AllocError;
 use std::{fmt, io};
 
@@ -20,6 +21,10 @@ pub enum Failure<'a> {
     Told(CommandFault<'a>),
     /// One that is told with the file that is at fault and a sentence.
     Filed(FaultLine<'a>),
+    /// A fault of a file of a hunt, which is told with the file and a sentence too.
+    OfFile(FileLine<'a>),
+    /// A hunt found what it was to look for. What it found was told.
+    Found,
 }
 
 impl Failure<'_> {
@@ -28,8 +33,8 @@ impl Failure<'_> {
         ensures { result ≡ spec.is_told self.entry }
     {
         match self {
-            Failure::Line => true,
-            Failure::NotText | Failure::Told(_) | Failure::Filed(_) => false,
+            Failure::Line | Failure::Found => true,
+            Failure::NotText | Failure::Told(_) | Failure::Filed(_) | Failure::OfFile(_) => false,
         }
     }
 
@@ -41,6 +46,8 @@ impl Failure<'_> {
             Failure::Line | Failure::NotText => 2,
             Failure::Told(fault) => fault.status(),
             Failure::Filed(line) => line.fault.status(),
+            Failure::OfFile(line) => line.fault.status(),
+            Failure::Found => 5,
         }
     }
 }
@@ -51,10 +58,11 @@ impl fmt::Display for Failure<'_> {
 
     fn fmt<W: fmt::Write>(&self, f: &mut fmt::Formatter<W>) -> fmt::Result {
         match self {
-            Failure::Line => Ok(()),
+            Failure::Line | Failure::Found => Ok(()),
             Failure::NotText => f.write_str("an argument is not UTF-8"),
             Failure::Told(fault) => write!(f, "{fault}"),
             Failure::Filed(line) => write!(f, "{line}"),
+            Failure::OfFile(line) => write!(f, "{line}"),
         }
     }
 }

@@ -3,7 +3,7 @@ ghost use Rattle.std.specs.Prelude.{◌≡◌, true, false, is_err, is_some, OnO
 ghost use Rattle.std.specs.Io.KnownBytes.{ReadConsumes};
 ghost use Rattle.std.specs.Io.{ReadsAtMost};
 
-use crate::new_file::NewFile;
+use rv_engines::new_file::NewFile;
 use rv_memory::flagged::{Flagged, WriteFault, flush, write_whole};
 use std::fs;
 use std::io::{self, Read};

@@ -1,7 +1,5 @@
-//! `rvcollide`: its command line, its commands as engines over readers and writers, and the program that
-//! runs one of them on files and the standard input and output.
-//!
-//! Each engine writes the text that `specs/` states of the bytes that it reads, and nothing else.
+//! `rvcollide`: its command line, and the program that runs the engine of a command (`rv_engines`) on files and the
+//! standard input and output.
 #![tactic(auto)]
 
 ghost use Rattle.std.specs.Prelude.{◌≡◌};
@@ -9,46 +7,38 @@ ghost use Rattle.std.specs.Process.{exit_status};
 ghost use Rattle.rvcollide.specs.Failure.{status_of};
 
 pub mod arguments;
-pub mod asm;
-pub mod command;
-pub mod debug;
 #[cfg(test)]
-pub mod devices;
-pub mod exhibit;
-pub mod explain;
+mod assertion;
+pub mod command;
 pub mod failure;
-pub mod fault;
+pub mod file_line;
 pub mod files;
-pub mod image;
-pub mod list;
-pub mod new_file;
-pub mod replay;
-pub mod run;
-pub mod sentences;
-pub mod shown;
-pub mod threads;
-pub mod words;
+mod hunting;
+mod merging;
 
 use crate::arguments::{ImagePath, PicturePath, SavePath, SchedulePath};
-use crate::asm::run_asm;
 use crate::command::{Job, LineFault, Notice, command_of, notice_of};
-use crate::debug::engine::run_debug;
-use crate::exhibit::engine::run_exhibit;
-use crate::explain::engine::run_explain;
-use crate::explain::options::ExplainOptions;
 use crate::failure::Failure;
-use crate::fault::Fault;
 use crate::files::{InputFile, OutputFile};
-use crate::list::run_list;
-use crate::replay::engine::run_replay;
-use crate::run::engine::run_campaign;
-use crate::run::fault::CommandFault;
-use crate::run::options::Options;
-use crate::sentences::{FaultLine, Paths};
-use crate::threads::engine::run_by_threads;
-use crate::words::engine::run_words;
+use crate::hunting::hunt_file;
+use crate::merging::merge_files;
+use rv_engines::asm::run_asm;
+use rv_engines::debug::engine::run_debug;
+use rv_engines::exhibit::engine::run_exhibit;
+use rv_engines::explain::engine::run_explain;
+use rv_engines::explain::options::ExplainOptions;
+use rv_engines::fault::Fault;
+use rv_engines::list::run_list;
+use rv_engines::replay::engine::run_replay;
+use rv_engines::run::engine::run_campaign;
+use rv_engines::run::fault::CommandFault;
+use rv_engines::run::options::Options;
+use rv_engines::sentences::{FaultLine, Paths};
+use rv_engines::threads::engine::run_by_threads;
+use rv_engines::words::engine::run_words;
 use rv_memory::buffered::Buffered;
 use rv_memory::flagged::Flagged;
+use rv_stub::engine::run_gdb;
 use std::env;
 use std::process::ExitCode;
 use std::sync::Wait;
@@ -133,6 +123,9 @@ fn run_job<'a>(
             run_exhibit(alloc, &mut image, &mut schedule, number, &mut writer)
         }
         Job::Debug { image, schedule } => debug_files(rt, image, schedule),
+        Job::Gdb { image, schedule } => return Ok(gdb_files(rt, image, schedule)?),
+        Job::Hunt { image, line } => return hunt_file(rt, threads, image, &line),
+        Job::Merge { tables, expected } => return merge_files(rt, tables, expected),
         Job::Run {
             image,
             options,
@@ -233,6 +226,46 @@ fn explain_files<'a>(
         schedule: Some(schedule.0),
         failed,
     };
+    Err(FaultLine {
+        file: paths.at_fault(fault),
+        fault,
+    })
+}
+
+/// Runs the engine of `gdb` on two files, with packets from the standard input.
+fn gdb_files<'a>(
+    rt: &HostRuntime,
+    image: ImagePath<'a>,
+    schedule: SchedulePath<'a>,
+) -> Result<(), FaultLine<'a>> {
+    let alloc = rt.alloc();
+    let mut image_file = Flagged::new(InputFile::new(rt, image.0));
+    let mut schedule_file = Flagged::new(InputFile::new(rt, schedule.0));
+    let mut packets = Flagged::new(rt.stdin());
+    let mut writer = Buffered::new(alloc, rt.stdout());
+    let told = run_gdb(
+        alloc,
+        &mut image_file,
+        &mut schedule_file,
+        &mut packets,
+        &mut writer,
+    );
+    let Err(fault) = told else {
+        return Ok(());
+    };
+    let failed = if image_file.failed() {
+        Some(image.0)
+    } else if schedule_file.failed() {
+        Some(schedule.0)
+    } else {
+        None
+    };
+    let paths = Paths {
+        image: image.0,
+        schedule: Some(schedule.0),
+        failed,
+    };
+    let fault = CommandFault::from(fault);
     Err(FaultLine {
         file: paths.at_fault(fault),
         fault,

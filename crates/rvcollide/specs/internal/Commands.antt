@@ -1,7 +1,7 @@
 use Rattle.std.specs.Prelude.{fold, [], ◌∷◌, ◌++◌}
 use Rattle.clap.specs.Words.{App, Rule, Shape, with_subcommand as with_shape}
 use Rattle.clap.specs.Simple.{new_shape}
-use Rattle.rvcollide.specs.ClapProgram.{option, required_option, required_word}
+use Rattle.rvcollide.specs.ClapProgram.{flag, option, required_option, required_word, required_words}
 use Rattle.rvcollide.specs.declared.command.subcommand.Argument.{Argument}
 use Rattle.rvcollide.specs.declared.command.subcommand.Argument.TheVariants as argument
 use Rattle.rvcollide.specs.declared.command.subcommand.Subcommand.{Subcommand}
@@ -13,6 +13,8 @@ abbrev pub rule : Argument → Rule
 rule (argument.Word name _) = required_word name.now
 rule (argument.Required name _) = required_option name.now
 rule (argument.Optional name _ _) = option name.now
+rule (argument.Flag name _) = flag name.now
+rule (argument.Words name _) = required_words name.now
 
 abbrev pub with_argument : Shape → Argument → Shape
 with_argument s row = record s { rules = s.rules ++ rule row ∷ [] }

@@ -1,7 +1,7 @@
 use Rattle.std.specs.Prelude.{List, Option, Some, None, option_and_then, option_map, codes, if◌then◌else◌}
 use Rattle.std.specs.Str.{bytes_eq}
 use Rattle.clap.specs.Words.{Row, Text, first_of, subcommand_of}
-use Rattle.rvcollide.specs.Command.{Asked, Words, Asm, Listing, Replay, Debug, Exhibit, ending_of, explain_of, run_of, threads_of}
+use Rattle.rvcollide.specs.Command.{Asked, Words, Asm, Listing, Replay, Debug, Exhibit, Gdb, ending_of, explain_of, hunt_of, run_of, threads_of}
 use Rattle.rvcollide.specs.ClapProgram.{is_accepted, program}
 
 -- The job in what `clap` finds. It is proved to be the one that the words spell.
@@ -25,6 +25,11 @@ abbrev pub debug_in : List Row → Option Asked
 debug_in rows = option_and_then (λ image. option_map (λ schedule. Debug image schedule)
     (first_of (codes "SCHEDULE") rows)) (first_of (codes "IMAGE") rows)
 
+-- the same for `gdb`
+abbrev pub gdb_in : List Row → Option Asked
+gdb_in rows = option_and_then (λ image. option_map (λ schedule. Gdb image schedule)
+    (first_of (codes "SCHEDULE") rows)) (first_of (codes "IMAGE") rows)
+
 -- the same for `exhibit`
 abbrev pub exhibit_in : List Row → Option Asked
 exhibit_in rows = option_and_then (λ image. option_and_then (λ schedule. option_and_then (λ number. option_map (λ n. Exhibit image schedule n)
@@ -42,7 +47,9 @@ job_in p =
     else (if bytes_eq p.0 (codes "threads") then threads_of p.1
     else (if bytes_eq p.0 (codes "exhibit") then exhibit_in p.1
     else (if bytes_eq p.0 (codes "explain") then explain_of p.1
-    else None))))))))
+    else (if bytes_eq p.0 (codes "gdb") then gdb_in p.1
+    else (if bytes_eq p.0 (codes "hunt") then hunt_of p.1
+    else None))))))))))
 
 -- the job that `clap` finds
 unfoldable pub job_read : List Text → Option Asked

@@ -2,7 +2,7 @@
 
 use crate::command::subcommand::{Argument, Subcommand};
 
-pub const COMMANDS: [Subcommand; 9] = [
+pub const COMMANDS: [Subcommand; 12] = [
     Subcommand {
         name: "words",
         about: "Run instruction words from the standard input",
@@ -45,7 +45,7 @@ pub const COMMANDS: [Subcommand; 9] = [
     Subcommand {
         name: "run",
         about: "Make many runs from a seed and print the table of the races they found",
-        after: Some(HUNT),
+        after: Some(CAMPAIGN),
         arguments: &[
             IMAGE,
             HARTS,
@@ -142,6 +142,98 @@ pub const COMMANDS: [Subcommand; 9] = [
                 name: "picture",
                 value: "FILE",
                 help: "SVG file to write, with a picture of the first race or that of --race",
+            },
+        ],
+    },
+    Subcommand {
+        name: "gdb",
+        about: "Serve a saved run to GDB on standard input and output",
+        after: Some(GDB),
+        arguments: &[IMAGE, SCHEDULE],
+    },
+    Subcommand {
+        name: "hunt",
+        about: "Find races in an image: nothing but the image is needed",
+        after: Some(HUNT),
+        arguments: &[
+            IMAGE,
+            Argument::Optional {
+                name: "harts",
+                value: "N",
+                help: "Number of harts, 1 to 16 [default: 2, 4 and 8 by turns]",
+            },
+            Argument::Optional {
+                name: "seed",
+                value: "S",
+                help: "Seed of the random choices, 0 to 4294967295 [default: 1]",
+            },
+            Argument::Optional {
+                name: "first",
+                value: "R",
+                help: "Number of the first run, 0 to 4294967295 [default: 0]",
+            },
+            Argument::Optional {
+                name: "runs",
+                value: "N",
+                help: "Number of runs, 1 to 4294967296 less --first [default: as many as --budget allows]",
+            },
+            Argument::Optional {
+                name: "budget",
+                value: "STEPS",
+                help: "Steps of all runs together, 1 to 1000000000000000 [default: 50000000]",
+            },
+            Argument::Optional {
+                name: "workers",
+                value: "W",
+                help: "Threads that make the runs, 1 to 16 [default: one for each processor]",
+            },
+            Argument::Optional {
+                name: "plan",
+                value: "STEPS,ARMS,PAUSE",
+                help: "What run calls --steps, --arms and --pause [default: lengths of all scales, 64 arms]",
+            },
+            SLOTS,
+            Argument::Optional {
+                name: "named",
+                value: "LIST",
+                help: "Symbols, separated by commas: races on their bytes are counted, not reported",
+            },
+            Argument::Optional {
+                name: "skip",
+                value: "LIST",
+                help: "Addresses of instructions never to pause at, separated by commas",
+            },
+            Argument::Flag {
+                name: "table",
+                help: "Print the table of the races, and what was seen on the standard error",
+            },
+            Argument::Flag {
+                name: "check",
+                help: "Exit with status 5 if there is a race that may be a bug",
+            },
+            Argument::Flag {
+                name: "check-all",
+                help: "Exit with status 5 if there is a race, also a likely benign one",
+            },
+            Argument::Flag {
+                name: "quiet",
+                help: "Print no progress; warnings are still printed",
+            },
+        ],
+    },
+    Subcommand {
+        name: "merge",
+        about: "Add up the tables of a hunt that was made in pieces",
+        after: Some(MERGE),
+        arguments: &[
+            Argument::Words {
+                name: "TABLE",
+                help: "Files that hunt --table wrote, in the order of their runs",
+            },
+            Argument::Optional {
+                name: "expect",
+                value: "TABLE",
+                help: "Table of known races: exit with status 5 if one that may be a bug is not in it",
             },
         ],
     },
@@ -279,7 +371,7 @@ Exit status: 0 done; 1 the input is refused (see rvcollide help faults); 2 the c
 3 a file or stream cannot be read or written; 4 there is not enough memory.";
 
 /// What the help of `run` says after its options.
-const HUNT: &str = "\
+const CAMPAIGN: &str = "\
 Runs are numbered from 0. The random choices of a run depend only on the seed and its number, so the same
 command prints the same table, with any number of workers. Use as many workers as there are idle cores.
 IMAGE is as rvcollide list --help says. An address of --skip is eight hexadecimal digits.
@@ -346,3 +438,54 @@ Example:
 
 Exit status: 0 done; 1 the input is refused (see rvcollide help faults); 2 the command line is refused;
 3 a file or stream cannot be read or written; 4 there is not enough memory.";
+
+/// What the help of `gdb` says after its arguments.
+const GDB: &str = "\
+GDB starts this command itself and speaks its remote protocol with it. Type this line, with your files:
+  gdb-multiarch IMAGE -ex 'set remotetimeout 60' \\
+    -ex 'target remote | rvcollide gdb IMAGE SCHEDULE' -ex 'set scheduler-locking step'
+Each hart is a thread. The run is a record: it goes forwards and backwards, and nothing in it can be
+changed. IMAGE is as rvcollide list --help says, SCHEDULE as rvcollide replay --help says.
+
+A fault is told with its file and what is wrong:
+  rvcollide: guest.elf: load NotRiscV: the file is for another processor
+
+Example:
+  gdb-multiarch guest.elf -ex 'set remotetimeout 60' \\
+    -ex 'target remote | rvcollide gdb guest.elf run.txt' -ex 'set scheduler-locking step'
+
+Exit status: 0 done; 1 the input is refused (see rvcollide help faults); 2 the command line is refused;
+3 a file or stream cannot be read or written; 4 there is not enough memory.";
+
+/// What the help of `hunt` says after its options.
+const HUNT: &str = "\
+The same options print the same text, with any number of workers. A warning on the standard error says
+that a clean answer means little here, why, and what to do. IMAGE is as rvcollide list --help says.
+
+The output is a report of each race, as explain prints it, then how the harts ended and what was seen:
+  races 1, likely benign 0, reports 13 of 84 endings in 3 runs
+
+A fault is told with its file and what is wrong:
+  rvcollide: guest.elf: load NotRiscV: the file is for another processor
+
+Example:
+  rvcollide hunt guest.elf --budget 200000000 --check
+
+Exit status: 0 done; 1 the input is refused (see rvcollide help faults); 2 the command line is refused;
+3 a file or stream cannot be read or written; 4 there is not enough memory; 5 there is a race that
+--check or --check-all asks for.";
+
+/// What the help of `merge` says after its arguments.
+const MERGE: &str = "\
+The pieces are hunts of one image with the same options but for --first and --runs. Their tables, in the
+order of their runs, make the table of the whole hunt, byte for byte. The output is that table. The
+option stands before the tables or behind them.
+
+A fault is told with its file and what is wrong, as in b.table: table line 2 Shape.
+
+Example:
+  rvcollide merge a.table b.table --expect known.table
+
+Exit status: 0 done; 1 the input is refused (see rvcollide help faults); 2 the command line is refused;
+3 a file or stream cannot be read or written; 4 there is not enough memory; 5 there is a race that
+--expect asks for.";

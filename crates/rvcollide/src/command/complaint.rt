@@ -1,15 +1,16 @@
 ghost use Rattle.rvcollide.specs.Notice as notice;
 
 use crate::command::exhibit::MOST_ENDING;
-use crate::shown::Shown;
+use rv_collide::plan::{MOST_ARMS, MOST_PAUSE, MOST_STEPS};
+use rv_engines::shown::Shown;
 use std::fmt;
 
 /// An option whose value is a decimal number, and its range.
 #[derive(Clone, Copy)]
 pub struct NumberOption {
     pub name: &'static str,
-    pub least: u32,
-    pub most: u32,
+    pub least: u64,
+    pub most: u64,
 }
 
 /// Why a line is refused in which `clap` finds no fault.
@@ -20,6 +21,12 @@ pub enum Complaint<'a> {
         option: NumberOption,
         value: &'a str,
     },
+    /// The value of `--plan` is not three numbers in their ranges.
+    Lengths {
+        value: &'a str,
+    },
+    /// The tables of `merge` do not stand together.
+    Tables,
     /// The run whose schedule is saved is not among the runs.
     Keep {
         value: &'a str,
@@ -46,6 +53,14 @@ impl<'a> fmt::Display for Complaint<'a> {
                 option.least,
                 option.most
             ),
+            Complaint::Lengths { value } => write!(
+                f,
+                "error: invalid value '{}' for '--plan': it is STEPS,ARMS,PAUSE: numbers from 1 to {}, 0 to {} and 1 to {}\n",
+                Shown(*value),
+                MOST_STEPS,
+                MOST_ARMS,
+                MOST_PAUSE
+            ),
             Complaint::Keep { value, runs } => write!(
                 f,
                 "error: invalid value '{}' for '--keep': it is less than '--runs', which is {runs}\n",
@@ -56,6 +71,9 @@ impl<'a> fmt::Display for Complaint<'a> {
                 "error: invalid value '{}' for 'N': it is a decimal number from 0 to {}\n",
                 Shown(*value),
                 MOST_ENDING
+            ),
+            Complaint::Tables => f.write_str(
+                "error: merge takes its tables together, with '--expect TABLE' before them or behind\n",
             ),
             Complaint::Words => f.write_str("error: the command line is refused\n"),
         }

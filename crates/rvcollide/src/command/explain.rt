@@ -2,16 +2,16 @@
 ghost use Rattle.std.specs.Prelude.{◌≡◌, ◌≤◌, MatchResult, Some, None, option_map, codes};
 ghost use Rattle.clap.specs.Matches.{found_of};
 ghost use Rattle.clap.specs.Walk.{first_of, rows_of};
-ghost use Rattle.rvcollide.specs.Asking.{asking};
+ghost use Rattle.rv_engines.specs.Asking.{asking};
 ghost use Rattle.rvcollide.specs.Command as spec;
 ghost use Rattle.rvcollide.specs.ExplainLine as line;
 
 use super::complaint::{Complaint, NumberOption};
-use super::run::{number_of, number_or};
+use super::number::{number_if, number_or};
 use super::{Job, text_of};
 use crate::arguments::{ImagePath, PicturePath, SchedulePath};
-use crate::explain::options::ExplainOptions;
 use clap::ArgMatches;
+use rv_engines::explain::options::ExplainOptions;
 
 /// How many entries are told around each place, where the line does not say.
 pub const DEFAULT_AROUND: u32 = 3;
@@ -25,10 +25,11 @@ pub const MOST_AROUND_IN_PICTURE: u32 = 32;
 /// The greatest number of a race that may be asked for.
 pub const MOST_RACE: u32 = 4_294_967_295;
 
+/// The number of the race that is told alone.
 const RACE: NumberOption = NumberOption {
     name: "race",
     least: 1,
-    most: MOST_RACE,
+    most: MOST_RACE as u64,
 };
 
 /// `explain` with its options.
@@ -58,11 +59,11 @@ fn options_of<'a>(given: &ArgMatches<'a>) -> Result<ExplainOptions<'a>, Complain
     ensures { MatchResult result (λ options. line.asking_at (rows_of (found_of given.now)) ≡ Some (asking options))
         (λ _. line.asking_at (rows_of (found_of given.now)) ≡ None) }
 {
-    let around = number_or(given, around_option(given), DEFAULT_AROUND)?;
-    let race = race_of(given)?;
+    let around = number_or(given, around_option(given), u64::from(DEFAULT_AROUND))?;
+    let race = number_if(given, RACE)?;
     Ok(ExplainOptions {
         named: text_of(given, "named"),
-        around,
+        around: around as u32,
         race,
     })
 }
@@ -73,6 +74,7 @@ fn around_option(given: &ArgMatches<'_>) -> NumberOption
     ensures least { result.least ≡ 0 }
     ensures most { result.most ≡ line.most_around (first_of (codes "picture") (rows_of (found_of given.now))) }
     ensures default { DEFAULT_AROUND ≤ result.most }
+    ensures few { result.most ≤ MOST_AROUND }
 {
     let most = match text_of(given, "picture") {
         None => MOST_AROUND,
@@ -81,20 +83,8 @@ fn around_option(given: &ArgMatches<'_>) -> NumberOption
     NumberOption {
         name: "around",
         least: 0,
-        most,
+        most: u64::from(most),
     }
-}
-
-/// The number of the race that is told alone, where one is asked for.
-fn race_of<'a>(given: &ArgMatches<'a>) -> Result<Option<u64>, Complaint<'a>>
-    ensures { MatchResult result (λ race. line.race_at (rows_of (found_of given.now)) ≡ Some race)
-        (λ _. line.race_at (rows_of (found_of given.now)) ≡ None) }
-{
-    if text_of(given, RACE.name).is_none() {
-        return Ok(None);
-    }
-    let number = number_of(given, RACE)?;
-    Ok(Some(u64::from(number)))
 }
 
 #[cfg(test)]

@@ -7,14 +7,17 @@ Hunts data races in RV32IMA programs.
 Usage: rvcollide <COMMAND>
 
 Find races:
+  hunt     Find races in an image: nothing but the image is needed
   run      Make many runs from a seed and print the table of the races they found
   threads  Make one run with a real thread for each hart
+  merge    Add up the tables of a hunt that was made in pieces
 
 Look at a run that was saved:
   explain  Report its races with names, instructions and values, or draw one
   replay   Make the run again and print how its pauses ended and the final state
   debug    Go to any place of the run, forwards and backwards
   exhibit  Turn a report into a list of steps that any emulator can check
+  gdb      Serve the run to GDB, which shows its source lines and variables
 
 Make and read programs:
   asm      Assemble a source into an image
@@ -29,12 +32,11 @@ Options:
   -V, --version  Print version
 
 To find and read a first race:
-  rvcollide run guest.elf --harts 2 --steps 4000 --arms 64 --pause 40 --seed 1 --runs 20 --workers 2 \\
-    --save guest.schedule
-  rvcollide explain guest.elf guest.schedule
+  rvcollide hunt guest.elf
 
 The exit status is 0 if all went well, 1 if an input was refused, 2 if the command line was, 3 if a file
-or stream could not be read or written, and 4 if there was not enough memory.
+or stream could not be read or written, 4 if there was not enough memory, and 5 if a hunt with --check,
+--check or --check-all found such a race.
 ";
 
 /// What `help faults` writes: for each fault's name the sentence that `sentence` gives.

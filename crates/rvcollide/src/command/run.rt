@@ -4,19 +4,19 @@ ghost use Rattle.clap.specs.Matches.{found_of};
 ghost use Rattle.clap.specs.Walk.{first_of, rows_of};
 ghost use Rattle.rv_collide.specs.Numbers.{numbers};
 ghost use Rattle.rvcollide.specs.Command as spec;
-ghost use Rattle.rvcollide.specs.Request.{request};
+ghost use Rattle.rv_engines.specs.Request.{request};
 ghost use Rattle.rvcollide.specs.RunLine as line;
 
 use super::complaint::{Complaint, NumberOption};
+use super::number::{number_in, number_of, number_or};
 use super::{Job, text_of};
 use crate::arguments::{ImagePath, SavePath};
-use crate::run::options::Options;
 use clap::ArgMatches;
 use rv_campaign::{MOST_RUNS, MOST_WORKERS};
 use rv_collide::plan::{
     DEFAULT_SLOTS, MOST_ARMS, MOST_HARTS, MOST_PAUSE, MOST_SLOTS, MOST_STEPS, Plan,
 };
-use rv_text::numeral::read_number;
+use rv_engines::run::options::Options;
 
 /// The greatest number of a run, which a campaign of the most runs has.
 pub const MOST_KEEP: u32 = MOST_RUNS - 1;
@@ -27,55 +27,55 @@ pub const MOST_SEED: u32 = 4_294_967_295;
 pub const HARTS: NumberOption = NumberOption {
     name: "harts",
     least: 1,
-    most: MOST_HARTS as u32,
+    most: MOST_HARTS as u64,
 };
 
 pub const STEPS: NumberOption = NumberOption {
     name: "steps",
     least: 1,
-    most: MOST_STEPS,
+    most: MOST_STEPS as u64,
 };
 
 pub const ARMS: NumberOption = NumberOption {
     name: "arms",
     least: 0,
-    most: MOST_ARMS,
+    most: MOST_ARMS as u64,
 };
 
 pub const PAUSE: NumberOption = NumberOption {
     name: "pause",
     least: 1,
-    most: MOST_PAUSE,
+    most: MOST_PAUSE as u64,
 };
 
 pub const SLOTS: NumberOption = NumberOption {
     name: "slots",
     least: 1,
-    most: MOST_SLOTS as u32,
+    most: MOST_SLOTS as u64,
 };
 
 pub const SEED: NumberOption = NumberOption {
     name: "seed",
     least: 0,
-    most: MOST_SEED,
+    most: MOST_SEED as u64,
 };
 
 pub const RUNS: NumberOption = NumberOption {
     name: "runs",
     least: 1,
-    most: MOST_RUNS,
+    most: MOST_RUNS as u64,
 };
 
 pub const WORKERS: NumberOption = NumberOption {
     name: "workers",
     least: 1,
-    most: MOST_WORKERS,
+    most: MOST_WORKERS as u64,
 };
 
 pub const KEEP: NumberOption = NumberOption {
     name: "keep",
     least: 0,
-    most: MOST_KEEP,
+    most: MOST_KEEP as u64,
 };
 
 /// `run` with its options.
@@ -105,14 +105,14 @@ fn options_of<'a>(given: &ArgMatches<'a>) -> Result<Options<'a>, Complaint<'a>>
 {
     let plan = plan_of(given)?;
     let seed = number_of(given, SEED)?;
-    let runs = number_of(given, RUNS)?;
+    let runs = number_of(given, RUNS)? as u32;
     let workers = number_of(given, WORKERS)?;
     let keep = keep_of(given, runs)?;
     Ok(Options {
         plan,
-        seed,
+        seed: seed as u32,
         runs,
-        workers,
+        workers: workers as u32,
         named: text_of(given, "named"),
         skip: text_of(given, "skip"),
         keep,
@@ -128,12 +128,12 @@ pub fn plan_of<'a>(given: &ArgMatches<'a>) -> Result<Plan, Complaint<'a>>
     let steps = number_of(given, STEPS)?;
     let arms = number_of(given, ARMS)?;
     let pause = number_of(given, PAUSE)?;
-    let slots = number_or(given, SLOTS, u32::from(DEFAULT_SLOTS))?;
+    let slots = number_or(given, SLOTS, u64::from(DEFAULT_SLOTS))?;
     Ok(Plan {
         harts: harts as u8,
-        steps,
-        arms,
-        pause,
+        steps: steps as u32,
+        arms: arms as u32,
+        pause: pause as u32,
         slots: slots as u8,
     })
 }
@@ -149,53 +149,11 @@ fn keep_of<'a>(given: &ArgMatches<'a>, runs: u32) -> Result<u32, Complaint<'a>>
         // There is a run at least.
         return Ok(0);
     };
-    let keep = number_in(KEEP, value)?;
+    let keep = number_in(KEEP, value)? as u32;
     if keep < runs {
         Ok(keep)
     } else {
         Err(Complaint::Keep { value, runs })
-    }
-}
-
-/// The number of an option that has to be given.
-pub fn number_of<'a>(given: &ArgMatches<'a>, option: NumberOption) -> Result<u32, Complaint<'a>>
-    ensures number { MatchResult result
-        (λ n. line.number_at option.name.now option.least option.most (rows_of (found_of given.now)) ≡ Some n)
-        (λ _. line.number_at option.name.now option.least option.most (rows_of (found_of given.now)) ≡ None) }
-    ensures range { IfOk result (λ n. (option.least ≤ n) × (n ≤ option.most)) }
-{
-    let value = text_of(given, option.name).ok_or(Complaint::Words)?;
-    number_in(option, value)
-}
-
-/// The number of an option that may be left out.
-pub fn number_or<'a>(
-    given: &ArgMatches<'a>,
-    option: NumberOption,
-    default: u32,
-) -> Result<u32, Complaint<'a>>
-    requires least { option.least ≤ default }
-    requires most { default ≤ option.most }
-    ensures number { MatchResult result
-        (λ n. line.number_or default option.name.now option.least option.most (rows_of (found_of given.now)) ≡ Some n)
-        (λ _. line.number_or default option.name.now option.least option.most (rows_of (found_of given.now)) ≡ None) }
-    ensures range { IfOk result (λ n. (option.least ≤ n) × (n ≤ option.most)) }
-{
-    match text_of(given, option.name) {
-        None => Ok(default),
-        Some(value) => number_in(option, value),
-    }
-}
-
-/// The number that an option's value writes.
-fn number_in<'a>(option: NumberOption, value: &'a str) -> Result<u32, Complaint<'a>>
-    ensures number { MatchResult result (λ n. line.number_in option.least option.most value.now ≡ Some n)
-        (λ _. line.number_in option.least option.most value.now ≡ None) }
-    ensures range { IfOk result (λ n. (option.least ≤ n) × (n ≤ option.most)) }
-{
-    match read_number(value.as_bytes(), 10, option.most) {
-        Some(number) if option.least <= number => Ok(number),
-        _ => Err(Complaint::Number { option, value }),
     }
 }
 

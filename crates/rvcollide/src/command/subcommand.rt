@@ -6,7 +6,7 @@ ghost use Rattle.clap.specs.declared.builder.command.Command.TheViews.{out-Comma
 ghost use Rattle.rvcollide.specs.ClapProgram as known;
 ghost use Rattle.rvcollide.specs.internal.Commands as commands;
 
-use clap::{Arg, Command};
+use clap::{Arg, ArgAction, Command};
 use std::alloc::{AllocError, Global};
 
 /// What a command takes after its name, and what the help says of it.
@@ -14,6 +14,11 @@ use std::alloc::{AllocError, Global};
 pub enum Argument {
     /// A word that has to stand at its place.
     Word {
+        name: &'static str,
+        help: &'static str,
+    },
+    /// One word or more at the end of the line.
+    Words {
         name: &'static str,
         help: &'static str,
     },
@@ -26,6 +31,11 @@ pub enum Argument {
     Optional {
         name: &'static str,
         value: &'static str,
+        help: &'static str,
+    },
+    /// A flag `--name`.
+    Flag {
+        name: &'static str,
         help: &'static str,
     },
 }
@@ -48,6 +58,8 @@ impl Argument {
             Argument::Word { name, help } => Arg::new(alloc, name).required(true).help(help),
             Argument::Required { name, help } => option(alloc, name, "N", help).required(true),
             Argument::Optional { name, value, help } => option(alloc, name, value, help),
+            Argument::Flag { name, help } => flag(alloc, name, help),
+            Argument::Words { name, help } => words(alloc, name, help),
         }
     }
 }
@@ -60,6 +72,28 @@ fn option<'a>(alloc: Global, name: &'a str, value: &'a str, help: &'a str) -> Ar
     Arg::new(alloc, name)
         .long(name)
         .value_name(value)
+        .help(help)
+}
+
+/// One word or more.
+fn words<'a>(alloc: Global, name: &'a str, help: &'a str) -> Arg<'a>
+    ensures rule { rule_of result ≡ known.required_words name.entry.now }
+    ensures local { result.global ≡ false }
+{
+    Arg::new(alloc, name)
+        .required(true)
+        .num_args(1..)
+        .help(help)
+}
+
+/// A flag `--name`.
+fn flag<'a>(alloc: Global, name: &'a str, help: &'a str) -> Arg<'a>
+    ensures rule { rule_of result ≡ known.flag name.entry.now }
+    ensures local { result.global ≡ false }
+{
+    Arg::new(alloc, name)
+        .long(name)
+        .action(ArgAction::SetTrue)
         .help(help)
 }
 

@@ -1,5 +1,5 @@
 use super::*;
-use crate::devices::assert_is;
+use crate::assertion::assert_is;
 use std::test::Fail;
 
 const ASM: Job = Job::Asm {
@@ -22,6 +22,10 @@ fn reads_each_command(rt: HostRuntime) {
         image: ImagePath("a.elf"),
         schedule: SchedulePath("a.txt"),
     };
+    let gdb = Job::Gdb {
+        image: ImagePath("a.elf"),
+        schedule: SchedulePath("a.txt"),
+    };
     let exhibit = Job::Exhibit {
         image: ImagePath("a.elf"),
         schedule: SchedulePath("a.txt"),
@@ -40,6 +44,8 @@ fn reads_each_command(rt: HostRuntime) {
             ["rvcollide", "debug", "a.elf", "--", "a.txt"].as_slice(),
             debug,
         ),
+        (["rvcollide", "gdb", "a.elf", "a.txt"].as_slice(), gdb),
+        (["", "gdb", "--", "a.elf", "a.txt"].as_slice(), gdb),
         (
             ["rvcollide", "exhibit", "a.elf", "a.txt", "7"].as_slice(),
             exhibit,
@@ -94,6 +100,9 @@ fn refuses_other_lines(rt: HostRuntime) {
         ["", "replay", "a.elf", "a.txt", "-"].as_slice(),
         ["", "debug", "a.elf"].as_slice(),
         ["", "debug", "a.elf", "a.txt", "1"].as_slice(),
+        ["", "gdb", "a.elf"].as_slice(),
+        ["", "gdb", "a.elf", "a.txt", "1"].as_slice(),
+        ["", "gdb", "a.elf", "a.txt", "-x"].as_slice(),
         ["", "exhibit", "a.elf", "a.txt"].as_slice(),
         ["", "exhibit", "a.elf", "a.txt", "-1"].as_slice(),
         ["", "exhibit", "a.elf", "a.txt", "x"].as_slice(),
@@ -152,6 +161,11 @@ fn says_what_a_line_lacks(rt: HostRuntime) -> Result<(), Fail> {
             ["rvcollide", "debug", "--help"].as_slice(),
             true,
             "fault 1 NoPlace",
+        ),
+        (
+            ["rvcollide", "gdb", "-h"].as_slice(),
+            true,
+            "-ex 'target remote | rvcollide gdb IMAGE SCHEDULE'",
         ),
         (
             ["rvcollide", "run", "-h"].as_slice(),

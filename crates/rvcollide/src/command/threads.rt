@@ -5,7 +5,8 @@ ghost use Rattle.clap.specs.Walk.{rows_of};
 ghost use Rattle.rvcollide.specs.Command as spec;
 
 use super::complaint::Complaint;
-use super::run::{SEED, number_of, plan_of, save_of};
+use super::number::number_of;
+use super::run::{SEED, plan_of, save_of};
 use super::{Job, text_of};
 use crate::arguments::ImagePath;
 use clap::ArgMatches;
@@ -21,7 +22,7 @@ pub fn threads_of<'a>(given: &ArgMatches<'a>) -> Result<Job<'a>, Complaint<'a>>
     Ok(Job::Threads {
         image: ImagePath(image),
         plan,
-        seed,
+        seed: seed as u32,
         save: save_of(given),
     })
 }

@@ -1,8 +1,8 @@
 use super::*;
-use crate::asm::run_asm;
-use crate::devices::assert_is;
-use crate::fault::Fault;
+use crate::assertion::assert_is;
 use rv_asm::{AsmFault, AsmKind};
+use rv_engines::asm::run_asm;
+use rv_engines::fault::Fault;
 
 /// A source that cannot be opened is a failed read, and no image is tried. An image that cannot be made is a failed
 /// write.

@@ -2,7 +2,7 @@
 use Rattle.std.proofs.Common.{◌≡◌, take, map}
 use Rattle.std.specs.String.{string_bytes}
 use Rattle.rvcollide.specs.Command.{texts}
-use Rattle.rvcollide.specs.Shown.{shown}
+use Rattle.rv_engines.specs.Shown.{shown}
 use Rattle.rvcollide.proofs.command.shown_words.Given as goal
 
 abbrev pub invariant-loop-word : goal.invariant-loop-word

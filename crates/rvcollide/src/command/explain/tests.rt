@@ -1,7 +1,7 @@
 use crate::arguments::{ImagePath, PicturePath, SchedulePath};
 use crate::command::run::tests::{assert_asks, assert_refused};
 use crate::command::{Job, Notice, notice_of};
-use crate::explain::options::ExplainOptions;
+use rv_engines::explain::options::ExplainOptions;
 use std::test::Fail;
 
 const LINE: &str = "rvcollide explain a.elf s.txt";

@@ -2,12 +2,12 @@ ghost use Rattle.std.specs.Prelude.{◌<◌};
 
 use super::{ARMS, HARTS, KEEP, PAUSE, RUNS, SEED, SLOTS, STEPS, WORKERS};
 use crate::arguments::{ImagePath, SavePath};
+use crate::assertion::assert_is;
 use crate::command::commands::COMMANDS;
 use crate::command::subcommand::Argument;
 use crate::command::{Job, LineFault, Notice, command_of, notice_of};
-use crate::devices::assert_is;
-use crate::run::options::Options;
 use rv_collide::plan::Plan;
+use rv_engines::run::options::Options;
 use std::alloc::Global;
 use std::process::Abort;
 use std::test::Fail;
@@ -363,6 +363,8 @@ fn help_of(wanted: &str) -> Option<&'static str> {
                 Argument::Word { name, help } => (*name, *help),
                 Argument::Required { name, help } => (*name, *help),
                 Argument::Optional { name, help, .. } => (*name, *help),
+                Argument::Flag { name, help } => (*name, *help),
+                Argument::Words { name, help } => (*name, *help),
             };
             if name == wanted {
                 return Some(help);

@@ -1,0 +1,211 @@
+//! Readers and writers that fail, and what each engine owes them.
+use rv_engines::fault::Fault;
+use rv_engines::new_file::NewFile;
+use rv_memory::buffered::Buffered;
+use rv_memory::flagged::{Flagged, WriteFault};
+use std::alloc::Global;
+use std::io::{self, ErrorKind, Read, Write};
+
+/// A reader of the text, a byte a read, whose read numbered `fails_at` from 1 on fails.
+#[derive(Drop)]
+pub struct Failing<'t> {
+    text: &'t [u8],
+    reads: u64,
+    fails_at: u64,
+}
+
+impl Read for Failing<'_> {
+    fn read(&mut self, buf: &mut [u8]) -> io::Result<usize> {
+        self.reads = self.reads.saturating_add(1);
+        if self.reads == self.fails_at {
+            return Err(io::Error::from(ErrorKind::Interrupted));
+        }
+        match self.text {
+            [byte, rest @ ..] if !buf.is_empty() => {
+                buf[0] = *byte;
+                self.text = rest;
+                Ok(1)
+            }
+            _ => Ok(0),
+        }
+    }
+}
+
+/// A reader that never ends.
+#[derive(Drop)]
+pub struct Endless;
+
+impl Read for Endless {
+    fn read(&mut self, buf: &mut [u8]) -> io::Result<usize> {
+        buf.fill(b'0');
+        Ok(buf.len())
+    }
+}
+
+/// A file that is kept in memory, or that cannot be made.
+#[derive(Drop)]
+pub struct Kept {
+    pub refuses: bool,
+    pub is_made: bool,
+    pub failed: bool,
+    pub bytes: Vec<u8>,
+}
+
+impl Kept {
+    pub fn new(alloc: Global, refuses: bool) -> Kept {
+        Kept {
+            refuses,
+            is_made: false,
+            failed: false,
+            bytes: Vec::new(alloc),
+        }
+    }
+}
+
+impl NewFile for Kept {
+    ghost use Rattle.std.specs.Prelude.{◌≡◌};
+
+    ghost is_made = { λ file. file.is_made };
+
+    ghost Holds = { λ file bytes. file.bytes.items ≡ bytes };
+
+    ghost has_failed = { λ file. file.failed };
+
+    fn make(&mut self, bytes: &[u8]) -> Result<(), WriteFault> {
+        self.is_made = true;
+        self.bytes.clear();
+        if self.refuses || self.bytes.extend_from_slice(bytes).is_err() {
+            self.failed = true;
+            return Err(WriteFault);
+        }
+        Ok(())
+    }
+}
+
+/// A writer whose call numbered `fails_at` from 1 on fails: a flush by an error, a write by an error or by
+/// taking nothing.
+#[derive(Drop)]
+pub struct Sink {
+    calls: u64,
+    fails_at: u64,
+    takes_none: bool,
+    /// The call that failed was a flush.
+    flush_failed: bool,
+}
+
+impl Write for Sink {
+    fn write(&mut self, buf: &[u8]) -> io::Result<usize> {
+        self.calls = self.calls.saturating_add(1);
+        if self.calls != self.fails_at {
+            return Ok(buf.len());
+        }
+        if self.takes_none {
+            Ok(0)
+        } else {
+            Err(io::Error::from(ErrorKind::Interrupted))
+        }
+    }
+
+    fn flush(&mut self) -> io::Result<()> {
+        self.calls = self.calls.saturating_add(1);
+        if self.calls == self.fails_at {
+            self.flush_failed = true;
+            return Err(io::Error::from(ErrorKind::Interrupted));
+        }
+        Ok(())
+    }
+}
+
+fn failing_at(alloc: Global, fails_at: u64, takes_none: bool) -> Buffered<Sink> {
+    Buffered::new(
+        alloc,
+        Sink {
+            calls: 0,
+            fails_at,
+            takes_none,
+            flush_failed: false,
+        },
+    )
+}
+
+/// Whether an engine tells each failure of its writer: at each of its calls in turn, the last of which is a flush. It calls
+/// no failed writer again, and tells no failure where there was none. Else what it owes.
+pub fn tells_each_failing_call<F: Fn(&mut Buffered<Sink>) -> Result<(), Fault>>(
+    alloc: Global,
+    takes_none: bool,
+    engine: F,
+) -> Result<(), &'static str>
+    requires { F.IsAlwaysCallable engine }
+{
+    let mut flush_failed = false;
+    for fails_at in 1..100 {
+        let mut writer = failing_at(alloc, fails_at, takes_none);
+        let outcome = engine(&mut writer);
+        let has_failed = writer.failed();
+        let device = writer.into_inner();
+        if has_failed != outcome.is_err() {
+            return Err("a failure is told just where there was one");
+        }
+        if outcome.is_ok() {
+            return ends_well(&device, fails_at, flush_failed);
+        }
+        if outcome != Err(Fault::Write) {
+            return Err("a writer's failure is told as one");
+        }
+        if device.calls != fails_at {
+            return Err("the failed call was the last");
+        }
+        flush_failed = device.flush_failed;
+    }
+    Err("some call does not fail")
+}
+
+/// What an engine owes that no call of its writer failed.
+fn ends_well(device: &Sink, fails_at: u64, flush_failed: bool) -> Result<(), &'static str> {
+    if fails_at <= device.calls {
+        return Err("each call was made to fail");
+    }
+    if fails_at <= 3 {
+        return Err("there are two writes and a flush");
+    }
+    if !flush_failed {
+        return Err("the last call is a flush");
+    }
+    Ok(())
+}
+
+/// Whether an engine tells each failure of its reader: at each of its reads in turn, the last of which is the one at the
+/// end. It tells no failure where there was none. Else what it owes.
+pub fn tells_each_failing_read<F: Fn(&mut Flagged<Failing<'_>>) -> Result<(), Fault>>(
+    text: &[u8],
+    engine: F,
+) -> Result<(), &'static str>
+    requires { F.IsAlwaysCallable engine }
+{
+    for fails_at in 1..1000 {
+        let mut reader = Flagged::new(Failing {
+            text,
+            reads: 0,
+            fails_at,
+        });
+        let outcome = engine(&mut reader);
+        let has_failed = reader.failed();
+        let device = reader.into_inner();
+        if has_failed != outcome.is_err() {
+            return Err("a failure is told just where there was one");
+        }
+        if outcome.is_ok() {
+            if fails_at <= device.reads {
+                return Err("each read was made to fail");
+            }
+            return Ok(());
+        }
+        if outcome != Err(Fault::Read) {
+            return Err("a reader's failure is told as one");
+        }
+        if device.reads != fails_at {
+            return Err("the failed read was the last");
+        }
+    }
+    Err("some read does not fail")
+}

@@ -1,0 +1,249 @@
+use crate::assertion::{assert_is, assert_tells_each_failing_call, assert_tells_each_failing_read};
+use crate::devices::Kept;
+use crate::exhibit::{HIT, ILLEGAL, NO_PLAN, P, QUIET, STORES, file_of, long_schedule};
+use rv_engines::explain::engine::run_explain;
+use rv_engines::explain::options::ExplainOptions;
+use rv_engines::fault::Fault;
+use rv_engines::run::fault::CommandFault;
+use rv_engines::sentences::{FaultLine, Paths};
+use rv_memory::buffered::Buffered;
+use rv_memory::flagged::Flagged;
+use rv_memory::output::Output;
+use std::alloc::Global;
+use std::io::{Read, Write};
+use std::process::Abort;
+use std::test::Fail;
+
+const PLAIN: ExplainOptions<'static> = ExplainOptions {
+    named: None,
+    around: 0,
+    race: None,
+};
+
+/// What `explain` answers of the bytes of its two inputs.
+fn told<'a, W: Write>(
+    alloc: Global,
+    options: &ExplainOptions<'a>,
+    image: &[u8],
+    schedule: &[u8],
+    picture: &mut Option<Kept>,
+    writer: &mut Buffered<W>,
+) -> Result<(), CommandFault<'a>> {
+    run_explain(
+        alloc,
+        options,
+        &mut Flagged::new(image),
+        &mut Flagged::new(schedule),
+        picture,
+        writer,
+    )
+}
+
+/// Two stores to the same bytes: hart 0 is paused before its own, and hart 1 makes one.
+const TEXT: &str = "\
+races 1, reports 1 of 1 endings
+
+race 1: 00010004 and 00010004, 1 report, kept
+  hart 0 was about to store 4 bytes at 00020000, ending 0
+    00010004: sw x10, 0(x6)
+  hart 1 stored 4 bytes at 00020000, entry 4
+    00010004: sw x10, 0(x6)
+  bytes 00000000 at entry 3, the pause; 00000001 at entry 5, its end; data breakpoint 0
+
+    entry  hart  event      bytes     instruction
+        3     0  paused 0             00010004: sw x10, 0(x6)
+        4     1  hit        00000001  00010004: sw x10, 0(x6)
+        5     0  resumed
+";
+
+#[test]
+fn tells_a_race(rt: HostRuntime) -> Result<(), Fail> {
+    let alloc = rt.alloc();
+    let image = file_of(&rt, alloc, P)?;
+    let mut writer = Buffered::new(alloc, Vec::new(alloc));
+    let outcome = told(alloc, &PLAIN, &image, HIT, &mut None, &mut writer);
+    assert_is(&rt, outcome, Ok(()), "a race");
+    let text = String::from_utf8(writer.into_inner())?;
+    assert_is(&rt, text.as_str(), TEXT, "its text");
+    Ok(())
+}
+
+/// Asserts that a fault is told with a file and a sentence, nothing is written and no picture is made.
+fn assert_tells(
+    rt: &impl Abort,
+    alloc: Global,
+    options: &ExplainOptions<'static>,
+    schedule: &[u8],
+    line: &'static str,
+) -> Result<(), Fail> {
+    let image = file_of(rt, alloc, P)?;
+    let mut writer = Buffered::new(alloc, Vec::new(alloc));
+    let mut picture = Some(Kept::new(alloc, false));
+    let outcome = told(alloc, options, &image, schedule, &mut picture, &mut writer);
+    assert_is(rt, writer.into_inner().len(), 0, line);
+    let made = picture.is_some_and(|file| file.is_made);
+    assert_is(rt, made, false, line);
+    let fault = outcome.err().ok_or(line)?;
+    assert_is(rt, fault.status(), 1, line);
+    let paths = Paths {
+        image: "a.elf",
+        schedule: Some("s.txt"),
+        failed: None,
+    };
+    let told = FaultLine {
+        file: paths.at_fault(fault),
+        fault,
+    };
+    let text = format!(in alloc; "{told}")?;
+    assert_is(rt, text.as_str(), line, "what is told");
+    Ok(())
+}
+
+/// The files' faults come before the names', and these before a race that is not there.
+#[test]
+fn tells_why_there_is_no_text(rt: HostRuntime) -> Result<(), Fail> {
+    let alloc = rt.alloc();
+    let named = ExplainOptions {
+        named: Some("none"),
+        around: 3,
+        race: Some(2),
+    };
+    let second = ExplainOptions {
+        named: None,
+        around: 3,
+        race: Some(2),
+    };
+    for (options, schedule, line) in [
+        (
+            named,
+            NO_PLAN,
+            "s.txt: schedule line 2 PlanLine: the plan has the form: harts N steps N arms N pause N slots N",
+        ),
+        (
+            named,
+            ILLEGAL,
+            "s.txt: replay entry 1 NoHart: the plan has no such hart",
+        ),
+        (
+            named,
+            HIT,
+            "a.elf: name none: the image has no symbol with this name",
+        ),
+        (
+            second,
+            HIT,
+            "s.txt: explain NoRace: there is no race with this number",
+        ),
+        (
+            PLAIN,
+            QUIET,
+            "s.txt: explain NoRace: there is no race with this number",
+        ),
+    ] {
+        assert_tells(&rt, alloc, &options, schedule, line)?;
+    }
+    Ok(())
+}
+
+/// Without a picture a schedule with no report has its first line.
+#[test]
+fn tells_that_there_is_no_race(rt: HostRuntime) -> Result<(), Fail> {
+    let alloc = rt.alloc();
+    let image = file_of(&rt, alloc, P)?;
+    let mut writer = Buffered::new(alloc, Vec::new(alloc));
+    let outcome = told(alloc, &PLAIN, &image, QUIET, &mut None, &mut writer);
+    assert_is(&rt, outcome, Ok(()), "no race");
+    let written = writer.into_inner();
+    assert_is(
+        &rt,
+        written.as_slice(),
+        b"races 0, reports 0 of 1 endings\n",
+        "its line",
+    );
+    Ok(())
+}
+
+#[test]
+fn draws_a_race(rt: HostRuntime) -> Result<(), Fail> {
+    let alloc = rt.alloc();
+    let image = file_of(&rt, alloc, P)?;
+    let mut writer = Buffered::new(alloc, Vec::new(alloc));
+    let mut picture = Some(Kept::new(alloc, false));
+    let outcome = told(alloc, &PLAIN, &image, HIT, &mut picture, &mut writer);
+    assert_is(&rt, outcome, Ok(()), "a race");
+    let drawn = picture.ok_or("a file")?.bytes;
+    assert!(rt; drawn.as_slice().starts_with(b"<svg "));
+    assert!(rt; drawn.as_slice().ends_with(b"</svg>\n"));
+    Ok(())
+}
+
+/// A picture that can't be written: nothing is on the standard output.
+#[test]
+fn tells_a_picture_that_fails(rt: HostRuntime) -> Result<(), Fail> {
+    let alloc = rt.alloc();
+    let image = file_of(&rt, alloc, P)?;
+    let mut writer = Buffered::new(alloc, Vec::new(alloc));
+    let mut picture = Some(Kept::new(alloc, true));
+    let outcome = told(alloc, &PLAIN, &image, HIT, &mut picture, &mut writer);
+    assert_is(
+        &rt,
+        outcome,
+        Err(CommandFault::Plain(Fault::Write)),
+        "a picture",
+    );
+    assert_is(&rt, writer.into_inner().len(), 0, "nothing");
+    Ok(())
+}
+
+/// The fault of a result, as any command may tell it.
+fn plain(outcome: Result<(), CommandFault<'static>>) -> Result<(), Fault> {
+    match outcome {
+        Ok(()) => Ok(()),
+        Err(CommandFault::Plain(fault)) => Err(fault),
+        Err(_) => Err(Fault::TooLong),
+    }
+}
+
+/// The text is longer than a writer gathers, and something was gathered before.
+#[test]
+fn tells_a_writer_that_fails(rt: HostRuntime) -> Result<(), Fail> {
+    let alloc = rt.alloc();
+    let image = file_of(&rt, alloc, STORES)?;
+    let schedule = long_schedule(alloc)?;
+    let wide = ExplainOptions {
+        named: None,
+        around: 1000,
+        race: None,
+    };
+    for takes_none in [false, true] {
+        assert_tells_each_failing_call(&rt, alloc, takes_none, |writer| {
+            writer.put(b"gathered")?;
+            plain(told(alloc, &wide, &image, schedule.as_bytes(), &mut None, writer))
+        });
+    }
+    Ok(())
+}
+
+/// What `explain` answers of two readers, whatever it writes.
+fn read_by<I: Read, S: Read>(
+    alloc: Global,
+    image: &mut Flagged<I>,
+    schedule: &mut Flagged<S>,
+) -> Result<(), Fault> {
+    let mut writer = Buffered::new(alloc, Vec::new(alloc));
+    let mut none: Option<Kept> = None;
+    plain(run_explain(alloc, &PLAIN, image, schedule, &mut none, &mut writer))
+}
+
+#[test]
+fn tells_a_reader_that_fails(rt: HostRuntime) -> Result<(), Fail> {
+    let alloc = rt.alloc();
+    let image = file_of(&rt, alloc, P)?;
+    assert_tells_each_failing_read(&rt, &image, |reader| {
+        read_by(alloc, reader, &mut Flagged::new(HIT))
+    });
+    assert_tells_each_failing_read(&rt, HIT, |reader| {
+        read_by(alloc, &mut Flagged::new(image.as_slice()), reader)
+    });
+    Ok(())
+}

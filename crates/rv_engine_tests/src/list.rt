@@ -1,0 +1,91 @@
+use crate::assertion::{assert_is, assert_tells_each_failing_call, assert_tells_each_failing_read};
+use crate::devices::Endless;
+use rv_elf::LoadFault;
+use rv_engines::fault::Fault;
+use rv_engines::list::run_list;
+use rv_memory::buffered::Buffered;
+use rv_memory::flagged::Flagged;
+use std::alloc::{AllocError, Global};
+use std::test::Fail;
+
+/// An ELF32 file of one segment from 00010000 on, R and X, with these words.
+fn file_of(alloc: Global, words: &[u32]) -> Result<Vec<u8>, AllocError> {
+    let mut file = Vec::from_slice(
+        alloc,
+        &[
+            0x7f, 0x45, 0x4c, 0x46, 1, 1, 1, 0, 0, 0, 0, 0, 0, 0, 0, 0, 2, 0, 0xf3, 0, 1, 0, 0, 0,
+            0, 0, 1, 0, 0x34, 0, 0, 0, 0, 0, 0, 0, 0, 0, 0, 0, 0x34, 0, 0x20, 0, 1, 0, 0x28, 0, 0,
+            0, 0, 0, 1, 0, 0, 0, 0x54, 0, 0, 0, 0, 0, 1, 0, 0, 0, 1, 0,
+        ],
+    )?;
+    let length = (words.len() as u64).wrapping_mul(4).to_le_bytes();
+    file.extend_from_slice(&length[..4])?;
+    file.extend_from_slice(&length[..4])?;
+    file.extend_from_slice(&[5, 0, 0, 0, 1, 0, 0, 0])?;
+    for word in words {
+        file.extend_from_slice(&word.to_le_bytes())?;
+    }
+    Ok(file)
+}
+
+const LISTING: &[u8] = b"00010000: 00020337 lui x6, 0x20\n\
+    00010004: 00a32023 sw x10, 0(x6)\n\
+    00010008: 00032283 lw x5, 0(x6)\n\
+    0001000c: 00000073 ecall\n\
+    00010010: 00000000 .word 0x00000000\n";
+
+#[test]
+fn lists_an_image(rt: HostRuntime) -> Result<(), Fail> {
+    let alloc = rt.alloc();
+    let file = file_of(
+        alloc,
+        &[0x0002_0337, 0x00a3_2023, 0x0003_2283, 0x0000_0073, 0],
+    )?;
+    let mut reader = Flagged::new(file.as_slice());
+    let mut writer = Buffered::new(alloc, Vec::new(alloc));
+    let outcome = run_list(alloc, &mut reader, &mut writer);
+    assert_is(&rt, outcome, Ok(()), "the outcome");
+    let written = writer.into_inner();
+    assert_is(&rt, written.as_slice(), LISTING, "the listing");
+    Ok(())
+}
+
+#[test]
+fn refuses_what_is_no_image(rt: HostRuntime) -> Result<(), Fail> {
+    let alloc = rt.alloc();
+    let file = file_of(alloc, &[0x0002_0337])?;
+    for (bytes, fault) in [
+        (b"".as_slice(), LoadFault::Truncated),
+        (&file[..file.len().saturating_sub(1)], LoadFault::Truncated),
+        (&[0; 88], LoadFault::NotElf),
+    ] {
+        let mut writer = Buffered::new(alloc, Vec::new(alloc));
+        let outcome = run_list(alloc, &mut Flagged::new(bytes), &mut writer);
+        assert_is(&rt, outcome, Err(Fault::Load(fault)), "the fault");
+        let written = writer.into_inner().len();
+        assert_is(&rt, written, 0, "bytes");
+    }
+    let mut writer = Buffered::new(alloc, Vec::new(alloc));
+    let outcome = run_list(alloc, &mut Flagged::new(Endless), &mut writer);
+    assert_is(&rt, outcome, Err(Fault::TooLong), "the fault");
+    let written = writer.into_inner().len();
+    assert_is(&rt, written, 0, "bytes");
+    Ok(())
+}
+
+#[test]
+fn tells_failing_devices(rt: HostRuntime) -> Result<(), Fail> {
+    let alloc = rt.alloc();
+    let small = file_of(alloc, &[0x0002_0337])?;
+    assert_tells_each_failing_read(&rt, small.as_slice(), |reader| {
+        let mut writer = Buffered::new(alloc, Vec::new(alloc));
+        run_list(alloc, reader, &mut writer)
+    });
+    let file = file_of(alloc, &[0x0002_0337; 200])?;
+    for takes_none in [false, true] {
+        assert_tells_each_failing_call(&rt, alloc, takes_none, |writer| {
+            run_list(alloc, &mut Flagged::new(file.as_slice()), writer)
+        });
+    }
+    Ok(())
+}

@@ -1,0 +1,39 @@
+use crate::assertion::assert_is;
+use rv_engines::fault::Fault;
+use rv_engines::run::fault::CommandFault;
+use rv_engines::sentences::FaultLine;
+use std::test::Fail;
+
+const LINES: [(Option<&str>, CommandFault, &str); 4] = [
+    (
+        Some("a b.elf"),
+        CommandFault::Plain(Fault::TooLong),
+        "a b.elf: input TooLong: the input is larger than 67108864 bytes",
+    ),
+    (
+        Some("\x1b[2J\n.elf"),
+        CommandFault::Name("a\x07"),
+        "\\x1b[2J\\x0a.elf: name a\\x07: the image has no symbol with this name",
+    ),
+    (
+        None,
+        CommandFault::Skip("\r"),
+        "skip \\x0d: an address is eight hexadecimal digits",
+    ),
+    (
+        None,
+        CommandFault::NoRace,
+        "explain NoRace: there is no race with this number",
+    ),
+];
+
+/// A line has no control byte of the file's name or of a list's element.
+#[test]
+fn lines_steer_no_terminal(rt: HostRuntime) -> Result<(), Fail> {
+    for (file, fault, wanted) in LINES {
+        let line = FaultLine { file, fault };
+        let told = format!(in rt.alloc(); "{line}")?;
+        assert_is(&rt, told.as_str(), wanted, wanted);
+    }
+    Ok(())
+}

@@ -1,0 +1,174 @@
+-- What two files and the options of `explain` come to, and why they are refused.
+use Rattle.std.proofs.Common.{◌≡◌, ℕ, Bool, true, false, true≢false, List, Option, Some, None, Result, Ok, Err, refl, sym, ap, subst, ◌∙◌}
+use Rattle.std.specs.Prelude.{◌||◌, IfSome, IsOkAnd, find, option_map}
+use Rattle.rv_collide.specs.Legal.{IsLegal}
+use Rattle.rv_collide.specs.Plan.{Numbers}
+use Rattle.rv_collide.specs.Replays.{IsReplayFault}
+use Rattle.rv_collide.specs.Stored.{Stored, setting_of, stored}
+use Rattle.rv_collide.specs.declared.entry.Entry.{Entry}
+use Rattle.rv_collide.specs.declared.replay.ReplayFault.{ReplayFault}
+use Rattle.rv_debug.specs.Placed.{Placed, placed, setting}
+use Rattle.rv_elf.specs.Contents.{Contents}
+use Rattle.rv_explain.specs.Explained.{explained}
+use Rattle.rv_explain.specs.Races.{AreTold, Found, Run, found, found_of, run_of as placed_run}
+use Rattle.rv_explain.specs.declared.races.Race.{Race}
+use Rattle.rv_memory.specs.Chain.{◌>>=◌}
+use Rattle.rv_prune.specs.Ranges.{is_unknown, ranges}
+use Rattle.rv_engines.proofs.ReplayLemmas.{entry_told}
+use Rattle.rv_engines.specs.Asking.{Asking}
+use Rattle.rv_engines.specs.Campaigns.{elements, listed, unless_some}
+use Rattle.rv_engines.specs.CommandFault.{Refusal, Plain, Name, NoThread, IsTold, is_thread, plainly}
+use Rattle.rv_engines.specs.Explains.{IsExplainRefusal, IsOfLegal, Told, explain_of, number_drawn, picture_if, picture_of, run_in, told_in, told_of, unless_none}
+use Rattle.rv_engines.specs.Fault.{fault_of_replay}
+use Rattle.rv_engines.specs.Replay.{IfKnown, IsReplayRefusal, run_of}
+use Rattle.rv_engines.specs.declared.explain.opening.Opened.{Opened}
+use Rattle.rv_engines.specs.declared.fault.Fault.{Fault}
+use Rattle.rv_engines.specs.declared.fault.Fault.TheVariants.{Read, Write, NoMemory}
+use Rattle.rv_engines.specs.internal.Opened.{AreFound}
+
+-- ---- the files
+
+pub files_refused : (image schedule : Option (List ℕ)) (draws : Bool) (wanted : Asking) (fault : Fault) (told : Refusal) → told ≡ Plain fault
+    → IfKnown image schedule (λ i s. IsReplayRefusal i s fault) → IfKnown image schedule (λ i s. IsExplainRefusal draws wanted i s told)
+files_refused image schedule draws wanted fault told is h = subst (λ (t : Refusal). IfKnown image schedule (λ i s. IsExplainRefusal draws wanted i s t)) (sym is) h
+
+of_legal : (i s : List ℕ) (run : Stored) → run_of i s ≡ Ok run → IsLegal (setting_of run) run.entries → IsOfLegal i s
+of_legal i s run is legal = rw is legal
+
+explain_is : (draws : Bool) (wanted : Asking) (i s : List ℕ) (run : Stored) → run_of i s ≡ Ok run → explain_of draws wanted i s ≡ told_in draws wanted run
+unfolding explain_of
+explain_is draws wanted i s run is = ap (λ r. plainly r >>= told_in draws wanted) is
+
+pub entry_refused : (image schedule : Option (List ℕ)) (draws : Bool) (wanted : Asking) (run : Stored) (given : ReplayFault) (told : Refusal) → IfKnown image schedule (λ i s. run_of i s ≡ Ok run)
+    → IsReplayFault (setting_of run) run.entries given → told ≡ Plain (fault_of_replay given) → IfKnown image schedule (λ i s. IsExplainRefusal draws wanted i s told)
+entry_refused None schedule draws wanted run given told is fault same = tt
+entry_refused (Some i) None draws wanted run given told is fault same = tt
+entry_refused (Some i) (Some s) draws wanted run given told is fault same =
+    subst (λ (t : Refusal). IsExplainRefusal draws wanted i s t) (sym same) (entry_told i s run given is fault)
+
+-- ---- the names
+
+listed_no_plain : (image : Contents) (names : List (List ℕ)) (fault : Fault) → listed image names ≡ Err (Plain fault) → ⊥
+unfolding listed
+listed_no_plain image names fault h = go (find (is_unknown image) names) h
+  where
+    go : (o : Option (List ℕ)) → (unless_some o Name >>= λ _. Ok (ranges image names)) ≡ Err (Plain fault) → ⊥
+    go None h = cc
+    go (Some name) h = cc
+
+of_names : (draws : Bool) (wanted : Asking) (i s : List ℕ) (run : Stored) (told : Refusal) → run_of i s ≡ Ok run → IsLegal (setting_of run) run.entries
+    → listed run.image (elements wanted.named) ≡ Err told → IsOfLegal i s × (explain_of draws wanted i s ≡ Err told)
+of_names draws wanted i s run told is legal h = (
+  of_legal i s run is legal,
+  explain_is draws wanted i s run is ∙ ap (λ r. r >>= λ ranges. told_of draws wanted (run_in run) (found (run_in run) ranges)) h,
+)
+
+names_told : (draws : Bool) (wanted : Asking) (i s : List ℕ) (run : Stored) (told : Refusal) → run_of i s ≡ Ok run → IsLegal (setting_of run) run.entries
+    → is_thread told ≡ false → IsTold (listed run.image (elements wanted.named)) told → IsExplainRefusal draws wanted i s told
+names_told draws wanted i s run (Plain Read) is legal no_thread h = tt
+names_told draws wanted i s run (Plain Write) is legal no_thread h = tt
+names_told draws wanted i s run (Plain NoMemory) is legal no_thread h = tt
+names_told draws wanted i s run (Plain fault) is legal no_thread h = absurd (listed_no_plain run.image (elements wanted.named) fault h)
+names_told draws wanted i s run NoThread is legal no_thread h = absurd (true≢false no_thread)
+names_told draws wanted i s run told is legal no_thread h = of_names draws wanted i s run told is legal h
+
+pub names_refused : (image schedule : Option (List ℕ)) (draws : Bool) (wanted : Asking) (run : Stored) (contents : Contents) (told : Refusal) → IfKnown image schedule (λ i s. run_of i s ≡ Ok run)
+    → run.image ≡ contents → IsLegal (setting_of run) run.entries → is_thread told ≡ false → IsTold (listed contents (elements wanted.named)) told → IfKnown image schedule (λ i s. IsExplainRefusal draws wanted i s told)
+names_refused None schedule draws wanted run contents told is same legal no_thread h = tt
+names_refused (Some i) None draws wanted run contents told is same legal no_thread h = tt
+names_refused (Some i) (Some s) draws wanted run contents told is same legal no_thread h =
+    names_told draws wanted i s run told is legal no_thread (subst (λ (c : Contents). IsTold (listed c (elements wanted.named)) told) (sym same) h)
+
+-- ---- the races
+
+run_same : (p : Placed) (contents : Contents) (plan : Numbers) (entries : List Entry) → p.image ≡ contents → p.plan ≡ plan → p.entries ≡ entries → placed_run (placed contents plan entries 0) ≡ placed_run p
+run_same p contents plan entries image numbers list =
+    ap (λ (c : Contents). placed_run (placed c plan entries 0)) (sym image)
+    ∙ ap (λ (n : Numbers). placed_run (placed p.image n entries 0)) (sym numbers)
+    ∙ ap (λ (es : List Entry). placed_run (placed p.image p.plan es 0)) (sym list)
+
+pub are_found : (wanted : Asking) (opened : Opened) (contents : Contents) (plan : Numbers) (entries : List Entry) (ranges : List (ℕ × ℕ)) → opened.image ≡ contents → opened.session.image ≡ contents → opened.session.plan ≡ plan → opened.session.entries ≡ entries
+    → listed contents (elements wanted.named) ≡ Ok ranges → found_of opened.found ≡ found (placed_run (placed contents plan entries 0)) ranges → AreFound wanted opened
+are_found wanted opened contents plan entries ranges own image numbers list names found_is = record {
+  ranges = ranges;
+  listed_are = ap (λ (c : Contents). listed c (elements wanted.named)) own ∙ names;
+  found_are = found_is ∙ ap (λ (r : Run). found r ranges) (run_same opened.session contents plan entries image numbers list);
+}
+
+pub are_told : (p : Placed) (contents : Contents) (plan : Numbers) (entries : List Entry) (races : List Race) → p.image ≡ contents → p.plan ≡ plan → p.entries ≡ entries
+    → AreTold (placed_run (placed contents plan entries 0)) races → AreTold (placed_run p) races
+are_told p contents plan entries races image numbers list told = subst (λ (r : Run). AreTold r races) (run_same p contents plan entries image numbers list) told
+
+-- ---- what is told
+
+whole : (draws : Bool) (wanted : Asking) (i s : List ℕ) (opened : Opened) → run_of i s ≡ Ok (stored opened.session.image opened.session.plan opened.session.entries) → opened.session.image ≡ opened.image
+    → AreFound wanted opened → explain_of draws wanted i s ≡ told_of draws wanted (placed_run opened.session) (found_of opened.found)
+whole draws wanted i s opened is image found_in =
+    let names = ap (λ (c : Contents). listed c (elements wanted.named)) image ∙ found_in.listed_are in
+    explain_is draws wanted i s (stored opened.session.image opened.session.plan opened.session.entries) is
+    ∙ ap (λ r. r >>= λ ranges. told_of draws wanted (placed_run opened.session) (found (placed_run opened.session) ranges)) names
+    ∙ ap (λ (f : Found). told_of draws wanted (placed_run opened.session) f) (sym found_in.found_are)
+
+abbrev told_with : Option (List ℕ) → List ℕ → Result Told Refusal
+told_with picture text = Ok (record { text = text; picture = picture })
+
+no_plain : (draws : Bool) (wanted : Asking) (run : Run) (f : Found) (fault : Fault) → told_of draws wanted run f ≡ Err (Plain fault) → ⊥
+no_plain draws wanted run f fault h = go draws (picture_of run f wanted.around (number_drawn wanted.race)) (explained run f wanted.around wanted.race) h
+  where
+    go : (draws : Bool) (picture text : Option (List ℕ)) → (picture_if draws picture >>= λ drawn. unless_none text >>= λ t. told_with drawn t) ≡ Err (Plain fault) → ⊥
+    go false picture None h = cc
+    go false picture (Some text) h = cc
+    go true None text h = cc
+    go true (Some drawn) None h = cc
+    go true (Some drawn) (Some text) h = cc
+
+races_told : (draws : Bool) (wanted : Asking) (i s : List ℕ) (run : Run) (f : Found) (told : Refusal) → IsOfLegal i s → explain_of draws wanted i s ≡ told_of draws wanted run f
+    → is_thread told ≡ false → IsTold (told_of draws wanted run f) told → IsExplainRefusal draws wanted i s told
+races_told draws wanted i s run f (Plain Read) legal is no_thread h = tt
+races_told draws wanted i s run f (Plain Write) legal is no_thread h = tt
+races_told draws wanted i s run f (Plain NoMemory) legal is no_thread h = tt
+races_told draws wanted i s run f (Plain fault) legal is no_thread h = absurd (no_plain draws wanted run f fault h)
+races_told draws wanted i s run f NoThread legal is no_thread h = absurd (true≢false no_thread)
+races_told draws wanted i s run f told legal is no_thread h = (legal, is ∙ h)
+
+pub races_refused : (image schedule : Option (List ℕ)) (draws : Bool) (wanted : Asking) (opened : Opened) (told : Refusal) → IfKnown image schedule (λ i s. run_of i s ≡ Ok (stored opened.session.image opened.session.plan opened.session.entries))
+    → opened.session.image ≡ opened.image → IsLegal (setting opened.session) opened.session.entries → AreFound wanted opened
+    → is_thread told ≡ false → IsTold (told_of draws wanted (placed_run opened.session) (found_of opened.found)) told → IfKnown image schedule (λ i s. IsExplainRefusal draws wanted i s told)
+races_refused None schedule draws wanted opened told is image legal found_in no_thread h = tt
+races_refused (Some i) None draws wanted opened told is image legal found_in no_thread h = tt
+races_refused (Some i) (Some s) draws wanted opened told is image legal found_in no_thread h =
+    races_told draws wanted i s (placed_run opened.session) (found_of opened.found) told (of_legal i s _ is legal) (whole draws wanted i s opened is image found_in) no_thread h
+
+pub races_shown : (image schedule : Option (List ℕ)) (draws : Bool) (wanted : Asking) (opened : Opened) (told : Told) (Fact : Told → Type 0) → IfKnown image schedule (λ i s. run_of i s ≡ Ok (stored opened.session.image opened.session.plan opened.session.entries))
+    → opened.session.image ≡ opened.image → IsLegal (setting opened.session) opened.session.entries → AreFound wanted opened
+    → told_of draws wanted (placed_run opened.session) (found_of opened.found) ≡ Ok told → Fact told → IfKnown image schedule (λ i s. IsOfLegal i s × IsOkAnd (explain_of draws wanted i s) Fact)
+races_shown None schedule draws wanted opened told Fact is image legal found_in h fact = tt
+races_shown (Some i) None draws wanted opened told Fact is image legal found_in h fact = tt
+races_shown (Some i) (Some s) draws wanted opened told Fact is image legal found_in h fact =
+    let all : explain_of draws wanted i s ≡ Ok told = whole draws wanted i s opened is image found_in ∙ h in
+    (of_legal i s _ is legal, rw all fact)
+
+pub write_refused : (image schedule : Option (List ℕ)) (draws : Bool) (wanted : Asking) (told : Refusal) → told ≡ Plain Write → IfKnown image schedule (λ i s. IsExplainRefusal draws wanted i s told)
+write_refused None schedule draws wanted told is = tt
+write_refused (Some i) None draws wanted told is = tt
+write_refused (Some i) (Some s) draws wanted told is = subst (λ (t : Refusal). IsExplainRefusal draws wanted i s t) (sym is) tt
+
+-- ---- what is written
+
+pub of_mapped : {A B : Type 0} (f : A → B) (P : B → Type 0) (o : Option A) → IfSome o (λ a. P (f a)) → IfSome (option_map f o) P
+of_mapped f P None holds = tt
+of_mapped f P (Some a) holds = holds
+
+pub no_writer : (file writer failed : Bool) → failed ≡ false → (file || writer) ≡ (file || writer || failed)
+no_writer true writer failed is = refl
+no_writer false true failed is = refl
+no_writer false false failed is = sym is
+
+-- the same where what is wanted is known by a test
+pub refused_by : (image schedule : Option (List ℕ)) (draws tested : Bool) (wanted : Asking) (told : Refusal) → draws ≡ tested → IfKnown image schedule (λ i s. IsExplainRefusal draws wanted i s told)
+    → IfKnown image schedule (λ i s. IsExplainRefusal tested wanted i s told)
+refused_by image schedule draws tested wanted told same h = subst (λ (b : Bool). IfKnown image schedule (λ i s. IsExplainRefusal b wanted i s told)) same h
+
+pub shown_by : (image schedule : Option (List ℕ)) (draws tested : Bool) (wanted : Asking) (Fact : Told → Type 0) → draws ≡ tested → IfKnown image schedule (λ i s. IsOfLegal i s × IsOkAnd (explain_of draws wanted i s) Fact)
+    → IfKnown image schedule (λ i s. IsOfLegal i s × IsOkAnd (explain_of tested wanted i s) Fact)
+shown_by image schedule draws tested wanted Fact same h = subst (λ (b : Bool). IfKnown image schedule (λ i s. IsOfLegal i s × IsOkAnd (explain_of b wanted i s) Fact)) same h

@@ -1,0 +1,9 @@
+pub mod DebugLemmas
+pub mod ExhibitLemmas
+pub mod ExplainLemmas
+pub mod ReplayLemmas
+pub mod RunHunts
+pub mod RunLists
+pub mod RunTables
+pub mod SourceLemmas
+pub mod ThreadsLemmas

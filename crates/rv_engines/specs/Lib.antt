@@ -1,0 +1,17 @@
+pub mod Asking
+pub mod Campaigns
+pub mod CommandFault
+pub mod Debug
+pub mod Exhibits
+pub mod Explains
+pub mod Fault
+pub mod FaultText
+pub mod Images
+pub mod Replay
+pub mod Request
+pub mod Sentences
+pub mod Shown
+pub mod Sources
+pub mod Threads
+pub mod Words
+pub mod internal

@@ -1,0 +1,3 @@
+-- What only the contracts of private functions cite: no reader has to believe it.
+pub mod Hunted
+pub mod Opened

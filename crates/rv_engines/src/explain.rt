@@ -1,0 +1,4 @@
+//! The command `explain`: a schedule's races, told for a person.
+pub mod engine;
+pub mod opening;
+pub mod options;

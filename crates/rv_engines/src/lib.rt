@@ -1,0 +1,20 @@
+//! The commands as engines over readers and writers.
+//!
+//! Each engine writes the text that `specs/` states of the bytes that it reads, and nothing else. What is made of
+//! paths and words stands in the program, and the tests of the engines in `rv_engine_tests`.
+#![tactic(auto)]
+
+pub mod asm;
+pub mod debug;
+pub mod exhibit;
+pub mod explain;
+pub mod fault;
+pub mod image;
+pub mod list;
+pub mod new_file;
+pub mod replay;
+pub mod run;
+pub mod sentences;
+pub mod shown;
+pub mod threads;
+pub mod words;

@@ -1,0 +1,9 @@
+//! The command `run`: a campaign of seeded runs of an image, its race table, and the schedule of one run.
+
+pub mod engine;
+pub mod fault;
+mod hunting;
+pub mod lists;
+pub mod options;
+pub mod saving;
+mod table;

@@ -1,0 +1,76 @@
+//! The race table of a campaign's runs.
+ghost use Rattle.std.specs.Prelude.{◌≡◌, ◌++◌, List, IfOk, OnOk, length, map};
+ghost use Rattle.rv_prune.specs.Class.{class};
+ghost use Rattle.rv_report.specs.Races.{Told, races};
+ghost use Rattle.rv_engines.specs.Campaigns as spec;
+
+use rayon::prelude::*;
+use rv_collide::collider::Finished;
+use rv_collide::ending::Ending;
+use rv_elf::Image;
+use rv_memory::store::NoMemory;
+use rv_prune::class::Class;
+use rv_prune::pruning::classify;
+use rv_report::race_table::RaceTable;
+use std::alloc::{AllocError, Global};
+use std::thread::Threads;
+
+/// The class of each ending, in their order.
+fn classes(
+    rt: &(impl Threads + Sync),
+    alloc: Global,
+    image: &Image,
+    ranges: &[(u32, u32)],
+    endings: &[Ending],
+) -> Result<Vec<Class>, AllocError>
+    ensures { IfOk result (λ found. found.items ≡ map (λ ending. class image.now ending ranges.now) endings.now) }
+{
+    endings
+        .par_iter()
+        .map(
+            |ending: &Ending| -> Class
+                ensures { result ≡ class image.entry.now ending.now ranges.entry.now }
+            { classify(image, ending, ranges) },
+        )
+        .collect(rt, alloc)
+}
+
+/// Adds the endings of a run.
+fn add_run(
+    rt: &(impl Threads + Sync),
+    alloc: Global,
+    image: &Image,
+    ranges: &[(u32, u32)],
+    run: u32,
+    endings: &[Ending],
+    table: &mut RaceTable,
+) -> Result<(), NoMemory>
+    ensures { OnOk result ((told : List Told) → table.old ≡ races told
+        → table.new ≡ races (told ++ map (spec.with_class image.now ranges.now run) endings.now)) }
+{
+    let found = classes(rt, alloc, image, ranges, endings)?;
+    for i in 0..endings.len() {
+        table.add(run, &endings[i], found[i])?;
+    }
+    Ok(())
+}
+
+/// The race table of the runs, which are so many.
+pub fn table_of(
+    rt: &(impl Threads + Sync),
+    alloc: Global,
+    image: &Image,
+    ranges: &[(u32, u32)],
+    count: u32,
+    runs: &[Finished],
+) -> Result<RaceTable, NoMemory>
+    requires { length runs.now ≡ count }
+    ensures { IfOk result (λ table. table ≡ races (spec.told_from image.now ranges.now 0 runs.now)) }
+{
+    let mut table = RaceTable::new(alloc);
+    for run in 0..count {
+        let endings = &runs[run as usize].endings;
+        add_run(rt, alloc, image, ranges, run, endings, &mut table)?;
+    }
+    Ok(table)
+}

@@ -1,0 +1,3 @@
+//! The command `words`: harts stepped over a list of instruction words.
+
+pub mod engine;

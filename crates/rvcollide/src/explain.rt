@@ -1,6 +1,0 @@
-//! The command `explain`: a schedule's races, told for a person.
-pub mod engine;
-pub mod opening;
-pub mod options;
-#[cfg(test)]
-mod tests;

@@ -1,5 +1,0 @@
-//! The command `words`: harts stepped over a list of instruction words.
-
-pub mod engine;
-#[cfg(test)]
-mod tests;
