@@ -22,7 +22,5 @@ mod sides;
 mod steps;
 pub mod symbol_table;
 pub mod symbols;
-#[cfg(test)]
-mod tests;
 pub mod told;
 mod walk;

@@ -19,6 +19,4 @@ pub mod remade;
 pub mod row;
 pub mod saying;
 pub mod table;
-#[cfg(test)]
-mod tests;
 mod texts;

@@ -1,11 +1,11 @@
 //! The texts of whole runs: the ring's run 0, a lost update, a change beside a hit, and what else a run may have.
 use super::*;
-use crate::explain::explain;
-use crate::races::races_of_run;
 use rv_asm::assemble;
 use rv_collide::entry::Entry::{Armed, Paused, Resumed, Stepped};
 use rv_collide::plan::Plan;
 use rv_debug::session::Session;
+use rv_explain::explain::explain;
+use rv_explain::races::races_of_run;
 
 /// `examples/ring.s`.
 const RING: &str =

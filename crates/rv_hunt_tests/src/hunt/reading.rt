@@ -1,9 +1,10 @@
 //! Texts of tables, and what is wrong with others.
-use super::{WHOLE, assert_is, text};
-use crate::fault::TableKind::{End, Range, Shape, Twice};
-use crate::fault::{ReadFault, TableFault, TableKind};
-use crate::format::TableFormat;
-use crate::reading::{read_either, read_table};
+use super::{WHOLE, text};
+use crate::assertion::assert_is;
+use rv_hunt::fault::TableKind::{End, Range, Shape, Twice};
+use rv_hunt::fault::{ReadFault, TableFault, TableKind};
+use rv_hunt::format::TableFormat;
+use rv_hunt::reading::{read_either, read_table};
 use std::alloc::Global;
 use std::process::Abort;
 use std::test::Fail;

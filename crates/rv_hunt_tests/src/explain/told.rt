@@ -1,8 +1,8 @@
 //! What is told of an entry of a run.
 use super::*;
-use crate::told::row_here;
 use rv_collide::plan::Plan;
 use rv_debug::session::Session;
+use rv_explain::told::row_here;
 
 /// `sw x11, -4(x2)`: hart 0 stores the number of harts at the end of its stack.
 const SW: [u8; 4] = [0x23, 0x2e, 0xb1, 0xfe];

@@ -1,20 +1,20 @@
-use crate::block::{Block, RaceClass, Side};
-use crate::blocks::{write_block, write_totals};
-use crate::classes::{class_of, stronger};
-use crate::fault::ExplainFault;
-use crate::names::{address_text, name_text};
-use crate::row::{After, Row, Shown};
-use crate::symbol_table::SymbolTable;
-use crate::symbols::symbol_of;
+use crate::assertion::assert_is;
+use crate::parts::zeros;
 use rv_break::claim::Seen;
 use rv_collide::ending::{Ending, Verdict};
 use rv_collide::entry::Entry;
 use rv_elf::{Image, Symbol};
+use rv_explain::block::{Block, RaceClass, Side};
+use rv_explain::blocks::{write_block, write_totals};
+use rv_explain::classes::{class_of, stronger};
+use rv_explain::fault::ExplainFault;
+use rv_explain::names::{address_text, name_text};
+use rv_explain::row::{After, Row, Shown};
+use rv_explain::symbol_table::SymbolTable;
+use rv_explain::symbols::symbol_of;
 use rv_hart::access::Access;
 use rv_memory::flagged::Flagged;
-use rv_memory::region::Region;
 use std::alloc::Global;
-use std::fmt::Debug;
 use std::process::Abort;
 use std::test::Fail;
 
@@ -23,12 +23,6 @@ mod picture;
 mod runs;
 mod symbols;
 mod told;
-
-/// What was found is what is wanted. (Each assertion that a test writes out costs the check a second, and a call of
-/// this one next to nothing.)
-fn assert_is<T: PartialEq + Debug + Drop>(rt: &impl Abort, found: T, wanted: T, what: &str) {
-    assert_eq!(rt; found, wanted, "{what}");
-}
 
 /// A symbol's name, value, size and type.
 type Row4 = (&'static str, u32, u32, u8);
@@ -44,17 +38,6 @@ fn symbols_of(alloc: Global, rows: &[Row4]) -> Result<Vec<Symbol>, Fail> {
         })?;
     }
     Ok(symbols)
-}
-
-fn zeros(alloc: Global, start: u32, len: u32, x: bool) -> Region {
-    Region {
-        start,
-        bytes: Vec::new(alloc),
-        len,
-        r: true,
-        w: true,
-        x,
-    }
 }
 
 /// 4,096 bytes of code from 00010000 on, as many of data from 00020000 on, and these symbols.

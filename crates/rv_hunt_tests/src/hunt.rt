@@ -1,24 +1,18 @@
-use crate::expected::{is_likely_benign, may_be_bug};
-use crate::row::RaceRow;
-use crate::table::HuntTable;
+use crate::assertion::assert_is;
 use rv_explain::block::RaceClass;
 use rv_explain::block::RaceClass::{Counter, Flag, Kept, Named, Ordered};
+use rv_hunt::expected::{is_likely_benign, may_be_bug};
+use rv_hunt::row::RaceRow;
+use rv_hunt::table::HuntTable;
 use rv_memory::flagged::Flagged;
 use rv_report::key::Key;
 use std::alloc::Global;
-use std::fmt::Debug;
 use std::process::Abort;
 use std::test::Fail;
 
 mod hunts;
 mod reading;
 mod saying;
-
-/// What was found is what is wanted. (Each assertion that a test writes out costs the check a second, and a call of
-/// this one next to nothing.)
-fn assert_is<T: PartialEq + Debug + Drop>(rt: &impl Abort, found: T, wanted: T, what: &str) {
-    assert_eq!(rt; found, wanted, "{what}");
-}
 
 /// A row: its addresses, count, class, run, and a number that its entry and values are made of.
 type Said = (u32, Option<u32>, u64, RaceClass, u32, u32);

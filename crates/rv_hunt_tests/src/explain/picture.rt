@@ -1,7 +1,7 @@
 //! The picture of the ring's race, element by element, and what long names and names of XML's own characters become.
 use super::blocks::{RING, ring};
 use super::*;
-use crate::picture::write_picture;
+use rv_explain::picture::write_picture;
 
 /// The picture of the ring's race under the names of an image's symbols.
 fn drawn(alloc: Global, symbols: &[Row4]) -> Result<String, Fail> {

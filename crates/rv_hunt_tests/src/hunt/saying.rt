@@ -1,11 +1,12 @@
-use super::{ROWS, Said, assert_is, table_of};
-use crate::row::RaceRow;
-use crate::saying::lines::{write_apart, write_saw, write_summary};
-use crate::saying::order::{of_class, told_rows};
-use crate::saying::warnings::{Warning, holds, write_warnings};
+use super::{ROWS, Said, table_of};
+use crate::assertion::assert_is;
 use rv_explain::block::RaceClass;
 use rv_explain::block::RaceClass::{Counter, Flag, Kept, Named, Ordered};
 use rv_hart::hart::Cause;
+use rv_hunt::row::RaceRow;
+use rv_hunt::saying::lines::{write_apart, write_saw, write_summary};
+use rv_hunt::saying::order::{of_class, told_rows};
+use rv_hunt::saying::warnings::{Warning, holds, write_warnings};
 use rv_memory::flagged::{Flagged, WriteFault};
 use rv_report::key::Key;
 use rv_tally::counts::Counts;

@@ -1,10 +1,12 @@
 //! Hunts: what they see, and when they end.
-use super::{assert_is, text};
-use crate::hunt::{Hunt, Watch};
-use crate::hunted::Hunted;
-use crate::row::RaceRow;
+use super::text;
+use crate::assertion::assert_is;
+use crate::parts::zeros;
 use rv_elf::Image;
 use rv_explain::block::RaceClass;
+use rv_hunt::hunt::{Hunt, Watch};
+use rv_hunt::hunted::Hunted;
+use rv_hunt::row::RaceRow;
 use rv_memory::region::Region;
 use rv_report::key::Key;
 use rv_sample::Sampler;
@@ -101,14 +103,7 @@ fn image(rt: &impl Abort, alloc: Global, words: &[u32]) -> Result<Image, Fail> {
         w: false,
         x: true,
     };
-    let zeros = Region {
-        start: 0x20000,
-        bytes: Vec::new(alloc),
-        len: 4096,
-        r: true,
-        w: true,
-        x: false,
-    };
+    let zeros = zeros(alloc, 0x20000, 4096, false);
     let segments = vec![in alloc; code, zeros]?;
     Ok(Image::new(0x10000, segments, Vec::new(alloc)).ok_or("an image")?)
 }
