@@ -1,0 +1,95 @@
+-- The blocks of rows, row by row.
+use Rattle.std.proofs.Common.{◌≡◌, ℕ, ◌+◌, ◌<◌, ◌≤◌, true, false, List, [], ◌∷◌, ◌++◌, get_or, length, take, Option, Some, None, Result, Ok, Err, IfOk, refl, ap, sym, subst, ◌∙◌, arith, append_assoc, append-nil}
+use Rattle.std.specs.Prelude.{All, find, is_some, option_map, slice_get}
+use Rattle.std.proofs.lemmas.List.{length-take-le, take_more}
+use Rattle.std.proofs.lemmas.List.Elements.{All-append, All-filter}
+use Rattle.std.proofs.lemmas.Option.{slice_get-get_or}
+use Rattle.rv_collide.specs.declared.ending.Ending.{Ending}
+use Rattle.rv_elf.specs.Contents.{Contents}
+use Rattle.rv_explain.specs.Races.{reports_of}
+use Rattle.rv_explain.specs.declared.block.RaceClass.{RaceClass}
+use Rattle.rv_explain.specs.declared.block.RaceClass.TheVariants.{Kept, Counter, Flag, Ordered}
+use Rattle.rv_explain.specs.declared.races.Race.{Race}
+use Rattle.rv_explain.specs.declared.races.Report.{Report}
+use Rattle.rv_hunt.specs.Hunted.{Hunt, IsHunted}
+use Rattle.rv_hunt.specs.HuntedLaws.{RowsAreTold}
+use Rattle.rv_hunt.specs.Remade.{is_told_by, race_by, race_in}
+use Rattle.rv_hunt.specs.ToldOrder.{is_of, of_class, told_rows}
+use Rattle.rv_hunt.specs.declared.hunted.Hunted.{Hunted}
+use Rattle.rv_hunt.specs.declared.row.RaceRow.{RaceRow}
+use Rattle.rv_hunting.proofs.ReportLemmas.{found_is_ending}
+use Rattle.rv_collide.specs.declared.collider.Finished.{Finished}
+use Rattle.rv_hunting.specs.HuntBlocks.{AreBlocks, IsBlock, IsRunOf, race_text, run_words}
+use Rattle.rv_hunting.specs.internal.Opened.{HasRace}
+use Rattle.rv_report.specs.declared.key.Key.{Key}
+
+abbrev Row : Type 0
+Row = Key × RaceRow
+
+-- ---- one block more
+
+numbered : (hunt : Hunt) (k n : ℕ) (row : Row) (block : List ℕ) → k ≡ n → IsBlock hunt k row block → IsBlock hunt n row block
+numbered hunt k n row block is h = subst (λ (m : ℕ). IsBlock hunt m row block) is h
+
+one_more : (hunt : Hunt) (k : ℕ) (rows : List Row) (row : Row) (text block : List ℕ) → AreBlocks hunt k rows text → IsBlock hunt (k + length rows) row block → AreBlocks hunt k (rows ++ row ∷ []) (text ++ block)
+one_more hunt k [] row text block are is =
+    (block, [], numbered hunt (k + 0) k row block (omega arith) is, refl, ap (λ (t : List ℕ). t ++ block) are ∙ sym (append-nil block))
+one_more hunt k (first ∷ rows) row text block are is =
+    let count : k + length (first ∷ rows) ≡ k + 1 + length rows = omega arith in
+    let later = one_more hunt (k + 1) rows row are.1 block are.3 (numbered hunt (k + length (first ∷ rows)) (k + 1 + length rows) row block count is) in
+    (are.0, are.1 ++ block, are.2, later, ap (λ (t : List ℕ). t ++ block) are.4 ∙ append_assoc are.0 are.1 block)
+
+pub blocks_next : (hunt : Hunt) (rows : List Row) (place : ℕ) (row d : Row) (number : ℕ) (text block : List ℕ) → place < length rows → AreBlocks hunt 1 (take place rows) text → IsBlock hunt number row block
+    → number ≡ place + 1 → row ≡ get_or rows place d → AreBlocks hunt 1 (take (place + 1) rows) (text ++ block)
+blocks_next hunt rows place row d number text block below are is count there =
+    let within : place ≤ length rows = omega arith in
+    let size = length-take-le place rows within in
+    let counted : number ≡ 1 + length (take place rows) = omega arith in
+    subst (λ (rs : List Row). AreBlocks hunt 1 rs (text ++ block)) (sym (take_more rows place d below ∙ ap (λ (r : Row). take place rows ++ r ∷ []) (sym there)))
+    (one_more hunt 1 (take place rows) row text block are (numbered hunt number (1 + length (take place rows)) row block counted is))
+
+-- ---- the race of a row
+
+with_report : (ended : List Ending) (row : Row) (o : Option Report) (race : Race) → ((r : Report) → o ≡ Some r → slice_get ended r.number ≡ Some r.ending) → option_map (race_by row) o ≡ Some race → slice_get ended race.told.number ≡ Some race.told.ending
+with_report ended row None race told made = (let no : None ≡ Some race = made in cc)
+with_report ended row (Some r) race told made = subst (λ (x : Race). slice_get ended x.told.number ≡ Some x.told.ending) (same (race_by row r) race made) (told r refl)
+  where
+    same : (x y : Race) → Some x ≡ Some y → x ≡ y
+    same x y h = cc
+
+pub race_is_told : (image : Contents) (ranges : List (ℕ × ℕ)) (row : Row) (ended : List Ending) (race : Race) → race_in image ranges row ended ≡ Some race → slice_get ended race.told.number ≡ Some race.told.ending
+unfolding race_in
+race_is_told image ranges row ended race made =
+    with_report ended row (find (is_told_by row) (reports_of image ranges ended (length ended))) race (found_is_ending (is_told_by row) image ranges ended) made
+
+pub no_race : {P : Type 0} (o : Option Race) → o ≡ None → is_some o ≡ true → P
+no_race o none some = (let no : false ≡ true = rw none at some in cc)
+
+-- the block of a row is made of its run and its race
+pub block_made : {A E : Type 0} (items : A → List ℕ) (r : Result A E) (hunt : Hunt) (k : ℕ) (row : Row) (run : Finished) (race : Race) (image : Contents) (words : List ℕ) → image ≡ hunt.source.image → IsRunOf hunt row run
+    → race_in hunt.source.image hunt.ranges row run.endings.items ≡ Some race → IfOk r (λ text. items text ≡ race_text image words k run race) → words ≡ run_words row.1.run run.plan.harts → IfOk r (λ text. IsBlock hunt k row (items text))
+block_made items (Err fault) hunt k row run race image words same is_run is_race text said = tt
+block_made items (Ok made) hunt k row run race image words same is_run is_race text said = record {
+  run = run;
+  is_run = is_run;
+  race = race;
+  is_race = is_race;
+  text_is =
+      text ∙ ap (λ (c : Contents). race_text c words k run race) same ∙ ap (λ (w : List ℕ). race_text hunt.source.image w k run race) said;
+}
+
+-- ---- the rows that are told have races
+
+pub table_has_races : RowsAreTold → (hunt : Hunt) (saw : Hunted) → IsHunted hunt saw → All (HasRace hunt) saw.table
+table_has_races told hunt saw is k d below run made =
+    told hunt saw k (get_or saw.table k d) run is (slice_get-get_or saw.table k d below) made
+
+of_class_have : (hunt : Hunt) (class : RaceClass) (rows : List Row) → All (HasRace hunt) rows → All (HasRace hunt) (of_class class rows)
+of_class_have hunt class rows all = All-filter (is_of class) (HasRace hunt) rows all
+
+pub told_have_races : (hunt : Hunt) (rows : List Row) → All (HasRace hunt) rows → All (HasRace hunt) (told_rows rows)
+unfolding told_rows
+told_have_races hunt rows all =
+    All-append (HasRace hunt) (of_class Kept rows) (of_class Counter rows ++ (of_class Flag rows ++ of_class Ordered rows)) (of_class_have hunt Kept rows all)
+    (All-append (HasRace hunt) (of_class Counter rows) (of_class Flag rows ++ of_class Ordered rows) (of_class_have hunt Counter rows all)
+    (All-append (HasRace hunt) (of_class Flag rows) (of_class Ordered rows) (of_class_have hunt Flag rows all) (of_class_have hunt Ordered rows all)))

@@ -1,0 +1,4 @@
+pub mod BlockLemmas
+pub mod OpenLemmas
+pub mod ReportLemmas
+pub mod SiteLemmas

@@ -1,0 +1,7 @@
+-- the blocks of the rows so far
+use Rattle.std.proofs.Common.{take}
+use Rattle.rv_hunting.specs.HuntBlocks.{AreBlocks}
+use Rattle.rv_hunting.proofs.blocks.blocks_of.Given as goal
+
+abbrev pub invariant-loop-place : goal.invariant-loop-place
+invariant-loop-place l = AreBlocks l.hunt 1 (take l.place l.rows) l.text.items

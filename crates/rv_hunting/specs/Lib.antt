@@ -1,0 +1,4 @@
+pub mod Asked
+pub mod HuntBlocks
+pub mod Hunting
+pub mod internal

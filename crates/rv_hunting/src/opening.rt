@@ -1,0 +1,47 @@
+//! What `hunt` reads before it makes a run.
+ghost use Rattle.std.specs.Prelude.{◌≡◌, ◌||◌, false, Ok, IfOk, IfErr, IfSome};
+ghost use Rattle.rv_memory.specs.Flagged as flag;
+ghost use Rattle.rv_engines.specs.CommandFault.{IsTold, refusal, fails_by, is_read, is_write};
+ghost use Rattle.rv_hunting.specs.Asked.{asked};
+ghost use Rattle.rv_hunting.specs.Hunting.{hunt_of};
+ghost use Rattle.rv_hunting.specs.internal.Opened.{hunt_in};
+
+use crate::options::HuntOptions;
+use rv_elf::Image;
+use rv_engines::image::read_image;
+use rv_engines::run::fault::CommandFault;
+use rv_engines::run::lists::{read_named, read_skipped};
+use rv_memory::flagged::Flagged;
+use std::alloc::Global;
+use std::io::Read;
+
+/// An image, the addresses that are no sites, and the bytes of the listed names.
+#[derive(Drop)]
+pub struct Opened {
+    pub image: Image,
+    pub excluded: Vec<u32>,
+    pub ranges: Vec<(u32, u32)>,
+}
+
+/// Reads an image, and then the lists.
+pub fn open<'a, R: Read>(
+    alloc: Global,
+    options: &HuntOptions<'a>,
+    image: &mut Flagged<R>,
+) -> Result<Opened, CommandFault<'a>>
+    ensures ok { IfOk result (λ opened. IfSome (R.remaining (flag.device image.old)) (λ bytes.
+        hunt_of (asked options.now) bytes ≡ Ok (hunt_in (asked options.now) opened))) }
+    ensures err { IfErr result (λ fault. IfSome (R.remaining (flag.device image.old)) (λ bytes.
+        IsTold (hunt_of (asked options.now) bytes) (refusal fault))) }
+    ensures reader { flag.has_failed image.new ≡ (flag.has_failed image.old || fails_by is_read result) }
+    ensures writer { fails_by is_write result ≡ false }
+{
+    let contents = read_image(alloc, image)?;
+    let excluded = read_skipped(alloc, options.skip)?;
+    let ranges = read_named(alloc, &contents, options.named)?;
+    Ok(Opened {
+        image: contents,
+        excluded,
+        ranges,
+    })
+}
