@@ -1,0 +1,4 @@
+pub mod IgnoreLemmas
+pub mod MergeLemmas
+pub mod PartedLemmas
+pub mod SpelledLemmas

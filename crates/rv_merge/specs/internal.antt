@@ -1,0 +1,2 @@
+-- What only private contracts cite: no reader has to believe it.
+pub mod Adding
