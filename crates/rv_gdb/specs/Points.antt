@@ -1,5 +1,5 @@
 -- The points at which the run stops, and which steps meet them.
-use Rattle.std.specs.Prelude.{ℕ, ◌+◌, ◌-◌, ◌^◌, ◌==◌, ◌&&◌, Bool, true, false, min, nat_le, nat_lt, if◌then◌else◌, Option, Some, None, option_map, List, [], ◌∷◌, ◌++◌, length, find}
+use Rattle.std.specs.Prelude.{ℕ, ◌+◌, ◌-◌, ◌^◌, ◌==◌, ◌&&◌, Bool, true, false, min, nat_le, nat_lt, if◌then◌else◌, Option, Some, None, option_map, List, [], ◌∷◌, ◌++◌, filter, length, find, not}
 use Rattle.std.specs.List.{list_any}
 use Rattle.rv_hart.specs.declared.access.Access.{Access}
 use Rattle.rv_gdb.specs.Search.{first_in}
@@ -32,6 +32,10 @@ has_point points point = list_any (is_same point) points
 unfoldable pub with_point : List Point → Point → Option (List Point)
 with_point points point =
     if has_point points point then Some points else if nat_lt (length points) MOST_POINTS then Some (points ++ point ∷ []) else None
+
+-- A point less. Where it is not there the points stay.
+unfoldable pub without_point : List Point → Point → List Point
+without_point points point = filter (λ other. not (is_same point other)) points
 
 -- ---- a step that breaks
 

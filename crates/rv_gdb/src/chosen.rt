@@ -58,7 +58,7 @@ pub(crate) fn hart_of(harts: u8, thread: u32) -> Option<u8>
 }
 
 /// The hart that a packet names, or any; None where there is no such thread.
-pub(crate) fn aim_of(harts: u8, id: Id) -> Option<Option<u8>>
+pub fn aim_of(harts: u8, id: Id) -> Option<Option<u8>>
     ensures { result ≡ spec.aim_of harts id }
 {
     match id {

@@ -1,5 +1,5 @@
 //! The points at which the run stops, as `specs/Points.antt` has them.
-ghost use Rattle.std.specs.Prelude.{◌≡◌, ◌↔◌, ◌+◌, ◌^◌, ◌≤◌, [], IsTrue, Some, OnOk, OnErr};
+ghost use Rattle.std.specs.Prelude.{◌≡◌, ◌↔◌, ◌+◌, ◌^◌, ◌≤◌, [], IsTrue, Some, OnOk, OnErr, filter, length, not};
 ghost use Rattle.std.specs.List.{list_any};
 ghost use Rattle.rv_gdb.specs.Points as spec;
 
@@ -68,6 +68,14 @@ impl Points {
         }
         self.points.push(point)?;
         Ok(())
+    }
+
+    /// Takes a point away. Where it is not set the points stay.
+    #[tactic(auto, unfolding(crate::specs::Points::without_point))]
+    pub fn clear(&mut self, point: Point)
+        ensures { self.new ≡ spec.without_point self.old point }
+    {
+        keep_others(&mut self.points, point);
     }
 
     /// Whether the point is set.
@@ -149,6 +157,13 @@ fn kind_number(kind: Kind) -> u8
         Kind::Read => 3,
         Kind::Access => 4,
     }
+}
+
+fn keep_others(points: &mut Vec<Point>, point: Point)
+    ensures items { points.new.items ≡ filter (λ other. not (spec.is_same point other)) points.old.items }
+    ensures few { length points.new.items ≤ length points.old.items }
+{
+    points.retain(|other| !is_same(point, *other));
 }
 
 fn is_same(one: Point, other: Point) -> bool

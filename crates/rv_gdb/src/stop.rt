@@ -2,8 +2,10 @@
 ghost use Rattle.std.specs.Prelude.{◌≡◌, ◌∷◌, [], ◌++◌, ◌||◌, ◌<◌, is_err, OnOk, IfOk};
 ghost use Rattle.std.specs.Io.KnownBytes.{Appends};
 ghost use Rattle.std.specs.String.{string_bytes};
+ghost use Rattle.rv_gdb.specs.Framed.{packet_of};
 ghost use Rattle.rv_gdb.specs.Stops as spec;
 
+use crate::framed::write_packet_of;
 use crate::hexadecimal::Hexadecimal;
 use crate::point::Kind;
 use crate::points::Sight;
@@ -77,6 +79,43 @@ pub fn write_stop<O: Output>(writer: &mut O, stop: &Stop) -> Result<(), WriteFau
     put_pieces(writer, &[b"T", &byte_digits(stop.signal)])?;
     write_why(writer, &stop.why)?;
     put_pieces(writer, &[b"thread:", thread.as_bytes(), b";"])
+}
+
+/// Writes the packet of what is told of a stop. It takes no memory.
+pub fn write_stop_packet<O: Output>(writer: &mut O, stop: &Stop) -> Result<(), WriteFault>
+    ensures ok { OnOk result (Appends (O.written writer.old) (O.written writer.new) (packet_of (spec.stop_text stop.now))) }
+    ensures failed { O.has_failed writer.new ≡ (O.has_failed writer.old || is_err result) }
+{
+    let signal = byte_digits(stop.signal);
+    let number = Hexadecimal::new(u32::from(stop.hart) + 1);
+    let thread = number.as_bytes();
+    match stop.why {
+        Why::Stands => write_packet_of(writer, &[b"T", &signal, b"thread:", thread, b";"]),
+        Why::Watched(sight) => {
+            let address = Hexadecimal::new(sight.address);
+            write_packet_of(
+                writer,
+                &[
+                    b"T",
+                    &signal,
+                    watch_name(sight.kind),
+                    b":",
+                    address.as_bytes(),
+                    b";thread:",
+                    thread,
+                    b";",
+                ],
+            )
+        }
+        Why::End => write_packet_of(
+            writer,
+            &[b"T", &signal, b"replaylog:end;thread:", thread, b";"],
+        ),
+        Why::Begin => write_packet_of(
+            writer,
+            &[b"T", &signal, b"replaylog:begin;thread:", thread, b";"],
+        ),
+    }
 }
 
 /// The signal of a hart that is stopped by a cause.

@@ -1,0 +1,5 @@
+pub mod ActLemmas
+pub mod EngineLemmas
+pub mod MetLemmas
+pub mod TalkLemmas
+pub mod TurnLemmas

@@ -1,0 +1,60 @@
+//! How a talk stands between two packets.
+pub mod answer;
+mod chosen;
+mod going;
+pub mod met;
+mod monitor;
+pub mod paused;
+
+ghost use Rattle.std.specs.Prelude.{◌≡◌};
+ghost use Rattle.rv_stub.specs.Met.{endings_of};
+ghost use Rattle.rv_stub.specs.Standing as spec;
+
+use rv_collide::ending::Ending;
+use rv_debug::session::Session;
+use rv_gdb::chosen::Chosen;
+use rv_gdb::points::Points;
+use rv_retrace::resume::Passed;
+use std::alloc::Global;
+use std::marker::Model;
+
+/// A run at its place, the threads that are chosen, the points that are set, and steps that were passed.
+#[derive(Drop)]
+pub struct Talk {
+    session: Session,
+    chosen: Chosen,
+    points: Points,
+    passed: Option<Passed>,
+    /// The endings of the record's pauses.
+    endings: Vec<Ending>,
+}
+
+impl Model for Talk {
+    ghost use Rattle.std.specs.Prelude.{◌≡◌, IfSome};
+    ghost use Rattle.rv_retrace.specs.Resumed.{IsPassed};
+    ghost use Rattle.rv_stub.specs.Met.{endings_of};
+    ghost use Rattle.rv_stub.specs.Standing.{Standing};
+
+    ghost Value = { Standing };
+
+    ghost view = { λ t. record { run = t.session; chosen = t.chosen; points = t.points; passed = t.passed } };
+
+    ghost invariant = { λ t. IfSome t.passed (λ passed. IsPassed passed.way t.session passed)
+        × (t.endings.items ≡ endings_of t.session) };
+}
+
+impl Talk {
+    /// Before the first packet. The caller gives the endings of the record's pauses.
+    pub fn new(alloc: Global, session: Session, endings: Vec<Ending>) -> Talk
+        requires { endings.items ≡ endings_of session }
+        ensures { result ≡ spec.at_first session }
+    {
+        Talk {
+            session,
+            chosen: Chosen::new(),
+            points: Points::new(alloc),
+            passed: None,
+            endings,
+        }
+    }
+}

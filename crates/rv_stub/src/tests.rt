@@ -1,0 +1,217 @@
+//! Talks over a run that loses an addition, byte by byte.
+ghost use Rattle.std.specs.Prelude.{◌≡◌, IfOk};
+ghost use Rattle.rv_stub.specs.Met as met;
+
+use crate::state::met::endings_of;
+use crate::talk::converse;
+use rv_asm::assemble;
+use rv_collide::ending::Ending;
+use rv_collide::schedule::read_schedule;
+use rv_debug::session::Session;
+use rv_memory::buffered::Buffered;
+use rv_memory::flagged::Flagged;
+use std::alloc::Global;
+use std::fmt::Debug;
+use std::io::{self, Read};
+use std::process::Abort;
+use std::test::Fail;
+
+fn assert_is<T: PartialEq + Debug + Drop>(rt: &impl Abort, found: T, wanted: T, what: &str) {
+    assert_eq!(rt; found, wanted, "{what}");
+}
+
+/// Each hart adds 1 to one counter, without a lock.
+const SOURCE: &str =
+    "_start:\n    la   s0, counter\n    lw   t0, (s0)\n    addi t0, t0, 1\n    sw   t0, (s0)\n\
+    \x20   li   a7, 93\n    li   a0, 0\n    ecall\n.data\ncounter: .word 0\n";
+
+/// Hart 0 is paused before its store, and all of hart 1's steps are made meanwhile.
+const SCHEDULE: &str = "rvcollide schedule 1\nharts 2 steps 100 arms 1 pause 10\na 00010010\n\
+    s 0\ns 0\ns 0\ns 0\np 0 0\ns 1\ns 1\ns 1\ns 1\ns 1\nr 0\ns 0\nend\n";
+
+fn record(alloc: Global) -> Result<(Session, Vec<Ending>), Fail>
+    ensures { IfOk result (λ made. made.1.items ≡ met.endings_of made.0) }
+{
+    let image = assemble(alloc, SOURCE)?;
+    let (plan, entries) = read_schedule(alloc, &mut Flagged::new(SCHEDULE.as_bytes()))?;
+    let session = Session::new(alloc, &image, plan, entries)?;
+    let endings = endings_of(alloc, &image, plan, &session)?;
+    Ok((session, endings))
+}
+
+/// A reader of at most so many bytes a read.
+#[derive(Drop)]
+struct Pieces<'t> {
+    text: &'t [u8],
+    most: usize,
+}
+
+impl Read for Pieces<'_> {
+    fn read(&mut self, buf: &mut [u8]) -> io::Result<usize> {
+        let count = self.text.len().min(self.most).min(buf.len());
+        buf[..count].copy_from_slice(&self.text[..count]);
+        self.text = &self.text[count..];
+        Ok(count)
+    }
+}
+
+/// What is written of an input, so many bytes of it a read.
+fn written_of(alloc: Global, text: &[u8], most: usize) -> Result<Vec<u8>, Fail> {
+    let mut writer = Buffered::new(alloc, Vec::new(alloc));
+    let mut commands = Flagged::new(Pieces { text, most });
+    let (session, endings) = record(alloc)?;
+    match converse(alloc, session, endings, &mut commands, &mut writer) {
+        Ok(()) => Ok(writer.into_inner()),
+        Err(_) => Err(Fail::from("a fault")),
+    }
+}
+
+/// What is sent, and what is written then.
+type Row = (&'static str, &'static str);
+
+const TRANSCRIPT: [Row; 27] = [
+    (
+        "$qSupported#37",
+        "+$PacketSize=200;QStartNoAckMode+;qXfer:features:read+;vContSupported+;ReverseStep+;ReverseContinue+#4e",
+    ),
+    ("+$?#3f", "+$T05thread:1;#d7"),
+    ("$g#68", "-"),
+    ("-", "$T05thread:1;#d7"),
+    ("+$QStartNoAckMode#b0", "+$OK#9a"),
+    ("$qfThreadInfo#bb", "$m1,2#fc"),
+    ("$Z0,10010,4#08", "$OK#9a"),
+    ("$vCont;c#a8", "$T05thread:2;#d8"),
+    (
+        "$qThreadExtraInfo,1#b6",
+        "$686172742030207061757365642061742070632030303031303031302073746f7265203030303230303030203420736c6f742030#48",
+    ),
+    ("$z0,10010,4#28", "$OK#9a"),
+    ("$Z2,20000,4#0a", "$OK#9a"),
+    ("$vCont;s:2;c#c2", "$T05watch:20000;thread:2;#56"),
+    ("$z2,20000,4#2a", "$OK#9a"),
+    ("$vCont;s:2#24", "$T05thread:2;#d8"),
+    ("$m20000,4#bf", "$01000000#81"),
+    ("$bc#c5", "$T05replaylog:begin;thread:2;#21"),
+    (
+        "$qRcmd,656e7472792035#37",
+        "$61742035206f662031332c206e6578742070203020300a#ed",
+    ),
+    ("$Z0,1000c,4#3a", "$OK#9a"),
+    ("$vCont;s:1#23", "$T05thread:1;#d7"),
+    ("$vCont;c#a8", "$T05thread:2;#d8"),
+    ("$M20000,1:01#37", "$E03#a8"),
+    ("$vMustReplyEmpty#3a", "$#00"),
+    ("$k?#00", "$#00"),
+    ("$vCont;s:3#00", "$E02#a7"),
+    ("$qRcmd,6#00", "$E01#a6"),
+    ("$D#44", "$OK#9a"),
+    ("$?#3f", ""),
+];
+
+fn assert_writes(rt: &impl Abort, alloc: Global, rows: &[Row], most: usize) -> Result<(), Fail> {
+    let mut sent = Vec::new(alloc);
+    let mut wanted = Vec::new(alloc);
+    for (packet, answer) in rows {
+        sent.extend_from_slice(packet.as_bytes())?;
+        wanted.extend_from_slice(answer.as_bytes())?;
+    }
+    let written = written_of(alloc, &sent, most)?;
+    assert_is(rt, written.as_slice(), wanted.as_slice(), "written");
+    Ok(())
+}
+
+#[test]
+fn writes_the_transcript(rt: HostRuntime) -> Result<(), Fail> {
+    for most in [1, 7, 4096] {
+        assert_writes(&rt, rt.alloc(), &TRANSCRIPT, most)?;
+    }
+    Ok(())
+}
+
+/// A bad sum, bytes outside a packet, a packet begun anew, one that is cut off, and `-` before any answer.
+const NOISE: [Row; 6] = [
+    ("-", ""),
+    ("x$qC#b5", "-"),
+    ("$q$qC#b4", "+$QC1#c5"),
+    ("$qAttached#8f$?#3f", "+$1#31+$T05thread:1;#d7"),
+    ("$#00", "+$#00"),
+    ("$?#3", ""),
+];
+
+#[test]
+fn takes_whole_packets_alone(rt: HostRuntime) -> Result<(), Fail> {
+    assert_writes(&rt, rt.alloc(), &NOISE, 3)
+}
+
+/// A text over and over, and an answer as often.
+fn add_times(sent: &mut Vec<u8>, wanted: &mut Vec<u8>, times: u32, row: Row) -> Result<(), Fail> {
+    for _ in 0..times {
+        sent.extend_from_slice(row.0.as_bytes())?;
+        wanted.extend_from_slice(row.1.as_bytes())?;
+    }
+    Ok(())
+}
+
+/// Adds packets that set points at the addresses 0 to one less than a number.
+fn add_points(alloc: Global, sent: &mut Vec<u8>, count: u32) -> Result<(), Fail> {
+    for address in 0..count {
+        let packet = format!(in alloc; "$Z0,{address:x},4#00")?;
+        sent.extend_from_slice(packet.as_bytes())?;
+    }
+    Ok(())
+}
+
+/// 512 bytes are an unknown packet, 513 too many; and there is room for 256 points.
+#[test]
+fn has_its_limits(rt: HostRuntime) -> Result<(), Fail> {
+    let alloc = rt.alloc();
+    let mut sent = Vec::new(alloc);
+    let mut wanted = Vec::new(alloc);
+    add_times(
+        &mut sent,
+        &mut wanted,
+        1,
+        ("$QStartNoAckMode#b0$", "+$OK#9a"),
+    )?;
+    add_times(&mut sent, &mut wanted, 512, ("y", ""))?;
+    add_times(&mut sent, &mut wanted, 1, ("#00$", "$#00"))?;
+    add_times(&mut sent, &mut wanted, 513, ("y", ""))?;
+    add_times(&mut sent, &mut wanted, 1, ("#00", "$E01#a6"))?;
+    add_points(alloc, &mut sent, 257)?;
+    add_times(&mut sent, &mut wanted, 256, ("", "$OK#9a"))?;
+    add_times(&mut sent, &mut wanted, 1, ("$Z0,0,4#00", "$E04#a9$OK#9a"))?;
+    let written = written_of(alloc, &sent, 4096)?;
+    assert_is(&rt, written.as_slice(), wanted.as_slice(), "written");
+    Ok(())
+}
+
+/// What a user's commands answer: the text of each in hexadecimal digits. `ending 0`, `hit 0`, `hit 1`, `entry 14`, and
+/// `where` with a blank behind it.
+const ORDERS: [Row; 6] = [
+    ("$QStartNoAckMode#b0", "+$OK#9a"),
+    (
+        "$qRcmd,656e64696e672030#cf",
+        "$656e64696e672030206861727420302070632030303031303031302073746f7265203030303230303030203420736c6f74203020686974203820686172742031207063203030303130303038206c6f61642030303032303030302034206f6c64203030303030303030206e65772030303030303030310a61742036206f662031332c206e657874207320310a74687265616420310a#50",
+    ),
+    (
+        "$qRcmd,6869742030#30",
+        "$61742038206f662031332c206e657874207320310a74687265616420320a#05",
+    ),
+    (
+        "$qRcmd,6869742031#31",
+        "$6661756c742036204e6f456e64696e670a#1b",
+    ),
+    (
+        "$qRcmd,656e747279203134#9a",
+        "$6661756c742031204e6f506c6163650a#6a",
+    ),
+    (
+        "$qRcmd,776865726520#a0",
+        "$6661756c74203020436f6d6d616e640a#9e",
+    ),
+];
+
+#[test]
+fn obeys_a_user(rt: HostRuntime) -> Result<(), Fail> {
+    assert_writes(&rt, rt.alloc(), &ORDERS, 4096)
+}
