@@ -1,0 +1,38 @@
+//! The line of a fault of a file of a hunt: with the file, and a sentence that says what is wrong or what to do.
+ghost use Rattle.rvcollide.specs.Failure as spec;
+
+use rv_engines::shown::Shown;
+use rv_merge::fault::{FileFault, sentence};
+use std::fmt;
+
+/// A fault with the file that is at fault, where one is.
+#[derive(Clone, Copy, Debug, PartialEq, Eq)]
+pub struct FileLine<'a> {
+    pub file: Option<&'a str>,
+    pub fault: FileFault,
+}
+
+/// A fault and its sentence.
+#[derive(Drop)]
+struct Said(FileFault);
+
+impl fmt::Display for Said {
+    ghost output = { λ said. spec.file_said_output said.0 };
+
+    fn fmt<W: fmt::Write>(&self, f: &mut fmt::Formatter<W>) -> fmt::Result {
+        write!(f, "{}: {}", self.0, sentence(self.0))
+    }
+}
+
+/// The line, after the program's name.
+impl fmt::Display for FileLine<'_> {
+    ghost output = { λ line. spec.file_line_output line };
+
+    fn fmt<W: fmt::Write>(&self, f: &mut fmt::Formatter<W>) -> fmt::Result {
+        let said = Said(self.fault);
+        match self.file {
+            Some(file) => write!(f, "{}: {said}", Shown(file)),
+            None => write!(f, "{said}"),
+        }
+    }
+}

@@ -1,0 +1,160 @@
+//! The engine of `hunt` on the files of a line, and what is told while it works.
+ghost use Rattle.std.specs.Prelude.{IfSome};
+ghost use Rattle.rv_hunting.specs.Asked.{AreLegal};
+
+use crate::arguments::ImagePath;
+use crate::command::hunt::HuntLine;
+use crate::failure::Failure;
+use crate::files::InputFile;
+use rv_engines::run::fault::CommandFault;
+use rv_engines::sentences::{FaultLine, Paths};
+use rv_hunt::hunt::Watch;
+use rv_hunt::hunted::Hunted;
+use rv_hunting::engine::run_hunt;
+use rv_hunting::found::Found;
+use rv_hunting::options::{HuntOptions, MOST_WORKERS, Shows};
+use rv_memory::buffered::Buffered;
+use rv_memory::flagged::Flagged;
+use rv_tally::limit::Limit;
+use rv_tally::plans::Plans;
+use std::io::IsTerminal;
+use std::sync::Wait;
+use std::thread::{Threads, available_parallelism};
+
+/// How many lines of progress there are at most.
+const LINES: u64 = 100;
+
+/// Tells a person at a terminal how far a hunt has come, once for each hundredth of its budget.
+#[derive(Drop)]
+struct Progress<'a> {
+    rt: &'a HostRuntime,
+    limit: Limit,
+    is_shown: bool,
+    hundredths: u64,
+}
+
+impl Progress<'_> {
+    /// How many hundredths of what was asked for are done.
+    fn hundredths_of(&self, hunted: &Hunted) -> u64 {
+        let (done, all) = match self.limit {
+            Limit::Runs(runs) => (hunted.tally.runs(), runs),
+            Limit::Budget(steps) => (hunted.tally.counts().steps, steps),
+        };
+        (done / all.div_ceil(LINES).max(1)).min(LINES)
+    }
+
+    fn tell(&self, hunted: &Hunted) {
+        let (runs, races) = (hunted.tally.runs(), hunted.table.len());
+        // Where the standard error fails there is nothing left to tell it to.
+        let _ = match self.limit {
+            Limit::Runs(all) => eprintln!(self.rt; "runs {runs} of {all}, races {races}"),
+            Limit::Budget(all) => {
+                let steps = hunted.tally.counts().steps;
+                eprintln!(self.rt; "runs {runs}, races {races}, {steps} of {all} steps")
+            }
+        };
+    }
+}
+
+impl Watch for Progress<'_> {
+    fn saw(&mut self, hunted: &Hunted) {
+        let hundredths = self.hundredths_of(hunted);
+        if self.is_shown && self.hundredths < hundredths {
+            self.hundredths = hundredths;
+            self.tell(hunted);
+        }
+    }
+}
+
+/// How many threads make the runs: as many as are asked for, else as many as the machine has processors.
+fn workers_of(rt: &impl Threads, line: &HuntLine) -> u8 {
+    match (line.workers, available_parallelism(rt)) {
+        (Some(workers), _) => workers,
+        (None, Ok(count)) => count.get().min(usize::from(MOST_WORKERS)) as u8,
+        (None, Err(_)) => 1,
+    }
+}
+
+/// The engine's options, where the numbers are in their ranges, as those of a line are.
+fn options_of<'a>(line: &HuntLine<'a>, workers: u8) -> Option<HuntOptions<'a>>
+    ensures { IfSome result (λ options. AreLegal options) }
+{
+    let plans = Plans::new(line.harts, line.slots, line.lengths)?;
+    let options = HuntOptions {
+        plans,
+        seed: line.seed,
+        first: line.first,
+        limit: line.limit,
+        workers,
+        named: line.named,
+        skip: line.skip,
+        shows: shown_by(line),
+    };
+    if options.is_legal() {
+        Some(options)
+    } else {
+        None
+    }
+}
+
+/// What the line asks to be shown.
+fn shown_by(line: &HuntLine) -> Shows {
+    if line.shows_table {
+        Shows::Table
+    } else {
+        Shows::Text
+    }
+}
+
+/// Whether what was found is what the line asks to be told by the exit status.
+fn is_asked(line: &HuntLine, found: Found) -> bool {
+    (line.checks || line.checks_all) && 0 < found.bugs || line.checks_all && 0 < found.benign
+}
+
+/// The fault's line, with the file that is at fault.
+fn filed<'a>(image: ImagePath<'a>, has_failed: bool, fault: CommandFault<'a>) -> Failure<'a> {
+    let paths = Paths {
+        image: image.0,
+        schedule: None,
+        failed: has_failed.then_some(image.0),
+    };
+    Failure::Filed(FaultLine {
+        file: paths.at_fault(fault),
+        fault,
+    })
+}
+
+/// Runs the engine of `hunt` on a file.
+pub fn hunt_file<'a>(
+    rt: &HostRuntime,
+    threads: &(impl Threads + Wait + Sync),
+    image: ImagePath<'a>,
+    line: &HuntLine<'a>,
+) -> Result<(), Failure<'a>> {
+    let Some(options) = options_of(line, workers_of(threads, line)) else {
+        return Err(Failure::Line);
+    };
+    let alloc = rt.alloc();
+    let mut file = Flagged::new(InputFile::new(rt, image.0));
+    let mut writer = Buffered::new(alloc, rt.stdout());
+    let mut notes = Buffered::new(alloc, rt.stderr());
+    let mut progress = Progress {
+        rt,
+        limit: line.limit,
+        is_shown: !line.is_quiet && rt.stderr().is_terminal(),
+        hundredths: 0,
+    };
+    match run_hunt(
+        threads,
+        alloc,
+        &options,
+        &mut file,
+        &mut writer,
+        &mut notes,
+        &mut progress,
+    ) {
+        Ok(found) if is_asked(line, found) => Err(Failure::Found),
+        Ok(_) => Ok(()),
+        Err(fault) => Err(filed(image, file.failed(), fault)),
+    }
+}

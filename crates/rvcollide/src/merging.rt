@@ -1,0 +1,61 @@
+//! The engine of `merge` on the files of a line.
+
+use crate::arguments::{TablePath, TablePaths};
+use crate::failure::Failure;
+use crate::file_line::FileLine;
+use crate::files::InputFile;
+use rv_engines::fault::Fault;
+use rv_engines::run::fault::CommandFault;
+use rv_memory::buffered::Buffered;
+use rv_memory::flagged::Flagged;
+use rv_merge::merge::run_merge;
+
+/// The path of the file of a number, where there is one: the tables count from 0, and the table of what is expected comes
+/// behind them.
+fn path_of<'a>(
+    tables: TablePaths<'a>,
+    expected: Option<TablePath<'a>>,
+    number: Option<usize>,
+) -> Option<&'a str> {
+    let number = number?;
+    if let Some(path) = tables.0.get(number) {
+        return Some(*path);
+    }
+    let path = expected?;
+    Some(path.0)
+}
+
+/// The file of what is expected, where one is given.
+fn expected_file<'a>(
+    rt: &'a HostRuntime,
+    expected: Option<TablePath<'a>>,
+) -> Option<Flagged<InputFile<'a, HostRuntime>>> {
+    let path = expected?;
+    Some(Flagged::new(InputFile::new(rt, path.0)))
+}
+
+/// Runs the engine of `merge` on files.
+pub fn merge_files<'a>(
+    rt: &HostRuntime,
+    tables: TablePaths<'a>,
+    expected: Option<TablePath<'a>>,
+) -> Result<(), Failure<'a>> {
+    let alloc = rt.alloc();
+    let mut files = Vec::new(alloc);
+    for path in tables.0 {
+        let file = Flagged::new(InputFile::new(rt, *path));
+        if files.push(file).is_err() {
+            return Err(Failure::Told(CommandFault::Plain(Fault::NoMemory)));
+        }
+    }
+    let mut known = expected_file(rt, expected);
+    let mut writer = Buffered::new(alloc, rt.stdout());
+    match run_merge(alloc, &mut files, &mut known, &mut writer) {
+        Ok(false) => Ok(()),
+        Ok(true) => Err(Failure::Found),
+        Err(fault) => Err(Failure::OfFile(FileLine {
+            file: path_of(tables, expected, fault.file),
+            fault: fault.fault,
+        })),
+    }
+}
