@@ -355,20 +355,33 @@ fn refuses_other_options(rt: HostRuntime) -> Result<(), Fail> {
     assert_changes_refused(&rt, rt.alloc(), &changes)
 }
 
+/// An argument's name, and what the help says of it.
+fn described(argument: &Argument) -> (&'static str, &'static str) {
+    match argument {
+        Argument::Word { name, help } => (*name, *help),
+        Argument::Required { name, help } => (*name, *help),
+        Argument::Optional { name, help, .. } => (*name, *help),
+        Argument::Flag { name, help } => (*name, *help),
+        Argument::Words { name, help } => (*name, *help),
+    }
+}
+
+/// What the help says of the argument of that name among these.
+fn help_among(arguments: &[Argument], wanted: &str) -> Option<&'static str> {
+    for argument in arguments {
+        let (name, help) = described(argument);
+        if name == wanted {
+            return Some(help);
+        }
+    }
+    None
+}
+
 /// What the help says of an option of `run`.
 fn help_of(wanted: &str) -> Option<&'static str> {
-    for command in COMMANDS {
-        for argument in command.arguments {
-            let (name, help) = match argument {
-                Argument::Word { name, help } => (*name, *help),
-                Argument::Required { name, help } => (*name, *help),
-                Argument::Optional { name, help, .. } => (*name, *help),
-                Argument::Flag { name, help } => (*name, *help),
-                Argument::Words { name, help } => (*name, *help),
-            };
-            if name == wanted {
-                return Some(help);
-            }
+    for command in &COMMANDS {
+        if let Some(help) = help_among(command.arguments, wanted) {
+            return Some(help);
         }
     }
     None
