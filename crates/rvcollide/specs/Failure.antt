@@ -3,8 +3,8 @@ use Rattle.std.specs.Prelude.{ℕ, Bool, true, false, Option, Some, option_map, 
 use Rattle.std.specs.declared.io.ErrorKind.{ErrorKind}
 use Rattle.std.specs.declared.io.ErrorKind.TheVariants as kind
 use Rattle.rv_engines.specs.CommandFault.{refusal_output, status}
-use Rattle.rvcollide.specs.declared.command.LineFault.{LineFault}
-use Rattle.rvcollide.specs.declared.command.LineFault.TheVariants as fault
+use Rattle.rv_command.specs.declared.command.LineFault.{LineFault}
+use Rattle.rv_command.specs.declared.command.LineFault.TheVariants as fault
 use Rattle.rvcollide.specs.declared.failure.Failure.{Failure}
 use Rattle.rvcollide.specs.declared.failure.Failure.TheVariants.{Line, NotText, Told, Filed, OfFile, Found}
 use Rattle.rv_engines.specs.declared.fault.Fault.{Fault}

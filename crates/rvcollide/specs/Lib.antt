@@ -1,9 +1,1 @@
-pub mod ClapProgram
-pub mod Command
-pub mod ExplainLine
 pub mod Failure
-pub mod HuntLine
-pub mod MergeLine
-pub mod Notice
-pub mod RunLine
-pub mod internal

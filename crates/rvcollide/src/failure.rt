@@ -2,8 +2,8 @@ ghost use Rattle.std.specs.Prelude.{◌≡◌};
 ghost use Rattle.std.specs.IoError.{error_kind};
 ghost use Rattle.rvcollide.specs.Failure as spec;
 
-use crate::command::LineFault;
 use crate::file_line::FileLine;
+use rv_command::command::LineFault;
 use rv_engines::fault::Fault;
 use rv_engines::run::fault::CommandFault;
 use rv_engines::sentences::FaultLine;

@@ -2,10 +2,10 @@
 ghost use Rattle.std.specs.Prelude.{IfSome};
 ghost use Rattle.rv_hunting.specs.Asked.{AreLegal};
 
-use crate::arguments::ImagePath;
-use crate::command::hunt::HuntLine;
 use crate::failure::Failure;
 use crate::files::InputFile;
+use rv_command::arguments::ImagePath;
+use rv_command::command::hunt::HuntLine;
 use rv_engines::run::fault::CommandFault;
 use rv_engines::sentences::{FaultLine, Paths};
 use rv_hunt::hunt::Watch;

@@ -1,4 +1,4 @@
-//! `rvcollide`: its command line, and the program that runs the engine of a command (`rv_engines`) on files and the
+//! `rvcollide`: the program that reads its command line (`rv_command`) and runs the engine of the command on files and the
 //! standard input and output.
 #![tactic(auto)]
 
@@ -6,22 +6,20 @@ ghost use Rattle.std.specs.Prelude.{◌≡◌};
 ghost use Rattle.std.specs.Process.{exit_status};
 ghost use Rattle.rvcollide.specs.Failure.{status_of};
 
-pub mod arguments;
 #[cfg(test)]
 mod assertion;
-pub mod command;
 pub mod failure;
 pub mod file_line;
 pub mod files;
 mod hunting;
 mod merging;
 
-use crate::arguments::{ImagePath, PicturePath, SavePath, SchedulePath};
-use crate::command::{Job, LineFault, Notice, command_of, notice_of};
 use crate::failure::Failure;
 use crate::files::{InputFile, OutputFile};
 use crate::hunting::hunt_file;
 use crate::merging::merge_files;
+use rv_command::arguments::{ImagePath, PicturePath, SavePath, SchedulePath};
+use rv_command::command::{Job, LineFault, Notice, command_of, notice_of};
 use rv_engines::asm::run_asm;
 use rv_engines::debug::engine::run_debug;
 use rv_engines::exhibit::engine::run_exhibit;

@@ -1,9 +1,9 @@
 //! The engine of `merge` on the files of a line.
 
-use crate::arguments::{TablePath, TablePaths};
 use crate::failure::Failure;
 use crate::file_line::FileLine;
 use crate::files::InputFile;
+use rv_command::arguments::{TablePath, TablePaths};
 use rv_engines::fault::Fault;
 use rv_engines::run::fault::CommandFault;
 use rv_memory::buffered::Buffered;

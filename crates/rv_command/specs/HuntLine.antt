@@ -1,0 +1,149 @@
+-- The options of `hunt`: what each value means, and that it stands in the line.
+use Rattle.std.specs.Prelude.{ℕ, ◌+◌, ◌-◌, ◌++◌, ◌≡◌, ◌⊎◌, Bool, true, false, IfSome, Contains, List, [], ◌∷◌, Option, Some, None, option_and_then, option_map, codes}
+use Rattle.std.specs.Option.{option_map_or}
+use Rattle.std.specs.Str.{bytes_eq}
+use Rattle.clap.specs.Words.{Row, Text, first_of}
+use Rattle.rv_text.specs.Pieces.{pieces_of}
+use Rattle.rv_tally.specs.declared.limit.Limit.{Limit}
+use Rattle.rv_tally.specs.declared.limit.Limit.TheVariants.{Runs, Budget}
+use Rattle.rv_tally.specs.declared.plans.Lengths.{Lengths}
+use Rattle.rv_campaign.specs.declared.runs.TheConstants.{MOST_WORKERS}
+use Rattle.rv_collide.specs.declared.plan.TheConstants.{DEFAULT_SLOTS, MOST_ARMS, MOST_PAUSE, MOST_STEPS}
+use Rattle.rv_break.specs.declared.claim.TheConstants.{MOST_SLOTS}
+use Rattle.rv_hart.specs.declared.machine.TheConstants.{MOST_HARTS}
+use Rattle.rv_command.specs.RunLine.{Gives, GivesNumber, if_given, number_in, number_if, number_or}
+use Rattle.rv_command.specs.declared.command.hunt.HuntLine.{HuntLine}
+use Rattle.rv_command.specs.declared.command.hunt.TheConstants.{DEFAULT_BUDGET, DEFAULT_SEED, LAST_RUN, MOST_BUDGET}
+use Rattle.rv_command.specs.declared.command.run.TheConstants.{MOST_SEED}
+
+-- What a line of `hunt` asks for, beside its image.
+pub record Hunting : Type 0 where
+  pub harts : Option ℕ
+  pub seed : ℕ
+  pub first : ℕ
+  pub limit : Limit
+  pub workers : Option ℕ
+  pub lengths : Option Lengths
+  pub slots : ℕ
+  pub named : Option Text
+  pub skip : Option Text
+  pub shows_table : Bool
+  pub checks : Bool
+  pub checks_all : Bool
+  pub is_quiet : Bool
+
+-- the same of the options, their lists and paths as texts
+abbrev pub hunting : HuntLine → Hunting
+hunting line = record {
+  harts = line.harts;
+  seed = line.seed;
+  first = line.first;
+  limit = line.limit;
+  workers = line.workers;
+  lengths = line.lengths;
+  slots = line.slots;
+  named = option_map (λ text. text.now) line.named;
+  skip = option_map (λ text. text.now) line.skip;
+  shows_table = line.shows_table;
+  checks = line.checks;
+  checks_all = line.checks_all;
+  is_quiet = line.is_quiet;
+}
+
+-- ---- what the values mean
+
+-- how many runs there are from this one on
+abbrev pub runs_from : ℕ → ℕ
+runs_from first = LAST_RUN + 1 - first
+
+-- so many runs, where their number is given, and else as many as the budget allows
+abbrev pub limit_by : ℕ → Option ℕ → Limit
+limit_by budget None = Budget budget
+limit_by budget (Some runs) = Runs runs
+
+abbrev pub limit_at : ℕ → List Row → Option Limit
+limit_at first rows = option_and_then (λ budget. option_map (λ runs. limit_by budget runs)
+    (number_if (codes "runs") 1 (runs_from first) rows))
+    (number_or DEFAULT_BUDGET (codes "budget") 1 MOST_BUDGET rows)
+
+abbrev pub three_lengths : Text → Text → Text → Option Lengths
+three_lengths steps arms pause =
+    option_and_then (λ s. option_and_then (λ a. option_map (λ p. record { steps = s; arms = a; pause = p })
+    (number_in 1 MOST_PAUSE pause))
+    (number_in 0 MOST_ARMS arms))
+    (number_in 1 MOST_STEPS steps)
+
+abbrev pub lengths_by : List Text → Option Lengths
+lengths_by (steps ∷ arms ∷ pause ∷ []) = three_lengths steps arms pause
+lengths_by _ = None
+
+-- STEPS,ARMS,PAUSE: three numbers with commas (44) between them
+abbrev pub lengths_in : Text → Option Lengths
+lengths_in text = lengths_by (pieces_of 44 text)
+
+abbrev pub lengths_at : List Row → Option (Option Lengths)
+lengths_at rows = if_given lengths_in (first_of (codes "plan") rows)
+
+-- `clap` gives a flag the value `true` where it stands, and else `false`
+abbrev pub flag_at : Text → List Row → Bool
+flag_at name rows = option_map_or (λ text. bytes_eq text (codes "true")) (first_of name rows) false
+
+abbrev pub hunting_at : List Row → Option Hunting
+hunting_at rows =
+    option_and_then (λ harts. option_and_then (λ seed. option_and_then (λ first. option_and_then (λ limit. option_and_then (λ workers. option_and_then (λ lengths. option_map (λ slots.
+    record {
+      harts = harts;
+      seed = seed;
+      first = first;
+      limit = limit;
+      workers = workers;
+      lengths = lengths;
+      slots = slots;
+      named = first_of (codes "named") rows;
+      skip = first_of (codes "skip") rows;
+      shows_table = flag_at (codes "table") rows;
+      checks = flag_at (codes "check") rows;
+      checks_all = flag_at (codes "check-all") rows;
+      is_quiet = flag_at (codes "quiet") rows;
+    })
+    (number_or DEFAULT_SLOTS (codes "slots") 1 MOST_SLOTS rows))
+    (lengths_at rows))
+    (number_if (codes "workers") 1 MOST_WORKERS rows))
+    (limit_at first rows))
+    (number_or 0 (codes "first") 0 LAST_RUN rows))
+    (number_or DEFAULT_SEED (codes "seed") 0 MOST_SEED rows))
+    (number_if (codes "harts") 1 MOST_HARTS rows)
+
+-- ---- what the words after the command's name hold
+
+-- the number of runs stands in the words; the budget does, or is the default
+abbrev pub IsLimitGiven : List Text → ℕ → Limit → Type 0
+IsLimitGiven words first (Runs runs) = GivesNumber words (codes "runs") 1 (runs_from first) runs
+IsLimitGiven words first (Budget budget) = (budget ≡ DEFAULT_BUDGET) ⊎ GivesNumber words (codes "budget") 1 MOST_BUDGET budget
+
+-- a text of these lengths stands in the words
+pub record GivesLengths (words : List Text) (lengths : Lengths) : Type 0 where
+  pub text : Text
+  pub stands : Gives words (codes "plan") text
+  pub reads : lengths_in text ≡ Some lengths
+
+-- a flag that holds stands in the words
+abbrev pub IsFlagGiven : List Text → Text → Bool → Type 0
+IsFlagGiven words name holds = holds ≡ true → Contains words (codes "--" ++ name)
+
+-- each option of `hunt` stands in the words, or has its default
+pub record IsHuntGiven (words : List Text) (path : Text) (wanted : Hunting) : Type 0 where
+  pub image : Contains words path
+  pub harts : IfSome wanted.harts (GivesNumber words (codes "harts") 1 MOST_HARTS)
+  pub seed : (wanted.seed ≡ DEFAULT_SEED) ⊎ GivesNumber words (codes "seed") 0 MOST_SEED wanted.seed
+  pub first : (wanted.first ≡ 0) ⊎ GivesNumber words (codes "first") 0 LAST_RUN wanted.first
+  pub limit : IsLimitGiven words wanted.first wanted.limit
+  pub workers : IfSome wanted.workers (GivesNumber words (codes "workers") 1 MOST_WORKERS)
+  pub lengths : IfSome wanted.lengths (GivesLengths words)
+  pub slots : (wanted.slots ≡ DEFAULT_SLOTS) ⊎ GivesNumber words (codes "slots") 1 MOST_SLOTS wanted.slots
+  pub named : IfSome wanted.named (Gives words (codes "named"))
+  pub skip : IfSome wanted.skip (Gives words (codes "skip"))
+  pub shows_table : IsFlagGiven words (codes "table") wanted.shows_table
+  pub checks : IsFlagGiven words (codes "check") wanted.checks
+  pub checks_all : IsFlagGiven words (codes "check-all") wanted.checks_all
+  pub is_quiet : IsFlagGiven words (codes "quiet") wanted.is_quiet

@@ -1,0 +1,188 @@
+//! The options of the command `hunt` in what `clap` finds.
+ghost use Rattle.std.specs.Prelude.{◌≡◌, ◌-◌, MatchResult, Some, None, option_map, codes};
+ghost use Rattle.clap.specs.Matches.{found_of};
+ghost use Rattle.clap.specs.Walk.{first_of, rows_of};
+ghost use Rattle.rv_command.specs.Command as spec;
+ghost use Rattle.rv_command.specs.HuntLine as line;
+
+use super::complaint::{Complaint, NumberOption};
+use super::number::{number_between, number_if, number_or};
+use super::run::{HARTS, SEED, SLOTS, WORKERS};
+use super::{Job, text_of};
+use crate::arguments::ImagePath;
+use clap::ArgMatches;
+use rv_collide::plan::{DEFAULT_SLOTS, MOST_ARMS, MOST_PAUSE, MOST_STEPS};
+use rv_tally::limit::Limit;
+use rv_tally::plans::Lengths;
+use rv_text::pieces::Pieces;
+
+/// The seed where the line gives none.
+pub const DEFAULT_SEED: u32 = 1;
+
+/// The greatest number of a run.
+pub const LAST_RUN: u32 = 4_294_967_295;
+
+/// How many steps a hunt makes where the line does not say.
+pub const DEFAULT_BUDGET: u64 = 50_000_000;
+
+/// The most steps that a hunt may be given.
+pub const MOST_BUDGET: u64 = 1_000_000_000_000_000;
+
+pub const FIRST: NumberOption = NumberOption {
+    name: "first",
+    least: 0,
+    most: LAST_RUN as u64,
+};
+
+pub const BUDGET: NumberOption = NumberOption {
+    name: "budget",
+    least: 1,
+    most: MOST_BUDGET,
+};
+
+/// What `hunt` is asked for, beside its image.
+#[derive(Clone, Copy, Debug, PartialEq, Eq)]
+pub struct HuntLine<'a> {
+    /// How many harts each run has; without it they go by turns.
+    pub harts: Option<u8>,
+    pub seed: u32,
+    /// The number of the first run.
+    pub first: u32,
+    pub limit: Limit,
+    /// How many threads make the runs; without it as many as there are processors.
+    pub workers: Option<u8>,
+    /// The lengths of each run; without them they go through all scales.
+    pub lengths: Option<Lengths>,
+    pub slots: u8,
+    /// Names of symbols, with a comma between two: races on their bytes are told apart.
+    pub named: Option<&'a str>,
+    /// Addresses in eight hexadecimal digits, with a comma between two: no hart is paused there.
+    pub skip: Option<&'a str>,
+    /// The standard output is the table alone.
+    pub shows_table: bool,
+    /// A race that may be a bug gives the status 5.
+    pub checks: bool,
+    /// So does one that is likely benign.
+    pub checks_all: bool,
+    /// No progress is told.
+    pub is_quiet: bool,
+}
+
+/// `hunt` with its options.
+pub fn hunt_of<'a>(given: &ArgMatches<'a>) -> Result<Job<'a>, Complaint<'a>>
+    ensures { MatchResult result (λ job. spec.hunt_of (rows_of (found_of given.now)) ≡ Some (spec.asked job))
+        (λ _. spec.hunt_of (rows_of (found_of given.now)) ≡ None) }
+{
+    let image = text_of(given, "IMAGE").ok_or(Complaint::Words)?;
+    let line = line_of(given)?;
+    Ok(Job::Hunt {
+        image: ImagePath(image),
+        line,
+    })
+}
+
+fn line_of<'a>(given: &ArgMatches<'a>) -> Result<HuntLine<'a>, Complaint<'a>>
+    ensures { MatchResult result (λ wanted. line.hunting_at (rows_of (found_of given.now)) ≡ Some (line.hunting wanted))
+        (λ _. line.hunting_at (rows_of (found_of given.now)) ≡ None) }
+{
+    let harts = number_if(given, HARTS)?;
+    let seed = number_or(given, SEED, u64::from(DEFAULT_SEED))?;
+    let first = number_or(given, FIRST, 0)? as u32;
+    let limit = limit_of(given, first)?;
+    let workers = number_if(given, WORKERS)?;
+    let lengths = lengths_of(given)?;
+    let slots = number_or(given, SLOTS, u64::from(DEFAULT_SLOTS))?;
+    Ok(HuntLine {
+        harts: harts.map(|n| n as u8),
+        seed: seed as u32,
+        first,
+        limit,
+        workers: workers.map(|n| n as u8),
+        lengths,
+        slots: slots as u8,
+        named: text_of(given, "named"),
+        skip: text_of(given, "skip"),
+        shows_table: flag_of(given, "table"),
+        checks: flag_of(given, "check"),
+        checks_all: flag_of(given, "check-all"),
+        is_quiet: flag_of(given, "quiet"),
+    })
+}
+
+/// How far the hunt goes. The budget has to be one also where it does not count.
+fn limit_of<'a>(given: &ArgMatches<'a>, first: u32) -> Result<Limit, Complaint<'a>>
+    ensures { MatchResult result (λ limit. line.limit_at first (rows_of (found_of given.now)) ≡ Some limit)
+        (λ _. line.limit_at first (rows_of (found_of given.now)) ≡ None) }
+{
+    let budget = number_or(given, BUDGET, DEFAULT_BUDGET)?;
+    let runs = number_if(given, runs_option(first))?;
+    match runs {
+        Some(runs) => Ok(Limit::Runs(runs)),
+        None => Ok(Limit::Budget(budget)),
+    }
+}
+
+/// The option of how many runs there are: no more than there are from the first on.
+fn runs_option(first: u32) -> NumberOption
+    ensures name { result.name.now ≡ codes "runs" }
+    ensures least { result.least ≡ 1 }
+    ensures most { result.most ≡ line.runs_from first }
+{
+    NumberOption {
+        name: "runs",
+        least: 1,
+        most: u64::from(LAST_RUN) + 1 - u64::from(first),
+    }
+}
+
+/// The lengths that all runs have, where they are given.
+fn lengths_of<'a>(given: &ArgMatches<'a>) -> Result<Option<Lengths>, Complaint<'a>>
+    ensures { MatchResult result (λ lengths. line.lengths_at (rows_of (found_of given.now)) ≡ Some lengths)
+        (λ _. line.lengths_at (rows_of (found_of given.now)) ≡ None) }
+{
+    let Some(value) = text_of(given, "plan") else {
+        return Ok(None);
+    };
+    match lengths_in(value) {
+        Some(lengths) => Ok(Some(lengths)),
+        None => Err(Complaint::Lengths { value }),
+    }
+}
+
+/// The lengths that a text writes, as in `2000,64,100`.
+fn lengths_in(text: &str) -> Option<Lengths>
+    ensures { result ≡ line.lengths_in text.now }
+{
+    let mut pieces = Pieces::of(text.as_bytes(), b',');
+    let steps = pieces.next_piece()?;
+    let arms = pieces.next_piece()?;
+    let pause = pieces.next_piece()?;
+    if pieces.next_piece().is_some() {
+        return None;
+    }
+    three_lengths(steps, arms, pause)
+}
+
+/// The lengths that three texts write.
+fn three_lengths(steps: &[u8], arms: &[u8], pause: &[u8]) -> Option<Lengths>
+    ensures { result ≡ line.three_lengths steps.now arms.now pause.now }
+{
+    let steps = number_between(steps, 1, u64::from(MOST_STEPS))?;
+    let arms = number_between(arms, 0, u64::from(MOST_ARMS))?;
+    let pause = number_between(pause, 1, u64::from(MOST_PAUSE))?;
+    Some(Lengths {
+        steps: steps as u32,
+        arms: arms as u32,
+        pause: pause as u32,
+    })
+}
+
+/// Whether a flag is given.
+fn flag_of(given: &ArgMatches<'_>, name: &str) -> bool
+    ensures { result ≡ line.flag_at name.now (rows_of (found_of given.now)) }
+{
+    match text_of(given, name) {
+        Some(value) => value == "true",
+        None => false,
+    }
+}

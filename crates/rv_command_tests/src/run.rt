@@ -1,0 +1,397 @@
+ghost use Rattle.std.specs.Prelude.{◌<◌};
+
+use crate::asserting::{assert_asks, assert_refused};
+use crate::assertion::assert_is;
+use rv_collide::plan::Plan;
+use rv_command::arguments::{ImagePath, SavePath};
+use rv_command::command::commands::COMMANDS;
+use rv_command::command::run::{ARMS, HARTS, KEEP, PAUSE, RUNS, SEED, SLOTS, STEPS, WORKERS};
+use rv_command::command::subcommand::Argument;
+use rv_command::command::{Job, LineFault, Notice, command_of, notice_of};
+use rv_engines::run::options::Options;
+use std::alloc::Global;
+use std::process::Abort;
+use std::test::Fail;
+
+const LINE: &str =
+    "rvcollide run a.elf --harts 2 --steps 20 --arms 4 --pause 5 --seed 7 --runs 3 --workers 6";
+
+/// The job of `LINE`, with what may be left out.
+fn hunt<'a>(
+    named: Option<&'a str>,
+    skip: Option<&'a str>,
+    keep: u32,
+    save: Option<&'a str>,
+) -> Option<Job<'a>>
+    requires { keep < 3 }
+{
+    Some(Job::Run {
+        image: ImagePath("a.elf"),
+        options: Options {
+            plan: Plan::new(2, 20, 4, 5, 4)?,
+            seed: 7,
+            runs: 3,
+            workers: 6,
+            named,
+            skip,
+            keep,
+        },
+        save: save.map(|path| SavePath(path)),
+    })
+}
+
+/// Asserts the same of `LINE` with one text in place of another.
+fn assert_change_refused(
+    rt: &impl Abort,
+    alloc: Global,
+    old: &str,
+    new: &str,
+    part: &str,
+) -> Result<(), Fail> {
+    let line = LINE.replace(alloc, old, new)?;
+    assert!(rt; line.as_str() != LINE);
+    assert_refused(rt, alloc, &line, part)
+}
+
+/// A text of `LINE`, another in its place, and what is told then.
+type Change = (&'static str, &'static str, &'static str);
+
+fn assert_changes_refused(rt: &impl Abort, alloc: Global, changes: &[Change]) -> Result<(), Fail> {
+    for (old, new, part) in changes {
+        assert_change_refused(rt, alloc, old, new, part)?;
+    }
+    Ok(())
+}
+
+/// The options in any order, with and without `=`, before and after the image, and with leading zeros.
+#[test]
+fn reads_the_options(rt: HostRuntime) -> Result<(), Fail> {
+    let alloc = rt.alloc();
+    let job = hunt(None, None, 0, None);
+    for line in [
+        LINE,
+        "rvcollide run a.elf --harts=2 --steps=20 --arms=4 --pause=5 --seed=7 --runs=3 --workers=6",
+        "rvcollide run --workers 6 --runs=3 --seed 7 a.elf --pause 5 --arms=4 --steps 20 --harts 2",
+        "rvcollide run --harts 02 --steps 000020 --arms 4 --pause 5 --seed 07 --runs 3 --workers 6 -- a.elf",
+    ] {
+        assert_asks(&rt, alloc, line, job)?;
+    }
+    Ok(())
+}
+
+/// The options that may be left out; a list is the text as it was given.
+#[test]
+fn reads_what_may_be_left_out(rt: HostRuntime) -> Result<(), Fail> {
+    let alloc = rt.alloc();
+    let all =
+        "rvcollide run a.elf --harts 2 --steps 20 --arms 4 --pause 5 --seed 7 --runs 3 --workers 6 \
+--named a,,b --skip=00010000,x --keep 2 --save s.txt";
+    let job = hunt(Some("a,,b"), Some("00010000,x"), 2, Some("s.txt"));
+    assert_asks(&rt, alloc, all, job)?;
+    let empty =
+        "rvcollide run a.elf --harts 2 --steps 20 --arms 4 --pause 5 --seed 7 --runs 3 --workers 6 \
+--named= --skip  --keep 0";
+    assert_asks(&rt, alloc, empty, hunt(Some(""), Some(""), 0, None))
+}
+
+/// The slots are four where they are left out.
+#[test]
+fn reads_the_slots(rt: HostRuntime) -> Result<(), Fail> {
+    let alloc = rt.alloc();
+    let plain = "rvcollide threads a.elf --harts 2 --steps 20 --arms 4 --pause 5 --seed 7";
+    assert_asks(&rt, alloc, plain, by_threads(4))?;
+    let given =
+        "rvcollide threads a.elf --slots 8 --harts 2 --steps 20 --arms 4 --pause 5 --seed 7";
+    assert_asks(&rt, alloc, given, by_threads(8))
+}
+
+/// The job of `threads` with so many slots.
+fn by_threads<'a>(slots: u8) -> Option<Job<'a>> {
+    Some(Job::Threads {
+        image: ImagePath("a.elf"),
+        plan: Plan::new(2, 20, 4, 5, slots)?,
+        seed: 7,
+        save: None,
+    })
+}
+
+/// Each number at both ends of its range, and one past them.
+#[test]
+fn takes_the_ends_of_the_ranges(rt: HostRuntime) -> Result<(), Fail> {
+    let alloc = rt.alloc();
+    let least =
+        "rvcollide run a --harts 1 --steps 1 --arms 0 --pause 1 --seed 0 --runs 1 --workers 1 --slots 1";
+    let most =
+        "rvcollide run a --harts 16 --steps 1000000 --arms 4096 --pause 65535 --seed 4294967295 \
+--runs 1000 --workers 16 --keep 999 --slots=8";
+    for line in [least, most] {
+        let words: Vec<&str> = line.split(' ').collect(alloc)?;
+        assert!(rt; command_of(alloc, &words).is_ok(), "at {line}");
+    }
+    Ok(())
+}
+
+#[test]
+fn refuses_numbers_out_of_range(rt: HostRuntime) -> Result<(), Fail> {
+    let changes = [
+        (
+            "--harts 2",
+            "--harts 0",
+            "'0' for '--harts': it is a decimal number from 1 to 16",
+        ),
+        (
+            "--harts 2",
+            "--harts 17",
+            "'17' for '--harts': it is a decimal number from 1 to 16",
+        ),
+        (
+            "--steps 20",
+            "--steps 0",
+            "'0' for '--steps': it is a decimal number from 1 to 1000000",
+        ),
+        ("--steps 20", "--steps 1000001", "'1000001' for '--steps'"),
+        (
+            "--arms 4",
+            "--arms 4097",
+            "'4097' for '--arms': it is a decimal number from 0 to 4096",
+        ),
+        (
+            "--pause 5",
+            "--pause 0",
+            "'0' for '--pause': it is a decimal number from 1 to 65535",
+        ),
+        ("--pause 5", "--pause 65536", "'65536' for '--pause'"),
+        (
+            "--pause 5",
+            "--pause 5 --slots 0",
+            "'0' for '--slots': it is a decimal number from 1 to 8",
+        ),
+        ("--pause 5", "--pause 5 --slots 9", "'9' for '--slots'"),
+        (
+            "--seed 7",
+            "--seed 4294967296",
+            "'4294967296' for '--seed': it is a decimal number from 0 to 4294967295",
+        ),
+        (
+            "--runs 3",
+            "--runs 0",
+            "'0' for '--runs': it is a decimal number from 1 to 1000",
+        ),
+        ("--runs 3", "--runs 1001", "'1001' for '--runs'"),
+        (
+            "--workers 6",
+            "--workers 0",
+            "'0' for '--workers': it is a decimal number from 1 to 16",
+        ),
+        ("--workers 6", "--workers 17", "'17' for '--workers'"),
+        (
+            "--runs 3",
+            "--runs 1000 --keep 1000",
+            "'1000' for '--keep': it is a decimal number from 0 to 999",
+        ),
+    ];
+    assert_changes_refused(&rt, rt.alloc(), &changes)
+}
+
+/// What is no decimal number, and a run to be saved that is none of the runs.
+#[test]
+fn refuses_other_values(rt: HostRuntime) -> Result<(), Fail> {
+    let changes = [
+        ("--harts 2", "--harts=", "'' for '--harts'"),
+        ("--harts 2", "--harts +2", "'+2' for '--harts'"),
+        ("--harts 2", "--harts=-2", "'-2' for '--harts'"),
+        ("--harts 2", "--harts 0x2", "'0x2' for '--harts'"),
+        (
+            "--seed 7",
+            "--seed 7 --keep 3",
+            "'3' for '--keep': it is less than '--runs', which is 3",
+        ),
+        ("--seed 7", "--seed 7 --keep=", "'' for '--keep'"),
+    ];
+    assert_changes_refused(&rt, rt.alloc(), &changes)
+}
+
+/// Each option that is required left out, and the image.
+#[test]
+fn wants_each_required_option(rt: HostRuntime) -> Result<(), Fail> {
+    let changes = [
+        (" --harts 2", "", "--harts <N>"),
+        (" --steps 20", "", "--steps <N>"),
+        (" --arms 4", "", "--arms <N>"),
+        (" --pause 5", "", "--pause <N>"),
+        (" --seed 7", "", "--seed <N>"),
+        (" --runs 3", "", "--runs <N>"),
+        (" --workers 6", "", "--workers <N>"),
+        (" a.elf", "", "<IMAGE>"),
+    ];
+    assert_changes_refused(&rt, rt.alloc(), &changes)
+}
+
+/// Each option of the plan and of the runs twice.
+#[test]
+fn refuses_a_number_twice(rt: HostRuntime) -> Result<(), Fail> {
+    let changes = [
+        (
+            "--harts 2",
+            "--harts 2 --harts 2",
+            "'--harts <N>' cannot be used multiple times",
+        ),
+        (
+            "--steps 20",
+            "--steps 20 --steps=20",
+            "'--steps <N>' cannot be used multiple times",
+        ),
+        (
+            "--arms 4",
+            "--arms 4 --arms 4",
+            "'--arms <N>' cannot be used multiple times",
+        ),
+        (
+            "--pause 5",
+            "--pause 5 --pause 5",
+            "'--pause <N>' cannot be used multiple times",
+        ),
+        (
+            "--seed 7",
+            "--seed 7 --seed 7",
+            "'--seed <N>' cannot be used multiple times",
+        ),
+        (
+            "--runs 3",
+            "--runs 3 --runs 3",
+            "'--runs <N>' cannot be used multiple times",
+        ),
+        (
+            "--workers 6",
+            "--workers 6 --workers 6",
+            "'--workers <N>' cannot be used multiple times",
+        ),
+    ];
+    assert_changes_refused(&rt, rt.alloc(), &changes)
+}
+
+/// Each option that may be left out twice.
+#[test]
+fn refuses_a_list_twice(rt: HostRuntime) -> Result<(), Fail> {
+    let changes = [
+        (
+            "a.elf",
+            "a.elf --named a --named b",
+            "'--named <LIST>' cannot be used multiple times",
+        ),
+        (
+            "a.elf",
+            "a.elf --skip a --skip b",
+            "'--skip <LIST>' cannot be used multiple times",
+        ),
+        (
+            "a.elf",
+            "a.elf --keep 1 --keep 1",
+            "'--keep <RUN>' cannot be used multiple times",
+        ),
+        (
+            "a.elf",
+            "a.elf --save a --save a",
+            "'--save <FILE>' cannot be used multiple times",
+        ),
+    ];
+    assert_changes_refused(&rt, rt.alloc(), &changes)
+}
+
+/// Values with control bytes are shown without them.
+#[test]
+fn shows_no_control_byte_of_a_value(rt: HostRuntime) -> Result<(), Fail> {
+    let changes = [
+        (
+            "--harts 2",
+            "--harts \x1b[2J",
+            "invalid value '\\x1b[2J' for '--harts': it is",
+        ),
+        (
+            "a.elf",
+            "a.elf --keep \u{9b}3",
+            "invalid value '\\xc2\\x9b3' for '--keep': it is",
+        ),
+        ("a.elf", "a.elf \x07", "'\\x07'"),
+    ];
+    assert_changes_refused(&rt, rt.alloc(), &changes)
+}
+
+/// One option without its value, unknown ones, and two images.
+#[test]
+fn refuses_other_options(rt: HostRuntime) -> Result<(), Fail> {
+    let changes = [
+        (" a.elf", " a.elf b.elf", "'b.elf'"),
+        ("--harts 2", "--harts", "--harts <N>"),
+        ("--harts 2", "--hart 2", "'--hart'"),
+        ("--harts 2", "-x2", "'-x'"),
+        ("a.elf", "a.elf --named", "--named <LIST>"),
+    ];
+    assert_changes_refused(&rt, rt.alloc(), &changes)
+}
+
+/// An argument's name, and what the help says of it.
+fn described(argument: &Argument) -> (&'static str, &'static str) {
+    match argument {
+        Argument::Word { name, help } => (*name, *help),
+        Argument::Required { name, help } => (*name, *help),
+        Argument::Optional { name, help, .. } => (*name, *help),
+        Argument::Flag { name, help } => (*name, *help),
+        Argument::Words { name, help } => (*name, *help),
+    }
+}
+
+/// What the help says of the argument of that name among these.
+fn help_among(arguments: &[Argument], wanted: &str) -> Option<&'static str> {
+    for argument in arguments {
+        let (name, help) = described(argument);
+        if name == wanted {
+            return Some(help);
+        }
+    }
+    None
+}
+
+/// What the help says of an option of `run`.
+fn help_of(wanted: &str) -> Option<&'static str> {
+    for command in &COMMANDS {
+        if let Some(help) = help_among(command.arguments, wanted) {
+            return Some(help);
+        }
+    }
+    None
+}
+
+/// The help has the range of each number, as the reader has it.
+#[test]
+fn help_has_the_ranges(rt: HostRuntime) -> Result<(), Fail> {
+    let alloc = rt.alloc();
+    for option in &[HARTS, STEPS, ARMS, PAUSE, SLOTS, SEED, RUNS, WORKERS, KEEP] {
+        let range = format!(in alloc; ", {} to {}", option.least, option.most)?;
+        let help = help_of(option.name).ok_or(option.name)?;
+        let (_, after) = help.split_once(range.as_str()).ok_or(help)?;
+        let is_whole = after.is_empty() || after.starts_with(';') || after.starts_with(' ');
+        assert_is(&rt, is_whole, true, help);
+    }
+    Ok(())
+}
+
+#[test]
+fn help_names_each_option(rt: HostRuntime) -> Result<(), Fail> {
+    let alloc = rt.alloc();
+    for part in [
+        "Usage: rvcollide run [OPTIONS] --harts <N>",
+        "--harts <N>",
+        "1 to 16",
+        "--named <LIST>",
+        "[default: 0]",
+        "Example:\n  rvcollide run",
+    ] {
+        let notice = notice_of(alloc, &["rvcollide", "run", "--help"]);
+        let Ok(Notice::Answer(text)) = notice else {
+            return Err(Fail::from("no help"));
+        };
+        assert!(rt; text.as_str().contains(part), "at {part}: {text}");
+    }
+    Ok(())
+}
