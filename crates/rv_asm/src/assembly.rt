@@ -45,6 +45,3 @@ pub fn assemble(alloc: Global, source: &str) -> Result<Image, AsmFault>
         }),
     }
 }
-
-#[cfg(test)]
-mod tests;

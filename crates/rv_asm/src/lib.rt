@@ -19,6 +19,3 @@ pub use listing::line::line_of;
 pub use listing::list::{ListFault, list, listed};
 pub use reading::alone::word_at;
 pub use statement::AsmKind;
-
-#[cfg(test)]
-mod tests;

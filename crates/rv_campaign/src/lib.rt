@@ -9,8 +9,6 @@ mod kept;
 mod run;
 mod runs;
 mod series;
-#[cfg(test)]
-mod tests;
 mod workers;
 
 pub use kept::{Keep, Series, SeriesFault, kept_runs};

@@ -14,14 +14,3 @@ pub enum Entry {
     /// The address was disarmed.
     Disarmed(u32),
 }
-
-#[cfg(test)]
-mod tests {
-    use super::*;
-
-    /// Room is eight bytes an entry.
-    #[test]
-    fn is_small(rt: HostRuntime) {
-        assert_eq!(rt; size_of::<Entry>(), 8);
-    }
-}

@@ -18,8 +18,6 @@ pub mod plan;
 pub mod refused;
 pub mod replay;
 pub mod schedule;
-#[cfg(test)]
-mod tests;
 pub mod texts;
 pub mod told;
 pub mod walk_laws;

@@ -13,6 +13,3 @@ pub use fault::{ScheduleFault, ScheduleKind};
 pub use format::Format;
 pub use reading::read_schedule;
 pub use writing::write_schedule;
-
-#[cfg(test)]
-mod tests;

@@ -127,6 +127,3 @@ pub fn write_finished<O: Output>(writer: &mut O, told: &Finished) -> Result<(), 
     write_endings(writer, &told.endings)?;
     write_turns(writer, &told.entries)
 }
-
-#[cfg(test)]
-mod tests;

@@ -17,6 +17,4 @@ mod schedule;
 pub mod session;
 mod shown;
 pub mod talk;
-#[cfg(test)]
-mod tests;
 pub mod word;

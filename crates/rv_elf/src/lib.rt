@@ -26,6 +26,3 @@ pub use image::Image;
 pub use loading::load;
 pub use symbol::Symbol;
 pub use writing::write;
-
-#[cfg(test)]
-mod tests;

@@ -18,7 +18,5 @@ mod operations;
 mod quick;
 pub mod registers;
 mod start;
-#[cfg(test)]
-mod tests;
 pub mod texts;
 pub mod write;

@@ -185,6 +185,3 @@ fn kind_text(access: &Access) -> &'static [u8]
         (_, false) => b"load",
     }
 }
-
-#[cfg(test)]
-mod tests;

@@ -9,8 +9,6 @@
 mod own;
 mod same;
 mod seats;
-#[cfg(test)]
-mod tests;
 pub mod threads;
 mod watched;
 mod worker;

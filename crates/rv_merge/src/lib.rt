@@ -5,13 +5,9 @@
 //! says and which races it fits `specs/Ignore.antt`, and which fault is told of a file `specs/FileFault.antt`.
 #![tactic(auto)]
 
-#[cfg(test)]
-mod assertion;
 pub mod fault;
 pub mod ignore;
 pub mod merge;
 pub mod parted;
 mod spelled;
 pub mod table_file;
-#[cfg(test)]
-mod tests;

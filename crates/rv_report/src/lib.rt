@@ -10,6 +10,4 @@ pub mod exhibiting;
 pub mod key;
 pub mod race_table;
 pub mod row;
-#[cfg(test)]
-mod tests;
 pub mod texts;

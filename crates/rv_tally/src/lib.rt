@@ -14,5 +14,3 @@ pub mod limit;
 pub mod plans;
 pub mod summary;
 pub mod tally;
-#[cfg(test)]
-mod tests;

@@ -1,0 +1,193 @@
+//! Files that are loaded or refused.
+use crate::assertion::assert_is;
+use crate::samples::{PLAIN, patched};
+use rv_elf::{Image, LoadFault, load, write};
+use std::alloc::Global;
+use std::process::Abort;
+use std::test::Fail;
+
+fn fault_of(alloc: Global, file: &[u8]) -> Option<LoadFault> {
+    load(alloc, file).err()
+}
+
+fn assert_is_plain(rt: &impl Abort, image: &Image) {
+    assert_is(rt, image.entry(), 0x10000, "entry");
+    assert_is(rt, image.segments().len(), 1, "segments");
+    for segment in image.segments() {
+        assert_is(rt, segment.start, 0x10000, "start");
+        assert_is(
+            rt,
+            segment.bytes.as_slice(),
+            &[0x93, 0x00, 0x50, 0x00],
+            "bytes",
+        );
+        assert_is(rt, segment.len, 4, "length");
+        let flags = (segment.r, segment.w, segment.x);
+        assert_is(rt, flags, (true, false, true), "flags");
+    }
+    assert_is(rt, image.symbols().len(), 0, "symbols");
+}
+
+#[test]
+fn plain_file(rt: HostRuntime) -> Result<(), Fail> {
+    let image = load(rt.alloc(), &PLAIN)?;
+    assert_is_plain(&rt, &image);
+    let written = write(rt.alloc(), &image)?;
+    assert_is(&rt, written.as_slice(), &PLAIN, "written");
+    Ok(())
+}
+
+#[test]
+fn cut_files(rt: HostRuntime) {
+    for end in 0..88 {
+        let fault = fault_of(rt.alloc(), &PLAIN[..end]);
+        assert_is(&rt, (end, fault), (end, Some(LoadFault::Truncated)), "cut");
+    }
+}
+
+/// Where a field of the plain file is, its other bytes, and what is then wrong: each field set to all ones, and the
+/// entry to an address in mid-word.
+const FIELDS: [(usize, &[u8], Option<LoadFault>); 27] = [
+    (0, &[0xff; 4], Some(LoadFault::NotElf)),
+    (4, &[0xff; 1], Some(LoadFault::NotElf32Little)),
+    (5, &[0xff; 1], Some(LoadFault::NotElf32Little)),
+    (6, &[0xff; 1], Some(LoadFault::NotElf32Little)),
+    (7, &[0xff; 9], None),
+    (16, &[0xff; 2], Some(LoadFault::NotExecutable)),
+    (18, &[0xff; 2], Some(LoadFault::NotRiscV)),
+    (20, &[0xff; 4], Some(LoadFault::NotElf32Little)),
+    (24, &[0xff; 4], Some(LoadFault::BadEntry)),
+    (28, &[0xff; 4], Some(LoadFault::Truncated)),
+    (32, &[0xff; 4], None),
+    (36, &[0xff; 4], None),
+    (40, &[0xff; 2], Some(LoadFault::HeaderSize)),
+    (42, &[0xff; 2], Some(LoadFault::HeaderSize)),
+    (44, &[0xff; 2], Some(LoadFault::TooManySegments)),
+    (46, &[0xff; 2], None),
+    (48, &[0xff; 2], None),
+    (50, &[0xff; 2], None),
+    (52, &[0xff; 4], Some(LoadFault::BadEntry)),
+    (56, &[0xff; 4], Some(LoadFault::Truncated)),
+    (60, &[0xff; 4], Some(LoadFault::PastEnd)),
+    (64, &[0xff; 4], None),
+    (68, &[0xff; 4], Some(LoadFault::FileLongerThanMemory)),
+    (72, &[0xff; 4], Some(LoadFault::PastEnd)),
+    (76, &[0xff; 4], None),
+    (80, &[0xff; 4], None),
+    (24, &[2, 0, 1, 0], Some(LoadFault::BadEntry)),
+];
+
+fn fault_with(alloc: Global, at: usize, new: &[u8]) -> Result<Option<LoadFault>, Fail> {
+    let file = patched(alloc, &PLAIN, at, new)?;
+    Ok(fault_of(alloc, &file))
+}
+
+#[test]
+fn changed_fields(rt: HostRuntime) -> Result<(), Fail> {
+    for (at, new, want) in &FIELDS {
+        let fault = fault_with(rt.alloc(), *at, new)?;
+        assert_is(&rt, (at, fault), (at, *want), "changed field");
+    }
+    Ok(())
+}
+
+fn push_words(out: &mut Vec<u8>, words: &[u32]) -> Result<(), Fail> {
+    for word in words {
+        out.extend_from_slice(&word.to_le_bytes())?;
+    }
+    Ok(())
+}
+
+/// A file of the plain file's segment, its four bytes last, and of another program header.
+fn with_header(alloc: Global, header: &[u32; 8]) -> Result<Vec<u8>, Fail> {
+    let mut out = patched(alloc, &PLAIN[..52], 44, &[2, 0])?;
+    push_words(&mut out, &[1, 116, 0x10000, 0, 4, 4, 5, 1])?;
+    push_words(&mut out, header)?;
+    out.extend_from_slice(&PLAIN[84..])?;
+    Ok(out)
+}
+
+const HEADERS: [([u32; 8], Option<LoadFault>); 21] = [
+    // up to the last address, and one past it
+    ([1, 0, 0xffff_f000, 0, 0, 0x1000, 6, 1], None),
+    (
+        [1, 0, 0xffff_f000, 0, 0, 0x1001, 6, 1],
+        Some(LoadFault::PastEnd),
+    ),
+    // dynamic, interpreted, and a note
+    ([2, 0, 0, 0, 0, 0, 0, 1], Some(LoadFault::NotStatic)),
+    ([3, 0, 0, 0, 0, 0, 0, 1], Some(LoadFault::NotStatic)),
+    ([4, 0xffff_ffff, 0, 0, 9, 0, 0, 1], None),
+    // over the last byte of the first segment, after it, and in front of it
+    ([1, 0, 0x1_0003, 0, 0, 8, 6, 1], Some(LoadFault::Overlap)),
+    ([1, 0, 0x1_0004, 0, 0, 8, 6, 1], None),
+    ([1, 0, 0xfff8, 0, 0, 8, 6, 1], None),
+    ([1, 0, 0xfff8, 0, 0, 9, 6, 1], Some(LoadFault::Overlap)),
+    // round the stacks
+    ([1, 0, 0xbfff_ffff, 0, 0, 1, 6, 1], None),
+    ([1, 0, 0xbfff_ffff, 0, 0, 2, 6, 1], Some(LoadFault::Overlap)),
+    ([1, 0, 0xc00f_ffff, 0, 0, 1, 6, 1], Some(LoadFault::Overlap)),
+    ([1, 0, 0xc010_0000, 0, 0, 1, 6, 1], None),
+    // a segment without memory is no segment, whatever it says of the file
+    ([1, 0xffff_ffff, 0x1_0000, 0, 8, 0, 6, 1], None),
+    // more in the file than in memory comes before past the file's end, and that before the end
+    (
+        [1, 0xffff_ffff, 0xffff_ffff, 0, 9, 8, 6, 1],
+        Some(LoadFault::FileLongerThanMemory),
+    ),
+    (
+        [1, 0xffff_ffff, 0xffff_ffff, 0, 8, 8, 6, 1],
+        Some(LoadFault::Truncated),
+    ),
+    (
+        [1, 117, 0x2_0000, 0, 4, 8, 6, 1],
+        Some(LoadFault::Truncated),
+    ),
+    ([1, 116, 0x2_0000, 0, 4, 8, 6, 1], None),
+    // no bytes lie anywhere
+    ([1, 0xffff_ffff, 0x2_0000, 0, 0, 8, 6, 1], None),
+    // 16,777,216 bytes together, and one more
+    ([1, 0, 0x2_0000, 0, 0, 16_777_212, 6, 1], None),
+    (
+        [1, 0, 0x2_0000, 0, 0, 16_777_213, 6, 1],
+        Some(LoadFault::TooLarge),
+    ),
+];
+
+#[test]
+fn second_program_header(rt: HostRuntime) -> Result<(), Fail> {
+    for (header, want) in &HEADERS {
+        let file = with_header(rt.alloc(), header)?;
+        let fault = fault_of(rt.alloc(), &file);
+        assert_is(&rt, (header, fault), (header, *want), "header");
+    }
+    Ok(())
+}
+
+/// The plain file's front with `count` program headers, all but the first of zeros.
+fn with_count(alloc: Global, count: u8) -> Result<Vec<u8>, Fail> {
+    let mut file = patched(alloc, &PLAIN[..84], 44, &[count, 0])?;
+    for _ in 1..count {
+        file.extend_from_slice(&[0; 32])?;
+    }
+    Ok(file)
+}
+
+fn fault_with_count(alloc: Global, count: u8) -> Result<Option<LoadFault>, Fail> {
+    let file = with_count(alloc, count)?;
+    Ok(fault_of(alloc, &file))
+}
+
+#[test]
+fn many_program_headers(rt: HostRuntime) -> Result<(), Fail> {
+    let fault = fault_with_count(rt.alloc(), 64)?;
+    assert_is(&rt, fault, None, "64 program headers");
+    let fault = fault_with_count(rt.alloc(), 65)?;
+    assert_is(
+        &rt,
+        fault,
+        Some(LoadFault::TooManySegments),
+        "65 program headers",
+    );
+    Ok(())
+}

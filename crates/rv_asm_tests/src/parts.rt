@@ -1,0 +1,18 @@
+//! The segments of the images that are tried.
+ghost use Rattle.std.specs.Prelude.{◌≡◌, not, true};
+
+use rv_memory::region::Region;
+
+/// A segment of these bytes, and of zeros up to `len`: code, which may be executed, or else data, which may be written.
+pub fn segment(start: u32, bytes: Vec<u8>, len: u32, is_code: bool) -> Region
+    ensures { result ≡ record { start = start; bytes = bytes.items; len = len; r = true; w = not is_code; x = is_code } }
+{
+    Region {
+        start,
+        bytes,
+        len,
+        r: true,
+        w: !is_code,
+        x: is_code,
+    }
+}

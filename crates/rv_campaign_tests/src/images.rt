@@ -1,0 +1,35 @@
+//! What the images of the tests are made of, and their plans.
+use rv_collide::plan::Plan;
+use rv_memory::region::Region;
+use std::alloc::Global;
+use std::process::Abort;
+use std::test::Fail;
+
+/// `lui x6,0x20`, `sw x10,0(x6)`, `lw x5,0(x6)`, `ecall`.
+pub const P: [u32; 4] = [0x0002_0337, 0x00a3_2023, 0x0003_2283, 0x0000_0073];
+
+/// `lui x6,0x20`, `sw x10,0(x6)`, `ecall`.
+pub const ONE_STORE: [u32; 3] = [0x0002_0337, 0x00a3_2023, 0x0000_0073];
+
+/// Words at 00010000, R and X.
+pub fn code(rt: &impl Abort, alloc: Global, words: &[u32]) -> Result<Region, Fail> {
+    let mut bytes = Vec::new(alloc);
+    for word in words {
+        bytes.extend_from_slice(&word.to_le_bytes())?;
+    }
+    let len = bytes.len();
+    assert!(rt; 1 <= len && len <= 65_536);
+    Ok(Region {
+        start: 0x10000,
+        bytes,
+        len: len as u32,
+        r: true,
+        w: false,
+        x: true,
+    })
+}
+
+/// A plan with four slots.
+pub fn plan(harts: u8, steps: u32, arms: u32, pause: u32) -> Result<Plan, Fail> {
+    Ok(Plan::new(harts, steps, arms, pause, 4).ok_or("a plan")?)
+}

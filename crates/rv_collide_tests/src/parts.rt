@@ -1,0 +1,19 @@
+//! The memory of the images that are tried.
+ghost use Rattle.std.specs.Prelude.{◌≡◌, [], true, false};
+
+use rv_memory::region::Region;
+use std::alloc::Global;
+
+/// Zero bytes that may be read and written.
+pub fn zeros(alloc: Global, start: u32, len: u32) -> Region
+    ensures { result ≡ record { start = start; bytes = []; len = len; r = true; w = true; x = false } }
+{
+    Region {
+        start,
+        bytes: Vec::new(alloc),
+        len,
+        r: true,
+        w: true,
+        x: false,
+    }
+}

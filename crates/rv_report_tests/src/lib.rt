@@ -1,0 +1,12 @@
+//! The tests of rv_report and rv_tally, and the parts that they are made of.
+//!
+//! They stand in a crate of their own, so that the two are not proved a second time with their tests.
+#![tactic(auto)]
+
+#[cfg(test)]
+mod assertion;
+pub mod parts;
+#[cfg(test)]
+mod report;
+#[cfg(test)]
+mod tally;

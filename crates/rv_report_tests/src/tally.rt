@@ -1,0 +1,325 @@
+//! Plans, what runs saw, and what is counted of a run.
+use crate::assertion::assert_is;
+use rv_collide::collider::Collider;
+use rv_collide::plan::Plan;
+use rv_elf::Image;
+use rv_hart::hart::Cause;
+use rv_memory::flat::Flat;
+use rv_memory::region::Region;
+use rv_tally::counts::Counts;
+use rv_tally::end::End::{self, Exited, OutOfSteps, Stopped};
+use rv_tally::limit::Limit;
+use rv_tally::plans::{Lengths, Plans};
+use rv_tally::summary::{Summary, summary_of};
+use rv_tally::tally::Tally;
+use std::alloc::Global;
+use std::process::Abort;
+use std::test::Fail;
+
+// ---- plans
+
+/// The lengths of the runs of numbers under 2^11, longest first: the runs that have each are those whose number is one
+/// less than an odd multiple of the second.
+const SCALES: [(u32, u32); 11] = [
+    (1_000_000, 1024),
+    (512_000, 512),
+    (256_000, 256),
+    (128_000, 128),
+    (64_000, 64),
+    (32_000, 32),
+    (16_000, 16),
+    (8000, 8),
+    (4000, 4),
+    (2000, 2),
+    (1000, 1),
+];
+
+/// How many steps the run of a number under 2^11 makes at most.
+fn steps_of(run: u32) -> u32 {
+    for (steps, apart) in &SCALES {
+        if run % *apart == *apart - 1 {
+            return *steps;
+        }
+    }
+    0
+}
+
+const HARTS: [u8; 3] = [2, 4, 8];
+
+fn numbers(plan: Plan) -> (u8, u32, u32, u32, u8) {
+    (plan.harts, plan.steps, plan.arms, plan.pause, plan.slots)
+}
+
+#[test]
+fn plans_go_through_all_scales(rt: HostRuntime) -> Result<(), Fail> {
+    let plans = Plans::new(None, 4, None).ok_or("plans")?;
+    for run in 0..2048u32 {
+        let steps = steps_of(run);
+        let wanted = (HARTS[(run % 3) as usize], steps, 64, steps / 20, 4);
+        assert_is(&rt, (run, numbers(plans.plan(run))), (run, wanted), "plan");
+    }
+    let last = numbers(plans.plan(4_294_967_295));
+    assert_is(&rt, last, (2, 1_000_000, 64, 50_000, 4), "the last run's");
+    Ok(())
+}
+
+#[test]
+fn what_is_given_each_run_has(rt: HostRuntime) -> Result<(), Fail> {
+    let given = Plans::new(None, 4, Some(lengths((2000, 64, 100)))).ok_or("plans")?;
+    assert_is(
+        &rt,
+        numbers(given.plan(2)),
+        (8, 2000, 64, 100, 4),
+        "lengths",
+    );
+    let one = Plans::new(Some(1), 8, None).ok_or("plans")?;
+    assert_is(&rt, numbers(one.plan(1)), (1, 2000, 64, 100, 8), "one hart");
+    Ok(())
+}
+
+/// Numbers that no plan may have.
+const OUT_OF_RANGE: [(Option<u8>, u8, Option<(u32, u32, u32)>); 9] = [
+    (Some(0), 4, None),
+    (Some(17), 4, None),
+    (None, 0, None),
+    (None, 9, None),
+    (None, 4, Some((0, 64, 1))),
+    (None, 4, Some((1_000_001, 64, 1))),
+    (None, 4, Some((1, 4097, 1))),
+    (None, 4, Some((1, 64, 0))),
+    (None, 4, Some((1, 64, 65_536))),
+];
+
+fn lengths((steps, arms, pause): (u32, u32, u32)) -> Lengths {
+    Lengths { steps, arms, pause }
+}
+
+#[test]
+fn refuses_what_is_out_of_range(rt: HostRuntime) {
+    for (harts, slots, given) in &OUT_OF_RANGE {
+        let given = match given {
+            Some(given) => Some(lengths(*given)),
+            None => None,
+        };
+        let refused = Plans::new(*harts, *slots, given).is_none();
+        assert_is(&rt, refused, true, "out of range");
+    }
+}
+
+// ---- what runs saw
+
+fn counts(steps: u64, quiet: u64) -> Counts {
+    Counts {
+        steps,
+        quiet,
+        hit: 0,
+        changed: 0,
+        unwatched: 0,
+        passed: 0,
+    }
+}
+
+/// A run of so many steps whose harts ended so.
+fn run(alloc: Global, steps: u64, ends: &[End]) -> Result<Summary, Fail> {
+    Ok(Summary {
+        most_steps: 1000,
+        ends: Vec::from_slice(alloc, ends)?,
+        armed: vec![in alloc; 0x10000u32, 0x10008, 0x10000]?,
+        paused: vec![in alloc; 0x10008u32]?,
+        counts: counts(steps, 0),
+    })
+}
+
+const ILLEGAL: End = Stopped(Cause::Illegal, 0x10000);
+
+/// The tally of so many runs whose harts ended so, each of so many steps.
+fn tally_of(alloc: Global, runs: u32, steps: u64, ends: &[End]) -> Result<Tally, Fail> {
+    let mut tally = Tally::new(alloc);
+    let run = run(alloc, steps, ends)?;
+    for _ in 0..runs {
+        tally.add(alloc, &run)?;
+    }
+    Ok(tally)
+}
+
+fn codes(alloc: Global, first: u32) -> Result<Vec<End>, Fail> {
+    let mut ends = Vec::new(alloc);
+    for code in first..first.saturating_add(16) {
+        ends.push(Exited(code))?;
+    }
+    Ok(ends)
+}
+
+/// Of ever new codes the first eight have a count of their own.
+#[test]
+fn a_hundred_thousand_codes(rt: HostRuntime) -> Result<(), Fail> {
+    let alloc = rt.alloc();
+    let mut tally = Tally::new(alloc);
+    for n in 0..6250u32 {
+        tally.add(alloc, &run(alloc, 1, &codes(alloc, n * 16)?)?)?;
+    }
+    tally.add(alloc, &run(alloc, 1, &[Exited(3), ILLEGAL, OutOfSteps])?)?;
+    let exits = tally.ended().exits();
+    assert_is(&rt, exits.told().len(), 8, "kinds");
+    assert_is(&rt, exits.rest(), 99_992, "the rest");
+    assert_is(
+        &rt,
+        exits.told().get(3).map(|kind| kind.count),
+        Some(2),
+        "code 3",
+    );
+    assert_is(&rt, tally.ended().stops().told().len(), 1, "traps");
+    assert_is(&rt, tally.ended().out_of_steps(), 1, "out of steps");
+    assert_is(&rt, tally.runs(), 6251, "runs");
+    assert_is(&rt, tally.armed().count(), 2, "armed");
+    assert_is(&rt, tally.paused().count(), 1, "paused");
+    Ok(())
+}
+
+/// How many runs of how many steps, whose one hart ended so, how far the hunt goes and where it begins, and whether
+/// one more is made.
+const GOES_ON: [(u32, u64, End, Limit, u32, bool); 14] = [
+    (0, 1000, OutOfSteps, Limit::Budget(1), 0, true),
+    (1, 0, OutOfSteps, Limit::Budget(1), 0, false),
+    (1, 700, OutOfSteps, Limit::Budget(1000), 0, false),
+    (1, 700, OutOfSteps, Limit::Budget(1001), 0, true),
+    (2, 700, OutOfSteps, Limit::Budget(2000), 0, false),
+    (2, 700, OutOfSteps, Limit::Budget(2001), 7, true),
+    (
+        1,
+        1,
+        OutOfSteps,
+        Limit::Budget(1_000_000_000_000_000),
+        4_294_967_294,
+        true,
+    ),
+    (
+        1,
+        1,
+        OutOfSteps,
+        Limit::Budget(1_000_000_000_000_000),
+        4_294_967_295,
+        false,
+    ),
+    (3, 1, OutOfSteps, Limit::Runs(3), 0, false),
+    (3, 1, OutOfSteps, Limit::Runs(4), 0, true),
+    (47, 1, ILLEGAL, Limit::Budget(1_000_000), 0, true),
+    (48, 1, ILLEGAL, Limit::Budget(1_000_000), 0, false),
+    (48, 1, ILLEGAL, Limit::Runs(1000), 0, true),
+    (48, 1, Exited(0), Limit::Budget(1_000_000), 0, true),
+];
+
+#[test]
+fn runs_up_to_the_budget(rt: HostRuntime) -> Result<(), Fail> {
+    for (runs, steps, end, limit, first, wanted) in &GOES_ON {
+        let tally = tally_of(rt.alloc(), *runs, *steps, &[*end])?;
+        let found = (runs, steps, tally.goes_on(*limit, *first));
+        assert_is(&rt, found, (runs, steps, *wanted), "goes on");
+    }
+    Ok(())
+}
+
+/// What the tests for warnings answer: no pause, each run trapped, no step passed, few armed, no exit.
+fn warned(tally: &Tally, sites: u32) -> [bool; 5] {
+    [
+        tally.made_no_pause(),
+        tally.each_run_trapped(),
+        tally.passed_no_step(),
+        tally.armed_few(sites),
+        tally.exited_nowhere(),
+    ]
+}
+
+#[test]
+fn warns(rt: HostRuntime) -> Result<(), Fail> {
+    let alloc = rt.alloc();
+    let trapped = tally_of(alloc, 3, 5, &[ILLEGAL, OutOfSteps])?;
+    assert_is(
+        &rt,
+        warned(&trapped, 5),
+        [true, true, false, true, true],
+        "trapped",
+    );
+    let mut others = tally_of(alloc, 3, 5, &[Exited(0), OutOfSteps])?;
+    assert_is(
+        &rt,
+        warned(&others, 4),
+        [true, false, false, false, false],
+        "exited",
+    );
+    let mut longer = run(alloc, 5, &[ILLEGAL, OutOfSteps])?;
+    longer.most_steps = 1001;
+    longer.counts = counts(5, 2);
+    others.add(alloc, &longer)?;
+    assert_is(
+        &rt,
+        warned(&others, 0),
+        [false, false, true, false, true],
+        "longer",
+    );
+    Ok(())
+}
+
+// ---- a run
+
+/// A core of an image of words at 00010000, with 4,096 zero bytes at 00020000.
+fn core(rt: &impl Abort, alloc: Global, words: &[u32], plan: Plan) -> Result<Collider<Flat>, Fail> {
+    let mut bytes = Vec::new(alloc);
+    for word in words {
+        bytes.extend_from_slice(&word.to_le_bytes())?;
+    }
+    let len = bytes.len();
+    assert!(rt; 1 <= len && len <= 65_536);
+    let code = Region {
+        start: 0x10000,
+        bytes,
+        len: len as u32,
+        r: true,
+        w: false,
+        x: true,
+    };
+    let zeros = Region {
+        start: 0x20000,
+        bytes: Vec::new(alloc),
+        len: 4096,
+        r: true,
+        w: true,
+        x: false,
+    };
+    let segments = vec![in alloc; code, zeros]?;
+    let image = Image::new(0x10000, segments, Vec::new(alloc)).ok_or("an image")?;
+    Ok(Collider::new(alloc, &image, plan)?)
+}
+
+/// `lui x6,0x20`, `sw x10,0(x6)`, an illegal word: hart 1 pauses at the store, hart 0 makes two steps, and is stopped
+/// by the second.
+#[test]
+fn counts_a_run(rt: HostRuntime) -> Result<(), Fail> {
+    let plan = Plan::new(3, 20, 8, 5, 4).ok_or("a plan")?;
+    let mut core = core(&rt, rt.alloc(), &[0x0002_0337, 0x00a3_2023, 0], plan)?;
+    for hart in [0u8, 1, 0, 0] {
+        core.turn(hart)?;
+    }
+    core.arm(0x10004)?;
+    core.turn(1)?;
+    core.resume(1)?;
+    core.arm(0x10004)?;
+    core.turn(1)?;
+    core.turn(2)?;
+    core.resume(1)?;
+    let summary = summary_of(rt.alloc(), &core)?;
+    let ends: [End; 3] = [Stopped(Cause::Illegal, 0x10008), OutOfSteps, OutOfSteps];
+    assert_is(&rt, summary.ends.as_slice(), &ends, "ends");
+    assert_is(&rt, summary.armed.as_slice(), &[0x10004, 0x10004], "armed");
+    assert_is(
+        &rt,
+        summary.paused.as_slice(),
+        &[0x10004, 0x10004],
+        "paused",
+    );
+    let mut wanted = counts(5, 2);
+    wanted.passed = 1;
+    assert_is(&rt, summary.counts, wanted, "numbers");
+    assert_is(&rt, summary.most_steps, 20, "steps of the plan");
+    Ok(())
+}
