@@ -10,10 +10,8 @@ use Rattle.std.specs.Option.{option_map_or}
 use Rattle.std.specs.Fmt.{decimal}
 use Rattle.rv_gdb.specs.Features.{features_text, head, register_element, register_elements, tail, type_of}
 use Rattle.rv_gdb.specs.Replies.{or_refused}
-use Rattle.rv_gdb.specs.Shown.{bytes_text, pause_text, register_text, registers_text, word_text}
+use Rattle.rv_gdb.specs.Shown.{bytes_text, register_text, registers_text, word_text}
 use Rattle.rv_gdb.specs.Stops.{hexadecimal}
-use Rattle.rv_gdb.specs.declared.shown.Pause.{Pause}
-use Rattle.rv_hart.specs.Texts.{access_text}
 use Rattle.rv_hart.specs.Registers.{get}
 use Rattle.rv_hart.specs.declared.hart.Hart.{Hart}
 use Rattle.rv_memory.specs.Memory.{Memory, byte}
@@ -110,11 +108,6 @@ digits_put byte number digits before now is put = subst (Appends before now) (ap
 -- three pieces, one after another
 pub three : (a b c d : Option (List ℕ)) (x y z : List ℕ) → Appends a b x → Appends b c y → Appends c d z → Appends a d (x ++ (y ++ z))
 three a b c d x y z p q r = Appends-trans a b d x (y ++ z) p (Appends-trans b c d y z q r)
-
-pub pause_joined : (a b c d : Option (List ℕ)) (pause : Pause) (digits : List ℕ) → digits ≡ decimal pause.slot → Appends a b (codes "paused at ") → Appends b c (access_text pause.access) → Appends c d (codes " slot " ++ (digits ++ [])) → Appends a d (pause_text pause)
-unfolding pause_text
-pause_joined a b c d pause digits is p q r =
-    three a b c d (codes "paused at ") (access_text pause.access) (codes " slot " ++ decimal pause.slot) p q (subst (λ text. Appends c d (codes " slot " ++ text)) (append-nil digits ∙ is) r)
 
 pub features_joined : (a b c d : Option (List ℕ)) (front back : List ℕ) → front ≡ head → back ≡ tail → Appends a b front → Appends b c register_elements → Appends c d back → Appends a d features_text
 unfolding features_text head tail

@@ -2,13 +2,9 @@
 use Rattle.std.specs.Prelude.{ℕ, ◌+◌, ◌-◌, ◌/◌, ◌%◌, ◌^◌, ◌==◌, zero, suc, nat_lt, if◌then◌else◌, Option, Some, None, List, [], ◌++◌, codes}
 use Rattle.std.specs.Option.{option_map_or}
 use Rattle.std.specs.List.{flat_map, range_with_len}
-use Rattle.std.specs.Fmt.{decimal}
 use Rattle.rv_gdb.specs.Stops.{thread_text}
-use Rattle.rv_gdb.specs.declared.shown.Pause.{Pause}
 use Rattle.rv_hart.specs.Registers.{get}
-use Rattle.rv_hart.specs.Texts.{access_text, front_text, status_text}
 use Rattle.rv_hart.specs.declared.hart.Hart.{Hart}
-use Rattle.rv_hart.specs.declared.hart.Status.{Status}
 use Rattle.rv_memory.specs.Memory.{Memory, byte}
 use Rattle.rv_text.specs.Hexadecimal.{byte_digits}
 
@@ -45,14 +41,6 @@ next_thread hart = codes "," ++ thread_text hart
 -- all threads, of so many harts
 abbrev pub threads_text : ℕ → List ℕ
 threads_text harts = codes "m" ++ thread_text 0 ++ flat_map next_thread (range_with_len 1 (harts - 1))
-
-unfoldable pub pause_text : Pause → List ℕ
-pause_text pause = codes "paused at " ++ (access_text pause.access ++ (codes " slot " ++ decimal pause.slot))
-
--- how a hart stands: paused, running, or at its end
-abbrev pub standing_text : ℕ → Status → Option Pause → List ℕ
-standing_text hart status None = front_text hart ++ status_text status
-standing_text hart status (Some pause) = front_text hart ++ pause_text pause
 
 -- bytes in hexadecimal digits, two a byte
 abbrev pub digits_of : List ℕ → List ℕ

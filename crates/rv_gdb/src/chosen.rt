@@ -106,6 +106,3 @@ pub fn choose(harts: u8, chosen: &Chosen, request: &Request<'_>) -> Option<Chose
         _ => None,
     }
 }
-
-#[cfg(test)]
-mod tests;

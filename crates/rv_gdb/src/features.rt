@@ -122,6 +122,3 @@ pub fn write_features_part(
     };
     put_pieces(writer, &[front, part(text, from, count)])
 }
-
-#[cfg(test)]
-mod tests;

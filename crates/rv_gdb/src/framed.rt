@@ -48,6 +48,3 @@ pub fn write_packet<O: Output>(writer: &mut O, bytes: &[u8]) -> Result<(), Write
 {
     put_pieces(writer, &[b"$", bytes, b"#", &byte_digits(sum_of(bytes))])
 }
-
-#[cfg(test)]
-mod tests;

@@ -146,6 +146,3 @@ fn is_sum(sum: u8, first: u8, second: u8) -> bool
         None => false,
     }
 }
-
-#[cfg(test)]
-mod tests;

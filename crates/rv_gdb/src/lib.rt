@@ -1,7 +1,7 @@
 //! GDB's remote protocol over a stored schedule: packets, what they ask, and what is answered of a state.
 //!
 //! To the layer above, `specs/` says which packets some bytes make, what each of them asks, and the answers that need no
-//! more than the state and what is chosen. No command uses this crate yet.
+//! more than the state and what is chosen.
 #![tactic(auto)]
 
 pub mod action;
@@ -20,5 +20,3 @@ pub mod replies;
 pub mod sheet;
 pub mod shown;
 pub mod stop;
-#[cfg(test)]
-mod tests;

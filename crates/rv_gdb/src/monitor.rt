@@ -62,6 +62,3 @@ fn numbered_order(name: &[u8], word: &[u8]) -> Option<Order>
         None
     }
 }
-
-#[cfg(test)]
-mod tests;

@@ -349,6 +349,3 @@ fn read_write_row(text: &[u8]) -> Option<Option<Request<'_>>>
         _ => None,
     }
 }
-
-#[cfg(test)]
-mod tests;

@@ -201,6 +201,3 @@ fn watches(kind: Kind, address: u32, point: Point) -> bool
         && range.from <= address
         && u64::from(address) < u64::from(range.from) + u64::from(range.length)
 }
-
-#[cfg(test)]
-mod tests;

@@ -128,6 +128,3 @@ pub fn write_state_reply<S: ByteStore>(
     }
     Ok(true)
 }
-
-#[cfg(test)]
-mod tests;

@@ -3,27 +3,15 @@ ghost use Rattle.std.specs.Prelude.{◌≡◌, ◌<◌, ◌≤◌, ◌++◌, ◌
 ghost use Rattle.std.specs.Io.KnownBytes.{Appends};
 ghost use Rattle.rv_gdb.specs.Shown as spec;
 ghost use Rattle.rv_hart.specs.SomeHart.{SomeHart};
-ghost use Rattle.rv_hart.specs.Texts.{front_text};
 ghost use Rattle.rv_memory.specs.Memory.{byte};
 
 use crate::fields::Range;
 use crate::hexadecimal::Hexadecimal;
-use rv_hart::access::Access;
-use rv_hart::hart::Status;
 use rv_hart::machine::Machine;
-use rv_hart::texts::{write_access, write_status};
 use rv_memory::flagged::WriteFault;
 use rv_memory::output::{Output, put_pieces};
 use rv_memory::store::ByteStore;
-use rv_text::decimal::Decimal;
 use rv_text::hexadecimal::byte_digits;
-
-/// How a hart is paused: its access, and the slot of its watchpoint.
-#[derive(Clone, Copy, Debug, PartialEq, Eq)]
-pub struct Pause {
-    pub access: Access,
-    pub slot: u8,
-}
 
 /// Writes a word, its low byte first.
 pub(crate) fn write_word<O: Output>(writer: &mut O, word: u32) -> Result<(), WriteFault>
@@ -114,45 +102,6 @@ pub fn write_threads<O: Output>(writer: &mut O, harts: u8) -> Result<(), WriteFa
     for hart in 1..harts {
         let thread = Hexadecimal::new(u32::from(hart) + 1);
         put_pieces(writer, &[b",", thread.as_bytes()])?;
-    }
-    Ok(())
-}
-
-fn write_front<O: Output>(writer: &mut O, hart: u8) -> Result<(), WriteFault>
-    ensures ok { OnOk result (Appends (O.written writer.old) (O.written writer.new) (front_text hart)) }
-    ensures failed { O.has_failed writer.new ≡ (O.has_failed writer.old || is_err result) }
-{
-    let number = Decimal::new(u64::from(hart));
-    put_pieces(writer, &[b"hart ", number.as_bytes(), b" "])
-}
-
-/// Writes how a hart is paused.
-#[tactic(auto, unfolding(crate::specs::Shown::pause_text))]
-fn write_pause<O: Output>(writer: &mut O, pause: &Pause) -> Result<(), WriteFault>
-    ensures ok { OnOk result (Appends (O.written writer.old) (O.written writer.new) (spec.pause_text pause.now)) }
-    ensures failed { O.has_failed writer.new ≡ (O.has_failed writer.old || is_err result) }
-{
-    let slot = Decimal::new(u64::from(pause.slot));
-    writer.put(b"paused at ")?;
-    write_access(writer, &pause.access)?;
-    put_pieces(writer, &[b" slot ", slot.as_bytes()])?;
-    Ok(())
-}
-
-/// Writes how a hart stands.
-pub fn write_standing<O: Output>(
-    writer: &mut O,
-    hart: u8,
-    status: Status,
-    pause: &Option<Pause>,
-) -> Result<(), WriteFault>
-    ensures ok { OnOk result (Appends (O.written writer.old) (O.written writer.new) (spec.standing_text hart status pause.now)) }
-    ensures failed { O.has_failed writer.new ≡ (O.has_failed writer.old || is_err result) }
-{
-    write_front(writer, hart)?;
-    match pause {
-        None => write_status(writer, status)?,
-        Some(pause) => write_pause(writer, pause)?,
     }
     Ok(())
 }

@@ -1,6 +1,7 @@
 -- The first and the last of what is found at some places.
 use Rattle.std.proofs.Common.{◌≡◌, ◌∙◌, ℕ, ◌+◌, ◌-◌, ◌<◌, ◌≤◌, zero, suc, true, false, Option, Some, None, refl, sym, ap, arith}
-use Rattle.std.specs.Prelude.{IfNone, is_some}
+use Rattle.std.specs.Prelude.{IfNone, IfSome, is_some}
+use Rattle.rv_gdb.specs.declared.stop.Stop.{Stop}
 use Rattle.std.specs.Option.{option_or}
 use Rattle.rv_gdb.specs.Search.{first_in}
 use Rattle.rv_retrace.specs.Going.{last_in}
@@ -18,6 +19,11 @@ none_of (Some x) is = cc
 pub none_gives : {A : Type 0} {P : Type 0} (o : Option A) → o ≡ None → IfNone o P → P
 none_gives None is holds = holds
 none_gives (Some x) is holds = cc
+
+pub near_more : (o last : Option Stop) (place : ℕ) → IfSome o (λ stop. (stop.hart < 16) × (stop.place ≤ place + 1)) → IfSome last (λ stop. (stop.hart < 16) × (stop.place ≤ place)) → IfSome (option_or o last) (λ stop. (stop.hart < 16) × (stop.place ≤ place + 1))
+near_more None None place a b = b
+near_more None (Some stop) place a b = (b.0, let le = b.1 in omega (arith, le))
+near_more (Some stop) last place a b = a
 
 module _ {A : Type 0} (at : ℕ → Option A) where
   -- the search goes on by one place
@@ -46,6 +52,13 @@ module _ {A : Type 0} (at : ℕ → Option A) where
   or_assoc : (a b c : Option A) → option_or (option_or a b) c ≡ option_or a (option_or b c)
   or_assoc None b c = refl
   or_assoc (Some x) b c = refl
+
+  -- the search goes on by one place
+  pub last_more : (from place : ℕ) → from ≤ place → last_in at from (place + 1 - from) ≡ option_or (at place) (last_in at from (place - from))
+  last_more from place le =
+      let e : place + 1 - from ≡ suc (place - from) = omega (arith, le) in
+      let f : from + (place - from) ≡ place = omega (arith, le) in
+      ap (last_in at from) e ∙ ap (λ k. option_or (at k) (last_in at from (place - from))) f
 
   -- the last of two stretches is the second's, or else the first's
   two_stretches : (from count more : ℕ) → last_in at from (count + more) ≡ option_or (last_in at (from + count) more) (last_in at from count)

@@ -1,5 +1,5 @@
 -- Where a recorded run stops, forwards and backwards.
-use Rattle.std.specs.Prelude.{ℕ, ◌+◌, ◌-◌, ◌||◌, Bool, true, false, zero, suc, if◌then◌else◌, Option, Some, None, option_and_then, option_map, unwrap_or, List, length, slice_get}
+use Rattle.std.specs.Prelude.{ℕ, ◌+◌, ◌-◌, ◌||◌, Bool, false, zero, suc, if◌then◌else◌, Option, Some, None, option_and_then, option_map, unwrap_or, List, slice_get}
 use Rattle.std.specs.Option.{option_or}
 use Rattle.rv_collide.specs.Entries.{stepped_at}
 use Rattle.rv_collide.specs.StateAt.{state_at}
@@ -8,7 +8,6 @@ use Rattle.rv_gdb.specs.Points.{breaks, seen}
 use Rattle.rv_gdb.specs.Search.{first_in}
 use Rattle.rv_gdb.specs.Stops.{signal_of, trap}
 use Rattle.rv_gdb.specs.declared.point.Point.{Point}
-use Rattle.rv_gdb.specs.declared.points.Sight.{Sight}
 use Rattle.rv_gdb.specs.declared.stop.Stop.{Stop}
 use Rattle.rv_gdb.specs.declared.stop.Why.{Why}
 use Rattle.rv_gdb.specs.declared.stop.Why.TheVariants.{Stands, Watched}

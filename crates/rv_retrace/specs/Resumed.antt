@@ -8,7 +8,7 @@ use Rattle.rv_gdb.specs.declared.stop.Stop.{Stop}
 use Rattle.rv_gdb.specs.declared.stop.Why.{Why}
 use Rattle.rv_gdb.specs.declared.stop.Why.TheVariants.{Begin, End, Stands}
 use Rattle.rv_hart.specs.declared.machine.TheConstants.{MOST_HARTS}
-use Rattle.rv_retrace.specs.Going.{first_stop, is_one, last_stop, stop_at}
+use Rattle.rv_retrace.specs.Going.{first_stop, last_stop, stop_at}
 use Rattle.rv_retrace.specs.Resumption.{no_hart}
 use Rattle.rv_retrace.specs.declared.aims.Aims.{Aims}
 use Rattle.rv_retrace.specs.declared.resume.Passed.{Passed}

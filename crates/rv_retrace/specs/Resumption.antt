@@ -1,5 +1,5 @@
 -- What a packet makes of a run: the way, the harts that may stop it, those of them that step, and whether it is of all.
-use Rattle.std.specs.Prelude.{ℕ, ◌+◌, ◌==◌, Bool, true, false, is_some, if◌then◌else◌, Option, Some, None, unwrap_or, List, [], ◌∷◌, map, find, replicate, slice_set}
+use Rattle.std.specs.Prelude.{ℕ, ◌+◌, ◌==◌, Bool, true, false, is_some, if◌then◌else◌, Option, unwrap_or, List, map, find, replicate, slice_set}
 use Rattle.std.specs.List.{list_any, range_with_len}
 use Rattle.std.specs.Option.{option_map_or}
 use Rattle.rv_gdb.specs.declared.action.Action.{Action}
@@ -9,7 +9,6 @@ use Rattle.rv_gdb.specs.declared.fields.Id.TheVariants.{Any, Thread}
 use Rattle.rv_gdb.specs.declared.packet.Move.{Move}
 use Rattle.rv_gdb.specs.declared.packet.Move.TheVariants.{Step, Continue, StepBack, ContinueBack}
 use Rattle.rv_hart.specs.declared.machine.TheConstants.{MOST_HARTS}
-use Rattle.rv_retrace.specs.declared.aims.Aims.{Aims}
 use Rattle.rv_retrace.specs.declared.resumption.Resumption.{Resumption}
 use Rattle.rv_retrace.specs.declared.resumption.Way.{Way}
 use Rattle.rv_retrace.specs.declared.resumption.Way.TheVariants.{Forwards, Back}

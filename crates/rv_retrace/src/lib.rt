@@ -1,6 +1,6 @@
 //! Where a recorded run stops, as it goes on from a place of its schedule, forwards and backwards.
 //!
-//! To the layer above, `specs/Going.antt` says which steps stop it. No command uses this crate yet.
+//! To the layer above, `specs/Going.antt` says which steps stop it, and `specs/Resumed.antt` where the run stands then.
 #![tactic(auto)]
 
 pub mod aims;
@@ -9,5 +9,3 @@ pub mod forwards;
 mod meeting;
 pub mod resume;
 pub mod resumption;
-#[cfg(test)]
-mod tests;

@@ -9,5 +9,3 @@ pub mod no_room;
 pub mod reply;
 pub mod state;
 pub mod talk;
-#[cfg(test)]
-mod tests;

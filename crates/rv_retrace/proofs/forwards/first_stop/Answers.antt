@@ -1,5 +1,4 @@
-use Rattle.std.proofs.Common.{◌≡◌, ◌∙◌, None, false, sym, ap, arith}
-use Rattle.rv_debug.specs.Visited.{IsVisit}
+use Rattle.std.proofs.Common.{◌≡◌, ◌∙◌, None, sym, ap, arith}
 use Rattle.rv_retrace.proofs.SearchLemmas.{first_here, first_later, first_nowhere, none_gives, none_of}
 use Rattle.rv_retrace.proofs.VisitLemmas.{next_here, next_there}
 use Rattle.rv_retrace.specs.Going.{stop_forwards}

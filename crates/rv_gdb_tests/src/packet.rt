@@ -1,7 +1,10 @@
-use super::*;
-use crate::action::Action;
-use crate::framing::MOST_BYTES;
-use crate::tests::assert_is;
+use crate::assertion::assert_is;
+use rv_gdb::action::{Action, Actions};
+use rv_gdb::fields::Id;
+use rv_gdb::framing::MOST_BYTES;
+use rv_gdb::monitor::Order;
+use rv_gdb::packet::{Move, Request, read_request};
+use rv_gdb::point::Kind;
 use std::process::Abort;
 
 /// A number for each thing that a packet may ask, with what it holds: what tests compare.

@@ -1,7 +1,7 @@
 -- the last stop is that before the end of what is still to be looked at
 use Rattle.std.proofs.Common.{◌≡◌, ◌≤◌, ◌-◌}
 use Rattle.rv_retrace.specs.Going.{last_in, last_stop, stop_back}
-use Rattle.rv_retrace.proofs.backwards.last_stop.Given as goal
+use Rattle.rv_retrace.proofs.backwards.last_at_points.Given as goal
 
 abbrev pub invariant-loop-end : goal.invariant-loop-end
 invariant-loop-end l = record {

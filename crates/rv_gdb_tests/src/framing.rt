@@ -1,5 +1,5 @@
-use super::*;
-use crate::tests::assert_is;
+use crate::assertion::assert_is;
+use rv_gdb::framing::{Heard, Reading};
 use std::process::Abort;
 
 /// What is heard of some bytes that is not `Nothing`, with the places of the bytes that told it.

@@ -1,5 +1,5 @@
-use super::*;
-use crate::tests::assert_is;
+use crate::assertion::assert_is;
+use rv_gdb::monitor::{Order, read_order};
 
 const ORDERS: [(&str, Option<Order>); 14] = [
     ("entry 0", Some(Order::Entry(0))),

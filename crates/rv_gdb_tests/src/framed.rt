@@ -1,6 +1,6 @@
-use super::*;
-use crate::sheet::Sheet;
-use crate::tests::assert_is;
+use crate::assertion::assert_is;
+use rv_gdb::framed::write_packet;
+use rv_gdb::sheet::Sheet;
 
 const PACKETS: [(&str, &str); 4] = [
     ("", "$#00"),

@@ -1,14 +1,10 @@
-use super::*;
-use crate::fields::Range;
-use crate::tests::assert_is;
+use crate::assertion::assert_is;
+use crate::parts::point;
+use rv_gdb::point::Kind;
+use rv_gdb::points::Points;
+use rv_hart::access::Access;
+use std::alloc::Global;
 use std::test::Fail;
-
-fn point(kind: Kind, from: u32, length: u32) -> Point {
-    Point {
-        kind,
-        bytes: Range { from, length },
-    }
-}
 
 /// Points that are set: a point of kind 0 and one of kind 1, one of each kind that watches, and one of more bytes than
 /// there are addresses.
@@ -108,5 +104,23 @@ fn holds_256_points(rt: HostRuntime) -> Result<(), Fail> {
         false,
         "257",
     );
+    Ok(())
+}
+
+/// A point that is taken away is met no more, others stay, and taking away what is not there changes nothing.
+#[test]
+fn takes_points_away(rt: HostRuntime) -> Result<(), Fail> {
+    let mut points = points(rt.alloc())?;
+    points.clear(point(Kind::Software, 0x10004, 2));
+    assert_is(&rt, points.breaks(0x10004), true, "another length");
+    points.clear(point(Kind::Hardware, 0x10004, 4));
+    assert_is(&rt, points.breaks(0x10004), true, "another kind");
+    points.clear(point(Kind::Software, 0x10004, 4));
+    assert_is(&rt, points.breaks(0x10004), false, "it is gone");
+    assert_is(&rt, points.breaks(0x10008), true, "another one");
+    for (kind, from, length) in SET {
+        points.clear(point(kind, from, length));
+    }
+    assert_is(&rt, points.is_empty(), true, "all are gone");
     Ok(())
 }

@@ -1,5 +1,7 @@
-use super::*;
-use crate::tests::assert_is;
+use crate::assertion::assert_is;
+use rv_gdb::chosen::{Chosen, choose};
+use rv_gdb::fields::Id;
+use rv_gdb::packet::Request;
 
 fn chosen(focus: u8, shown: Option<u8>, going: Option<u8>) -> Chosen {
     Chosen {

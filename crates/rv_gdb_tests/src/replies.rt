@@ -1,14 +1,15 @@
 ghost use Rattle.std.specs.Prelude.{All, IfOk};
 ghost use Rattle.rv_memory.specs.Extent.{IsExtent};
 
-use super::*;
-use crate::packet::read_request;
-use crate::shown::{Pause, write_standing};
-use crate::tests::assert_is;
-use rv_hart::access::Access;
-use rv_hart::hart::Status;
+use crate::assertion::assert_is;
+use rv_gdb::chosen::Chosen;
+use rv_gdb::packet::read_request;
+use rv_gdb::replies::{known_reply, write_state_reply};
+use rv_gdb::sheet::Sheet;
+use rv_hart::machine::Machine;
 use rv_memory::flat::Flat;
 use rv_memory::region::Region;
+use std::alloc::Global;
 use std::process::Abort;
 use std::test::Fail;
 
@@ -119,45 +120,4 @@ fn knows_answers(rt: HostRuntime) {
         };
         assert_is(&rt, known, wanted.map(str::as_bytes), text);
     }
-}
-
-fn assert_standing(
-    rt: &impl Abort,
-    alloc: Global,
-    status: Status,
-    pause: Option<Pause>,
-    wanted: &str,
-) {
-    let mut sheet = Sheet::new(alloc);
-    let written = write_standing(&mut sheet, 1, status, &pause);
-    assert_is(rt, written.is_ok(), true, "written");
-    assert_is(rt, sheet.as_bytes(), wanted.as_bytes(), wanted);
-}
-
-#[test]
-fn says_how_a_hart_stands(rt: HostRuntime) {
-    let alloc = rt.alloc();
-    let access = Access {
-        pc: 0x10010,
-        first: 0x20000,
-        size: 4,
-        read: false,
-        write: true,
-    };
-    let pause = Some(Pause { access, slot: 3 });
-    assert_standing(
-        &rt,
-        alloc,
-        Status::Running,
-        pause,
-        "hart 1 paused at pc 00010010 store 00020000 4 slot 3",
-    );
-    assert_standing(&rt, alloc, Status::Running, None, "hart 1 running");
-    assert_standing(
-        &rt,
-        alloc,
-        Status::Exited(5),
-        None,
-        "hart 1 exited 00000005",
-    );
 }

@@ -3,7 +3,7 @@ use Rattle.std.proofs.Common.{◌≡◌, ◌<◌, ◌≤◌, ◌-◌}
 use Rattle.std.specs.Prelude.{IfSome}
 use Rattle.rv_debug.specs.Visited.{IsVisit}
 use Rattle.rv_retrace.specs.Going.{last_in, stop_back}
-use Rattle.rv_retrace.proofs.backwards.last_between.Given as goal
+use Rattle.rv_retrace.proofs.backwards.last_from.Given as goal
 
 abbrev pub invariant-loop-place : goal.invariant-loop-place
 invariant-loop-place l = record {

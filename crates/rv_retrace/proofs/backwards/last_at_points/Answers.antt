@@ -1,7 +1,7 @@
 use Rattle.std.proofs.Common.{◌≡◌, ◌∙◌, None, sym, ap, arith}
 use Rattle.rv_retrace.proofs.SearchLemmas.{none_of, stretch_here, stretch_passed}
 use Rattle.rv_retrace.specs.Going.{last_stop, stop_back}
-use Rattle.rv_retrace.proofs.backwards.last_stop.Goals as goal
+use Rattle.rv_retrace.proofs.backwards.last_at_points.Goals as goal
 
 pub loop-end-preserved : goal.loop-end-preserved
 loop-end-preserved c =

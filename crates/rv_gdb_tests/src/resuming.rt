@@ -2,9 +2,7 @@
 ghost use Rattle.std.specs.Prelude.{◌≡◌, IfSome};
 ghost use Rattle.rv_retrace.specs.Resumed.{IsBefore};
 
-use crate::aims::{Aims, Harts};
-use crate::resume::{Passed, resume};
-use crate::resumption::{Resumption, Way};
+use crate::assertion::assert_is;
 use rv_collide::entry::Entry::{self, Armed, Paused, Resumed, Stepped};
 use rv_collide::plan::Plan;
 use rv_debug::session::Session;
@@ -14,14 +12,12 @@ use rv_gdb::point::{Kind, Point};
 use rv_gdb::points::{Points, Sight};
 use rv_gdb::stop::Why;
 use rv_memory::region::Region;
+use rv_retrace::aims::{Aims, Harts};
+use rv_retrace::resume::{Passed, resume};
+use rv_retrace::resumption::{Resumption, Way};
 use std::alloc::Global;
-use std::fmt::Debug;
 use std::process::Abort;
 use std::test::Fail;
-
-fn assert_is<T: PartialEq + Debug + Drop>(rt: &impl Abort, found: T, wanted: T, what: &str) {
-    assert_eq!(rt; found, wanted, "{what}");
-}
 
 /// `lui x6,0x20`, `sw x10,0(x6)`, `lw x5,0(x6)`, `ecall`, at 00010000.
 const WORDS: [u32; 4] = [0x0002_0337, 0x00a3_2023, 0x0003_2283, 0x0000_0073];

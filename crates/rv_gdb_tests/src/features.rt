@@ -1,5 +1,8 @@
-use super::*;
-use crate::tests::assert_is;
+use crate::assertion::assert_is;
+use rv_gdb::features::write_features_part;
+use rv_gdb::fields::Range;
+use rv_gdb::sheet::Sheet;
+use std::alloc::Global;
 use std::process::Abort;
 
 /// The first bytes of a part, its last ones, and how many there are with the letter in front.

@@ -1,73 +1,9 @@
 //! Talks over a run that loses an addition, byte by byte.
-ghost use Rattle.std.specs.Prelude.{◌≡◌, IfOk};
-ghost use Rattle.rv_stub.specs.Met as met;
-
-use crate::state::met::endings_of;
-use crate::talk::converse;
-use rv_asm::assemble;
-use rv_collide::ending::Ending;
-use rv_collide::schedule::read_schedule;
-use rv_debug::session::Session;
-use rv_memory::buffered::Buffered;
-use rv_memory::flagged::Flagged;
+use crate::assertion::assert_is;
+use crate::record::{LOST, Row, written_of};
 use std::alloc::Global;
-use std::fmt::Debug;
-use std::io::{self, Read};
 use std::process::Abort;
 use std::test::Fail;
-
-fn assert_is<T: PartialEq + Debug + Drop>(rt: &impl Abort, found: T, wanted: T, what: &str) {
-    assert_eq!(rt; found, wanted, "{what}");
-}
-
-/// Each hart adds 1 to one counter, without a lock.
-const SOURCE: &str =
-    "_start:\n    la   s0, counter\n    lw   t0, (s0)\n    addi t0, t0, 1\n    sw   t0, (s0)\n\
-    \x20   li   a7, 93\n    li   a0, 0\n    ecall\n.data\ncounter: .word 0\n";
-
-/// Hart 0 is paused before its store, and all of hart 1's steps are made meanwhile.
-const SCHEDULE: &str = "rvcollide schedule 1\nharts 2 steps 100 arms 1 pause 10\na 00010010\n\
-    s 0\ns 0\ns 0\ns 0\np 0 0\ns 1\ns 1\ns 1\ns 1\ns 1\nr 0\ns 0\nend\n";
-
-fn record(alloc: Global) -> Result<(Session, Vec<Ending>), Fail>
-    ensures { IfOk result (λ made. made.1.items ≡ met.endings_of made.0) }
-{
-    let image = assemble(alloc, SOURCE)?;
-    let (plan, entries) = read_schedule(alloc, &mut Flagged::new(SCHEDULE.as_bytes()))?;
-    let session = Session::new(alloc, &image, plan, entries)?;
-    let endings = endings_of(alloc, &image, plan, &session)?;
-    Ok((session, endings))
-}
-
-/// A reader of at most so many bytes a read.
-#[derive(Drop)]
-struct Pieces<'t> {
-    text: &'t [u8],
-    most: usize,
-}
-
-impl Read for Pieces<'_> {
-    fn read(&mut self, buf: &mut [u8]) -> io::Result<usize> {
-        let count = self.text.len().min(self.most).min(buf.len());
-        buf[..count].copy_from_slice(&self.text[..count]);
-        self.text = &self.text[count..];
-        Ok(count)
-    }
-}
-
-/// What is written of an input, so many bytes of it a read.
-fn written_of(alloc: Global, text: &[u8], most: usize) -> Result<Vec<u8>, Fail> {
-    let mut writer = Buffered::new(alloc, Vec::new(alloc));
-    let mut commands = Flagged::new(Pieces { text, most });
-    let (session, endings) = record(alloc)?;
-    match converse(alloc, session, endings, &mut commands, &mut writer) {
-        Ok(()) => Ok(writer.into_inner()),
-        Err(_) => Err(Fail::from("a fault")),
-    }
-}
-
-/// What is sent, and what is written then.
-type Row = (&'static str, &'static str);
 
 const TRANSCRIPT: [Row; 27] = [
     (
@@ -115,7 +51,7 @@ fn assert_writes(rt: &impl Abort, alloc: Global, rows: &[Row], most: usize) -> R
         sent.extend_from_slice(packet.as_bytes())?;
         wanted.extend_from_slice(answer.as_bytes())?;
     }
-    let written = written_of(alloc, &sent, most)?;
+    let written = written_of(alloc, LOST, &sent, most)?;
     assert_is(rt, written.as_slice(), wanted.as_slice(), "written");
     Ok(())
 }
@@ -180,7 +116,7 @@ fn has_its_limits(rt: HostRuntime) -> Result<(), Fail> {
     add_points(alloc, &mut sent, 257)?;
     add_times(&mut sent, &mut wanted, 256, ("", "$OK#9a"))?;
     add_times(&mut sent, &mut wanted, 1, ("$Z0,0,4#00", "$E04#a9$OK#9a"))?;
-    let written = written_of(alloc, &sent, 4096)?;
+    let written = written_of(alloc, LOST, &sent, 4096)?;
     assert_is(&rt, written.as_slice(), wanted.as_slice(), "written");
     Ok(())
 }
