@@ -45,16 +45,28 @@ hunt_told = (
                     (
                       record { flag = inl (refl, (refl, refl)); aliases = refl; short_aliases = refl; acts = inl refl; long = inr (refl, inl (refl, refl)); short = inl refl; most = omega arith; place = inl refl },
                       (
-                        record { flag = inr (refl, (refl, refl)); aliases = refl; short_aliases = refl; acts = inr (inr refl); long = inr (refl, inr refl); short = inl refl; most = omega arith; place = inl refl },
+                        record { flag = inl (refl, (refl, refl)); aliases = refl; short_aliases = refl; acts = inl refl; long = inr (refl, inl (refl, refl)); short = inl refl; most = omega arith; place = inl refl },
                         (
-                          record { flag = inr (refl, (refl, refl)); aliases = refl; short_aliases = refl; acts = inr (inr refl); long = inr (refl, inr refl); short = inl refl; most = omega arith; place = inl refl },
+                          record { flag = inl (refl, (refl, refl)); aliases = refl; short_aliases = refl; acts = inl refl; long = inr (refl, inl (refl, refl)); short = inl refl; most = omega arith; place = inl refl },
                           (
-                            record { flag = inr (refl, (refl, refl)); aliases = refl; short_aliases = refl; acts = inr (inr refl); long = inr (refl, inr refl); short = inl refl; most = omega arith; place = inl refl },
+                            record { flag = inl (refl, (refl, refl)); aliases = refl; short_aliases = refl; acts = inl refl; long = inr (refl, inl (refl, refl)); short = inl refl; most = omega arith; place = inl refl },
                             (
                               record { flag = inr (refl, (refl, refl)); aliases = refl; short_aliases = refl; acts = inr (inr refl); long = inr (refl, inr refl); short = inl refl; most = omega arith; place = inl refl },
                               (
-                                record { flag = inl (refl, (refl, refl)); aliases = refl; short_aliases = refl; acts = inr (inl refl); long = inr (refl, inl (refl, refl)); short = inr (refl, refl); most = omega arith; place = inl refl },
-                                tt,
+                                record { flag = inr (refl, (refl, refl)); aliases = refl; short_aliases = refl; acts = inr (inr refl); long = inr (refl, inr refl); short = inl refl; most = omega arith; place = inl refl },
+                                (
+                                  record { flag = inr (refl, (refl, refl)); aliases = refl; short_aliases = refl; acts = inr (inr refl); long = inr (refl, inr refl); short = inl refl; most = omega arith; place = inl refl },
+                                  (
+                                    record { flag = inl (refl, (refl, refl)); aliases = refl; short_aliases = refl; acts = inl refl; long = inr (refl, inl (refl, refl)); short = inl refl; most = omega arith; place = inl refl },
+                                    (
+                                      record { flag = inr (refl, (refl, refl)); aliases = refl; short_aliases = refl; acts = inr (inr refl); long = inr (refl, inr refl); short = inl refl; most = omega arith; place = inl refl },
+                                      (
+                                        record { flag = inl (refl, (refl, refl)); aliases = refl; short_aliases = refl; acts = inr (inl refl); long = inr (refl, inl (refl, refl)); short = inr (refl, refl); most = omega arith; place = inl refl },
+                                        tt,
+                                      ),
+                                    ),
+                                  ),
+                                ),
                               ),
                             ),
                           ),
@@ -124,9 +136,13 @@ module _ (words : List Text) (rows : List Row) (stand : RowsStand words rows) wh
         slots = o;
         named = text_given (codes "named") (refl, refl);
         skip = text_given (codes "skip") (refl, refl);
+        ignore = text_given (codes "ignore") (refl, refl);
+        save_to = text_given (codes "save-to") (refl, refl);
+        page = text_given (codes "page") (refl, refl);
         shows_table = flag_given (codes "table") refl refl;
         checks = flag_given (codes "check") refl refl;
         checks_all = flag_given (codes "check-all") refl refl;
+        expect = text_given (codes "expect") (refl, refl);
         is_quiet = flag_given (codes "quiet") refl refl;
       })))))))
     where

@@ -57,7 +57,8 @@ explain_options = option (codes "named") ∷ option (codes "around") ∷ option 
 abbrev pub hunt_options : List Rule
 hunt_options = option (codes "harts") ∷ option (codes "seed") ∷ option (codes "first") ∷ option (codes "runs") ∷ option (codes "budget")
     ∷ option (codes "workers") ∷ option (codes "plan") ∷ option (codes "slots") ∷ option (codes "named") ∷ option (codes "skip")
-    ∷ flag (codes "table") ∷ flag (codes "check") ∷ flag (codes "check-all") ∷ flag (codes "quiet") ∷ []
+    ∷ option (codes "ignore") ∷ option (codes "save-to") ∷ option (codes "page")
+    ∷ flag (codes "table") ∷ flag (codes "check") ∷ flag (codes "check-all") ∷ option (codes "expect") ∷ flag (codes "quiet") ∷ []
 
 -- a command's name, and what it takes
 abbrev pub command : Text → List Rule → Shape

@@ -27,9 +27,13 @@ pub record Hunting : Type 0 where
   pub slots : ℕ
   pub named : Option Text
   pub skip : Option Text
+  pub ignore : Option Text
+  pub save_to : Option Text
+  pub page : Option Text
   pub shows_table : Bool
   pub checks : Bool
   pub checks_all : Bool
+  pub expect : Option Text
   pub is_quiet : Bool
 
 -- the same of the options, their lists and paths as texts
@@ -44,9 +48,13 @@ hunting line = record {
   slots = line.slots;
   named = option_map (λ text. text.now) line.named;
   skip = option_map (λ text. text.now) line.skip;
+  ignore = option_map (λ path. path.0.now) line.ignore;
+  save_to = option_map (λ path. path.0.now) line.save_to;
+  page = option_map (λ path. path.0.now) line.page;
   shows_table = line.shows_table;
   checks = line.checks;
   checks_all = line.checks_all;
+  expect = option_map (λ path. path.0.now) line.expect;
   is_quiet = line.is_quiet;
 }
 
@@ -101,9 +109,13 @@ hunting_at rows =
       slots = slots;
       named = first_of (codes "named") rows;
       skip = first_of (codes "skip") rows;
+      ignore = first_of (codes "ignore") rows;
+      save_to = first_of (codes "save-to") rows;
+      page = first_of (codes "page") rows;
       shows_table = flag_at (codes "table") rows;
       checks = flag_at (codes "check") rows;
       checks_all = flag_at (codes "check-all") rows;
+      expect = first_of (codes "expect") rows;
       is_quiet = flag_at (codes "quiet") rows;
     })
     (number_or DEFAULT_SLOTS (codes "slots") 1 MOST_SLOTS rows))
@@ -143,7 +155,11 @@ pub record IsHuntGiven (words : List Text) (path : Text) (wanted : Hunting) : Ty
   pub slots : (wanted.slots ≡ DEFAULT_SLOTS) ⊎ GivesNumber words (codes "slots") 1 MOST_SLOTS wanted.slots
   pub named : IfSome wanted.named (Gives words (codes "named"))
   pub skip : IfSome wanted.skip (Gives words (codes "skip"))
+  pub ignore : IfSome wanted.ignore (Gives words (codes "ignore"))
+  pub save_to : IfSome wanted.save_to (Gives words (codes "save-to"))
+  pub page : IfSome wanted.page (Gives words (codes "page"))
   pub shows_table : IsFlagGiven words (codes "table") wanted.shows_table
   pub checks : IsFlagGiven words (codes "check") wanted.checks
   pub checks_all : IsFlagGiven words (codes "check-all") wanted.checks_all
+  pub expect : IfSome wanted.expect (Gives words (codes "expect"))
   pub is_quiet : IsFlagGiven words (codes "quiet") wanted.is_quiet

@@ -20,6 +20,18 @@ pub struct SavePath<'a>(pub &'a str);
 #[derive(Clone, Copy, Debug, PartialEq, Eq)]
 pub struct PicturePath<'a>(pub &'a str);
 
+/// The path of a file for a page.
+#[derive(Clone, Copy, Debug, PartialEq, Eq)]
+pub struct PagePath<'a>(pub &'a str);
+
+/// The path of a folder for schedules.
+#[derive(Clone, Copy, Debug, PartialEq, Eq)]
+pub struct FolderPath<'a>(pub &'a str);
+
+/// The path of a list of races that are to be ignored.
+#[derive(Clone, Copy, Debug, PartialEq, Eq)]
+pub struct IgnorePath<'a>(pub &'a str);
+
 /// The path of a table of races.
 #[derive(Clone, Copy, Debug, PartialEq, Eq)]
 pub struct TablePath<'a>(pub &'a str);

@@ -1,7 +1,7 @@
 use crate::asserting::{assert_asks, assert_refused};
 use crate::assertion::assert_is;
 use crate::parts::lengths;
-use rv_command::arguments::ImagePath;
+use rv_command::arguments::{FolderPath, IgnorePath, ImagePath, PagePath, TablePath};
 use rv_command::command::hunt::{BUDGET, DEFAULT_BUDGET, DEFAULT_SEED, FIRST, HuntLine, LAST_RUN};
 use rv_command::command::run::MOST_SEED;
 use rv_command::command::{Job, Notice, notice_of};
@@ -22,9 +22,13 @@ const PLAIN: HuntLine = HuntLine {
     slots: 4,
     named: None,
     skip: None,
+    ignore: None,
+    save_to: None,
+    page: None,
     shows_table: false,
     checks: false,
     checks_all: false,
+    expect: None,
     is_quiet: false,
 };
 
@@ -45,9 +49,13 @@ const ALL: HuntLine = HuntLine {
     slots: 8,
     named: Some("a,,b"),
     skip: Some("00010000,x"),
+    ignore: Some(IgnorePath("i.txt")),
+    save_to: Some(FolderPath("d")),
+    page: Some(PagePath("p.html")),
     shows_table: true,
     checks: true,
     checks_all: true,
+    expect: Some(TablePath("t.txt")),
     is_quiet: true,
 };
 
@@ -66,16 +74,16 @@ fn reads_the_options(rt: HostRuntime) -> Result<(), Fail> {
         ("rvcollide hunt -- a.elf", PLAIN),
         (
             "rvcollide hunt a.elf --harts 2 --seed 7 --first 12 --runs 3 --budget 5 --workers 6 \
---plan 2000,64,100 --slots 8 --named a,,b --skip 00010000,x \
---table --check --check-all --quiet",
+--plan 2000,64,100 --slots 8 --named a,,b --skip 00010000,x --ignore i.txt --save-to d \
+--page p.html --table --check --check-all --expect t.txt --quiet",
             HuntLine {
                 lengths: Some(lengths(2000, 64, 100)),
                 ..ALL
             },
         ),
         (
-            "rvcollide hunt --quiet --check-all --check --table \
---skip=00010000,x --named=a,,b --slots=8 --plan=02000,064,100 --workers=6 --runs=3 \
+            "rvcollide hunt --quiet --expect=t.txt --check-all --check --table \
+--page=p.html --save-to=d --ignore=i.txt --skip=00010000,x --named=a,,b --slots=8 --plan=02000,064,100 --workers=6 --runs=3 \
 --first=12 --seed=7 --harts=2 -- a.elf",
             ALL,
         ),
@@ -86,7 +94,35 @@ fn reads_the_options(rt: HostRuntime) -> Result<(), Fail> {
 }
 
 /// One option alone, and what it changes.
-const ALONE: [(&str, HuntLine); 8] = [
+const ALONE: [(&str, HuntLine); 12] = [
+    (
+        "rvcollide hunt a.elf --ignore i.txt",
+        HuntLine {
+            ignore: Some(IgnorePath("i.txt")),
+            ..PLAIN
+        },
+    ),
+    (
+        "rvcollide hunt a.elf --save-to d",
+        HuntLine {
+            save_to: Some(FolderPath("d")),
+            ..PLAIN
+        },
+    ),
+    (
+        "rvcollide hunt a.elf --page p.html",
+        HuntLine {
+            page: Some(PagePath("p.html")),
+            ..PLAIN
+        },
+    ),
+    (
+        "rvcollide hunt a.elf --expect t.txt",
+        HuntLine {
+            expect: Some(TablePath("t.txt")),
+            ..PLAIN
+        },
+    ),
     (
         "rvcollide hunt a.elf --budget 1000000000000000",
         HuntLine {

@@ -8,7 +8,7 @@ ghost use Rattle.rv_hunt.specs.internal.Lookup as internal;
 
 use crate::expected::may_be_bug;
 use crate::row::{RaceRow, joined};
-use crate::texts::write_rows;
+use crate::texts::{write_listed, write_rows};
 use indexmap::IndexMap;
 use rv_memory::flagged::WriteFault;
 use rv_memory::output::Output;
@@ -139,4 +139,18 @@ impl HuntTable {
         write_races(writer, self.rows.len() as u64)?;
         write_rows(writer, &self.rows)
     }
+}
+
+/// Writes a table of these rows: `races N`, and a line of each. It takes no memory.
+#[tactic(auto, unfolding(crate::specs::HuntText::table_text))]
+pub fn write_listed_table<O: Output>(
+    writer: &mut O,
+    rows: &[(Key, RaceRow)],
+) -> Result<(), WriteFault>
+    ensures ok { OnOk result (Appends (O.written writer.old) (O.written writer.new)
+        (text.table_text rows.now)) }
+    ensures failed { O.has_failed writer.new ≡ (O.has_failed writer.old || is_err result) }
+{
+    write_races(writer, rows.len() as u64)?;
+    write_listed(writer, rows)
 }

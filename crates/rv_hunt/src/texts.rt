@@ -74,3 +74,18 @@ pub(crate) fn write_rows<O: Output>(
     }
     Ok(())
 }
+
+/// Writes a line of each of the listed rows.
+pub(crate) fn write_listed<O: Output>(
+    writer: &mut O,
+    rows: &[(Key, RaceRow)],
+) -> Result<(), WriteFault>
+    ensures ok { OnOk result (Appends (O.written writer.old) (O.written writer.new)
+        (text_of_lines (map spec.row_line rows.now))) }
+    ensures failed { O.has_failed writer.new ≡ (O.has_failed writer.old || is_err result) }
+{
+    for row in rows {
+        write_row(writer, &row.0, &row.1)?;
+    }
+    Ok(())
+}

@@ -1,5 +1,5 @@
 -- The blocks of rows, row by row.
-use Rattle.std.proofs.Common.{◌≡◌, ℕ, ◌+◌, ◌<◌, ◌≤◌, true, false, List, [], ◌∷◌, ◌++◌, get_or, length, take, Option, Some, None, Result, Ok, Err, IfOk, refl, ap, sym, subst, ◌∙◌, arith, append_assoc, append-nil}
+use Rattle.std.proofs.Common.{◌≡◌, ℕ, ◌+◌, ◌<◌, ◌≤◌, true, false, List, [], ◌∷◌, ◌++◌, get_or, length, take, Option, Some, None, refl, ap, sym, subst, ◌∙◌, arith, append_assoc, append-nil}
 use Rattle.std.specs.Prelude.{All, find, is_some, option_map, slice_get}
 use Rattle.std.proofs.lemmas.List.{length-take-le, take_more}
 use Rattle.std.proofs.lemmas.List.Elements.{All-append, All-filter}
@@ -19,6 +19,8 @@ use Rattle.rv_hunt.specs.declared.hunted.Hunted.{Hunted}
 use Rattle.rv_hunt.specs.declared.row.RaceRow.{RaceRow}
 use Rattle.rv_hunting.proofs.ReportLemmas.{found_is_ending}
 use Rattle.rv_collide.specs.declared.collider.Finished.{Finished}
+use Rattle.rv_hunting.specs.Asked.{Onward}
+use Rattle.rv_hunting.specs.OnwardText.{gdb_text}
 use Rattle.rv_hunting.specs.HuntBlocks.{AreBlocks, IsBlock, IsRunOf, race_text, run_words}
 use Rattle.rv_hunting.specs.internal.Opened.{HasRace}
 use Rattle.rv_report.specs.declared.key.Key.{Key}
@@ -28,25 +30,25 @@ Row = Key × RaceRow
 
 -- ---- one block more
 
-numbered : (hunt : Hunt) (k n : ℕ) (row : Row) (block : List ℕ) → k ≡ n → IsBlock hunt k row block → IsBlock hunt n row block
-numbered hunt k n row block is h = subst (λ (m : ℕ). IsBlock hunt m row block) is h
+numbered : (line : Onward) (hunt : Hunt) (k n : ℕ) (row : Row) (block : List ℕ) → k ≡ n → IsBlock line hunt k row block → IsBlock line hunt n row block
+numbered line hunt k n row block is h = subst (λ (m : ℕ). IsBlock line hunt m row block) is h
 
-one_more : (hunt : Hunt) (k : ℕ) (rows : List Row) (row : Row) (text block : List ℕ) → AreBlocks hunt k rows text → IsBlock hunt (k + length rows) row block → AreBlocks hunt k (rows ++ row ∷ []) (text ++ block)
-one_more hunt k [] row text block are is =
-    (block, [], numbered hunt (k + 0) k row block (omega arith) is, refl, ap (λ (t : List ℕ). t ++ block) are ∙ sym (append-nil block))
-one_more hunt k (first ∷ rows) row text block are is =
+one_more : (line : Onward) (hunt : Hunt) (k : ℕ) (rows : List Row) (row : Row) (text block : List ℕ) → AreBlocks line hunt k rows text → IsBlock line hunt (k + length rows) row block → AreBlocks line hunt k (rows ++ row ∷ []) (text ++ block)
+one_more line hunt k [] row text block are is =
+    (block, [], numbered line hunt (k + 0) k row block (omega arith) is, refl, ap (λ (t : List ℕ). t ++ block) are ∙ sym (append-nil block))
+one_more line hunt k (first ∷ rows) row text block are is =
     let count : k + length (first ∷ rows) ≡ k + 1 + length rows = omega arith in
-    let later = one_more hunt (k + 1) rows row are.1 block are.3 (numbered hunt (k + length (first ∷ rows)) (k + 1 + length rows) row block count is) in
+    let later = one_more line hunt (k + 1) rows row are.1 block are.3 (numbered line hunt (k + length (first ∷ rows)) (k + 1 + length rows) row block count is) in
     (are.0, are.1 ++ block, are.2, later, ap (λ (t : List ℕ). t ++ block) are.4 ∙ append_assoc are.0 are.1 block)
 
-pub blocks_next : (hunt : Hunt) (rows : List Row) (place : ℕ) (row d : Row) (number : ℕ) (text block : List ℕ) → place < length rows → AreBlocks hunt 1 (take place rows) text → IsBlock hunt number row block
-    → number ≡ place + 1 → row ≡ get_or rows place d → AreBlocks hunt 1 (take (place + 1) rows) (text ++ block)
-blocks_next hunt rows place row d number text block below are is count there =
+pub blocks_next : (line : Onward) (hunt : Hunt) (rows : List Row) (place : ℕ) (row d : Row) (number : ℕ) (text block : List ℕ) → place < length rows → AreBlocks line hunt 1 (take place rows) text → IsBlock line hunt number row block
+    → number ≡ place + 1 → row ≡ get_or rows place d → AreBlocks line hunt 1 (take (place + 1) rows) (text ++ block)
+blocks_next line hunt rows place row d number text block below are is count there =
     let within : place ≤ length rows = omega arith in
     let size = length-take-le place rows within in
     let counted : number ≡ 1 + length (take place rows) = omega arith in
-    subst (λ (rs : List Row). AreBlocks hunt 1 rs (text ++ block)) (sym (take_more rows place d below ∙ ap (λ (r : Row). take place rows ++ r ∷ []) (sym there)))
-    (one_more hunt 1 (take place rows) row text block are (numbered hunt number (1 + length (take place rows)) row block counted is))
+    subst (λ (rs : List Row). AreBlocks line hunt 1 rs (text ++ block)) (sym (take_more rows place d below ∙ ap (λ (r : Row). take place rows ++ r ∷ []) (sym there)))
+    (one_more line hunt 1 (take place rows) row text block are (numbered line hunt number (1 + length (take place rows)) row block counted is))
 
 -- ---- the race of a row
 
@@ -66,16 +68,17 @@ pub no_race : {P : Type 0} (o : Option Race) → o ≡ None → is_some o ≡ tr
 no_race o none some = (let no : false ≡ true = rw none at some in cc)
 
 -- the block of a row is made of its run and its race
-pub block_made : {A E : Type 0} (items : A → List ℕ) (r : Result A E) (hunt : Hunt) (k : ℕ) (row : Row) (run : Finished) (race : Race) (image : Contents) (words : List ℕ) → image ≡ hunt.source.image → IsRunOf hunt row run
-    → race_in hunt.source.image hunt.ranges row run.endings.items ≡ Some race → IfOk r (λ text. items text ≡ race_text image words k run race) → words ≡ run_words row.1.run run.plan.harts → IfOk r (λ text. IsBlock hunt k row (items text))
-block_made items (Err fault) hunt k row run race image words same is_run is_race text said = tt
-block_made items (Ok made) hunt k row run race image words same is_run is_race text said = record {
+pub block_made : (line : Onward) (hunt : Hunt) (k : ℕ) (row : Row) (run : Finished) (race : Race) (image : Contents) (words front text : List ℕ) → image ≡ hunt.source.image → IsRunOf hunt row run
+    → race_in hunt.source.image hunt.ranges row run.endings.items ≡ Some race → front ≡ race_text image words k run race → words ≡ run_words row.1.run run.plan.harts
+    → text ≡ front ++ gdb_text line.image line.folder k race.told.number → IsBlock line hunt k row text
+block_made line hunt k row run race image words front text same is_run is_race said worded last = record {
   run = run;
   is_run = is_run;
   race = race;
   is_race = is_race;
   text_is =
-      text ∙ ap (λ (c : Contents). race_text c words k run race) same ∙ ap (λ (w : List ℕ). race_text hunt.source.image w k run race) said;
+      last ∙ ap (λ (t : List ℕ). t ++ gdb_text line.image line.folder k race.told.number)
+      (said ∙ ap (λ (c : Contents). race_text c words k run race) same ∙ ap (λ (w : List ℕ). race_text hunt.source.image w k run race) worded);
 }
 
 -- ---- the rows that are told have races

@@ -1,4 +1,11 @@
 pub mod BlockLemmas
+pub mod BoolLemmas
+pub mod EngineLemmas
+pub mod FileLemmas
+pub mod MadeLemmas
 pub mod OpenLemmas
+pub mod PartLemmas
+pub mod PartedLemmas
 pub mod ReportLemmas
+pub mod SavedLemmas
 pub mod SiteLemmas

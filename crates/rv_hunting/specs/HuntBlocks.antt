@@ -15,6 +15,8 @@ use Rattle.rv_hunt.specs.Remade.{race_in}
 use Rattle.rv_hunt.specs.declared.row.RaceRow.{RaceRow}
 use Rattle.rv_report.specs.declared.key.Key.{Key}
 use Rattle.rv_tally.specs.Plans.{plan_of}
+use Rattle.rv_hunting.specs.Asked.{Onward}
+use Rattle.rv_hunting.specs.OnwardText.{gdb_text}
 use Rattle.rv_hunting.specs.declared.blocks.TheConstants.{AROUND}
 
 -- `, first in run R, H harts`
@@ -33,16 +35,16 @@ race_text image words k run race = 10 ∷ block_text image words k (race_shown (
 abbrev pub IsRunOf : Hunt → Key × RaceRow → Finished → Type 0
 IsRunOf hunt row run = IsRunOver hunt.source.image (plan_of hunt.given row.1.run) hunt.source.sites hunt.source.seed row.1.run run
 
--- The text is the block of a row's race in that run, with number K.
-pub record IsBlock (hunt : Hunt) (k : ℕ) (row : Key × RaceRow) (text : List ℕ) : Type 0 where
+-- The text is the block of a row's race in that run, with number K, and how to go there.
+pub record IsBlock (line : Onward) (hunt : Hunt) (k : ℕ) (row : Key × RaceRow) (text : List ℕ) : Type 0 where
   pub run : Finished
   pub is_run : IsRunOf hunt row run
   pub race : Race
   pub is_race : race_in hunt.source.image hunt.ranges row run.endings.items ≡ Some race
-  pub text_is : text ≡ race_text hunt.source.image (run_words row.1.run run.plan.harts) k run race
+  pub text_is : text ≡ race_text hunt.source.image (run_words row.1.run run.plan.harts) k run race ++ gdb_text line.image line.folder k race.told.number
 
 -- The text is the blocks of the rows in their order, numbered from K on.
-abbrev pub AreBlocks : Hunt → ℕ → List (Key × RaceRow) → List ℕ → Type 0
-AreBlocks hunt k [] text = text ≡ []
-AreBlocks hunt k (row ∷ rows) text =
-    (block : List ℕ) × (later : List ℕ) × IsBlock hunt k row block × AreBlocks hunt (k + 1) rows later × (text ≡ block ++ later)
+abbrev pub AreBlocks : Onward → Hunt → ℕ → List (Key × RaceRow) → List ℕ → Type 0
+AreBlocks line hunt k [] text = text ≡ []
+AreBlocks line hunt k (row ∷ rows) text =
+    (block : List ℕ) × (later : List ℕ) × IsBlock line hunt k row block × AreBlocks line hunt (k + 1) rows later × (text ≡ block ++ later)

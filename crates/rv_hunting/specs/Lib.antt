@@ -1,4 +1,9 @@
 pub mod Asked
+pub mod FolderFault
 pub mod HuntBlocks
+pub mod HuntFault
 pub mod Hunting
+pub mod OnwardText
+pub mod Paged
+pub mod Saved
 pub mod internal

@@ -1,2 +1,3 @@
 -- What only private contracts cite: no reader has to believe it.
+pub mod MakeFault
 pub mod Opened

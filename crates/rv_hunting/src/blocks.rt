@@ -9,9 +9,12 @@ ghost use Rattle.rv_explain.specs.Blocks.{block_text};
 ghost use Rattle.rv_explain.specs.Fault.{is_write_fault};
 ghost use Rattle.rv_explain.specs.Races.{run_of};
 ghost use Rattle.rv_sample.specs.Sites.{sites};
+ghost use Rattle.rv_hunting.specs.Asked.{parts};
 ghost use Rattle.rv_hunting.specs.HuntBlocks as spec;
 ghost use Rattle.rv_hunting.specs.internal.Opened.{HasRace};
 
+use crate::onward::push_gdb_text;
+use crate::options::LineParts;
 use rv_collide::collider::Finished;
 use rv_debug::session::Session;
 use rv_explain::blocks::write_block;
@@ -33,7 +36,7 @@ pub const AROUND: u32 = 3;
 
 /// Which run a race is told by, and how many harts it has.
 #[tactic(auto, unfolding(crate::specs::HuntBlocks::run_words))]
-fn run_words(alloc: Global, run: u32, harts: u8) -> Result<Vec<u8>, NoMemory>
+pub(crate) fn run_words(alloc: Global, run: u32, harts: u8) -> Result<Vec<u8>, NoMemory>
     ensures { IfOk result (λ words. words.items ≡ spec.run_words run harts) }
 {
     let run = Decimal::new(u64::from(run));
@@ -111,12 +114,13 @@ fn text_of_run(
     }
 }
 
-/// The block of a row's race, in the run that the row names.
+/// The block of a row's race, in the run that the row names, and how to go there.
 fn block_of(
     alloc: Global,
     hunt: &Hunt,
     symbols: &SymbolTable,
     excluded: &[u32],
+    line: &LineParts<'_>,
     number: u64,
     key: &Key,
     row: &RaceRow,
@@ -124,14 +128,16 @@ fn block_of(
     requires sites { hunt.now.source.sites ≡ sites hunt.now.source.image excluded.now }
     requires image { symbols.now ≡ hunt.now.source.image }
     requires race { HasRace hunt.now (key.now, row.now) }
-    ensures { IfOk result (λ text. spec.IsBlock hunt.now number (key.now, row.now) text.items) }
+    ensures { IfOk result (λ text. spec.IsBlock (parts line.now) hunt.now number (key.now, row.now) text.items) }
 {
     let remade = hunt.remade(alloc, excluded, key, row)?;
     let Some(race) = remade.race else {
         unreachable!()
     };
     let words = run_words(alloc, row.run, remade.run.plan.harts)?;
-    text_of_run(alloc, symbols, remade.run, &words, number, &race)
+    let mut text = text_of_run(alloc, symbols, remade.run, &words, number, &race)?;
+    push_gdb_text(alloc, &mut text, line, number, race.told.number)?;
+    Ok(text)
 }
 
 /// The blocks of the rows, each of the run that its row names.
@@ -140,18 +146,19 @@ pub(crate) fn blocks_of(
     hunt: &Hunt,
     symbols: &SymbolTable,
     excluded: &[u32],
+    line: &LineParts<'_>,
     rows: &[(Key, RaceRow)],
 ) -> Result<Vec<u8>, NoMemory>
     requires sites { hunt.now.source.sites ≡ sites hunt.now.source.image excluded.now }
     requires image { symbols.now ≡ hunt.now.source.image }
     requires races { All (HasRace hunt.now) rows.now }
-    ensures { IfOk result (λ text. spec.AreBlocks hunt.now 1 rows.now text.items) }
+    ensures { IfOk result (λ text. spec.AreBlocks (parts line.now) hunt.now 1 rows.now text.items) }
 {
     let mut text = Vec::new(alloc);
     for place in 0..rows.len() {
         let (key, row) = &rows[place];
         let number = place as u64 + 1;
-        let block = block_of(alloc, hunt, symbols, excluded, number, key, row)?;
+        let block = block_of(alloc, hunt, symbols, excluded, line, number, key, row)?;
         text.extend_from_slice(&block)?;
     }
     Ok(text)

@@ -1,22 +1,28 @@
 //! The engine of `hunt`: an image in, its races out.
-ghost use Rattle.std.specs.Prelude.{◌≡◌, ◌||◌, ◌⊎◌, true, false, is_err, IfErr, IfOk, IfSome, IsOkAnd, OnOk};
+ghost use Rattle.std.specs.Prelude.{◌≡◌, ◌||◌, true, false, is_err, is_some, IfErr, IfOk, IfSome, OnOk};
 ghost use Rattle.std.specs.Io.KnownBytes.{Appends, Keeps};
 ghost use Rattle.rv_memory.specs.Buffered as buffer;
-ghost use Rattle.rv_memory.specs.Flagged as flag;
-ghost use Rattle.rv_engines.specs.CommandFault.{IsTold, NoThread, Plain, refusal, fails_by, is_read, is_write};
-ghost use Rattle.rv_hunting.specs.Asked.{AreLegal, asked};
+ghost use Rattle.rv_engines.specs.Campaigns.{passes};
+ghost use Rattle.rv_hunting.specs.Asked.{AreLegal, asked, parts};
+ghost use Rattle.rv_hunting.specs.FolderFault.{fails_by_write};
+ghost use Rattle.rv_hunting.specs.HuntFault.{IsTold, fails_by, is_of_files, is_read, is_write};
 ghost use Rattle.rv_hunting.specs.Hunting as spec;
+ghost use Rattle.rv_hunting.specs.Paged.{IsPaged};
+ghost use Rattle.rv_hunting.specs.Saved.{AreSaved};
+ghost use Rattle.rv_hunting.specs.internal.Opened.{hunt_in, hunting_with};
 
+use crate::fault::HuntFault;
+use crate::folder::{Folder, FolderFault};
 use crate::found::Found;
+use crate::inputs::Inputs;
+use crate::lists::{Lists, read_ignored, read_known};
 use crate::making::{Made, make_hunt};
-use crate::opening::open;
+use crate::opening::{Opened, open};
 use crate::options::HuntOptions;
-use rv_campaign::SeriesFault;
-use rv_engines::fault::Fault;
-use rv_engines::run::fault::CommandFault;
+use rv_engines::new_file::NewFile;
 use rv_hunt::hunt::Watch;
 use rv_memory::buffered::Buffered;
-use rv_memory::flagged::{Flagged, WriteFault};
+use rv_memory::flagged::WriteFault;
 use rv_memory::output::Output;
 use std::alloc::Global;
 use std::io::{Read, Write};
@@ -42,52 +48,109 @@ fn publish<W: Write, E: Write>(
     writer.finish()
 }
 
-/// Why the runs of a hunt were not made, as a command's fault.
-fn fault_of<'a>(fault: SeriesFault) -> CommandFault<'a>
-    ensures told { (refusal result ≡ Plain Fault.NoMemory) ⊎ (refusal result ≡ NoThread) }
+/// Reads the image, and then the lists.
+fn read<'a, R: Read>(
+    alloc: Global,
+    options: &HuntOptions<'a, '_>,
+    inputs: &mut Inputs<R>,
+) -> Result<(Opened, Lists), HuntFault<'a>>
+    ensures ok { IfOk result (λ read. IfSome (spec.files_of R.remaining inputs.old) (λ files.
+        spec.IsHuntingOf (asked options.now) files (hunting_with (hunt_in (asked options.now) read.0) read.1))) }
+    ensures err { IfErr result (λ fault. IfSome (spec.files_of R.remaining inputs.old) (λ files.
+        IsTold (asked options.now) files fault)) }
+    ensures readers { spec.any_failed inputs.new ≡ (spec.any_failed inputs.old || fails_by is_read result) }
+    ensures writer { fails_by is_write result ≡ false }
 {
-    match fault {
-        SeriesFault::NoMemory => CommandFault::Plain(Fault::NoMemory),
-        SeriesFault::NoThread => CommandFault::NoThread,
+    let opened = open(alloc, options, &mut inputs.image)?;
+    let ignored = match read_ignored(alloc, &opened.image, &mut inputs.ignored) {
+        Ok(ignored) => ignored,
+        Err(fault) => return Err(HuntFault::Ignored(fault)),
+    };
+    match read_known(alloc, &mut inputs.expected) {
+        Ok(expected) => Ok((opened, Lists { ignored, expected })),
+        Err(fault) => Err(HuntFault::Expected(fault)),
     }
 }
 
-/// Reads an image, makes the runs of a hunt of it, and writes what they saw. `notes` is the standard error: it has got
-/// all of the notes before the first byte of the text is written. Where the image or a list is refused, or the runs
-/// cannot be made, nothing is written.
-pub fn run_hunt<'a, T: Threads + Wait + Sync, R: Read, W: Write, E: Write, P: Watch>(
+/// Looks at the folder, where one is given.
+fn look<D: Folder>(folder: &mut Option<D>) -> Result<(), FolderFault>
+    ensures used { passes D.is_used folder.new ≡ passes D.is_used folder.old }
+    ensures wanted { is_some folder.new ≡ is_some folder.old }
+    ensures failed { passes D.has_failed folder.new ≡ (passes D.has_failed folder.old || fails_by_write result) }
+{
+    match folder {
+        None => Ok(()),
+        Some(folder) => folder.look(),
+    }
+}
+
+/// Reads the image and the lists, looks at the folder, makes the runs of a hunt, the schedules of the races that are told
+/// and the page, and writes what the runs saw. `notes` is the standard error: it has got all of the notes before the first byte
+/// of the text is written. Where a file or a list is refused, or the folder is, nothing is made or written.
+pub fn run_hunt<
+    'a,
+    T: Threads + Wait + Sync,
+    R: Read,
+    D: Folder,
+    F: NewFile,
+    W: Write,
+    E: Write,
+    P: Watch,
+>(
     rt: &T,
     alloc: Global,
-    options: &HuntOptions<'a>,
-    image: &mut Flagged<R>,
+    options: &HuntOptions<'a, '_>,
+    inputs: &mut Inputs<R>,
+    folder: &mut Option<D>,
+    page: &mut Option<F>,
     writer: &mut Buffered<W>,
     notes: &mut Buffered<E>,
     watch: &mut P,
-) -> Result<Found, CommandFault<'a>>
+) -> Result<Found, HuntFault<'a>>
     requires { AreLegal options.now }
-    ensures told { IfOk result (λ found. IfSome (R.remaining (flag.device image.old)) (λ bytes.
-        IsOkAnd (spec.hunt_of (asked options.now) bytes) (λ hunt. spec.IsTold hunt options.now.shows found
+    ensures told { IfOk result (λ found. IfSome (spec.files_of R.remaining inputs.old) (λ files.
+        (hunting : spec.Hunting) × spec.IsHuntingOf (asked options.now) files hunting
+        × spec.IsTold (parts options.now.line) options.now.shows hunting found
         (Appends (buffer.written W.contents writer.old) (buffer.sent W.contents writer.new))
-        (Appends (buffer.written E.contents notes.old) (buffer.sent E.contents notes.new))))) }
-    ensures refused { IfErr result (λ fault. IfSome (R.remaining (flag.device image.old)) (λ bytes.
-        IsTold (spec.hunt_of (asked options.now) bytes) (refusal fault))) }
-    ensures nothing { IfErr result (λ fault. is_write (refusal fault) ≡ false
+        (Appends (buffer.written E.contents notes.old) (buffer.sent E.contents notes.new))
+        (λ rows. IfSome folder.new (λ made. AreSaved hunting.hunt (D.Holds made) rows))
+        (λ came rows. IfSome page.new (λ file. IsPaged (parts options.now.line) hunting.hunt came rows (F.Holds file))))) }
+    ensures wanted { (is_some folder.new ≡ is_some folder.old) × (is_some page.new ≡ is_some page.old) }
+    ensures refused { IfErr result (λ fault. IfSome (spec.files_of R.remaining inputs.old) (λ files.
+        IsTold (asked options.now) files fault)) }
+    ensures nothing { IfErr result (λ fault. is_write fault ≡ false
         → Keeps (buffer.sent W.contents writer.old) (buffer.sent W.contents writer.new)) }
-    ensures no_notes { IfErr result (λ fault. is_write (refusal fault) ≡ false
+    ensures no_notes { IfErr result (λ fault. is_write fault ≡ false
         → Keeps (buffer.sent E.contents notes.old) (buffer.sent E.contents notes.new)) }
+    ensures no_schedules { IfErr result (λ fault. is_of_files fault ≡ true
+        → passes D.is_used folder.new ≡ passes D.is_used folder.old) }
+    ensures no_page { IfErr result (λ fault. is_of_files fault ≡ true
+        → passes F.is_made page.new ≡ passes F.is_made page.old) }
     ensures first { buffer.has_failed notes.old ≡ false → buffer.has_failed notes.new ≡ true
         → Keeps (buffer.sent W.contents writer.old) (buffer.sent W.contents writer.new) }
-    ensures reader { flag.has_failed image.new ≡ (flag.has_failed image.old || fails_by is_read result) }
-    ensures writers { (buffer.has_failed notes.new || buffer.has_failed writer.new)
-        ≡ (buffer.has_failed notes.old || buffer.has_failed writer.old || fails_by is_write result) }
+    ensures files_first { (passes D.has_failed folder.old || passes F.has_failed page.old) ≡ false
+        → (passes D.has_failed folder.new || passes F.has_failed page.new) ≡ true
+        → Keeps (buffer.sent W.contents writer.old) (buffer.sent W.contents writer.new) }
+    ensures readers { spec.any_failed inputs.new ≡ (spec.any_failed inputs.old || fails_by is_read result) }
+    ensures writers { ((passes D.has_failed folder.new || passes F.has_failed page.new)
+        || (buffer.has_failed notes.new || buffer.has_failed writer.new))
+        ≡ (((passes D.has_failed folder.old || passes F.has_failed page.old)
+        || (buffer.has_failed notes.old || buffer.has_failed writer.old)) || fails_by is_write result) }
 {
-    let opened = open(alloc, options, image)?;
-    let made = match make_hunt(rt, alloc, options, &opened, watch) {
+    let (opened, lists) = match read(alloc, options, inputs) {
+        Ok(read) => read,
+        Err(fault) => return Err(fault),
+    };
+    match look(folder) {
+        Ok(()) => {}
+        Err(fault) => return Err(HuntFault::from(fault)),
+    }
+    let made = match make_hunt(rt, alloc, options, &opened, &lists, folder, page, watch) {
         Ok(made) => made,
-        Err(fault) => return Err(fault_of(fault)),
+        Err(fault) => return Err(HuntFault::Command(fault.as_command())),
     };
     match publish(&made, writer, notes) {
         Ok(()) => Ok(made.found),
-        Err(fault) => Err(CommandFault::from(fault)),
+        Err(fault) => Err(HuntFault::from(fault)),
     }
 }

@@ -4,15 +4,18 @@
 //! or as a table. What it writes is stated in `specs/Hunting.antt`.
 #![tactic(auto)]
 
-#[cfg(test)]
-mod assertion;
 pub mod blocks;
 pub mod engine;
+pub mod fault;
+pub mod folder;
 pub mod found;
+pub mod inputs;
+mod lists;
 mod making;
+mod onward;
 mod opening;
 pub mod options;
+pub mod paging;
+mod saving;
 mod sites;
-#[cfg(test)]
-mod tests;
 mod texts;

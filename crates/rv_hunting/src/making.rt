@@ -1,20 +1,28 @@
 //! The runs of a hunt, and the texts of what they saw.
-ghost use Rattle.std.specs.Prelude.{◌≡◌, IfOk, All};
+ghost use Rattle.std.specs.Prelude.{◌≡◌, ◌||◌, All, IfOk, IfSome, is_some};
+ghost use Rattle.rv_engines.specs.Campaigns.{passes};
 ghost use Rattle.rv_hunt.specs.Hunted.{IsHunted};
 ghost use Rattle.rv_sample.specs.Sites.{sites};
-ghost use Rattle.rv_hunting.specs.Asked.{AreLegal, asked};
-ghost use Rattle.rv_hunt.specs.ToldOrder as order;
+ghost use Rattle.rv_hunting.specs.Asked.{AreLegal, asked, parts};
 ghost use Rattle.rv_hunting.specs.HuntBlocks.{AreBlocks};
 ghost use Rattle.rv_hunting.specs.Hunting as spec;
-ghost use Rattle.rv_hunting.specs.internal.Opened.{HasRace, IsMade, hunt_in};
+ghost use Rattle.rv_hunting.specs.Paged.{IsPaged};
+ghost use Rattle.rv_hunting.specs.Saved.{AreSaved};
+ghost use Rattle.rv_hunting.specs.internal.MakeFault.{fails_by_write};
+ghost use Rattle.rv_hunting.specs.internal.Opened.{HasRace, IsMade, hunt_in, hunting_with};
 
 use crate::blocks::blocks_of;
+use crate::fault::MakeFault;
+use crate::folder::Folder;
 use crate::found::Found;
+use crate::lists::{Lists, is_unexpected};
 use crate::opening::Opened;
-use crate::options::{HuntOptions, Shows};
+use crate::options::{HuntOptions, LineParts, Shows};
+use crate::paging::page_races;
+use crate::saving::save_races;
 use crate::sites::count_of;
-use crate::texts::{Outcome, hunt_text, table_notes, table_of, warnings};
-use rv_campaign::SeriesFault;
+use crate::texts::{hunt_text, table_notes, table_of, warnings};
+use rv_engines::new_file::NewFile;
 use rv_explain::symbol_table::SymbolTable;
 use rv_hunt::hunt::{Hunt, Watch};
 use rv_hunt::hunted::Hunted;
@@ -22,18 +30,20 @@ use rv_hunt::laws::hunts_have_one_result;
 use rv_hunt::row::RaceRow;
 use rv_hunt::saying::order::{benign, bugs, told_rows};
 use rv_memory::store::NoMemory;
+use rv_merge::parted::{Parted, part_rows};
+use rv_page::parts::Outcome;
 use rv_report::key::Key;
 use rv_sample::Sampler;
 use std::alloc::Global;
 use std::sync::Wait;
 use std::thread::Threads;
 
-/// How many races were found, the text, and the notes.
+/// What was found, the text, and the notes.
 #[derive(Drop)]
-pub struct Made {
-    pub found: Found,
-    pub text: Vec<u8>,
-    pub notes: Vec<u8>,
+pub(crate) struct Made {
+    pub(crate) found: Found,
+    pub(crate) text: Vec<u8>,
+    pub(crate) notes: Vec<u8>,
 }
 
 /// The blocks of the races that are told.
@@ -41,85 +51,126 @@ fn told_blocks(
     alloc: Global,
     hunt: &Hunt,
     excluded: &[u32],
-    rows: &[(Key, RaceRow)],
+    line: &LineParts<'_>,
+    told: &[(Key, RaceRow)],
 ) -> Result<Vec<u8>, NoMemory>
     requires sites { hunt.now.source.sites ≡ sites hunt.now.source.image excluded.now }
-    requires races { All (HasRace hunt.now) rows.now }
-    ensures { IfOk result (λ text. AreBlocks hunt.now 1 (order.told_rows rows.now) text.items) }
+    requires races { All (HasRace hunt.now) told.now }
+    ensures { IfOk result (λ text. AreBlocks (parts line.now) hunt.now 1 told.now text.items) }
 {
-    let told = told_rows(alloc, rows)?;
     let symbols = SymbolTable::new(alloc, hunt.image)?;
-    blocks_of(alloc, hunt, &symbols, excluded, &told)
+    blocks_of(alloc, hunt, &symbols, excluded, line, told)
 }
 
-/// The texts of what a hunt came to.
+/// The texts of what a hunt came to. `told` are the races that are told one by one.
 fn texts(
     alloc: Global,
     hunt: &Hunt,
     excluded: &[u32],
-    saw: &Hunted,
+    options: &HuntOptions<'_, '_>,
     outcome: &Outcome,
-    shows: Shows,
+    told: &[(Key, RaceRow)],
 ) -> Result<(Vec<u8>, Vec<u8>), NoMemory>
     requires sites { hunt.now.source.sites ≡ sites hunt.now.source.image excluded.now }
-    requires races { All (HasRace hunt.now) saw.now.table }
-    requires outcome { outcome.now ≡ spec.outcome hunt.now saw.now }
-    ensures { IfOk result (λ texts. spec.AreTexts shows hunt.now saw.now (record { text = texts.0.items; notes = texts.1.items })) }
+    requires races { All (HasRace hunt.now) told.now }
+    ensures { IfOk result (λ texts. spec.AreTextsOf (parts options.now.line) options.now.shows hunt.now outcome.now told.now
+        (record { text = texts.0.items; notes = texts.1.items })) }
 {
-    match shows {
+    let line = &options.line;
+    match options.shows {
         Shows::Text => {
-            let blocks = told_blocks(alloc, hunt, excluded, outcome.rows)?;
-            let text = hunt_text(alloc, outcome, &blocks)?;
+            let blocks = told_blocks(alloc, hunt, excluded, line, told)?;
+            let text = hunt_text(alloc, line, outcome, &blocks)?;
             Ok((text, warnings(alloc, outcome)?))
         }
         Shows::Table => {
-            let text = table_of(alloc, &saw.table)?;
-            Ok((text, table_notes(alloc, outcome)?))
+            let text = table_of(alloc, outcome.rows)?;
+            Ok((text, table_notes(alloc, line, outcome)?))
         }
     }
 }
 
-/// What is told of all that a hunt's runs saw.
-fn told(
+/// The rows of what a hunt saw: those that are told, and those that are ignored.
+fn parted_rows(alloc: Global, hunt: &Hunt, lists: &Lists, saw: &Hunted) -> Result<Parted, NoMemory>
+    ensures told { IfOk result (λ parted. parted.told.items ≡ spec.told_in (hunting_with hunt.now lists.now) saw.now) }
+    ensures ignored { IfOk result (λ parted. parted.ignored.items ≡ spec.ignored_by (hunting_with hunt.now lists.now) saw.now) }
+{
+    let symbols = SymbolTable::new(alloc, hunt.image)?;
+    let rows = saw.table.rows(alloc)?;
+    part_rows(alloc, &symbols, &lists.ignored, &rows)
+}
+
+/// What was found, by the rows of the races that are told.
+fn found_in(lists: &Lists, rows: &[(Key, RaceRow)]) -> Found
+    ensures { result ≡ spec.found_in lists.now.expected rows.now }
+{
+    Found {
+        bugs: bugs(rows),
+        benign: benign(rows),
+        is_unexpected: is_unexpected(&lists.expected, rows),
+    }
+}
+
+/// What is told of all that a hunt's runs saw. The text is made first, then the schedules of the races that are told are
+/// saved, and the page is made last: what wants memory comes before a file.
+fn told<D: Folder, F: NewFile>(
     alloc: Global,
     hunt: &Hunt,
     excluded: &[u32],
+    options: &HuntOptions<'_, '_>,
+    lists: &Lists,
     saw: &Hunted,
-    shows: Shows,
-) -> Result<Made, NoMemory>
+    folder: &mut Option<D>,
+    page: &mut Option<F>,
+) -> Result<Made, MakeFault>
     requires sites { hunt.now.source.sites ≡ sites hunt.now.source.image excluded.now }
     requires hunted { IsHunted hunt.now saw.now }
-    ensures { IfOk result (IsMade hunt.now shows) }
+    ensures made { IfOk result (IsMade (parts options.now.line) options.now.shows (hunting_with hunt.now lists.now)
+        (λ rows. IfSome folder.new (λ made. AreSaved hunt.now (D.Holds made) rows))
+        (λ came rows. IfSome page.new (λ file. IsPaged (parts options.now.line) hunt.now came rows (F.Holds file)))) }
+    ensures wanted { (is_some folder.new ≡ is_some folder.old) × (is_some page.new ≡ is_some page.old) }
+    ensures failed { (passes D.has_failed folder.new || passes F.has_failed page.new)
+        ≡ (passes D.has_failed folder.old || passes F.has_failed page.old || fails_by_write result) }
 {
     hunts_have_one_result();
-    let rows = saw.table.rows(alloc)?;
+    let parted = parted_rows(alloc, hunt, lists, saw)?;
+    let told = told_rows(alloc, &parted.told)?;
     let outcome = Outcome {
         sites: count_of(hunt.sampler),
         saw: &saw.tally,
-        rows: &rows,
-        ignored: &[],
+        rows: &parted.told,
+        ignored: &parted.ignored,
     };
-    let (text, notes) = texts(alloc, hunt, excluded, saw, &outcome, shows)?;
+    let (text, notes) = texts(alloc, hunt, excluded, options, &outcome, &told)?;
+    save_races(alloc, hunt, excluded, &told, folder)?;
+    page_races(alloc, hunt, excluded, &options.line, &outcome, &told, page)?;
     Ok(Made {
-        found: Found {
-            bugs: bugs(&rows),
-            benign: benign(&rows),
-        },
+        found: found_in(lists, &parted.told),
         text,
         notes,
     })
 }
 
-/// Makes the runs of a hunt of what was opened, and the texts of what they saw.
-pub fn make_hunt<T: Threads + Wait + Sync, P: Watch>(
+/// Makes the runs of a hunt of what was opened, the schedules of the races that are told, and the texts of what they saw.
+pub(crate) fn make_hunt<T: Threads + Wait + Sync, P: Watch, D: Folder, F: NewFile>(
     rt: &T,
     alloc: Global,
-    options: &HuntOptions,
+    options: &HuntOptions<'_, '_>,
     opened: &Opened,
+    lists: &Lists,
+    folder: &mut Option<D>,
+    page: &mut Option<F>,
     watch: &mut P,
-) -> Result<Made, SeriesFault>
+) -> Result<Made, MakeFault>
     requires { AreLegal options.now }
-    ensures { IfOk result (IsMade (hunt_in (asked options.now) opened.now) options.now.shows) }
+    ensures made { IfOk result (IsMade (parts options.now.line) options.now.shows
+        (hunting_with (hunt_in (asked options.now) opened.now) lists.now)
+        (λ rows. IfSome folder.new (λ made. AreSaved (hunt_in (asked options.now) opened.now) (D.Holds made) rows))
+        (λ came rows. IfSome page.new (λ file.
+        IsPaged (parts options.now.line) (hunt_in (asked options.now) opened.now) came rows (F.Holds file)))) }
+    ensures wanted { (is_some folder.new ≡ is_some folder.old) × (is_some page.new ≡ is_some page.old) }
+    ensures failed { (passes D.has_failed folder.new || passes F.has_failed page.new)
+        ≡ (passes D.has_failed folder.old || passes F.has_failed page.old || fails_by_write result) }
 {
     let sampler = Sampler::sites(alloc, &opened.image, &opened.excluded)?;
     let hunt = Hunt {
@@ -132,6 +183,14 @@ pub fn make_hunt<T: Threads + Wait + Sync, P: Watch>(
         limit: options.limit,
     };
     let saw = hunt.hunted(rt, alloc, options.workers, watch)?;
-    let made = told(alloc, &hunt, &opened.excluded, &saw, options.shows)?;
-    Ok(made)
+    told(
+        alloc,
+        &hunt,
+        &opened.excluded,
+        options,
+        lists,
+        &saw,
+        folder,
+        page,
+    )
 }

@@ -1,7 +1,7 @@
 //! What `hunt` reads before it makes a run.
 ghost use Rattle.std.specs.Prelude.{◌≡◌, ◌||◌, false, Ok, IfOk, IfErr, IfSome};
 ghost use Rattle.rv_memory.specs.Flagged as flag;
-ghost use Rattle.rv_engines.specs.CommandFault.{IsTold, refusal, fails_by, is_read, is_write};
+ghost use Rattle.rv_engines.specs.CommandFault.{IsTold, refusal, fails_by, is_read, is_thread, is_write};
 ghost use Rattle.rv_hunting.specs.Asked.{asked};
 ghost use Rattle.rv_hunting.specs.Hunting.{hunt_of};
 ghost use Rattle.rv_hunting.specs.internal.Opened.{hunt_in};
@@ -26,7 +26,7 @@ pub struct Opened {
 /// Reads an image, and then the lists.
 pub fn open<'a, R: Read>(
     alloc: Global,
-    options: &HuntOptions<'a>,
+    options: &HuntOptions<'a, '_>,
     image: &mut Flagged<R>,
 ) -> Result<Opened, CommandFault<'a>>
     ensures ok { IfOk result (λ opened. IfSome (R.remaining (flag.device image.old)) (λ bytes.
@@ -35,6 +35,7 @@ pub fn open<'a, R: Read>(
         IsTold (hunt_of (asked options.now) bytes) (refusal fault))) }
     ensures reader { flag.has_failed image.new ≡ (flag.has_failed image.old || fails_by is_read result) }
     ensures writer { fails_by is_write result ≡ false }
+    ensures thread { fails_by is_thread result ≡ false }
 {
     let contents = read_image(alloc, image)?;
     let excluded = read_skipped(alloc, options.skip)?;

@@ -17,9 +17,22 @@ pub enum Shows {
     Table,
 }
 
+/// Parts of the command line, as messages show them, by which the text tells how to go on.
+#[derive(Clone, Copy, Debug, PartialEq, Eq)]
+pub struct LineParts<'a> {
+    /// All of it.
+    pub command: &'a str,
+    /// The path of the image.
+    pub image: &'a str,
+    /// The options that make the runs what they are, with a blank before each word.
+    pub options: &'a str,
+    /// The folder for schedules, where one is given.
+    pub folder: Option<&'a str>,
+}
+
 /// The options of `hunt`.
 #[derive(Drop)]
-pub struct HuntOptions<'a> {
+pub struct HuntOptions<'a, 'b> {
     /// The plans of all runs.
     pub plans: Plans,
     /// The seed of all runs.
@@ -36,6 +49,8 @@ pub struct HuntOptions<'a> {
     pub skip: Option<&'a str>,
     /// What is written to the standard output.
     pub shows: Shows,
+    /// What the text tells of the command line.
+    pub line: LineParts<'b>,
 }
 
 /// The most workers of a hunt.
@@ -58,7 +73,7 @@ fn may_work(workers: u8) -> bool
     1 <= workers && workers <= MOST_WORKERS
 }
 
-impl HuntOptions<'_> {
+impl HuntOptions<'_, '_> {
     /// Whether there can be such a hunt: the numbers of its runs have 32 bits, or its budget is at most `MOST_BUDGET`;
     /// and there are 1 to `MOST_WORKERS` workers.
     pub fn is_legal(&self) -> bool

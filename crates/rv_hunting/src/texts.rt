@@ -6,37 +6,23 @@ ghost use Rattle.rv_hunt.specs.HuntSays as spec;
 ghost use Rattle.rv_hunt.specs.HuntText.{table_text};
 ghost use Rattle.rv_hunt.specs.ToldOrder as order;
 ghost use Rattle.rv_hunt.specs.WarningText.{warnings_text};
+ghost use Rattle.rv_hunting.specs.Asked.{parts};
+ghost use Rattle.rv_hunting.specs.Hunting.{keep};
 
+use crate::onward::push_keep_text;
+use crate::options::LineParts;
 use rv_explain::block::RaceClass;
 use rv_hunt::row::RaceRow;
 use rv_hunt::saying::lines::{write_apart, write_saw, write_summary};
 use rv_hunt::saying::order::of_class;
 use rv_hunt::saying::warnings::write_warnings;
-use rv_hunt::table::HuntTable;
+use rv_hunt::table::write_listed_table;
 use rv_memory::flagged::{Flagged, WriteFault};
 use rv_memory::output::{Output, put_pieces};
 use rv_memory::store::NoMemory;
+use rv_page::parts::Outcome;
 use rv_report::key::Key;
-use rv_tally::tally::Tally;
 use std::alloc::Global;
-use std::marker::Model;
-
-/// What a hunt came to: how many sites there are, what its runs saw, the rows of its races, and those that are ignored.
-#[derive(Drop)]
-pub(crate) struct Outcome<'a> {
-    pub(crate) sites: u32,
-    pub(crate) saw: &'a Tally,
-    pub(crate) rows: &'a [(Key, RaceRow)],
-    pub(crate) ignored: &'a [(Key, RaceRow)],
-}
-
-impl<'a> Model for Outcome<'a> {
-    ghost use Rattle.rv_hunt.specs.HuntSays.{Outcome as Came};
-
-    ghost Value = { Came };
-
-    ghost view = { λ o. record { sites = o.sites; saw = o.saw.now; rows = o.rows.now; ignored = o.ignored.now } };
-}
 
 /// Writes which races were counted and not told.
 fn write_aside<O: Output>(
@@ -85,12 +71,22 @@ fn write_hunt<O: Output>(
     write_behind(writer, outcome, named)
 }
 
-/// The text of a hunt with these blocks.
+/// The text of a hunt with these blocks, and how a run is kept.
 pub(crate) fn hunt_text(
     alloc: Global,
+    line: &LineParts<'_>,
     outcome: &Outcome,
     blocks: &[u8],
 ) -> Result<Vec<u8>, NoMemory>
+    ensures { IfOk result (λ text. text.items ≡ spec.hunt_text outcome.now blocks.now ++ keep (parts line.now)) }
+{
+    let mut text = plain_text(alloc, outcome, blocks)?;
+    push_keep_text(alloc, &mut text, line)?;
+    Ok(text)
+}
+
+/// The text of a hunt with these blocks.
+fn plain_text(alloc: Global, outcome: &Outcome, blocks: &[u8]) -> Result<Vec<u8>, NoMemory>
     ensures { IfOk result (λ text. text.items ≡ spec.hunt_text outcome.now blocks.now) }
 {
     let named = of_class(alloc, outcome.rows, RaceClass::Named)?;
@@ -128,23 +124,28 @@ fn behind(alloc: Global, outcome: &Outcome) -> Result<Vec<u8>, NoMemory>
     }
 }
 
-/// The warnings, and the lines behind the blocks.
-pub(crate) fn table_notes(alloc: Global, outcome: &Outcome) -> Result<Vec<u8>, NoMemory>
-    ensures { IfOk result (λ notes. notes.items ≡ warnings_text outcome.now.sites outcome.now.saw
-        ++ (spec.apart_text outcome.now ++ spec.saw_text outcome.now.sites outcome.now.saw)) }
+/// The warnings, the lines behind the blocks, and how a run is kept.
+pub(crate) fn table_notes(
+    alloc: Global,
+    line: &LineParts<'_>,
+    outcome: &Outcome,
+) -> Result<Vec<u8>, NoMemory>
+    ensures { IfOk result (λ notes. notes.items ≡ (warnings_text outcome.now.sites outcome.now.saw
+        ++ (spec.apart_text outcome.now ++ spec.saw_text outcome.now.sites outcome.now.saw)) ++ keep (parts line.now)) }
 {
     let mut notes = warnings(alloc, outcome)?;
     let lines = behind(alloc, outcome)?;
     notes.extend_from_slice(&lines)?;
+    push_keep_text(alloc, &mut notes, line)?;
     Ok(notes)
 }
 
-/// The text of a hunt table.
-pub(crate) fn table_of(alloc: Global, table: &HuntTable) -> Result<Vec<u8>, NoMemory>
-    ensures { IfOk result (λ text. text.items ≡ table_text table.now) }
+/// The text of a hunt table of these rows.
+pub(crate) fn table_of(alloc: Global, rows: &[(Key, RaceRow)]) -> Result<Vec<u8>, NoMemory>
+    ensures { IfOk result (λ text. text.items ≡ table_text rows.now) }
 {
     let mut writer = Flagged::new(Vec::new(alloc));
-    match table.write_table(&mut writer) {
+    match write_listed_table(&mut writer, rows) {
         Ok(()) => Ok(writer.into_inner()),
         // Only want of memory refuses a byte.
         Err(_) => Err(NoMemory),

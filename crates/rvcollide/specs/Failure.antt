@@ -1,5 +1,5 @@
 -- The exit status of a failure, and what is printed of it.
-use Rattle.std.specs.Prelude.{ℕ, Bool, true, false, Option, Some, option_map, List, [], ◌++◌, codes}
+use Rattle.std.specs.Prelude.{ℕ, Bool, true, false, Option, Some, None, option_map, List, [], ◌++◌, codes}
 use Rattle.std.specs.declared.io.ErrorKind.{ErrorKind}
 use Rattle.std.specs.declared.io.ErrorKind.TheVariants as kind
 use Rattle.rv_engines.specs.CommandFault.{refusal_output, status}
@@ -12,18 +12,33 @@ use Rattle.rv_engines.specs.declared.fault.Fault.TheVariants.{NoMemory, Write}
 use Rattle.rv_engines.specs.declared.run.fault.CommandFault.{CommandFault}
 use Rattle.rv_engines.specs.declared.run.fault.CommandFault.TheVariants.{Plain}
 use Rattle.rv_engines.specs.declared.sentences.FaultLine.{FaultLine}
-use Rattle.rv_engines.specs.Sentences.{in_file, line_output}
+use Rattle.rv_engines.specs.Sentences.{line_output}
+use Rattle.rv_engines.specs.Shown.{shown}
+use Rattle.std.specs.Fmt.{decimal}
 use Rattle.rv_merge.specs.FileFaultText as file
 use Rattle.rv_merge.specs.declared.fault.FileFault.{FileFault}
 use Rattle.rvcollide.specs.declared.file_line.FileLine.{FileLine}
+use Rattle.rvcollide.specs.declared.file_line.FilePlace.{FilePlace}
 
 -- `FAULT: SENTENCE`, of a file of a hunt
 abbrev pub file_said_output : FileFault → Option (List ℕ)
 file_said_output fault = option_map (λ words. words ++ (codes ": " ++ file.sentence fault)) (file.fault_output fault)
 
+-- `/race-K.schedule`, of a race's file in a folder
+abbrev pub race_file : Option ℕ → List ℕ
+race_file None = []
+race_file (Some race) = codes "/race-" ++ (decimal race ++ codes ".schedule")
+
+abbrev pub place_output : FilePlace → List ℕ
+place_output place = shown place.path.now ++ race_file place.race
+
+abbrev pub after_place : Option FilePlace → List ℕ → List ℕ
+after_place None said = said
+after_place (Some place) said = place_output place ++ (codes ": " ++ said)
+
 -- the same after the file, where one is at fault
 abbrev pub file_line_output : FileLine → Option (List ℕ)
-file_line_output line = option_map (in_file line.file) (file_said_output line.fault)
+file_line_output line = option_map (after_place line.file) (file_said_output line.fault)
 
 -- the exit status: 2 for a refused command line, 5 where a hunt found what it was to look for, and else the fault's
 abbrev pub status_of : Failure → ℕ

@@ -1,14 +1,33 @@
 //! The line of a fault of a file of a hunt: with the file, and a sentence that says what is wrong or what to do.
+ghost use Rattle.std.specs.Prelude.{Some};
 ghost use Rattle.rvcollide.specs.Failure as spec;
 
 use rv_engines::shown::Shown;
 use rv_merge::fault::{FileFault, sentence};
 use std::fmt;
 
+/// A file or a folder, or the schedule of a race in a folder.
+#[derive(Clone, Copy, Debug, PartialEq, Eq)]
+pub struct FilePlace<'a> {
+    pub path: &'a str,
+    pub race: Option<u64>,
+}
+
+impl fmt::Display for FilePlace<'_> {
+    ghost output = { λ place. Some (spec.place_output place) };
+
+    fn fmt<W: fmt::Write>(&self, f: &mut fmt::Formatter<W>) -> fmt::Result {
+        match self.race {
+            Some(race) => write!(f, "{}/race-{race}.schedule", Shown(self.path)),
+            None => write!(f, "{}", Shown(self.path)),
+        }
+    }
+}
+
 /// A fault with the file that is at fault, where one is.
 #[derive(Clone, Copy, Debug, PartialEq, Eq)]
 pub struct FileLine<'a> {
-    pub file: Option<&'a str>,
+    pub file: Option<FilePlace<'a>>,
     pub fault: FileFault,
 }
 
@@ -31,7 +50,7 @@ impl fmt::Display for FileLine<'_> {
     fn fmt<W: fmt::Write>(&self, f: &mut fmt::Formatter<W>) -> fmt::Result {
         let said = Said(self.fault);
         match self.file {
-            Some(file) => write!(f, "{}: {said}", Shown(file)),
+            Some(file) => write!(f, "{file}: {said}"),
             None => write!(f, "{said}"),
         }
     }

@@ -3,16 +3,19 @@ ghost use Rattle.std.specs.Prelude.{IfSome};
 ghost use Rattle.rv_hunting.specs.Asked.{AreLegal};
 
 use crate::failure::Failure;
-use crate::files::InputFile;
-use rv_command::arguments::ImagePath;
+use crate::files::{InputFile, OutputFile};
+use crate::folder::ScheduleFolder;
+use crate::hunt_failure::{Failed, at_fault_in, failure_of};
+use crate::paths::{expect_path, ignore_path};
+use crate::shown_line::ShownLine;
+use rv_command::arguments::{FolderPath, ImagePath, PagePath};
 use rv_command::command::hunt::HuntLine;
-use rv_engines::run::fault::CommandFault;
-use rv_engines::sentences::{FaultLine, Paths};
 use rv_hunt::hunt::Watch;
 use rv_hunt::hunted::Hunted;
 use rv_hunting::engine::run_hunt;
 use rv_hunting::found::Found;
-use rv_hunting::options::{HuntOptions, MOST_WORKERS, Shows};
+use rv_hunting::inputs::Inputs;
+use rv_hunting::options::{HuntOptions, LineParts, MOST_WORKERS, Shows};
 use rv_memory::buffered::Buffered;
 use rv_memory::flagged::Flagged;
 use rv_tally::limit::Limit;
@@ -76,7 +79,11 @@ fn workers_of(rt: &impl Threads, line: &HuntLine) -> u8 {
 }
 
 /// The engine's options, where the numbers are in their ranges, as those of a line are.
-fn options_of<'a>(line: &HuntLine<'a>, workers: u8) -> Option<HuntOptions<'a>>
+fn options_of<'a, 'b>(
+    line: &HuntLine<'a>,
+    workers: u8,
+    parts: LineParts<'b>,
+) -> Option<HuntOptions<'a, 'b>>
     ensures { IfSome result (λ options. AreLegal options) }
 {
     let plans = Plans::new(line.harts, line.slots, line.lengths)?;
@@ -89,6 +96,7 @@ fn options_of<'a>(line: &HuntLine<'a>, workers: u8) -> Option<HuntOptions<'a>>
         named: line.named,
         skip: line.skip,
         shows: shown_by(line),
+        line: parts,
     };
     if options.is_legal() {
         Some(options)
@@ -108,34 +116,67 @@ fn shown_by(line: &HuntLine) -> Shows {
 
 /// Whether what was found is what the line asks to be told by the exit status.
 fn is_asked(line: &HuntLine, found: Found) -> bool {
-    (line.checks || line.checks_all) && 0 < found.bugs || line.checks_all && 0 < found.benign
+    let has_bug = (line.checks || line.checks_all) && 0 < found.bugs;
+    let has_benign = line.checks_all && 0 < found.benign;
+    has_bug || has_benign || found.is_unexpected
 }
 
-/// The fault's line, with the file that is at fault.
-fn filed<'a>(image: ImagePath<'a>, has_failed: bool, fault: CommandFault<'a>) -> Failure<'a> {
-    let paths = Paths {
-        image: image.0,
-        schedule: None,
-        failed: has_failed.then_some(image.0),
-    };
-    Failure::Filed(FaultLine {
-        file: paths.at_fault(fault),
-        fault,
-    })
+/// The file of a path, where one is given. It is opened when it is first read.
+fn file_if<'a>(
+    rt: &'a HostRuntime,
+    path: Option<&'a str>,
+) -> Option<Flagged<InputFile<'a, HostRuntime>>> {
+    let path = path?;
+    Some(Flagged::new(InputFile::new(rt, path)))
 }
 
-/// Runs the engine of `hunt` on a file.
+/// The folder of a path, where one is given.
+fn folder_if<'a>(rt: &'a HostRuntime, path: Option<FolderPath<'a>>) -> Option<ScheduleFolder<'a>> {
+    let path = path?;
+    Some(ScheduleFolder::new(rt, path.0))
+}
+
+/// The page of a path, where one is given.
+fn page_if<'a>(
+    rt: &'a HostRuntime,
+    path: Option<PagePath<'a>>,
+) -> Option<OutputFile<'a, HostRuntime>> {
+    let path = path?;
+    Some(OutputFile::new(rt, path.0))
+}
+
+/// Runs the engine of `hunt` on the files of a line.
 pub fn hunt_file<'a>(
+    rt: &HostRuntime,
+    threads: &(impl Threads + Wait + Sync),
+    words: &[&str],
+    image: ImagePath<'a>,
+    line: &HuntLine<'a>,
+) -> Result<(), Failure<'a>> {
+    let alloc = rt.alloc();
+    let shown = ShownLine::of(alloc, words, image, line)?;
+    hunt_by(rt, threads, image, line, shown.parts())
+}
+
+/// The same, with what the text tells of the line.
+fn hunt_by<'a>(
     rt: &HostRuntime,
     threads: &(impl Threads + Wait + Sync),
     image: ImagePath<'a>,
     line: &HuntLine<'a>,
+    parts: LineParts<'_>,
 ) -> Result<(), Failure<'a>> {
-    let Some(options) = options_of(line, workers_of(threads, line)) else {
+    let Some(options) = options_of(line, workers_of(threads, line), parts) else {
         return Err(Failure::Line);
     };
     let alloc = rt.alloc();
-    let mut file = Flagged::new(InputFile::new(rt, image.0));
+    let mut inputs = Inputs {
+        image: Flagged::new(InputFile::new(rt, image.0)),
+        ignored: file_if(rt, ignore_path(line.ignore)),
+        expected: file_if(rt, expect_path(line.expect)),
+    };
+    let mut folder = folder_if(rt, line.save_to);
+    let mut page = page_if(rt, line.page);
     let mut writer = Buffered::new(alloc, rt.stdout());
     let mut notes = Buffered::new(alloc, rt.stderr());
     let mut progress = Progress {
@@ -144,17 +185,27 @@ pub fn hunt_file<'a>(
         is_shown: !line.is_quiet && rt.stderr().is_terminal(),
         hundredths: 0,
     };
-    match run_hunt(
+    let hunted = run_hunt(
         threads,
         alloc,
         &options,
-        &mut file,
+        &mut inputs,
+        &mut folder,
+        &mut page,
         &mut writer,
         &mut notes,
         &mut progress,
-    ) {
+    );
+    match hunted {
         Ok(found) if is_asked(line, found) => Err(Failure::Found),
         Ok(_) => Ok(()),
-        Err(fault) => Err(filed(image, file.failed(), fault)),
+        Err(fault) => {
+            let failed = Failed {
+                image: inputs.image.failed(),
+                folder: at_fault_in(&folder),
+                page: page.is_some_and(|page| page.has_failed()),
+            };
+            Err(failure_of(image, line, failed, fault))
+        }
     }
 }

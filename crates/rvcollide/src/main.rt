@@ -11,8 +11,12 @@ mod assertion;
 pub mod failure;
 pub mod file_line;
 pub mod files;
+pub mod folder;
+pub mod hunt_failure;
 mod hunting;
 mod merging;
+mod paths;
+mod shown_line;
 
 use crate::failure::Failure;
 use crate::files::{InputFile, OutputFile};
@@ -81,7 +85,7 @@ fn run_line<'a>(
     words: &'a [&'a str],
 ) -> Result<(), Failure<'a>> {
     match command_of(rt.alloc(), words) {
-        Ok(job) => run_job(rt, threads, job),
+        Ok(job) => run_job(rt, threads, words, job),
         Err(LineFault::Line) => tell(rt, words),
         Err(fault) => Err(Failure::from(fault)),
     }
@@ -92,6 +96,7 @@ fn run_line<'a>(
 fn run_job<'a>(
     rt: &HostRuntime,
     threads: &(impl Threads + Wait + Sync),
+    words: &[&str],
     job: Job<'a>,
 ) -> Result<(), Failure<'a>> {
     let alloc = rt.alloc();
@@ -122,7 +127,7 @@ fn run_job<'a>(
         }
         Job::Debug { image, schedule } => debug_files(rt, image, schedule),
         Job::Gdb { image, schedule } => return Ok(gdb_files(rt, image, schedule)?),
-        Job::Hunt { image, line } => return hunt_file(rt, threads, image, &line),
+        Job::Hunt { image, line } => return hunt_file(rt, threads, words, image, &line),
         Job::Merge { tables, expected } => return merge_files(rt, tables, expected),
         Job::Run {
             image,

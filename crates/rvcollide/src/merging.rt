@@ -1,7 +1,7 @@
 //! The engine of `merge` on the files of a line.
 
 use crate::failure::Failure;
-use crate::file_line::FileLine;
+use crate::file_line::{FileLine, FilePlace};
 use crate::files::InputFile;
 use rv_command::arguments::{TablePath, TablePaths};
 use rv_engines::fault::Fault;
@@ -23,6 +23,16 @@ fn path_of<'a>(
     }
     let path = expected?;
     Some(path.0)
+}
+
+/// The same, as a fault's line names it.
+fn place_of<'a>(
+    tables: TablePaths<'a>,
+    expected: Option<TablePath<'a>>,
+    number: Option<usize>,
+) -> Option<FilePlace<'a>> {
+    let path = path_of(tables, expected, number)?;
+    Some(FilePlace { path, race: None })
 }
 
 /// The file of what is expected, where one is given.
@@ -54,7 +64,7 @@ pub fn merge_files<'a>(
         Ok(false) => Ok(()),
         Ok(true) => Err(Failure::Found),
         Err(fault) => Err(Failure::OfFile(FileLine {
-            file: path_of(tables, expected, fault.file),
+            file: place_of(tables, expected, fault.file),
             fault: fault.fault,
         })),
     }

@@ -203,6 +203,21 @@ pub const COMMANDS: [Subcommand; 12] = [
                 value: "LIST",
                 help: "Addresses of instructions never to pause at, separated by commas",
             },
+            Argument::Optional {
+                name: "ignore",
+                value: "FILE",
+                help: "List of known races that are counted, not reported: two symbols or addresses a line",
+            },
+            Argument::Optional {
+                name: "save-to",
+                value: "DIR",
+                help: "Folder for the schedule of each reported race: race-1.schedule, and so on",
+            },
+            Argument::Optional {
+                name: "page",
+                value: "FILE",
+                help: "HTML file to write, with the reports and a picture of each race",
+            },
             Argument::Flag {
                 name: "table",
                 help: "Print the table of the races, and what was seen on the standard error",
@@ -214,6 +229,11 @@ pub const COMMANDS: [Subcommand; 12] = [
             Argument::Flag {
                 name: "check-all",
                 help: "Exit with status 5 if there is a race, also a likely benign one",
+            },
+            Argument::Optional {
+                name: "expect",
+                value: "TABLE",
+                help: "Table of known races: exit with status 5 if one that may be a bug is not in it",
             },
             Argument::Flag {
                 name: "quiet",
@@ -464,6 +484,9 @@ that a clean answer means little here, why, and what to do. IMAGE is as rvcollid
 
 The output is a report of each race, as explain prints it, then how the harts ended and what was seen:
   races 1, likely benign 0, reports 13 of 84 endings in 3 runs
+Each line of --ignore is two sides: a symbol's name, an address of eight hexadecimal digits, or * for any
+instruction; # begins a comment. --save-to takes a folder that is there and has no such schedule; explain,
+replay, debug, exhibit and gdb read the schedules. TABLE is an output of hunt --table, of merge or of run.
 
 A fault is told with its file and what is wrong:
   rvcollide: guest.elf: load NotRiscV: the file is for another processor
@@ -473,7 +496,7 @@ Example:
 
 Exit status: 0 done; 1 the input is refused (see rvcollide help faults); 2 the command line is refused;
 3 a file or stream cannot be read or written; 4 there is not enough memory; 5 there is a race that
---check or --check-all asks for.";
+--check, --check-all or --expect asks for.";
 
 /// What the help of `merge` says after its arguments.
 const MERGE: &str = "\

@@ -36,7 +36,7 @@ To find and read a first race:
 
 The exit status is 0 if all went well, 1 if an input was refused, 2 if the command line was, 3 if a file
 or stream could not be read or written, 4 if there was not enough memory, and 5 if a hunt with --check,
---check or --check-all found such a race.
+--check-all or --expect, or a merge with --expect, found such a race.
 ";
 
 /// What `help faults` writes: for each fault's name the sentence that `sentence` gives.
@@ -110,6 +110,16 @@ explain NoRace: there is no race with this number
 skip TEXT: an address is eight hexadecimal digits
 
 name TEXT: the image has no symbol with this name
+
+table line N NAME, of a table of hunt or run:
+  Shape: the line is not the row of a race: is this a table of hunt?
+  Range: a number or an address of the row is out of range
+  Twice: the race has a row already: use merge to add tables
+  End: there are not as many rows as the first line says: was the file cut off?
+
+ignore line N NAME, of a list of --ignore:
+  Shape: a line is two sides, each an address of eight hexadecimal digits, a symbol's name or *
+  Unknown: the image has no symbol with this name
 
 campaign NAME, of run:
   TooLarge: the runs could have more than 16777216 entries in total: use fewer runs, steps or arms

@@ -9,7 +9,7 @@ use super::complaint::{Complaint, NumberOption};
 use super::number::{number_between, number_if, number_or};
 use super::run::{HARTS, SEED, SLOTS, WORKERS};
 use super::{Job, text_of};
-use crate::arguments::ImagePath;
+use crate::arguments::{FolderPath, IgnorePath, ImagePath, PagePath, TablePath};
 use clap::ArgMatches;
 use rv_collide::plan::{DEFAULT_SLOTS, MOST_ARMS, MOST_PAUSE, MOST_STEPS};
 use rv_tally::limit::Limit;
@@ -58,12 +58,20 @@ pub struct HuntLine<'a> {
     pub named: Option<&'a str>,
     /// Addresses in eight hexadecimal digits, with a comma between two: no hart is paused there.
     pub skip: Option<&'a str>,
+    /// The list of races that are to be ignored.
+    pub ignore: Option<IgnorePath<'a>>,
+    /// The folder for the schedules of the races.
+    pub save_to: Option<FolderPath<'a>>,
+    /// The file for the page.
+    pub page: Option<PagePath<'a>>,
     /// The standard output is the table alone.
     pub shows_table: bool,
     /// A race that may be a bug gives the status 5.
     pub checks: bool,
     /// So does one that is likely benign.
     pub checks_all: bool,
+    /// The table of the races that are expected: another one that may be a bug gives the status 5 too.
+    pub expect: Option<TablePath<'a>>,
     /// No progress is told.
     pub is_quiet: bool,
 }
@@ -102,11 +110,43 @@ fn line_of<'a>(given: &ArgMatches<'a>) -> Result<HuntLine<'a>, Complaint<'a>>
         slots: slots as u8,
         named: text_of(given, "named"),
         skip: text_of(given, "skip"),
+        ignore: ignore_of(given),
+        save_to: folder_of(given),
+        page: page_of(given),
         shows_table: flag_of(given, "table"),
         checks: flag_of(given, "check"),
         checks_all: flag_of(given, "check-all"),
+        expect: expect_of(given),
         is_quiet: flag_of(given, "quiet"),
     })
+}
+
+/// The list of races that are to be ignored.
+fn ignore_of<'a>(given: &ArgMatches<'a>) -> Option<IgnorePath<'a>>
+    ensures { option_map (λ path. path.0.now) result ≡ first_of (codes "ignore") (rows_of (found_of given.now)) }
+{
+    text_of(given, "ignore").map(|path| IgnorePath(path))
+}
+
+/// The folder for schedules.
+fn folder_of<'a>(given: &ArgMatches<'a>) -> Option<FolderPath<'a>>
+    ensures { option_map (λ path. path.0.now) result ≡ first_of (codes "save-to") (rows_of (found_of given.now)) }
+{
+    text_of(given, "save-to").map(|path| FolderPath(path))
+}
+
+/// The file for the page.
+fn page_of<'a>(given: &ArgMatches<'a>) -> Option<PagePath<'a>>
+    ensures { option_map (λ path. path.0.now) result ≡ first_of (codes "page") (rows_of (found_of given.now)) }
+{
+    text_of(given, "page").map(|path| PagePath(path))
+}
+
+/// The table of the races that are expected.
+fn expect_of<'a>(given: &ArgMatches<'a>) -> Option<TablePath<'a>>
+    ensures { option_map (λ path. path.0.now) result ≡ first_of (codes "expect") (rows_of (found_of given.now)) }
+{
+    text_of(given, "expect").map(|path| TablePath(path))
 }
 
 /// How far the hunt goes. The budget has to be one also where it does not count.

@@ -1,5 +1,6 @@
 use Rattle.std.proofs.Common.{◌∙◌, sym}
 use Rattle.rv_hunting.proofs.BlockLemmas.{block_made, race_is_told}
+use Rattle.rv_hunting.specs.Asked.{parts}
 use Rattle.rv_hunting.proofs.blocks.block_of.Goals as goal
 
 pub text_of_run-requires-clause-told : goal.text_of_run-requires-clause-told
@@ -8,5 +9,5 @@ text_of_run-requires-clause-told c =
 
 pub returns : goal.returns
 returns c =
-    block_made (λ text. text.items) c.text_of_run.result c.args.hunt.now c.args.number (c.args.key.now, c.args.row.now) c.in_ok-remade.remade.run c.in-Some.race c.args.symbols.now _ c.requires.image c.in_ok-remade.ensures.run (sym c.in_ok-remade.ensures.race ∙ c.in-Some.is)
-    (rw c.deref.ensures.value at c.text_of_run.ensures) c.in_ok-words.ensures
+    block_made (parts c.args.line.now) c.args.hunt.now c.args.number (c.args.key.now, c.args.row.now) c.in_ok-remade.remade.run c.in-Some.race c.args.symbols.now c.in_ok-words.words.items c.in_ok-text.text.items _
+    c.requires.image c.in_ok-remade.ensures.run (sym c.in_ok-remade.ensures.race ∙ c.in-Some.is) (rw c.deref.ensures.value at c.in_ok-text.ensures) c.in_ok-words.ensures c.in_ok-push_gdb_text.ensures

@@ -1,0 +1,61 @@
+-- Which of several devices have failed.
+use Rattle.std.proofs.Common.{◌≡◌, Bool, true, false, ap, refl, sym, ◌∙◌}
+use Rattle.std.specs.Prelude.{◌||◌}
+
+pub none_more : (a x : Bool) → x ≡ false → a ≡ (a || x)
+none_more true x none = refl
+none_more false x none = sym none
+
+second : (i g e y : Bool) → (((i || false) || (g || y)) || e) ≡ (((i || g) || e) || y)
+second true g e y = refl
+second false true e y = refl
+second false false true true = refl
+second false false true false = refl
+second false false false true = refl
+second false false false false = refl
+
+third : (i g e z : Bool) → (((i || false) || (g || false)) || (e || z)) ≡ (((i || g) || e) || z)
+third true g e z = refl
+third false true e z = refl
+third false false true z = refl
+third false false false z = refl
+
+-- of three readers the second failed, or the third
+pub second_failed : (i g e a b y : Bool) → a ≡ (i || false) → b ≡ (g || y) → ((a || b) || e) ≡ (((i || g) || e) || y)
+second_failed i g e a b y first next = rw (first, next) (second i g e y)
+
+pub third_failed : (i g e a b c z : Bool) → a ≡ (i || false) → b ≡ (g || false) → c ≡ (e || z) → ((a || b) || c) ≡ (((i || g) || e) || z)
+third_failed i g e a b c z first next last = rw (first, next, last) (third i g e z)
+
+files : (d p n v x : Bool) → (((d || p) || x) || (n || v)) ≡ (((d || p) || (n || v)) || x)
+files true p n v x = refl
+files false true n v x = refl
+files false false n v true = files_true n v
+  where
+    files_true : (n v : Bool) → true ≡ ((n || v) || true)
+    files_true true v = refl
+    files_true false true = refl
+    files_true false false = refl
+files false false true v false = refl
+files false false false true false = refl
+files false false false false false = refl
+
+-- of a folder and a page, and of two writers, one of the first two failed
+pub file_failed : (d p n v a x : Bool) → a ≡ ((d || p) || x) → (a || (n || v)) ≡ (((d || p) || (n || v)) || x)
+file_failed d p n v a x first = rw first (files d p n v x)
+
+or_false : (a : Bool) → (a || false) ≡ a
+or_false true = refl
+or_false false = refl
+
+or_or : (a b x : Bool) → (a || (b || x)) ≡ ((a || b) || x)
+or_or true b x = refl
+or_or false b x = refl
+
+-- one of the two writers failed
+pub writer_failed : (q a w x b : Bool) → a ≡ (q || false) → w ≡ (b || x) → (a || w) ≡ ((q || b) || x)
+writer_failed q a w x b first next = rw (first, next, or_false q) (or_or q b x)
+
+-- the same, where the folder was looked at before
+pub later_failed : (d p n v l a x : Bool) → l ≡ (d || false) → a ≡ ((l || p) || x) → (a || (n || v)) ≡ (((d || p) || (n || v)) || x)
+later_failed d p n v l a x looked first = file_failed d p n v a x (first ∙ ap (λ k. (k || p) || x) (looked ∙ or_false d))

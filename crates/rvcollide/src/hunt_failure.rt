@@ -1,0 +1,92 @@
+//! The lines of a hunt's faults, each with the file that is at fault.
+use crate::failure::Failure;
+use crate::file_line::{FileLine, FilePlace};
+use crate::folder::ScheduleFolder;
+use crate::paths::{expect_path, folder_path, ignore_path, page_path};
+use rv_command::arguments::ImagePath;
+use rv_command::command::hunt::HuntLine;
+use rv_engines::fault::Fault;
+use rv_engines::run::fault::CommandFault;
+use rv_engines::sentences::{FaultLine, Paths};
+use rv_hunting::fault::HuntFault;
+use rv_merge::fault::FileFault;
+
+/// What of a folder is at fault.
+#[derive(Clone, Copy, Debug, PartialEq, Eq)]
+pub enum AtFault {
+    Nothing,
+    Folder,
+    /// The file of the race of that number.
+    Schedule(u64),
+}
+
+/// Which of a hunt's files have failed. The others' faults name their file.
+#[derive(Clone, Copy, Debug, PartialEq, Eq)]
+pub struct Failed {
+    pub image: bool,
+    pub folder: AtFault,
+    pub page: bool,
+}
+
+/// What is at fault in a folder, where one is given.
+pub fn at_fault_in(folder: &Option<ScheduleFolder<'_>>) -> AtFault {
+    match folder {
+        Some(folder) if folder.has_failed() => match folder.race() {
+            Some(race) => AtFault::Schedule(race),
+            None => AtFault::Folder,
+        },
+        _ => AtFault::Nothing,
+    }
+}
+
+/// The line of a fault of a file, or of the schedule of a race in a folder.
+fn of_file<'a>(path: Option<&'a str>, race: Option<u64>, fault: FileFault) -> Failure<'a> {
+    let file = match path {
+        Some(path) => Some(FilePlace { path, race }),
+        None => None,
+    };
+    Failure::OfFile(FileLine { file, fault })
+}
+
+/// The line of a fault of the image or of the command line.
+fn of_image<'a>(image: ImagePath<'a>, has_failed: bool, fault: CommandFault<'a>) -> Failure<'a> {
+    let paths = Paths {
+        image: image.0,
+        schedule: None,
+        failed: has_failed.then_some(image.0),
+    };
+    Failure::Filed(FaultLine {
+        file: paths.at_fault(fault),
+        fault,
+    })
+}
+
+/// The line of a fault that is not one of a list's file.
+fn of_command<'a>(
+    image: ImagePath<'a>,
+    line: &HuntLine<'a>,
+    failed: Failed,
+    fault: CommandFault<'a>,
+) -> Failure<'a> {
+    const WRITE: FileFault = FileFault::Plain(Fault::Write);
+    match failed.folder {
+        AtFault::Folder => of_file(folder_path(line.save_to), None, WRITE),
+        AtFault::Schedule(race) => of_file(folder_path(line.save_to), Some(race), WRITE),
+        AtFault::Nothing if failed.page => of_file(page_path(line.page), None, WRITE),
+        AtFault::Nothing => of_image(image, failed.image, fault),
+    }
+}
+
+/// The line of a fault.
+pub fn failure_of<'a>(
+    image: ImagePath<'a>,
+    line: &HuntLine<'a>,
+    failed: Failed,
+    fault: HuntFault<'a>,
+) -> Failure<'a> {
+    match fault {
+        HuntFault::Ignored(fault) => of_file(ignore_path(line.ignore), None, fault),
+        HuntFault::Expected(fault) => of_file(expect_path(line.expect), None, fault),
+        HuntFault::Command(fault) => of_command(image, line, failed, fault),
+    }
+}

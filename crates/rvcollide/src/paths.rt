@@ -1,0 +1,26 @@
+//! The paths of a line of `hunt`.
+use rv_command::arguments::{FolderPath, IgnorePath, PagePath, TablePath};
+
+/// The path of the list of races that are to be ignored.
+pub fn ignore_path<'a>(path: Option<IgnorePath<'a>>) -> Option<&'a str> {
+    let path = path?;
+    Some(path.0)
+}
+
+/// The path of the table of the races that are expected.
+pub fn expect_path<'a>(path: Option<TablePath<'a>>) -> Option<&'a str> {
+    let path = path?;
+    Some(path.0)
+}
+
+/// The path of the folder for schedules.
+pub fn folder_path<'a>(path: Option<FolderPath<'a>>) -> Option<&'a str> {
+    let path = path?;
+    Some(path.0)
+}
+
+/// The path of the page.
+pub fn page_path<'a>(path: Option<PagePath<'a>>) -> Option<&'a str> {
+    let path = path?;
+    Some(path.0)
+}

@@ -1,0 +1,129 @@
+//! What a hunt's text tells of its command line.
+use crate::paths::ignore_path;
+use rv_collide::plan::DEFAULT_SLOTS;
+use rv_command::arguments::{FolderPath, ImagePath};
+use rv_command::command::hunt::{DEFAULT_SEED, HuntLine};
+use rv_engines::shown::Shown;
+use rv_hunting::options::LineParts;
+use rv_tally::plans::Lengths;
+use std::alloc::{AllocError, Global};
+
+/// Parts of a line, as messages show them.
+#[derive(Drop)]
+pub struct ShownLine {
+    command: String,
+    image: String,
+    options: String,
+    folder: Option<String>,
+}
+
+impl ShownLine {
+    pub fn of(
+        alloc: Global,
+        words: &[&str],
+        image: ImagePath<'_>,
+        line: &HuntLine<'_>,
+    ) -> Result<ShownLine, AllocError> {
+        Ok(ShownLine {
+            command: command_of(alloc, words)?,
+            image: format!(in alloc; "{}", Shown(image.0))?,
+            options: options_of(alloc, line)?,
+            folder: folder_of(alloc, line.save_to)?,
+        })
+    }
+
+    /// The parts.
+    pub fn parts(&self) -> LineParts<'_> {
+        LineParts {
+            command: self.command.as_str(),
+            image: self.image.as_str(),
+            options: self.options.as_str(),
+            folder: self.folder.as_deref(),
+        }
+    }
+}
+
+/// The whole line, with a blank between two words.
+fn command_of(alloc: Global, words: &[&str]) -> Result<String, AllocError> {
+    let mut text = String::from_str(alloc, "rvcollide")?;
+    for word in words.iter().skip(1) {
+        let shown = format!(in alloc; " {}", Shown(*word))?;
+        text.push_str(shown.as_str())?;
+    }
+    Ok(text)
+}
+
+/// The folder, where one is given.
+fn folder_of(alloc: Global, folder: Option<FolderPath<'_>>) -> Result<Option<String>, AllocError> {
+    match folder {
+        Some(path) => Ok(Some(format!(in alloc; "{}", Shown(path.0))?)),
+        None => Ok(None),
+    }
+}
+
+/// Adds an option with a number, unless it has its default.
+fn push_number(
+    alloc: Global,
+    text: &mut String,
+    name: &str,
+    number: u32,
+    default: u32,
+) -> Result<(), AllocError> {
+    if number == default {
+        return Ok(());
+    }
+    let option = format!(in alloc; " --{name} {number}")?;
+    text.push_str(option.as_str())
+}
+
+/// Adds an option with a text, where it is given.
+fn push_text(
+    alloc: Global,
+    text: &mut String,
+    name: &str,
+    value: Option<&str>,
+) -> Result<(), AllocError> {
+    let Some(value) = value else {
+        return Ok(());
+    };
+    let option = format!(in alloc; " --{name} {}", Shown(value))?;
+    text.push_str(option.as_str())
+}
+
+/// Adds the lengths of the runs, where they are given.
+fn push_lengths(
+    alloc: Global,
+    text: &mut String,
+    lengths: Option<Lengths>,
+) -> Result<(), AllocError> {
+    let Some(of) = lengths else {
+        return Ok(());
+    };
+    let option = format!(in alloc; " --plan {},{},{}", of.steps, of.arms, of.pause)?;
+    text.push_str(option.as_str())
+}
+
+/// The options that make the runs what they are, with a blank before each word.
+fn options_of(alloc: Global, line: &HuntLine<'_>) -> Result<String, AllocError> {
+    let mut text = String::new(alloc);
+    push_number(
+        alloc,
+        &mut text,
+        "harts",
+        u32::from(line.harts.unwrap_or(0)),
+        0,
+    )?;
+    push_number(alloc, &mut text, "seed", line.seed, DEFAULT_SEED)?;
+    push_lengths(alloc, &mut text, line.lengths)?;
+    push_number(
+        alloc,
+        &mut text,
+        "slots",
+        u32::from(line.slots),
+        u32::from(DEFAULT_SLOTS),
+    )?;
+    push_text(alloc, &mut text, "named", line.named)?;
+    push_text(alloc, &mut text, "skip", line.skip)?;
+    push_text(alloc, &mut text, "ignore", ignore_path(line.ignore))?;
+    Ok(text)
+}
