@@ -1,4 +1,7 @@
 //! A folder that keeps its files in memory.
+ghost use Rattle.std.specs.Prelude.{◌≡◌, ◌||◌};
+ghost use Rattle.rv_hunting.specs.FolderFault.{fails_by_write};
+
 use rv_hunting::folder::{Folder, FolderFault};
 use std::alloc::Global;
 
@@ -24,7 +27,9 @@ impl KeptFolder {
     }
 
     /// Adds a file.
-    fn add(&mut self, number: u64, bytes: &[u8]) -> Result<(), FolderFault> {
+    fn add(&mut self, number: u64, bytes: &[u8]) -> Result<(), FolderFault>
+        ensures failed { self.new.failed ≡ (self.old.failed || fails_by_write result) }
+    {
         let Ok(bytes) = bytes.to_vec(*self.files.allocator()) else {
             return Err(FolderFault::NoMemory);
         };

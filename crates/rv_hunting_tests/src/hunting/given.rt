@@ -117,6 +117,9 @@ const SCHEDULE: &[u8] = b"rvcollide schedule 2\n\
 
 /// Whether a text has a part.
 fn has(text: &[u8], part: &[u8]) -> bool {
+    if part.is_empty() {
+        return true;
+    }
     text.windows(part.len()).any(|window| window == part)
 }
 
