@@ -24,6 +24,7 @@ use Rattle.rv_collide.proofs.Prefix.{state_step}
 
 pub record MayTurn (setting : Setting) (xs : List Entry) (h : ℕ) : Type 0 where
   pub within : h < setting.plan.harts
+  pub runs : runs_at setting.start xs (length xs) h ≡ true
   pub free : is_some (opening_of xs h) ≡ false
   pub left : nat_lt (length (steps xs)) setting.plan.steps ≡ true
 
@@ -43,6 +44,7 @@ by_answer setting xs h (Ok e) is ok =
     let parts = turn_parts setting xs h e is in
     record {
       within = turn_within setting xs h e is;
+      runs = parts.runs;
       free = parts.not_open;
       left = lt_is (length (steps xs)) setting.plan.steps parts.left;
     }

@@ -251,6 +251,13 @@ impl<S: ByteStore> Collider<S> {
         }
     }
 
+    /// Whether a hart is paused.
+    pub fn is_paused(&self, h: u8) -> bool
+        ensures { result ≡ is_some (opening_of self.now.entries h) }
+    {
+        is_one_of(&self.openings, h)
+    }
+
     /// Whether the address is armed.
     pub fn is_armed(&self, pc: u32) -> bool
         ensures { result ≡ set.contains (armed (setting_of self.now).start self.now.entries) pc }
@@ -282,13 +289,6 @@ impl<S: ByteStore> Collider<S> {
         ensures { result ≡ runs_at (setting_of self.now).start self.now.entries (length self.now.entries) h }
     {
         self.machine.status(h).is_running()
-    }
-
-    /// Whether a hart is paused.
-    fn is_paused(&self, h: u8) -> bool
-        ensures { result ≡ is_some (opening_of self.now.entries h) }
-    {
-        is_one_of(&self.openings, h)
     }
 
     /// The open pause of a hart.
@@ -399,6 +399,15 @@ impl<S: ByteStore> Collider<S> {
         self.steps < self.until
     }
 
+    /// The same where steps are left, by one number alone.
+    #[inline(always)]
+    fn is_unhindered(&self) -> bool
+        ensures unwatched { result ≡ true → nat_lt (length (steps self.now.entries)) self.now.plan.steps ≡ true → openings self.now.entries ≡ [] }
+        ensures goes_on { result ≡ true → nat_lt (length (steps self.now.entries)) self.now.plan.steps ≡ true → (h : ℕ) → GoesOn self.now h }
+    {
+        0 < self.until
+    }
+
     /// Whether a turn of the hart is a step that no claim is shown, if there is such a hart and it runs. Mostly
     /// one comparison tells.
     #[inline(always)]
@@ -453,6 +462,8 @@ impl<S: ByteStore> Collider<S> {
     fn step(&mut self, h: u8, is_watched: bool, is_common: bool) -> Option<Event>
         requires goes_on { GoesOn self.old h }
         requires unwatched { is_watched ≡ false → openings self.old.entries ≡ [] }
+        requires running { is_common ≡ true
+            → runs_at (setting_of self.old).start self.old.entries (length self.old.entries) h ≡ true }
         ensures forced { IfSome result (λ _.
             forced (setting_of self.old) self.old.entries (Turn h) ≡ Ok (Entry.Stepped h)) }
         ensures event { IfSome result (λ event. answer.IsEvent self.old h event) }
@@ -536,9 +547,10 @@ fn machine_of<S: ByteStore>(
     }
 }
 
-/// A step of a hart, whatever it is; or a common one alone, which moves on.
+/// A step of a hart, whatever it is; or, of one that runs, a common step alone, which moves on.
 #[inline(always)]
 fn stepped<S: ByteStore>(machine: &mut Machine<S>, h: u8, is_common: bool) -> Option<Event>
+    requires { is_common ≡ true → is_running_hart (slice_get machine.old.state.harts h) ≡ true }
     ensures step { IfSome result (λ event. step_of machine.old.state h ≡ Some (event, machine.new.state)) }
     ensures moves { IfSome result (λ event. is_common ≡ true → event ≡ Event.Moved (accessed event)) }
     ensures harts { length machine.new.state.harts ≡ length machine.old.state.harts }

@@ -1,5 +1,5 @@
 -- Turns in a row, one more.
-use Rattle.std.proofs.Common.{◌≡◌, ℕ, suc, ◌+◌, ◌-◌, ◌^◌, ◌≤◌, ◌<◌, true, List, [], ◌∷◌, ◌++◌, length, Some, None, refl, sym, ap, subst, ◌∙◌, arith, length-append, get_or}
+use Rattle.std.proofs.Common.{◌≡◌, ℕ, suc, ◌+◌, ◌-◌, ◌^◌, ◌<◌, true, List, [], ◌∷◌, ◌++◌, length, Some, None, refl, sym, ap, subst, ◌∙◌, arith, length-append, get_or}
 use Rattle.std.specs.Prelude.{◌%◌, slice_get}
 use Rattle.std.proofs.lemmas.List.{append_assoc, append-nil}
 use Rattle.std.proofs.lemmas.Option.{slice_get_read}
@@ -93,6 +93,12 @@ is_picked setting xs row word drawn count hart some is are counts read =
     ∙ ap (λ (ys : List ℕ). slice_get ys (word % count)) (sym are)
     ∙ slice_get_read row (length row) (word % count) hart refl (below_row (word % count) count (length (able setting xs)) (length row) below counts long) read
 
+-- where the same harts stay able a word picks the same
+pub picks_the_same : (d e : Ahead) (word next : ℕ) → IsAhead d → IsAhead e → e.able.items ≡ d.able.items → picked_hart (setting_of d.collider) d.collider.entries word ≡ Some next → picked_hart (setting_of e.collider) e.collider.entries word ≡ Some next
+unfolding picked_hart
+picks_the_same d e word next before after same picked =
+    ap (λ (ys : List ℕ). slice_get ys (word % length ys)) (sym after.able_are ∙ same ∙ before.able_are) ∙ picked
+
 -- ---- a common step
 
 pub stays_ahead : PausesGoOn → OtherHartsStay → (d : Ahead) (core : Stored) (h : ℕ) → IsAhead d → is_able (setting_of d.collider) d.collider.entries h ≡ true → StepsOn d.collider core h → d.made + 1 < d.collider.plan.steps → StaysAhead d (record d { collider = core; made = d.made + 1 }) h
@@ -114,7 +120,7 @@ none_undue : (d : Ahead) → IsAhead d → d.made < d.earliest → 0 < length d.
 none_undue d a early some =
     sym (none_due (setting_of d.collider) d.collider.entries d.made d.made_at d.able.items d.earliest a.kept a.able_are a.lasts early some)
 
-pub row_begins : (d : Ahead) (before after : Given) (hart left : ℕ) → IsAhead d → 0 < length d.able.items → due (setting_of d.collider) d.collider.entries ≡ None → picked_hart (setting_of d.collider) d.collider.entries (word_at before.seed before.stream before.taken) ≡ Some hart → after ≡ record before { taken = before.taken + 1 } → (0 < left → d.made + left ≤ d.earliest) → (0 < left → d.made + left ≤ d.collider.plan.steps) → left < 2 ^ 32 → IsInRow d.collider before d after hart left
+pub row_begins : (d : Ahead) (before after : Given) (hart left : ℕ) → IsAhead d → 0 < length d.able.items → due (setting_of d.collider) d.collider.entries ≡ None → picked_hart (setting_of d.collider) d.collider.entries (word_at before.seed before.stream before.taken) ≡ Some hart → after ≡ record before { taken = before.taken + 1 } → (0 < left → d.made + left < d.earliest) → (0 < left → d.made + left < d.collider.plan.steps) → left < 2 ^ 32 → IsInRow d.collider before d after hart left
 row_begins d before after hart left ahead some undue picked words pauses steps few =
     let taken : after.taken ≡ before.taken + 1 = ap (λ (w : Given). w.taken) words in
     let last : before.taken ≡ after.taken - 1 = omega arith in
@@ -135,7 +141,7 @@ row_begins d before after hart left ahead some undue picked words pauses steps f
 same_words : (before words : Given) (n : ℕ) → words ≡ record before { taken = words.taken } → word_at words.seed words.stream n ≡ word_at before.seed before.stream n
 same_words before words n is = ap (λ (w : Given). word_at w.seed w.stream n) is
 
-pub row_goes_on : (old : Stored) (before words after : Given) (d e : Ahead) (hart next left : ℕ) → IsInRow old before d words hart left → 1 < left → StaysAhead d e hart → picked_hart (setting_of e.collider) e.collider.entries (word_at words.seed words.stream words.taken) ≡ Some next → after ≡ record words { taken = words.taken + 1 } → IsInRow old before e after next (left - 1)
+pub row_goes_on : (old : Stored) (before words after : Given) (d e : Ahead) (hart next left : ℕ) → IsInRow old before d words hart left → 0 < left → StaysAhead d e hart → picked_hart (setting_of e.collider) e.collider.entries (word_at words.seed words.stream words.taken) ≡ Some next → after ≡ record words { taken = words.taken + 1 } → IsInRow old before e after next (left - 1)
 row_goes_on old before words after d e hart next left row more stays picked then =
     let taken : after.taken ≡ words.taken + 1 = ap (λ (w : Given). w.taken) then in
     let last : words.taken ≡ after.taken - 1 = omega arith in
@@ -145,9 +151,9 @@ row_goes_on old before words after d e hart next left row more stays picked then
     let some : 0 < length e.able.items = (let was = row.some in omega (arith, long, was)) in
     let made = stays.one_more in
     let end = stays.same_end in
-    let pauses : e.made + (left - 1) ≤ e.earliest = (let was = row.pauses (omega arith) in omega (arith, was, made, end)) in
+    let pauses : e.made + (left - 1) < e.earliest = (let was = row.pauses (omega arith) in omega (arith, was, made, end)) in
     let plan : e.collider.plan.steps ≡ d.collider.plan.steps = ap (λ (c : Stored). c.plan.steps) stays.adds.is_added in
-    let steps : e.made + (left - 1) ≤ e.collider.plan.steps = (let was = row.steps (omega arith) in omega (arith, was, made, plan)) in
+    let steps : e.made + (left - 1) < e.collider.plan.steps = (let was = row.steps (omega arith) in omega (arith, was, made, plan)) in
     record {
       ahead = stays.ahead;
       some = some;

@@ -112,7 +112,7 @@ impl Ahead {
     pub fn is_open(&self, h: u8) -> bool
         ensures { result ≡ is_some (opening_of self.now.collider.entries h) }
     {
-        self.collider.paused(h).is_some()
+        self.collider.is_paused(h)
     }
 
     /// Whether a hart may be given a turn.

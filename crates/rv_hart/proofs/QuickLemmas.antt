@@ -1,17 +1,17 @@
 -- The quick path takes the step that the definitions have.
-use Rattle.std.proofs.Common.{◌≡◌, ℕ, ◌%◌, ◌<◌, zero, suc, map, set, get_or, Bool, true, false, cond, List, [], ◌∷◌, length, Option, Some, None, refl, sym, ap, subst, ◌∙◌}
+use Rattle.std.proofs.Common.{◌≡◌, ℕ, ◌%◌, ◌<◌, ◌⊎◌, inl, inr, zero, suc, map, set, get_or, Bool, true, false, cond, List, [], ◌∷◌, length, Option, Some, None, refl, sym, ap, subst, ◌∙◌}
 use Rattle.std.specs.Prelude.{◌==◌, ◌||◌, is_some, slice_get, IfSome, IsSomeAnd}
 use Rattle.std.proofs.lemmas.List.{append-nil, get_or-set_same, length-set, map-set, set-get_or, set-set}
-use Rattle.std.proofs.lemmas.Option.{slice_get-get_or}
+use Rattle.std.proofs.lemmas.Option.{slice_get-get_or, slice_get_within}
 use Rattle.rv_hart.specs.Act.{action_of}
-use Rattle.rv_hart.specs.Refusals.{is_print}
-use Rattle.rv_hart.specs.Step.{action_at_word, allowed, hart_after, kept, loaded_by, seen_by, written_by}
+use Rattle.rv_hart.specs.Refusals.{is_print, is_running_hart}
+use Rattle.rv_hart.specs.Step.{action_at_word, allowed, hart_after, kept, loaded_by, memory_after, reserves, seen_by, write, written_by}
 use Rattle.rv_hart.specs.Arithmetic.{combined}
 use Rattle.rv_hart.specs.declared.access.Access.{Access}
 use Rattle.rv_hart.specs.declared.access.Event.{Event}
 use Rattle.rv_hart.specs.declared.access.Event.TheVariants.{Moved}
 use Rattle.rv_hart.specs.declared.action.Action.{Action}
-use Rattle.rv_hart.specs.declared.action.Action.TheVariants.{Set, Load, Store, Replace}
+use Rattle.rv_hart.specs.declared.action.Action.TheVariants.{Set, Load, Store, Reserve, Conditional, Replace}
 use Rattle.rv_hart.specs.declared.action.Combine.{Combine}
 use Rattle.rv_hart.specs.declared.hart.Hart.{Hart}
 use Rattle.rv_hart.specs.declared.hart.Status.TheVariants.{Running}
@@ -21,9 +21,9 @@ use Rattle.rv_hart.specs.declared.write.Write.{Write}
 use Rattle.rv_hart.specs.internal.Able.{HasSize}
 use Rattle.rv_hart.specs.internal.Harts.{HartsAfter, Sees, any_holds, holds, write_of_access}
 use Rattle.rv_hart.specs.internal.Machine.{RunsTo}
-use Rattle.rv_hart.specs.internal.Quick.{Begins, Fetches, IsQuick, Moves, Tried, TriedAt, event_of_attempt, over, write_of, write_of_attempt}
+use Rattle.rv_hart.specs.internal.Quick.{Begins, Fetches, IsQuick, Moves, Tried, TriedAt, event_of_attempt, is_exclusive, over, write_of, write_of_attempt}
 use Rattle.rv_hart.proofs.AbleLemmas.{fetched_word, sized_fetched}
-use Rattle.rv_hart.proofs.HartsLemmas.{none_seen}
+use Rattle.rv_hart.proofs.HartsLemmas.{none_seen, sees_nothing}
 use Rattle.rv_hart.proofs.StepLemmas.{harts_count, step_made}
 use Rattle.rv_isa.specs.Decoded.{decoded}
 use Rattle.rv_isa.specs.declared.instr.Instr.{Instr}
@@ -73,6 +73,20 @@ replace_runs : (m : Memory) (hart : Hart) (rd address value : ℕ) (combine : Co
 replace_runs m hart rd address value combine b aligned permitted =
     record { running = b.running; next = sym (replace_allowed m rd address value combine aligned permitted) ∙ ap (allowed m) b.action_is }
 
+reserve_allowed : (m : Memory) (rd address : ℕ) → (address % 4 == 0) ≡ true → permits m address 4 need.Read ≡ true → allowed m (Reserve rd address) ≡ Reserve rd address
+reserve_allowed m rd address aligned permitted = rw (aligned, permitted) refl
+
+reserve_runs : (m : Memory) (hart : Hart) (rd address : ℕ) → Begins m (Reserve rd address) hart → (address % 4 == 0) ≡ true → permits m address 4 need.Read ≡ true → RunsTo m hart (Reserve rd address)
+reserve_runs m hart rd address b aligned permitted =
+    record { running = b.running; next = sym (reserve_allowed m rd address aligned permitted) ∙ ap (allowed m) b.action_is }
+
+conditional_allowed : (m : Memory) (rd address value : ℕ) → (address % 4 == 0) ≡ true → permits m address 4 need.Write ≡ true → allowed m (Conditional rd address value) ≡ Conditional rd address value
+conditional_allowed m rd address value aligned permitted = rw (aligned, permitted) refl
+
+conditional_runs : (m : Memory) (hart : Hart) (rd address value : ℕ) → Begins m (Conditional rd address value) hart → (address % 4 == 0) ≡ true → permits m address 4 need.Write ≡ true → RunsTo m hart (Conditional rd address value)
+conditional_runs m hart rd address value b aligned permitted =
+    record { running = b.running; next = sym (conditional_allowed m rd address value aligned permitted) ∙ ap (allowed m) b.action_is }
+
 -- ---- a hart's own part of a step
 
 kept_alike : (address size a b : ℕ) (r : Option ℕ) → kept (Some (record { address = address; size = size; value = a })) r ≡ kept (Some (record { address = address; size = size; value = b })) r
@@ -84,7 +98,7 @@ seen_alike : (address size a b : ℕ) (other : Hart) → seen_by (Some (record {
 seen_alike address size a b other =
     ap (λ (r : Option ℕ). record other { reservation = r }) (kept_alike address size a b other.reservation)
 
-pub moves_set : (m : Memory) (old new : Hart) (rd value next : ℕ) → Begins m (Set rd value next) old → new ≡ hart_after 0 old (Set rd value next) → Moves old new m m (Moved None)
+pub moves_set : (m : Memory) (old new : Hart) (rd value next : ℕ) → Begins m (Set rd value next) old → new ≡ hart_after 0 old (Set rd value next) → Moves old new m m (Moved None) false
 moves_set m old new rd value next b is =
     record {
       action = Set rd value next;
@@ -94,7 +108,7 @@ moves_set m old new rd value next b is =
       event_is = refl;
       none = refl;
       quiet = refl;
-      reservation = ap (λ (x : Hart). x.reservation) is;
+      held = λ _ none. ap holds is ∙ none;
       seen = λ other. refl;
       sound = λ sound. sound;
     }
@@ -103,7 +117,7 @@ seen_in : (a b : Access) (other : Hart) → a ≡ b → seen_by (write_of_access
 seen_in a b other e = ap (λ (x : Access). seen_by (write_of_access x) other) (sym e)
 
 pub moves_load : (m : Memory) (old new : Hart) (rd address size loaded : ℕ) (signed : Bool) (a : Access) → Begins m (Load rd address size signed) old → (address % size == 0) ≡ true → load_permitted m address size need.Read ≡ Some loaded →
-    a ≡ record { pc = old.pc; first = address; size = size; read = true; write = false } → new ≡ hart_after loaded old (Load rd address size signed) → Moves old new m m (Moved (Some a))
+    a ≡ record { pc = old.pc; first = address; size = size; read = true; write = false } → new ≡ hart_after loaded old (Load rd address size signed) → Moves old new m m (Moved (Some a)) false
 moves_load m old new rd address size loaded signed a b aligned read e is =
     let action : Action = Load rd address size signed in
     let parts = permitted_parts (permits m address size need.Read) (load m address size) loaded read in
@@ -115,13 +129,13 @@ moves_load m old new rd address size loaded signed a b aligned read e is =
       event_is = ap (λ (x : Access). Moved (Some x)) e;
       none = refl;
       quiet = refl;
-      reservation = ap (λ (x : Hart). x.reservation) is;
+      held = λ _ none. ap holds is ∙ none;
       seen = λ other. seen_in a (record { pc = old.pc; first = address; size = size; read = true; write = false }) other e;
       sound = λ sound. sound;
     }
 
 pub moves_store : (before after : Memory) (old new : Hart) (address size value : ℕ) (a : Access) → Begins before (Store address size value) old → (address % size == 0) ≡ true → permits before address size need.Write ≡ true →
-    a ≡ record { pc = old.pc; first = address; size = size; read = false; write = true } → new ≡ hart_after 0 old (Store address size value) → after ≡ store before address size value → (IsSound before → IsSound after) → Moves old new before after (Moved (Some a))
+    a ≡ record { pc = old.pc; first = address; size = size; read = false; write = true } → new ≡ hart_after 0 old (Store address size value) → after ≡ store before address size value → (IsSound before → IsSound after) → Moves old new before after (Moved (Some a)) false
 moves_store before after old new address size value a b aligned permitted e is memory sound =
     record {
       action = Store address size value;
@@ -131,13 +145,13 @@ moves_store before after old new address size value a b aligned permitted e is m
       event_is = ap (λ (x : Access). Moved (Some x)) e;
       none = refl;
       quiet = refl;
-      reservation = ap (λ (x : Hart). x.reservation) is;
+      held = λ _ none. ap holds is ∙ none;
       seen = λ other. seen_alike address size value 0 other ∙ seen_in a (record { pc = old.pc; first = address; size = size; read = false; write = true }) other e;
       sound = sound;
     }
 
 pub moves_replace : (before after : Memory) (old new : Hart) (rd address value loaded stored : ℕ) (combine : Combine) (a : Access) → Begins before (Replace rd address combine value) old → (address % 4 == 0) ≡ true → load_permitted before address 4 need.ReadWrite ≡ Some loaded → stored ≡ combined combine loaded value →
-    a ≡ record { pc = old.pc; first = address; size = 4; read = true; write = true } → new ≡ hart_after loaded old (Replace rd address combine value) → after ≡ store before address 4 stored → (IsSound before → IsSound after) → Moves old new before after (Moved (Some a))
+    a ≡ record { pc = old.pc; first = address; size = 4; read = true; write = true } → new ≡ hart_after loaded old (Replace rd address combine value) → after ≡ store before address 4 stored → (IsSound before → IsSound after) → Moves old new before after (Moved (Some a)) false
 moves_replace before after old new rd address value loaded stored combine a b aligned read s e is memory sound =
     let action : Action = Replace rd address combine value in
     let parts = permitted_parts (permits before address 4 need.ReadWrite) (load before address 4) loaded read in
@@ -149,8 +163,45 @@ moves_replace before after old new rd address value loaded stored combine a b al
       event_is = ap (λ (x : Access). Moved (Some x)) e;
       none = refl;
       quiet = refl;
-      reservation = ap (λ (x : Hart). x.reservation) is;
+      held = λ _ none. ap holds is ∙ none;
       seen = λ other. seen_alike address 4 (combined combine (load before address 4) value) 0 other ∙ seen_in a (record { pc = old.pc; first = address; size = 4; read = true; write = true }) other e;
+      sound = sound;
+    }
+
+pub moves_reserve : (m : Memory) (old new : Hart) (rd address loaded : ℕ) (a : Access) → Begins m (Reserve rd address) old → (address % 4 == 0) ≡ true → load_permitted m address 4 need.Read ≡ Some loaded →
+    a ≡ record { pc = old.pc; first = address; size = 4; read = true; write = false } → new ≡ hart_after loaded old (Reserve rd address) → Moves old new m m (Moved (Some a)) true
+moves_reserve m old new rd address loaded a b aligned read e is =
+    let action : Action = Reserve rd address in
+    let parts = permitted_parts (permits m address 4 need.Read) (load m address 4) loaded read in
+    record {
+      action = action;
+      runs = reserve_runs m old rd address b aligned parts.0;
+      hart_is = is ∙ ap (λ n. hart_after n old action) parts.1;
+      memory_is = refl;
+      event_is = ap (λ (x : Access). Moved (Some x)) e;
+      none = refl;
+      quiet = refl;
+      held = λ exclusive _. cc;
+      seen = λ other. seen_in a (record { pc = old.pc; first = address; size = 4; read = true; write = false }) other e;
+      sound = λ sound. sound;
+    }
+
+-- an SC of the word that the hart has reserved
+pub moves_conditional : (before after : Memory) (old new : Hart) (rd address value : ℕ) (a : Access) → Begins before (Conditional rd address value) old → (address % 4 == 0) ≡ true → permits before address 4 need.Write ≡ true → reserves old.reservation address ≡ true →
+    a ≡ record { pc = old.pc; first = address; size = 4; read = false; write = true } → new ≡ hart_after 0 old (Conditional rd address value) → after ≡ store before address 4 value → (IsSound before → IsSound after) → Moves old new before after (Moved (Some a)) true
+moves_conditional before after old new rd address value a b aligned permitted reserved e is memory sound =
+    let action : Action = Conditional rd address value in
+    let written : written_by 0 old action ≡ Some (write address 4 value) = rw reserved refl in
+    record {
+      action = action;
+      runs = conditional_runs before old rd address value b aligned permitted;
+      hart_is = is;
+      memory_is = memory ∙ sym (ap (memory_after before) written);
+      event_is = rw reserved (ap (λ (x : Access). Moved (Some x)) e);
+      none = refl;
+      quiet = refl;
+      held = λ exclusive _. cc;
+      seen = λ other. ap (λ (w : Option Write). seen_by w other) written ∙ seen_alike address 4 value 0 other ∙ seen_in a (record { pc = old.pc; first = address; size = 4; read = false; write = true }) other e;
       sound = sound;
     }
 
@@ -180,21 +231,24 @@ map_seen v w [] same = refl
 map_seen v w (hart ∷ harts) same =
     ap (λ (x : Hart). x ∷ map (seen_by v) harts) (same hart) ∙ ap (λ (xs : List Hart). seen_by w hart ∷ xs) (map_seen v w harts same)
 
-any_holds_set : (harts : List Hart) (h : ℕ) (hart moved : Hart) → slice_get harts h ≡ Some hart → holds moved ≡ holds hart → any_holds (set harts h moved) ≡ any_holds harts
-any_holds_set [] h hart moved found same = refl
-any_holds_set (x ∷ xs) zero hart moved found same =
+-- where none holds a reservation and hart h takes none, none holds one after it
+none_holds_set : (harts : List Hart) (h : ℕ) (hart moved : Hart) → slice_get harts h ≡ Some hart → (holds hart ≡ false → holds moved ≡ false) → any_holds harts ≡ false → any_holds (set harts h moved) ≡ false
+none_holds_set [] h hart moved found same none = none
+none_holds_set (x ∷ xs) zero hart moved found same none =
+    let parts = or_parts (holds x) (any_holds xs) none in
     let is : hart ≡ x = cc in
-    ap (λ (b : Bool). b || any_holds xs) (same ∙ ap holds is)
-any_holds_set (x ∷ xs) (suc h) hart moved found same =
-    ap (λ (b : Bool). holds x || b) (any_holds_set xs h hart moved found same)
+    rw (same (ap holds is ∙ parts.0)) parts.1
+none_holds_set (x ∷ xs) (suc h) hart moved found same none =
+    let parts = or_parts (holds x) (any_holds xs) none in
+    rw parts.0 (none_holds_set xs h hart moved found same parts.1)
 
 -- ---- the step of its parts
 
 abbrev pub none_hart : Hart
 none_hart = record { registers = []; pc = 0; status = Running; reservation = None }
 
-pub quick_made : (old new : List Hart) (before after : Memory) (h : ℕ) (hart moved : Hart) (event : Event) → slice_get old h ≡ Some hart → Moves hart moved before after event → new ≡ set (map (seen_by (write_of event)) old) h moved → IsQuick old new before after h event
-quick_made old new before after h hart moved event found m is =
+pub quick_made : (old new : List Hart) (before after : Memory) (h : ℕ) (hart moved : Hart) (event : Event) (exclusive : Bool) → slice_get old h ≡ Some hart → Moves hart moved before after event exclusive → new ≡ set (map (seen_by (write_of event)) old) h moved → IsQuick old new before after h event exclusive
+quick_made old new before after h hart moved event exclusive found m is =
     let loaded : ℕ = loaded_by before m.action in
     let w : Option Write = written_by loaded hart m.action in
     let seen : map (seen_by (write_of event)) old ≡ map (seen_by w) old = sym (map_seen w (write_of event) old m.seen) in
@@ -205,18 +259,14 @@ quick_made old new before after h hart moved event found m is =
       silent = rw (found, m.runs.running) (ap is_print (sym m.runs.next) ∙ m.quiet);
       count = harts_count old new h loaded m.action w hart found harts;
       sound = m.sound;
-      held = λ none. ap any_holds (is ∙ ap (λ (xs : List Hart). set xs h moved) (none_held (write_of event) old none)) ∙ any_holds_set old h hart moved found (ap is_some m.reservation) ∙ none;
+      held = λ common none. ap any_holds (is ∙ ap (λ (xs : List Hart). set xs h moved) (none_held (write_of event) old none)) ∙ none_holds_set old h hart moved found (m.held common) none;
     }
 
 -- where no hart has to see the write, the hart's own part is the step
-pub tried_alone : (old : List Hart) (before after : Memory) (h : ℕ) (default moved : Hart) (event : Option Event) → h < length old → Tried (get_or old h default) moved before after event → IfSome event (λ e. map (seen_by (write_of e)) old ≡ old) → TriedAt old (set old h moved) before after h event
-tried_alone old before after h default moved None within m unseen = (ap (λ (x : Hart). set old h x) m.0 ∙ set-get_or old h default, m.1)
-tried_alone old before after h default moved (Some event) within m unseen =
-    quick_made old (set old h moved) before after h (get_or old h default) moved event (slice_get-get_or old h default within) m (ap (λ (xs : List Hart). set xs h moved) (sym unseen))
-
-pub none_sees : (event : Option Event) (old : List Hart) → any_holds old ≡ false → IfSome event (λ e. map (seen_by (write_of e)) old ≡ old)
-none_sees None old none = tt
-none_sees (Some event) old none = none_held (write_of event) old none
+pub tried_alone : (old : List Hart) (before after : Memory) (h : ℕ) (default moved : Hart) (event : Option Event) (exclusive : Bool) → h < length old → Tried (get_or old h default) moved before after event exclusive → IfSome event (λ e. map (seen_by (write_of e)) old ≡ old) → TriedAt old (set old h moved) before after h event exclusive
+tried_alone old before after h default moved None exclusive within m unseen = (ap (λ (x : Hart). set old h x) m.0 ∙ set-get_or old h default, m.1)
+tried_alone old before after h default moved (Some event) exclusive within m unseen =
+    quick_made old (set old h moved) before after h (get_or old h default) moved event exclusive (slice_get-get_or old h default within) m (ap (λ (xs : List Hart). set xs h moved) (sym unseen))
 
 -- and else they see it after that part
 seen_after : (old new : List Hart) (h : ℕ) (default moved : Hart) (w : Option Write) → h < length old → Sees (set old h moved) new h w → new ≡ set (map (seen_by w) old) h moved
@@ -225,10 +275,44 @@ seen_after old new h default moved w within sees =
     let seen : new ≡ set (map (seen_by w) (set old h moved)) h moved = subst (λ (o : Option Hart). IsSomeAnd o (λ x. new ≡ set (map (seen_by w) (set old h moved)) h x)) there sees in
     seen ∙ ap (λ (xs : List Hart). set xs h moved) (map-set (seen_by w) old h moved) ∙ set-set (map (seen_by w) old) h (seen_by w moved) moved
 
-pub tried_seen : (old new : List Hart) (before after : Memory) (h : ℕ) (default moved : Hart) (attempt : Attempt) (a : Access) → h < length old → Tried (get_or old h default) moved before after (event_of_attempt attempt a) → Sees (set old h moved) new h (write_of_attempt attempt a) → TriedAt old new before after h (event_of_attempt attempt a)
+pub tried_seen : (old new : List Hart) (before after : Memory) (h : ℕ) (default moved : Hart) (attempt : Attempt) (a : Access) → h < length old → Tried (get_or old h default) moved before after (event_of_attempt attempt a) (is_exclusive attempt) → Sees (set old h moved) new h (write_of_attempt attempt a) → TriedAt old new before after h (event_of_attempt attempt a) (is_exclusive attempt)
 tried_seen old new before after h default moved attempt.Nothing a within m sees =
     (seen_after old new h default moved None within sees ∙ ap (λ (xs : List Hart). set xs h moved) (none_seen old) ∙ ap (λ (x : Hart). set old h x) m.0 ∙ set-get_or old h default, m.1)
 tried_seen old new before after h default moved attempt.Set a within m sees =
-    quick_made old new before after h (get_or old h default) moved (Moved None) (slice_get-get_or old h default within) m (seen_after old new h default moved None within sees)
+    quick_made old new before after h (get_or old h default) moved (Moved None) false (slice_get-get_or old h default within) m (seen_after old new h default moved None within sees)
 tried_seen old new before after h default moved attempt.Accessed a within m sees =
-    quick_made old new before after h (get_or old h default) moved (Moved (Some a)) (slice_get-get_or old h default within) m (seen_after old new h default moved (write_of_access a) within sees)
+    quick_made old new before after h (get_or old h default) moved (Moved (Some a)) false (slice_get-get_or old h default within) m (seen_after old new h default moved (write_of_access a) within sees)
+tried_seen old new before after h default moved attempt.Exclusive a within m sees =
+    quick_made old new before after h (get_or old h default) moved (Moved (Some a)) true (slice_get-get_or old h default within) m (seen_after old new h default moved (write_of_access a) within sees)
+tried_seen old new before after h default moved attempt.Failed a within m sees =
+    quick_made old new before after h (get_or old h default) moved (Moved None) true (slice_get-get_or old h default within) m (seen_after old new h default moved None within sees)
+
+-- where a register was set there is nothing to see
+pub tried_set : (old : List Hart) (before after : Memory) (h : ℕ) (default moved : Hart) (tried : Attempt) (a : Access) → tried ≡ attempt.Set → h < length old → Tried (get_or old h default) moved before after (event_of_attempt tried a) (is_exclusive tried) → TriedAt old (set old h moved) before after h (event_of_attempt attempt.Set a) (is_exclusive attempt.Set)
+tried_set old before after h default moved tried a is within m =
+    tried_seen old (set old h moved) before after h default moved attempt.Set a within (rw is at m) (sees_nothing (set old h moved) h (rw length-set within))
+
+-- what runs is there
+running_at : (xs : List Hart) (h : ℕ) (o : Option Hart) → slice_get xs h ≡ o → is_running_hart o ≡ true → h < length xs
+running_at xs h None is runs = cc
+running_at xs h (Some hart) is runs = slice_get_within xs h hart is
+
+pub running_within : (xs : List Hart) (h : ℕ) → is_running_hart (slice_get xs h) ≡ true → h < length xs
+running_within xs h runs = running_at xs h (slice_get xs h) refl runs
+
+-- what no other hart sees
+pub none_sees_attempt : (tried : Attempt) (a : Access) (old : List Hart) → is_exclusive tried ≡ false → (any_holds old ≡ false) ⊎ (a.write ≡ false) → IfSome (event_of_attempt tried a) (λ e. map (seen_by (write_of e)) old ≡ old)
+none_sees_attempt attempt.Nothing a old common how = tt
+none_sees_attempt attempt.Set a old common how = none_seen old
+none_sees_attempt attempt.Accessed a old common (inl none) = none_held (write_of_access a) old none
+none_sees_attempt attempt.Accessed a old common (inr load) =
+    ap (λ (b : Bool). map (seen_by (cond b (Some (record { address = a.first; size = a.size; value = 0 })) None)) old) load ∙ none_seen old
+none_sees_attempt attempt.Exclusive a old common how = cc
+none_sees_attempt attempt.Failed a old common how = cc
+
+pub none_taken : (old new : List Hart) (before after : Memory) (h : ℕ) (tried : Attempt) (a : Access) → TriedAt old new before after h (event_of_attempt tried a) (is_exclusive tried) → is_exclusive tried ≡ false → any_holds old ≡ false → any_holds new ≡ false
+none_taken old new before after h attempt.Nothing a t common none = ap any_holds t.0 ∙ none
+none_taken old new before after h attempt.Set a t common none = t.held refl none
+none_taken old new before after h attempt.Accessed a t common none = t.held refl none
+none_taken old new before after h attempt.Exclusive a t common none = cc
+none_taken old new before after h attempt.Failed a t common none = cc

@@ -120,7 +120,9 @@ pub fn loaded_by<S: ByteStore>(store: &S, action: Action) -> u32
     }
 }
 
-fn reserves(reservation: Option<u32>, address: u32) -> bool
+/// Whether what a hart has reserved is the word at an address.
+#[inline(always)]
+pub fn reserves(reservation: Option<u32>, address: u32) -> bool
     ensures { result ≡ spec.reserves reservation address }
 {
     match reservation {
@@ -353,6 +355,7 @@ fn move_on(hart: &mut Hart, own: Option<u32>, loaded: u32, action: Action)
 }
 
 /// Whether a hart holds a reservation.
+#[inline(never)]
 pub fn any_holds(harts: &[Hart]) -> bool
     ensures { result ≡ any_holds harts.now }
 {

@@ -1,4 +1,4 @@
-ghost use Rattle.std.specs.Prelude.{◌≡◌, ◌^◌, ◌≢◌, ℕ, ◌<◌, ◌≤◌, ◌%◌, ◌↔◌, Some, None, length, IsTrue, false, IsSome, IfSome, IfOk, IfErr, OnOk, OnErr, unwrap_or, slice_get, All};
+ghost use Rattle.std.specs.Prelude.{◌≡◌, true, ◌^◌, ◌≢◌, ℕ, ◌<◌, ◌≤◌, ◌%◌, ◌↔◌, Some, None, length, IsTrue, false, IsSome, IfSome, IfOk, IfErr, OnOk, OnErr, unwrap_or, slice_get, All};
 ghost use Rattle.rv_hart.specs.internal.Able.{IsAble};
 ghost use Rattle.rv_hart.specs.internal.Machine as machine;
 ghost use Rattle.rv_hart.specs.internal.HartAccess as own;
@@ -20,7 +20,7 @@ use crate::effect::{
     written_by,
 };
 use crate::hart::{Hart, Status};
-use crate::quick::{Attempt, quick, quick_seen};
+use crate::quick::{Attempt, tried};
 use crate::start::{first_harts, store_with_stacks};
 use rv_memory::laws::{bytes_stand_where_covered, memory_is_sound};
 use rv_memory::region::Region;
@@ -217,15 +217,18 @@ impl<S: ByteStore> Machine<S> {
     pub fn step(&mut self, h: u8) -> Result<Event, StepFault>
         ensures { AnswersStep S.can_refuse self.old self.new h result }
     {
-        match self.step_quick(h) {
-            Some(event) => Ok(event),
-            None => self.step_apart(h),
+        if self.runs(h) {
+            if let Some(event) = self.step_quick(h) {
+                return Ok(event);
+            }
         }
+        self.step_apart(h)
     }
 
-    /// One step of a hart where it is a common one, which moves on; else nothing has changed.
+    /// One step of a hart that runs, where it is a common one, which moves on; else nothing has changed.
     #[inline(always)]
     pub fn step_quick(&mut self, h: u8) -> Option<Event>
+        requires { refusals.is_running_hart (slice_get self.old.state.harts h) ≡ true }
         ensures step { IfSome result (λ event.
             step_of self.old.state h ≡ Some (event, self.new.state)) }
         ensures moves { IfSome result (λ event. event ≡ Event.Moved (next.accessed event)) }
@@ -237,15 +240,35 @@ impl<S: ByteStore> Machine<S> {
         ensures limit { self.new.limit ≡ self.old.limit }
         ensures same { (result ≡ None) → self.new ≡ self.old }
     {
-        let attempt = if self.reserved {
-            quick_seen(&mut self.store, &mut self.harts, h, &mut self.noted)
-        } else {
-            quick(&mut self.store, &mut self.harts, h, &mut self.noted)
-        };
+        let attempt = tried(
+            &mut self.store,
+            &mut self.harts,
+            &mut self.reserved,
+            h,
+            &mut self.noted,
+        );
+        // These by themselves, since most steps come to them: five cases would be a jump over a table.
+        if let Attempt::Set = attempt {
+            return Some(Event::Moved(None));
+        }
+        if let Attempt::Accessed = attempt {
+            return Some(Event::Moved(Some(self.noted)));
+        }
         match attempt {
             Attempt::Nothing => None,
-            Attempt::Set => Some(Event::Moved(None)),
-            Attempt::Accessed => Some(Event::Moved(Some(self.noted))),
+            Attempt::Set | Attempt::Failed => Some(Event::Moved(None)),
+            Attempt::Accessed | Attempt::Exclusive => Some(Event::Moved(Some(self.noted))),
+        }
+    }
+
+    /// Whether there is such a hart, and it runs.
+    #[inline(always)]
+    pub fn runs(&self, h: u8) -> bool
+        ensures { result ≡ refusals.is_running_hart (slice_get self.now.state.harts h) }
+    {
+        match self.harts.get(h as usize) {
+            Some(hart) => hart.status.is_running(),
+            None => false,
         }
     }
 

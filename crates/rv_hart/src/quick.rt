@@ -1,15 +1,17 @@
 //! Speed: the common steps, each executed at one place with one look-up an access. `effect` is the meaning's
 //! twin; what is not taken here has changed nothing, and is for the functions there.
-ghost use Rattle.std.specs.Prelude.{◌≡◌, ◌<◌, false, length, IfSome};
+ghost use Rattle.std.specs.Prelude.{◌≡◌, ◌<◌, true, false, length, slice_get, vec_len, IfSome};
+ghost use Rattle.rv_hart.specs.Refusals.{is_running_hart};
+ghost use Rattle.rv_hart.specs.State.{is_running};
 ghost use Rattle.rv_hart.specs.internal.Able.{HasSize};
 ghost use Rattle.rv_hart.specs.internal.AccessKind.{access_of_kind};
 ghost use Rattle.rv_hart.specs.internal.Harts.{Sees, any_holds};
-ghost use Rattle.rv_hart.specs.internal.Quick.{Begins, Fetches, Tried, TriedAt, event_of_attempt, write_of_attempt};
+ghost use Rattle.rv_hart.specs.internal.Quick.{Begins, Fetches, Tried, TriedAt, event_of_attempt, is_exclusive, write_of_attempt};
 
 use crate::access::{Access, AccessKind};
 use crate::act::{act, combined};
 use crate::action::Action;
-use crate::effect::{advance, is_aligned, see_access};
+use crate::effect::{advance, any_holds, is_aligned, reserves, see_access};
 use crate::hart::Hart;
 use crate::operations::{self, Operation};
 use rv_isa::codec::decode_as;
@@ -17,56 +19,80 @@ use rv_isa::op::Op;
 use rv_memory::laws::memory_is_sound;
 use rv_memory::store::{ByteStore, Need};
 
-/// What trying a step came to: nothing, and nothing has changed; a register was set; or the noted access was
-/// made. The access is noted apart and not carried here, so that both stay in registers.
+/// What trying a step came to: nothing, and nothing has changed; a register was set; the noted access was made; an
+/// LR or an SC made the noted access, and what is reserved has changed; or an SC failed. The access is noted apart
+/// and not carried here, so that both stay in registers.
 #[derive(Clone, Copy)]
 pub enum Attempt {
     Nothing,
     Set,
     Accessed,
+    Exclusive,
+    Failed,
 }
 
-/// Takes a step of hart h, where it is a common one, and notes its access; or changes nothing. No hart holds a
-/// reservation, so none sees a write.
-#[inline(always)]
-pub fn quick<S: ByteStore>(store: &mut S, harts: &mut [Hart], h: u8, access: &mut Access) -> Attempt
-    requires { any_holds harts.old ≡ false }
-    ensures { TriedAt harts.old harts.new (S.memory store.old) (S.memory store.new) h (event_of_attempt result access.new) }
-{
-    if h as usize >= harts.len() {
-        return Attempt::Nothing;
+impl Attempt {
+    /// Whether it was an LR or an SC.
+    #[inline(always)]
+    pub fn is_exclusive(self) -> bool
+        ensures { result ≡ is_exclusive self }
+    {
+        match self {
+            Attempt::Exclusive | Attempt::Failed => true,
+            Attempt::Nothing | Attempt::Set | Attempt::Accessed => false,
+        }
     }
-    moved(store, &mut harts[h as usize], access)
 }
 
-/// The same where a hart may hold a reservation. It is called and not inlined, so that the call of `moved` in
-/// `quick` has nothing to keep for after it.
-#[inline(never)]
-pub fn quick_seen<S: ByteStore>(
+/// Takes a step of hart h, which runs, where it is a common one, and notes its access; or changes nothing. `reserved`
+/// tells whether a hart may hold a reservation. A step that sets a register asks no more, and what is left for the others
+/// reads all anew, so that nothing is kept for it over the call of `moved`.
+#[inline(always)]
+pub fn tried<S: ByteStore>(
     store: &mut S,
-    harts: &mut [Hart],
+    harts: &mut Vec<Hart>,
+    reserved: &mut bool,
     h: u8,
     access: &mut Access,
 ) -> Attempt
-    ensures { TriedAt harts.old harts.new (S.memory store.old) (S.memory store.new) h (event_of_attempt result access.new) }
+    requires running { is_running_hart (slice_get harts.old.items h) ≡ true }
+    requires held { reserved.old ≡ false → any_holds harts.old.items ≡ false }
+    ensures tried { TriedAt harts.old.items harts.new.items (S.memory store.old) (S.memory store.new) h (event_of_attempt result access.new) (is_exclusive result) }
+    ensures held { reserved.new ≡ false → any_holds harts.new.items ≡ false }
+    ensures len { vec_len harts.new ≡ vec_len harts.old }
 {
-    if h as usize >= harts.len() {
-        return Attempt::Nothing;
-    }
     let attempt = moved(store, &mut harts[h as usize], access);
-    see_attempt(harts, h, attempt, access);
+    if let Attempt::Set = attempt {
+        return Attempt::Set;
+    }
+    if attempt.is_exclusive() || *reserved && access.write {
+        settle(harts, reserved, h, attempt, access);
+    }
     attempt
 }
 
+/// Ends the other harts' reservations that the write of an attempt meets, and looks whether one is left.
+#[inline(never)]
+fn settle(harts: &mut Vec<Hart>, reserved: &mut bool, h: u8, attempt: Attempt, access: &Access)
+    requires { h < length harts.old.items }
+    ensures sees { Sees harts.old.items harts.new.items h (write_of_attempt attempt access.now) }
+    ensures reserved { reserved.new ≡ any_holds harts.new.items }
+    ensures len { vec_len harts.new ≡ vec_len harts.old }
+{
+    see_attempt(harts, h, attempt, access);
+    *reserved = any_holds(harts);
+}
+
 /// Ends the other harts' reservations that the write of an attempt meets, if it made one.
+#[inline(always)]
 #[tactic(auto, using(crate::proofs::HartsLemmas::sees_nothing))]
 fn see_attempt(harts: &mut [Hart], h: u8, attempt: Attempt, access: &Access)
     requires { h < length harts.old }
     ensures { Sees harts.old harts.new h (write_of_attempt attempt access.now) }
 {
     match attempt {
-        Attempt::Nothing | Attempt::Set => {}
-        Attempt::Accessed => see_access(harts, h, access),
+        Attempt::Nothing | Attempt::Set | Attempt::Failed => {}
+        Attempt::Accessed | Attempt::Exclusive => see_access(harts, h, access),
     }
 }
 
@@ -74,18 +100,17 @@ fn see_attempt(harts: &mut [Hart], h: u8, attempt: Attempt, access: &Access)
 /// a function of its own, with no more arguments than the functions of accesses have, to which it jumps.
 #[inline(never)]
 fn moved<S: ByteStore>(store: &mut S, hart: &mut Hart, access: &mut Access) -> Attempt
-    ensures { Tried hart.old hart.new (S.memory store.old) (S.memory store.new) (event_of_attempt result access.new) }
+    requires { is_running hart.old.status ≡ true }
+    ensures { Tried hart.old hart.new (S.memory store.old) (S.memory store.new) (event_of_attempt result access.new) (is_exclusive result) }
 {
-    if !hart.status.is_running() {
-        return Attempt::Nothing;
-    }
     let Some(word) = store.fetch_at_once(hart.pc) else {
         return Attempt::Nothing;
     };
-    dispatched(store, hart, word, access)
+    dispatched(store, hart, access, word)
 }
 
-/// Takes the step of a word, by one jump over the opcode's five upper bits and funct3. No more is asked of
+/// Takes the step of a word, by one jump over the opcode's five upper bits and funct3: each number stands for itself,
+/// since a range is compared with apart from the jump. No more is asked of
 /// the arms than that they try a likely operation, since each tests the word by that operation's row. Each
 /// names its operation as a constant, so that it is compiled to the operands and the action of that operation
 /// alone. What accesses memory is a function of its own for each operation, since the others need no more registers
@@ -94,116 +119,142 @@ fn moved<S: ByteStore>(store: &mut S, hart: &mut Hart, access: &mut Access) -> A
 fn dispatched<S: ByteStore>(
     store: &mut S,
     hart: &mut Hart,
-    word: u32,
     access: &mut Access,
+    word: u32,
 ) -> Attempt
     requires fetches { Fetches (S.memory store.old) word hart.old }
-    ensures { Tried hart.old hart.new (S.memory store.old) (S.memory store.new) (event_of_attempt result access.new) }
+    ensures { Tried hart.old hart.new (S.memory store.old) (S.memory store.new) (event_of_attempt result access.new) (is_exclusive result) }
 {
     let is_plain = (word >> 25) % 128 == 0;
     let is_product = word & 0x0200_0000 != 0;
     match (word >> 2) % 32 * 8 + (word >> 12) % 8 {
-        0x00 => load_apart::<operations::Lb, S>(store, hart, word, access),
-        0x01 => load_apart::<operations::Lh, S>(store, hart, word, access),
-        0x02 => load_apart::<operations::Lw, S>(store, hart, word, access),
-        0x04 => load_apart::<operations::Lbu, S>(store, hart, word, access),
-        0x05 => load_apart::<operations::Lhu, S>(store, hart, word, access),
-        0x18..=0x1f => set_by(store, hart, Op::Fence, word, access),
-        0x20 => set_by(store, hart, Op::Addi, word, access),
-        0x21 => set_by(store, hart, Op::Slli, word, access),
-        0x22 => set_by(store, hart, Op::Slti, word, access),
-        0x23 => set_by(store, hart, Op::Sltiu, word, access),
-        0x24 => set_by(store, hart, Op::Xori, word, access),
+        0x00 => load_apart::<operations::Lb, S>(store, hart, access, word),
+        0x01 => load_apart::<operations::Lh, S>(store, hart, access, word),
+        0x02 => load_apart::<operations::Lw, S>(store, hart, access, word),
+        0x04 => load_apart::<operations::Lbu, S>(store, hart, access, word),
+        0x05 => load_apart::<operations::Lhu, S>(store, hart, access, word),
+        0x18 | 0x19 | 0x1a | 0x1b | 0x1c | 0x1d | 0x1e | 0x1f => set_by(
+            store,
+            hart,
+            Op::Fence,
+            access,
+            word,
+        ),
+        0x20 => set_by(store, hart, Op::Addi, access, word),
+        0x21 => set_by(store, hart, Op::Slli, access, word),
+        0x22 => set_by(store, hart, Op::Slti, access, word),
+        0x23 => set_by(store, hart, Op::Sltiu, access, word),
+        0x24 => set_by(store, hart, Op::Xori, access, word),
         0x25 => if is_plain {
-            set_by(store, hart, Op::Srli, word, access)
+            set_by(store, hart, Op::Srli, access, word)
         } else {
-            set_by(store, hart, Op::Srai, word, access)
+            set_by(store, hart, Op::Srai, access, word)
         },
-        0x26 => set_by(store, hart, Op::Ori, word, access),
-        0x27 => set_by(store, hart, Op::Andi, word, access),
-        0x28..=0x2f => set_by(store, hart, Op::Auipc, word, access),
-        0x40 => store_apart::<operations::Sb, S>(store, hart, word, access),
-        0x41 => store_apart::<operations::Sh, S>(store, hart, word, access),
-        0x42 => store_apart::<operations::Sw, S>(store, hart, word, access),
-        0x5a => exchanged(store, hart, word, access),
+        0x26 => set_by(store, hart, Op::Ori, access, word),
+        0x27 => set_by(store, hart, Op::Andi, access, word),
+        0x28 | 0x29 | 0x2a | 0x2b | 0x2c | 0x2d | 0x2e | 0x2f => set_by(
+            store,
+            hart,
+            Op::Auipc,
+            access,
+            word,
+        ),
+        0x40 => store_apart::<operations::Sb, S>(store, hart, access, word),
+        0x41 => store_apart::<operations::Sh, S>(store, hart, access, word),
+        0x42 => store_apart::<operations::Sw, S>(store, hart, access, word),
+        0x5a => exchanged(store, hart, access, word),
         0x60 => if is_plain {
-            set_by(store, hart, Op::Add, word, access)
+            set_by(store, hart, Op::Add, access, word)
         } else if is_product {
-            multiplied(store, hart, word, access)
+            multiplied(store, hart, access, word)
         } else {
-            set_by(store, hart, Op::Sub, word, access)
+            set_by(store, hart, Op::Sub, access, word)
         },
         0x61 => if is_product {
-            multiplied(store, hart, word, access)
+            multiplied(store, hart, access, word)
         } else {
-            set_by(store, hart, Op::Sll, word, access)
+            set_by(store, hart, Op::Sll, access, word)
         },
         0x62 => if is_product {
-            multiplied(store, hart, word, access)
+            multiplied(store, hart, access, word)
         } else {
-            set_by(store, hart, Op::Slt, word, access)
+            set_by(store, hart, Op::Slt, access, word)
         },
         0x63 => if is_product {
-            multiplied(store, hart, word, access)
+            multiplied(store, hart, access, word)
         } else {
-            set_by(store, hart, Op::Sltu, word, access)
+            set_by(store, hart, Op::Sltu, access, word)
         },
         0x64 => if is_product {
-            multiplied(store, hart, word, access)
+            multiplied(store, hart, access, word)
         } else {
-            set_by(store, hart, Op::Xor, word, access)
+            set_by(store, hart, Op::Xor, access, word)
         },
         0x65 => if is_plain {
-            set_by(store, hart, Op::Srl, word, access)
+            set_by(store, hart, Op::Srl, access, word)
         } else if is_product {
-            multiplied(store, hart, word, access)
+            multiplied(store, hart, access, word)
         } else {
-            set_by(store, hart, Op::Sra, word, access)
+            set_by(store, hart, Op::Sra, access, word)
         },
         0x66 => if is_product {
-            multiplied(store, hart, word, access)
+            multiplied(store, hart, access, word)
         } else {
-            set_by(store, hart, Op::Or, word, access)
+            set_by(store, hart, Op::Or, access, word)
         },
         0x67 => if is_product {
-            multiplied(store, hart, word, access)
+            multiplied(store, hart, access, word)
         } else {
-            set_by(store, hart, Op::And, word, access)
+            set_by(store, hart, Op::And, access, word)
         },
-        0x68..=0x6f => set_by(store, hart, Op::Lui, word, access),
-        0xc0 => set_by(store, hart, Op::Beq, word, access),
-        0xc1 => set_by(store, hart, Op::Bne, word, access),
-        0xc4 => set_by(store, hart, Op::Blt, word, access),
-        0xc5 => set_by(store, hart, Op::Bge, word, access),
-        0xc6 => set_by(store, hart, Op::Bltu, word, access),
-        0xc7 => set_by(store, hart, Op::Bgeu, word, access),
-        0xc8 => set_by(store, hart, Op::Jalr, word, access),
-        0xd8..=0xdf => set_by(store, hart, Op::Jal, word, access),
+        0x68 | 0x69 | 0x6a | 0x6b | 0x6c | 0x6d | 0x6e | 0x6f => set_by(
+            store,
+            hart,
+            Op::Lui,
+            access,
+            word,
+        ),
+        0xc0 => set_by(store, hart, Op::Beq, access, word),
+        0xc1 => set_by(store, hart, Op::Bne, access, word),
+        0xc4 => set_by(store, hart, Op::Blt, access, word),
+        0xc5 => set_by(store, hart, Op::Bge, access, word),
+        0xc6 => set_by(store, hart, Op::Bltu, access, word),
+        0xc7 => set_by(store, hart, Op::Bgeu, access, word),
+        0xc8 => set_by(store, hart, Op::Jalr, access, word),
+        0xd8 | 0xd9 | 0xda | 0xdb | 0xdc | 0xdd | 0xde | 0xdf => set_by(
+            store,
+            hart,
+            Op::Jal,
+            access,
+            word,
+        ),
         _ => Attempt::Nothing,
     }
 }
 
-/// Takes the step of a word that may be an AMO's, which funct5 tells apart.
+/// Takes the step of a word that may be an LR's, an SC's or an AMO's, which funct5 tells apart.
 #[inline(always)]
 fn exchanged<S: ByteStore>(
     store: &mut S,
     hart: &mut Hart,
-    word: u32,
     access: &mut Access,
+    word: u32,
 ) -> Attempt
     requires fetches { Fetches (S.memory store.old) word hart.old }
-    ensures { Tried hart.old hart.new (S.memory store.old) (S.memory store.new) (event_of_attempt result access.new) }
+    ensures { Tried hart.old hart.new (S.memory store.old) (S.memory store.new) (event_of_attempt result access.new) (is_exclusive result) }
 {
     match (word >> 27) % 32 {
-        0x00 => exchange_apart::<operations::AmoaddW, S>(store, hart, word, access),
-        0x01 => exchange_apart::<operations::AmoswapW, S>(store, hart, word, access),
-        0x04 => exchange_apart::<operations::AmoxorW, S>(store, hart, word, access),
-        0x08 => exchange_apart::<operations::AmoorW, S>(store, hart, word, access),
-        0x0c => exchange_apart::<operations::AmoandW, S>(store, hart, word, access),
-        0x10 => exchange_apart::<operations::AmominW, S>(store, hart, word, access),
-        0x14 => exchange_apart::<operations::AmomaxW, S>(store, hart, word, access),
-        0x18 => exchange_apart::<operations::AmominuW, S>(store, hart, word, access),
-        0x1c => exchange_apart::<operations::AmomaxuW, S>(store, hart, word, access),
+        0x00 => exchange_apart::<operations::AmoaddW, S>(store, hart, access, word),
+        0x01 => exchange_apart::<operations::AmoswapW, S>(store, hart, access, word),
+        0x02 => reserve_apart(store, hart, access, word),
+        0x03 => conditional_apart(store, hart, access, word),
+        0x04 => exchange_apart::<operations::AmoxorW, S>(store, hart, access, word),
+        0x08 => exchange_apart::<operations::AmoorW, S>(store, hart, access, word),
+        0x0c => exchange_apart::<operations::AmoandW, S>(store, hart, access, word),
+        0x10 => exchange_apart::<operations::AmominW, S>(store, hart, access, word),
+        0x14 => exchange_apart::<operations::AmomaxW, S>(store, hart, access, word),
+        0x18 => exchange_apart::<operations::AmominuW, S>(store, hart, access, word),
+        0x1c => exchange_apart::<operations::AmomaxuW, S>(store, hart, access, word),
         _ => Attempt::Nothing,
     }
 }
@@ -227,11 +278,11 @@ fn set_by<S: ByteStore>(
     store: &mut S,
     hart: &mut Hart,
     op: Op,
-    word: u32,
     access: &mut Access,
+    word: u32,
 ) -> Attempt
     requires fetches { Fetches (S.memory store.old) word hart.old }
-    ensures { Tried hart.old hart.new (S.memory store.old) (S.memory store.new) (event_of_attempt result access.new) }
+    ensures { Tried hart.old hart.new (S.memory store.old) (S.memory store.new) (event_of_attempt result access.new) (is_exclusive result) }
 {
     match begun(store, hart, op, word) {
         Some(action) => set(store, hart, action, access),
@@ -244,21 +295,21 @@ fn set_by<S: ByteStore>(
 fn multiplied<S: ByteStore>(
     store: &mut S,
     hart: &mut Hart,
-    word: u32,
     access: &mut Access,
+    word: u32,
 ) -> Attempt
     requires fetches { Fetches (S.memory store.old) word hart.old }
-    ensures { Tried hart.old hart.new (S.memory store.old) (S.memory store.new) (event_of_attempt result access.new) }
+    ensures { Tried hart.old hart.new (S.memory store.old) (S.memory store.new) (event_of_attempt result access.new) (is_exclusive result) }
 {
     match (word >> 12) % 8 {
-        0 => set_by(store, hart, Op::Mul, word, access),
-        1 => set_by(store, hart, Op::Mulh, word, access),
-        2 => set_by(store, hart, Op::Mulhsu, word, access),
-        3 => set_by(store, hart, Op::Mulhu, word, access),
-        4 => set_by(store, hart, Op::Div, word, access),
-        5 => set_by(store, hart, Op::Divu, word, access),
-        6 => set_by(store, hart, Op::Rem, word, access),
-        _ => set_by(store, hart, Op::Remu, word, access),
+        0 => set_by(store, hart, Op::Mul, access, word),
+        1 => set_by(store, hart, Op::Mulh, access, word),
+        2 => set_by(store, hart, Op::Mulhsu, access, word),
+        3 => set_by(store, hart, Op::Mulhu, access, word),
+        4 => set_by(store, hart, Op::Div, access, word),
+        5 => set_by(store, hart, Op::Divu, access, word),
+        6 => set_by(store, hart, Op::Rem, access, word),
+        _ => set_by(store, hart, Op::Remu, access, word),
     }
 }
 
@@ -267,11 +318,11 @@ fn multiplied<S: ByteStore>(
 fn load_apart<O: Operation, S: ByteStore>(
     store: &mut S,
     hart: &mut Hart,
-    word: u32,
     access: &mut Access,
+    word: u32,
 ) -> Attempt
     requires fetches { Fetches (S.memory store.old) word hart.old }
-    ensures { Tried hart.old hart.new (S.memory store.old) (S.memory store.new) (event_of_attempt result access.new) }
+    ensures { Tried hart.old hart.new (S.memory store.old) (S.memory store.new) (event_of_attempt result access.new) (is_exclusive result) }
 {
     match begun(store, hart, O::op(), word) {
         Some(action) => loaded(store, hart, action, access),
@@ -284,11 +335,11 @@ fn load_apart<O: Operation, S: ByteStore>(
 fn store_apart<O: Operation, S: ByteStore>(
     store: &mut S,
     hart: &mut Hart,
-    word: u32,
     access: &mut Access,
+    word: u32,
 ) -> Attempt
     requires fetches { Fetches (S.memory store.old) word hart.old }
-    ensures { Tried hart.old hart.new (S.memory store.old) (S.memory store.new) (event_of_attempt result access.new) }
+    ensures { Tried hart.old hart.new (S.memory store.old) (S.memory store.new) (event_of_attempt result access.new) (is_exclusive result) }
 {
     match begun(store, hart, O::op(), word) {
         Some(action) => stored(store, hart, action, access),
@@ -301,14 +352,48 @@ fn store_apart<O: Operation, S: ByteStore>(
 fn exchange_apart<O: Operation, S: ByteStore>(
     store: &mut S,
     hart: &mut Hart,
-    word: u32,
     access: &mut Access,
+    word: u32,
 ) -> Attempt
     requires fetches { Fetches (S.memory store.old) word hart.old }
-    ensures { Tried hart.old hart.new (S.memory store.old) (S.memory store.new) (event_of_attempt result access.new) }
+    ensures { Tried hart.old hart.new (S.memory store.old) (S.memory store.new) (event_of_attempt result access.new) (is_exclusive result) }
 {
     match begun(store, hart, O::op(), word) {
         Some(action) => replaced(store, hart, action, access),
+        None => Attempt::Nothing,
+    }
+}
+
+/// Takes the step of a word that may be an LR's, apart from the jump.
+#[inline(never)]
+fn reserve_apart<S: ByteStore>(
+    store: &mut S,
+    hart: &mut Hart,
+    access: &mut Access,
+    word: u32,
+) -> Attempt
+    requires fetches { Fetches (S.memory store.old) word hart.old }
+    ensures { Tried hart.old hart.new (S.memory store.old) (S.memory store.new) (event_of_attempt result access.new) (is_exclusive result) }
+{
+    match begun(store, hart, Op::LrW, word) {
+        Some(action) => reserved(store, hart, action, access),
+        None => Attempt::Nothing,
+    }
+}
+
+/// Takes the step of a word that may be an SC's, apart from the jump.
+#[inline(never)]
+fn conditional_apart<S: ByteStore>(
+    store: &mut S,
+    hart: &mut Hart,
+    access: &mut Access,
+    word: u32,
+) -> Attempt
+    requires fetches { Fetches (S.memory store.old) word hart.old }
+    ensures { Tried hart.old hart.new (S.memory store.old) (S.memory store.new) (event_of_attempt result access.new) (is_exclusive result) }
+{
+    match begun(store, hart, Op::ScW, word) {
+        Some(action) => stored_if_reserved(store, hart, action, access),
         None => Attempt::Nothing,
     }
 }
@@ -322,7 +407,7 @@ fn set<S: ByteStore>(
     _access: &mut Access,
 ) -> Attempt
     requires begins { Begins (S.memory _store.old) action hart.old }
-    ensures { Tried hart.old hart.new (S.memory _store.old) (S.memory _store.new) (event_of_attempt result _access.new) }
+    ensures { Tried hart.old hart.new (S.memory _store.old) (S.memory _store.new) (event_of_attempt result _access.new) (is_exclusive result) }
 {
     let Action::Set { .. } = action else {
         return Attempt::Nothing;
@@ -341,7 +426,7 @@ fn loaded<S: ByteStore>(
 ) -> Attempt
     requires sized { HasSize action }
     requires begins { Begins (S.memory store.old) action hart.old }
-    ensures { Tried hart.old hart.new (S.memory store.old) (S.memory store.new) (event_of_attempt result access.new) }
+    ensures { Tried hart.old hart.new (S.memory store.old) (S.memory store.new) (event_of_attempt result access.new) (is_exclusive result) }
 {
     let Action::Load { address, size, .. } = action else {
         return Attempt::Nothing;
@@ -367,7 +452,7 @@ fn stored<S: ByteStore>(
 ) -> Attempt
     requires sized { HasSize action }
     requires begins { Begins (S.memory store.old) action hart.old }
-    ensures { Tried hart.old hart.new (S.memory store.old) (S.memory store.new) (event_of_attempt result access.new) }
+    ensures { Tried hart.old hart.new (S.memory store.old) (S.memory store.new) (event_of_attempt result access.new) (is_exclusive result) }
 {
     memory_is_sound();
     let Action::Store {
@@ -395,7 +480,7 @@ fn replaced<S: ByteStore>(
     access: &mut Access,
 ) -> Attempt
     requires begins { Begins (S.memory store.old) action hart.old }
-    ensures { Tried hart.old hart.new (S.memory store.old) (S.memory store.new) (event_of_attempt result access.new) }
+    ensures { Tried hart.old hart.new (S.memory store.old) (S.memory store.new) (event_of_attempt result access.new) (is_exclusive result) }
 {
     memory_is_sound();
     let Action::Replace {
@@ -420,6 +505,64 @@ fn replaced<S: ByteStore>(
     note(access, hart, address, 4, AccessKind::Both);
     advance(hart, loaded, action);
     Attempt::Accessed
+}
+
+/// Takes an LR that is permitted.
+#[inline(always)]
+fn reserved<S: ByteStore>(
+    store: &mut S,
+    hart: &mut Hart,
+    action: Action,
+    access: &mut Access,
+) -> Attempt
+    requires begins { Begins (S.memory store.old) action hart.old }
+    ensures { Tried hart.old hart.new (S.memory store.old) (S.memory store.new) (event_of_attempt result access.new) (is_exclusive result) }
+{
+    let Action::Reserve { address, .. } = action else {
+        return Attempt::Nothing;
+    };
+    if !is_aligned(address, 4) {
+        return Attempt::Nothing;
+    }
+    let Some(loaded) = store.load_permitted(address, 4, Need::Read) else {
+        return Attempt::Nothing;
+    };
+    note(access, hart, address, 4, AccessKind::Load);
+    advance(hart, loaded, action);
+    Attempt::Exclusive
+}
+
+/// Takes an SC that is permitted: it writes where the hart holds the word's reservation, and else it fails.
+#[inline(always)]
+fn stored_if_reserved<S: ByteStore>(
+    store: &mut S,
+    hart: &mut Hart,
+    action: Action,
+    access: &mut Access,
+) -> Attempt
+    requires begins { Begins (S.memory store.old) action hart.old }
+    ensures { Tried hart.old hart.new (S.memory store.old) (S.memory store.new) (event_of_attempt result access.new) (is_exclusive result) }
+{
+    memory_is_sound();
+    let Action::Conditional { address, value, .. } = action else {
+        return Attempt::Nothing;
+    };
+    if !is_aligned(address, 4) {
+        return Attempt::Nothing;
+    }
+    if !reserves(hart.reservation, address) {
+        if !store.permits(address, 4, Need::Write) {
+            return Attempt::Nothing;
+        }
+        advance(hart, 0, action);
+        return Attempt::Failed;
+    }
+    if !store.store_permitted(address, 4, value, Need::Write) {
+        return Attempt::Nothing;
+    }
+    note(access, hart, address, 4, AccessKind::Store);
+    advance(hart, 0, action);
+    Attempt::Exclusive
 }
 
 /// Notes an access that the hart makes.

@@ -243,3 +243,14 @@ fn words_of_the_generator(rt: HostRuntime) {
         assert_is(&rt, (seed, stream, &found), (seed, stream, wanted), "words");
     }
 }
+
+/// A word that is looked at is the next one, and is not taken.
+#[test]
+fn a_peek_takes_no_word(rt: HostRuntime) -> Result<(), Fail> {
+    let mut words = Generator::new(42, 54);
+    assert_is(&rt, words.peek(), 0xa15c_02b7, "the first word");
+    assert_is(&rt, words.peek(), 0xa15c_02b7, "the same");
+    assert_is(&rt, words.next(), 0xa15c_02b7, "taken");
+    assert_is(&rt, words.peek(), 0x7b47_f409, "the second word");
+    Ok(())
+}

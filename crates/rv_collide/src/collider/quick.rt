@@ -20,7 +20,7 @@ impl<S: ByteStore> Collider<S> {
     {
         what_no_step_does();
         // Apart from one another, since a step that is shown to no claim stays in registers.
-        if self.is_free() {
+        if self.is_unhindered() {
             return self.step(h, false, true).is_some();
         }
         if self.stands_armed(h) {

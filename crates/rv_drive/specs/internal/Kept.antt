@@ -31,16 +31,16 @@ pub record IsAhead (d : Ahead) : Type 0 where
   pub lasts : NoneLasts (setting_of d.collider) d.collider.entries d.made_at d.earliest
   pub room : MOST_HARTS ≤ vec_capacity d.able
 
--- A row of turns so far: `before` it stood `old`. The last word has picked the next turn's hart, and before so many steps
--- more no pause is due and steps are left.
+-- A row of turns so far: `before` it stood `old`. The last word has picked the next turn's hart, and after so many steps
+-- more no pause is due yet and steps are left.
 pub record IsInRow (old : Stored) (before : Given) (d : Ahead) (words : Given) (hart left : ℕ) : Type 0 where
   pub ahead : IsAhead d
   pub some : 0 < length d.able.items
   pub undue : due (setting_of d.collider) d.collider.entries ≡ None
   pub so_far : TakesTurns old d.collider (word_at before.seed before.stream) before.taken (words.taken - 1)
   pub picked : picked_hart (setting_of d.collider) d.collider.entries (word_at before.seed before.stream (words.taken - 1)) ≡ Some hart
-  pub pauses : 0 < left → d.made + left ≤ d.earliest
-  pub steps : 0 < left → d.made + left ≤ d.collider.plan.steps
+  pub pauses : 0 < left → d.made + left < d.earliest
+  pub steps : 0 < left → d.made + left < d.collider.plan.steps
   pub words_are : words ≡ record before { taken = words.taken }
   pub later : before.taken < words.taken
   pub few : words.taken + left ≤ before.taken + 2 ^ 32

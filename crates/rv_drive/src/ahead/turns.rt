@@ -59,7 +59,8 @@ impl Ahead {
         self.able.len() as u32
     }
 
-    /// A row of turns of so many able harts.
+    /// A row of turns of so many able harts. The hart of each turn is picked before the turn ahead of it is made, whose
+    /// jump a processor can't foresee: what is picked is there when it has jumped.
     fn row<const COUNT: u32>(&mut self, words: &mut Generator)
         requires driver { IsAhead self.old }
         requires undue { due (setting_of self.old.collider) self.old.collider.entries ≡ None }
@@ -73,48 +74,51 @@ impl Ahead {
         ensures one { words.old.taken < words.new.taken }
     {
         let mut left = self.undue();
-        let mut h = self.pick::<COUNT>(words);
+        let mut h = self.picked::<COUNT>(words);
+        let _taken = words.next();
+        let mut next = self.picked::<COUNT>(words);
         while self.turn_quick(h, left) {
             left -= 1;
-            h = self.pick::<COUNT>(words);
+            h = next;
+            let _taken = words.next();
+            next = self.picked::<COUNT>(words);
         }
         self.turn(h);
     }
 
-    /// Before how many steps more no pause is due and steps are left, if a hart is able.
+    /// After how many steps more no pause is due yet and steps are left, if a hart is able.
     fn undue(&self) -> u32
-        ensures pauses { 0 < result → self.now.made + result ≤ self.now.earliest }
-        ensures steps { 0 < result → self.now.made + result ≤ self.now.collider.plan.steps }
+        ensures pauses { 0 < result → self.now.made + result < self.now.earliest }
+        ensures steps { 0 < result → self.now.made + result < self.now.collider.plan.steps }
         ensures few { result < 2 ^ 32 }
     {
         let plan = self.collider.plan();
-        self.earliest.min(plan.steps).saturating_sub(self.made)
+        let end = self.earliest.min(plan.steps);
+        end.saturating_sub(self.made).saturating_sub(1)
     }
 
-    /// The able hart that the next word picks.
+    /// The able hart that the next word picks, which is not taken yet.
     #[inline(always)]
-    fn pick<const COUNT: u32>(&self, words: &mut Generator) -> u8
+    fn picked<const COUNT: u32>(&self, words: &Generator) -> u8
         requires driver { IsAhead self.now }
         requires some { 0 < length self.now.able.items }
         requires count { COUNT ≡ length self.now.able.items }
-        requires more { words.old.taken + 1 < 2 ^ 64 }
-        ensures hart { picked_hart (setting_of self.now.collider) self.now.collider.entries
-            (word_at words.old.seed words.old.stream words.old.taken) ≡ Some result }
-        ensures words { words.new ≡ record words.old { taken = words.old.taken + 1 } }
+        ensures { picked_hart (setting_of self.now.collider) self.now.collider.entries
+            (word_at words.now.seed words.now.stream words.now.taken) ≡ Some result }
     {
-        let word = words.next();
+        let word = words.peek();
         self.able[(word % COUNT) as usize]
     }
 
-    /// A turn of an able hart that is a common step, where more than one step is left: the same harts stay able. Else
-    /// nothing has changed.
+    /// A turn of an able hart that is a common step, after which no pause is due and steps are left: the same harts stay
+    /// able. Else nothing has changed.
     #[inline(always)]
     fn turn_quick(&mut self, h: u8, left: u32) -> bool
         requires driver { IsAhead self.old }
         requires hart { h < self.old.collider.plan.harts }
         requires able { is_able (setting_of self.old.collider) self.old.collider.entries h ≡ true }
-        requires left { 1 < left → self.old.made + 1 < self.old.collider.plan.steps }
-        ensures more { result ≡ true → 1 < left }
+        requires left { 0 < left → self.old.made + 1 < self.old.collider.plan.steps }
+        ensures more { result ≡ true → 0 < left }
         ensures steps { result ≡ true → StaysAhead self.old self.new h }
         ensures same { result ≡ false → self.new ≡ self.old }
     {
@@ -122,7 +126,7 @@ impl Ahead {
         accepted_calls();
         what_no_step_does();
         let _plan = self.collider.plan();
-        if left <= 1 {
+        if left == 0 {
             return false;
         }
         if !self.collider.turn_quick(h) {

@@ -1,9 +1,10 @@
-use Rattle.std.proofs.Common.{◌≡◌, ◌+◌, ◌*◌, ◌≤◌, ◌<◌, ℕ, List, [], length, Ok, sym, ap, subst, ◌∙◌, arith}
+use Rattle.std.proofs.Common.{◌≡◌, ◌+◌, ◌*◌, ◌≤◌, ◌<◌, ℕ, List, [], true, length, Ok, sym, ap, subst, ◌∙◌, arith}
 use Rattle.std.specs.Prelude.{option_map}
 use Rattle.std.specs.Vec.{vec_capacity}
 use Rattle.rv_hart.specs.NextAccess.{accessed}
 use Rattle.rv_break.specs.Breakpoints.{Breaks}
 use Rattle.rv_collide.specs.Forced.{Turn, forced}
+use Rattle.rv_collide.specs.Next.{runs_at}
 use Rattle.rv_collide.specs.Numbers.{numbers}
 use Rattle.rv_collide.specs.Stored.{Stored, setting_of, stored}
 use Rattle.rv_collide.specs.declared.entry.Entry.{Entry}
@@ -31,6 +32,13 @@ returns-in-None-clause-memory g c =
     let limit = c.self.invariant.0.limit in
     let room : length c.self.inside.machine.state.output < c.self.inside.machine.limit = omega arith in
     c.in-None.ensures.memory whole runs room
+
+pub stepped-requires : goal.stepped-requires
+stepped-requires g c =
+    let s = setting_of (stored c.self.inside.image.value (numbers c.self.inside.plan) c.self.inside.entries.items) in
+    λ common.
+    let runs = subst (λ (v : Stored). runs_at (setting_of v).start v.entries (length v.entries) c.args.h ≡ true) (sym c.self.view_is) (c.requires.running common) in
+    runs_in s.start c.self.inside.machine.state c.self.inside.entries.items (length c.self.inside.entries.items) c.args.h c.self.invariant.0.now runs
 
 pub show-requires : goal.show-requires
 show-requires g c =

@@ -4,10 +4,21 @@ use Rattle.rv_collide.proofs.QuickTurns.{may_turn, steps_on}
 use Rattle.rv_collide.proofs.collider.Collider.turn_quick.Goals as goal
 
 pub step-requires-clause-goes_on : goal.step-requires-clause-goes_on
-step-requires-clause-goes_on g c = c.is_free.ensures.goes_on c.if-is_free.true c.args.h
+step-requires-clause-goes_on g c =
+    c.is_unhindered.ensures.goes_on c.if-is_unhindered.true (may_turn (setting_of c.args.self.now) c.args.self.now.entries c.args.h c.requires).left c.args.h
 
-pub returns-then-is_free-clause-steps : goal.returns-then-is_free-clause-steps
-returns-then-is_free-clause-steps g c = λ made.
+pub step-requires-clause-unwatched : goal.step-requires-clause-unwatched
+step-requires-clause-unwatched g c = λ _.
+    c.is_unhindered.ensures.unwatched c.if-is_unhindered.true (may_turn (setting_of c.args.self.now) c.args.self.now.entries c.args.h c.requires).left
+
+pub step-requires-clause-running : goal.step-requires-clause-running
+step-requires-clause-running g c = λ _. (may_turn (setting_of c.args.self.now) c.args.self.now.entries c.args.h c.requires).runs
+
+pub step-requires-2-clause-running : goal.step-requires-2-clause-running
+step-requires-2-clause-running g c = λ _. (may_turn (setting_of c.args.self.now) c.args.self.now.entries c.args.h c.requires).runs
+
+pub returns-then-is_unhindered-clause-steps : goal.returns-then-is_unhindered-clause-steps
+returns-then-is_unhindered-clause-steps g c = λ made.
     steps_on c.what_no_step_does.ensures.moves c.args.self.now c.step.new.self c.args.h c.step.result c.step.ensures.forced c.step.ensures.event c.step.ensures.after c.step.ensures.moves (sym c.is_some.ensures ∙ made)
 
 pub stands_armed-requires : goal.stands_armed-requires

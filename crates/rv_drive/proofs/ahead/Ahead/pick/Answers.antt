@@ -1,9 +1,0 @@
-use Rattle.std.proofs.Common.{length, ap, ◌∙◌}
-use Rattle.rv_collide.specs.Stored.{setting_of}
-use Rattle.rv_drive.proofs.TurnsLemmas.{is_picked}
-use Rattle.rv_drive.proofs.ahead.Ahead.pick.Goals as goal
-
-pub returns-clause-hart : goal.returns-clause-hart
-returns-clause-hart g c =
-    is_picked (setting_of c.args.self.now.collider) c.args.self.now.collider.entries c.args.self.now.able.items c.next-word.result _ g.row.COUNT c.index.result.now
-    c.requires.some c.next-word.ensures.word c.requires.driver.able_are (c.requires.count ∙ ap length c.requires.driver.able_are) c.index.ensures

@@ -1,0 +1,10 @@
+use Rattle.std.proofs.Common.{◌≡◌, ◌%◌, true, sym, arith}
+use Rattle.std.specs.Prelude.{◌==◌}
+use Rattle.rv_hart.proofs.QuickLemmas.{moves_reserve}
+use Rattle.rv_hart.proofs.quick.reserved.Goals as goal
+
+pub returns : goal.returns
+returns g c =
+    let aligned : (c.in-Reserve.address % 4 == 0) ≡ true = grind arith in
+    moves_reserve (g.S.ByteStore.memory c.args.store.now) c.args.hart.now c.advance.new.hart c.in-Reserve.rd c.in-Reserve.address c.in-Some.loaded c.note.new.access
+    (rw c.in-Reserve.is at c.requires.begins) aligned (sym c.in-Some.ensures.value) c.note.ensures c.advance.ensures
