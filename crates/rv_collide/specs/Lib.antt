@@ -1,6 +1,7 @@
 pub mod Answers
 pub mod Armed
 pub mod ChangedLaws
+pub mod Counts
 pub mod Entries
 pub mod First
 pub mod Forced

@@ -1,5 +1,5 @@
 -- A place of a session's schedule that is looked at while the session stays where it is.
-use Rattle.std.specs.Prelude.{◌≡◌, ℕ, ◌≤◌, Some, List, length}
+use Rattle.std.specs.Prelude.{◌≡◌, ℕ, ◌≤◌, Some, length}
 use Rattle.rv_collide.specs.StateAt.{state_at}
 use Rattle.rv_debug.specs.Placed.{Placed, setting}
 use Rattle.rv_hart.specs.State.{Guest}

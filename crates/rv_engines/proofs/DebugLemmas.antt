@@ -1,5 +1,5 @@
 -- A talk over the run that two files say.
-use Rattle.std.proofs.Common.{◌≡◌, ℕ, Bool, true, false, List, Option, Some, None, Result, Ok, refl, ap, subst, inl, inr}
+use Rattle.std.proofs.Common.{◌≡◌, ℕ, Bool, true, false, List, Option, Some, None, Ok, refl, ap, subst, inl, inr}
 use Rattle.std.specs.Prelude.{◌||◌, IsOkAnd}
 use Rattle.rv_collide.specs.Legal.{IsLegal}
 use Rattle.rv_collide.specs.Stored.{stored}

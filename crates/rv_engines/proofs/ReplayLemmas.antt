@@ -1,6 +1,6 @@
 -- What two files say, and what is written of it.
-use Rattle.std.proofs.Common.{◌≡◌, ℕ, ◌+◌, Bool, true, false, List, [], ◌∷◌, ◌++◌, Option, Some, None, Result, Ok, Err, take, refl, sym, ap, subst, ◌∙◌}
-use Rattle.std.specs.Prelude.{◌||◌, IfSome, IsOkAnd, OnOk, if◌then◌else◌, slice_get, length}
+use Rattle.std.proofs.Common.{◌≡◌, ℕ, ◌+◌, Bool, true, false, List, [], ◌∷◌, ◌++◌, Option, Some, None, Result, Ok, Err, take, sym, ap, subst, ◌∙◌}
+use Rattle.std.specs.Prelude.{IfSome, IsOkAnd, OnOk, if◌then◌else◌, slice_get}
 use Rattle.std.specs.Io.KnownBytes.{Appends, Keeps}
 use Rattle.std.proofs.KnownBytes.{Appends-kept, Appends-trans}
 use Rattle.rv_collide.specs.ScheduleRead.{Schedule, schedule_of}
@@ -16,7 +16,6 @@ use Rattle.rv_elf.specs.Contents.{Contents}
 use Rattle.rv_elf.specs.Loaded.{loaded}
 use Rattle.rv_elf.specs.declared.fault.LoadFault.{LoadFault}
 use Rattle.rv_memory.specs.Chain.{◌>>=◌}
-use Rattle.rv_memory.specs.declared.flagged.TheConstants.{INPUT_LIMIT}
 use Rattle.rv_engines.specs.Fault.{IsToldFault, fault_of_replay}
 use Rattle.rv_engines.specs.Images.{image_of, told_load}
 use Rattle.rv_engines.specs.Replay.{IfKnown, IsReplayRefusal, IsShown, run_of, told_schedule}

@@ -1,12 +1,11 @@
 -- Where bytes are the text of a source, and where not.
-use Rattle.std.proofs.Common.{◌≡◌, ℕ, List, length, true, false, ap, ap₂, ◌∙◌, arith, Ok, Err, Result, refl}
-use Rattle.std.specs.Prelude.{◌==◌, if◌then◌else◌, take}
+use Rattle.std.proofs.Common.{◌≡◌, ℕ, List, length, true, false, arith, Ok, Err, refl}
+use Rattle.std.specs.Prelude.{◌==◌, take}
 use Rattle.std.specs.Str.{IsUtf8, IsValidUpTo}
 use Rattle.std.specs.Str.Lossy.{utf8_valid_len}
 use Rattle.std.proofs.lemmas.Bool.Decides.{nat_tests}
 use Rattle.std.proofs.lemmas.Str.{utf8_valid_len-IsUtf8, utf8_valid_len-IsValidUpTo}
 use Rattle.rv_engines.specs.Sources.{line_after, unless_other}
-use Rattle.rv_engines.specs.declared.fault.Fault.{Fault}
 use Rattle.rv_engines.specs.declared.fault.Fault.TheVariants.{Asm}
 use Rattle.rv_asm.specs.declared.statement.AsmKind.TheVariants.{Word}
 

@@ -1,11 +1,10 @@
 -- What `run` makes of the bytes of an image and its options: the race table of a campaign, and a run's schedule.
-use Rattle.std.specs.Prelude.{ℕ, ◌+◌, Bool, false, IfSome, IsSomeAnd, is_none, find, filter_map, slice_get, Option, Some, None, option_map, Result, Ok, Err, List, [], ◌∷◌, ◌++◌, map}
+use Rattle.std.specs.Prelude.{ℕ, ◌+◌, Bool, false, IfSome, IsSomeAnd, is_none, find, filter_map, slice_get, Option, Some, None, Result, Ok, Err, List, [], ◌∷◌, ◌++◌, map}
 use Rattle.std.specs.Option.{option_map_or}
 use Rattle.rv_campaign.specs.Campaign.{AreRuns, fault_of}
 use Rattle.rv_campaign.specs.Run.{Hunt}
 use Rattle.rv_collide.specs.Grammar.{schedule_text}
 use Rattle.rv_collide.specs.Numbers.{numbers}
-use Rattle.rv_collide.specs.Plan.{Numbers}
 use Rattle.rv_collide.specs.declared.collider.Finished.{Finished}
 use Rattle.rv_collide.specs.declared.ending.Ending.{Ending}
 use Rattle.rv_elf.specs.Contents.{Contents}

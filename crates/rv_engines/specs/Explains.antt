@@ -1,5 +1,5 @@
 -- What `explain` tells of two files, an image and a schedule, by its options.
-use Rattle.std.specs.Prelude.{◌≡◌, ℕ, Bool, true, false, IfSome, IsOkAnd, Option, Some, None, option_map, unwrap_or, Result, Ok, Err, List}
+use Rattle.std.specs.Prelude.{◌≡◌, ℕ, Bool, true, false, IsOkAnd, Option, Some, None, option_map, unwrap_or, Result, Ok, Err, List}
 use Rattle.rv_collide.specs.Legal.{IsLegal}
 use Rattle.rv_collide.specs.Stored.{Stored, setting_of}
 use Rattle.rv_debug.specs.Placed.{placed}
@@ -10,7 +10,7 @@ use Rattle.rv_explain.specs.Races.{Found, Run, found, run_of as placed_run}
 use Rattle.rv_memory.specs.Chain.{◌>>=◌}
 use Rattle.rv_engines.specs.Asking.{Asking}
 use Rattle.rv_engines.specs.Campaigns.{elements, listed}
-use Rattle.rv_engines.specs.CommandFault.{Refusal, Plain, Skip, Name, Campaign, NoRace, plainly}
+use Rattle.rv_engines.specs.CommandFault.{Refusal, Plain, NoRace, plainly}
 use Rattle.rv_engines.specs.Replay.{IsReplayRefusal, run_of}
 
 -- What is told: a text, and a picture where one is wanted.

@@ -1,12 +1,12 @@
 -- What is chosen of two lists is the better of what is chosen of each.
 use Rattle.std.proofs.Common.{◌≡◌, ◌∙◌, sym, ap, refl, arith, Bool, true, false, Option, Some, None, List, [], ◌∷◌, ◌++◌}
-use Rattle.std.specs.Prelude.{ℕ, filter, if◌then◌else◌}
+use Rattle.std.specs.Prelude.{ℕ, filter}
 use Rattle.std.specs.List.{fold}
 use Rattle.std.proofs.lemmas.Bool.Decides.{nat_tests}
 use Rattle.std.proofs.lemmas.Grind.{fold-append}
 use Rattle.std.proofs.lemmas.List.Elements.{filter-append}
 use Rattle.rv_elf.specs.Contents.{Named}
-use Rattle.rv_explain.specs.Symbols.{chosen, first_of, holds_closer, is_nearer, is_inner, is_preferred, is_typed, has_size}
+use Rattle.rv_explain.specs.Symbols.{chosen, first_of, holds_closer, is_nearer}
 use Rattle.rv_explain.specs.internal.Steps.{better, covers, first_by, goes_before}
 use Rattle.rv_explain.specs.declared.steps.Rule.{Rule}
 use Rattle.rv_explain.specs.declared.steps.Rule.TheVariants.{Holding, Below}

@@ -11,7 +11,8 @@ use Rattle.rv_explain.specs.declared.races.Race.{Race}
 use Rattle.rv_explain.specs.declared.races.Report.{Report}
 use Rattle.rv_explain.specs.declared.races.RunRaces.{RunRaces}
 use Rattle.rv_hart.specs.State.{State}
-use Rattle.rv_report.specs.Races.{capped, key_of, same_key}
+use Rattle.rv_collide.specs.Counts.{saturated}
+use Rattle.rv_report.specs.Races.{key_of, same_key}
 use Rattle.rv_report.specs.declared.key.Key.{Key}
 
 -- A run: the image, the state in which it began, and its entries.
@@ -48,7 +49,7 @@ told_by first later = if nat_lt (rank later.class) (rank first.class) then later
 
 -- a race that has one report more
 abbrev pub raised : Race → Report → Race
-raised race report = record { reports = capped (race.reports + 1); told = told_by race.told report }
+raised race report = record { reports = saturated (race.reports + 1); told = told_by race.told report }
 
 -- The race table would have both in one row: the instructions are the same. (Their classes may differ.)
 abbrev pub is_of : Report → Race → Bool

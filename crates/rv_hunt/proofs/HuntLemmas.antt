@@ -21,7 +21,7 @@ use Rattle.rv_hunt.specs.declared.row.RaceRow.{RaceRow}
 use Rattle.rv_hunt.specs.internal.Lots.{ArePlans, IsLot, with_run}
 use Rattle.rv_report.specs.declared.key.Key.{Key}
 use Rattle.rv_tally.specs.GoesOn.{cost, goes_on, is_hopeless}
-use Rattle.rv_tally.specs.Kinds.{capped}
+use Rattle.rv_collide.specs.Counts.{saturated}
 use Rattle.rv_tally.specs.Plans.{plan_of}
 use Rattle.rv_tally.specs.Tally.{Tally, added, nothing, tally_of}
 use Rattle.rv_tally.specs.declared.limit.Limit.{Limit}
@@ -30,25 +30,25 @@ use Rattle.rv_tally.specs.declared.summary.Summary.{Summary}
 
 -- ---- how many runs there were
 
-runs_added : (t : Tally) (s : Summary) → (added t s).runs ≡ capped (t.runs + 1)
+runs_added : (t : Tally) (s : Summary) → (added t s).runs ≡ saturated (t.runs + 1)
 unfolding added
 runs_added t s = refl
 
-capped_more : (a b n : ℕ) → b ≡ capped (a + 1) → capped (b + n) ≡ capped (a + suc n)
-capped_more a b n is = omega (arith, is)
+saturated_more : (a b n : ℕ) → b ≡ saturated (a + 1) → saturated (b + n) ≡ saturated (a + suc n)
+saturated_more a b n is = omega (arith, is)
 
-runs_folded : (t : Tally) (xs : List Summary) → t.runs ≡ capped t.runs → (fold added t xs).runs ≡ capped (t.runs + length xs)
+runs_folded : (t : Tally) (xs : List Summary) → t.runs ≡ saturated t.runs → (fold added t xs).runs ≡ saturated (t.runs + length xs)
 runs_folded t [] small = omega (arith, small)
 runs_folded t (x ∷ xs) small =
     let next = runs_added t x in
-    runs_folded (added t x) xs (omega (arith, next)) ∙ capped_more t.runs (added t x).runs (length xs) next
+    runs_folded (added t x) xs (omega (arith, next)) ∙ saturated_more t.runs (added t x).runs (length xs) next
 
-pub how_many : (runs : List KeptRun) → (summed runs).runs ≡ capped (length runs)
+pub how_many : (runs : List KeptRun) → (summed runs).runs ≡ saturated (length runs)
 unfolding tally_of
 how_many runs =
     let same = length-map runs (λ (kept : KeptRun). kept.summary) in
     let from_0 : 0 + length (map (λ (kept : KeptRun). kept.summary) runs) ≡ length runs = omega (arith, same) in
-    runs_folded nothing (map (λ (kept : KeptRun). kept.summary) runs) refl ∙ ap capped from_0
+    runs_folded nothing (map (λ (kept : KeptRun). kept.summary) runs) refl ∙ ap saturated from_0
 
 -- ---- one run more
 

@@ -12,7 +12,8 @@ use Rattle.rv_explain.specs.Classes.{rank}
 use Rattle.rv_hunt.specs.HuntLaws.{PiecesAreMerged, TableIsKept, TwoAreMerged}
 use Rattle.rv_hunt.specs.Rows.{added, has_race, joined, merged, table_of}
 use Rattle.rv_hunt.specs.declared.row.RaceRow.{RaceRow}
-use Rattle.rv_report.specs.Races.{capped, same_key}
+use Rattle.rv_collide.specs.Counts.{saturated}
+use Rattle.rv_report.specs.Races.{same_key}
 use Rattle.rv_report.specs.declared.key.Key.{Key}
 
 abbrev Row : Type 0
@@ -27,8 +28,8 @@ same_key_equiv = search (comparing, rules)
 counted : RaceRow → ℕ → RaceRow
 counted row n = record row { count = n }
 
-capped-twice : (a b c : ℕ) → capped (capped (a + b) + c) ≡ capped (a + capped (b + c))
-capped-twice a b c = omega arith
+saturated-twice : (a b c : ℕ) → saturated (saturated (a + b) + c) ≡ saturated (a + saturated (b + c))
+saturated-twice a b c = omega arith
 
 -- whether a row's class is stronger than another's
 abbrev stronger : RaceRow → RaceRow → Bool
@@ -47,16 +48,16 @@ assoc-case : (x y z : RaceRow) (b c d : Bool) → stronger y x ≡ b → stronge
 unfolding counted
 assoc-case x y z true true d is other third =
     let also : stronger z x ≡ true = lt-trans (rank x.class) (rank y.class) (rank z.class) is other in
-    rw (is, other, also) (same_row z _ _ (capped-twice x.count y.count z.count))
+    rw (is, other, also) (same_row z _ _ (saturated-twice x.count y.count z.count))
 assoc-case x y z true false d is other third =
-    rw (is, other, is) (same_row y _ _ (capped-twice x.count y.count z.count))
+    rw (is, other, is) (same_row y _ _ (saturated-twice x.count y.count z.count))
 assoc-case x y z false true true is other third =
-    rw (is, other, third) (same_row z _ _ (capped-twice x.count y.count z.count))
+    rw (is, other, third) (same_row z _ _ (saturated-twice x.count y.count z.count))
 assoc-case x y z false true false is other third =
-    rw (is, other, third) (same_row x _ _ (capped-twice x.count y.count z.count))
+    rw (is, other, third) (same_row x _ _ (saturated-twice x.count y.count z.count))
 assoc-case x y z false false d is other third =
     let also : stronger z x ≡ false = lt-false (rank x.class) (rank y.class) (rank z.class) is other in
-    rw (is, other, also, is) (same_row x _ _ (capped-twice x.count y.count z.count))
+    rw (is, other, also, is) (same_row x _ _ (saturated-twice x.count y.count z.count))
 
 joined-assoc : (x y z : RaceRow) → joined (joined x y) z ≡ joined x (joined y z)
 joined-assoc x y z = assoc-case x y z (stronger y x) (stronger z y) (stronger z x) refl refl refl

@@ -1,6 +1,6 @@
 -- Each row of a hunt's table tells of a report of the run that it names.
-use Rattle.std.proofs.Common.{◌≡◌, ℕ, zero, suc, ◌+◌, ◌⊎◌, inl, inr, Bool, true, false, List, [], ◌∷◌, ◌++◌, length, map, Option, None, Some, refl, sym, ap, subst, ◌∙◌, arith}
-use Rattle.std.specs.Prelude.{slice_get, nat_lt, nat_eq, find, is_some, option_map, ◌&&◌, ◌==◌, ◌-◌}
+use Rattle.std.proofs.Common.{◌≡◌, ℕ, zero, suc, ◌+◌, ◌⊎◌, inl, inr, Bool, true, false, List, [], ◌∷◌, length, Option, None, Some, refl, sym, ap, subst, ◌∙◌, arith}
+use Rattle.std.specs.Prelude.{slice_get, nat_lt, find, is_some, option_map, ◌&&◌, ◌==◌, ◌-◌}
 use Rattle.std.specs.List.{fold}
 use Rattle.std.proofs.lemmas.Cmp.{nat_eq_equiv}
 use Rattle.std.proofs.lemmas.Option.{slice_get-map}
@@ -19,10 +19,10 @@ use Rattle.rv_explain.specs.Races.{reports, reports_of}
 use Rattle.rv_explain.specs.declared.races.Report.{Report}
 use Rattle.rv_hunt.proofs.MergeLemmas.{same_key_equiv}
 use Rattle.rv_hunt.proofs.ResultLemmas.{same_stored, split, table_seen}
-use Rattle.rv_hunt.specs.Hunted.{Hunt, IsHunted, IsOfRun, rows_from, rows_of}
+use Rattle.rv_hunt.specs.Hunted.{Hunt, IsOfRun, rows_from, rows_of}
 use Rattle.rv_hunt.specs.HuntedLaws.{RowsAreTold}
 use Rattle.rv_hunt.specs.Remade.{is_told_by, race_by, race_in}
-use Rattle.rv_hunt.specs.Rows.{added, joined, row_of, table_of, told_by}
+use Rattle.rv_hunt.specs.Rows.{added, joined, row_of, table_of}
 use Rattle.rv_hunt.specs.declared.hunted.Hunted.{Hunted}
 use Rattle.rv_hunt.specs.declared.kept_run.KeptRun.{KeptRun}
 use Rattle.rv_hunt.specs.declared.row.RaceRow.{RaceRow}

@@ -25,7 +25,7 @@ use Rattle.rv_hunt.specs.declared.row.RaceRow.{RaceRow}
 use Rattle.rv_hunt.specs.internal.Lots.{with_run}
 use Rattle.rv_report.specs.declared.key.Key.{Key}
 use Rattle.rv_tally.specs.GoesOn.{goes_on}
-use Rattle.rv_tally.specs.Kinds.{capped}
+use Rattle.rv_collide.specs.Counts.{saturated}
 use Rattle.rv_tally.specs.Plans.{plan_of}
 use Rattle.rv_tally.specs.Summary.{AreCounts, IsSummary}
 use Rattle.rv_tally.specs.Tally.{Tally, added, all_ended, is_exit, is_stop, longest_with, one_if, sum, with_addresses}
@@ -64,13 +64,13 @@ same_counts core one other a b =
 -- a run added by what is told of it
 added_by : Tally → ℕ → List End → List ℕ → List ℕ → Counts → Tally
 added_by t most ends armed paused counts = record {
-  runs = capped (t.runs + 1);
+  runs = saturated (t.runs + 1);
   ended = all_ended t.ended ends;
   armed = with_addresses t.armed armed;
   paused = with_addresses t.paused paused;
   counts = sum t.counts counts;
-  some_stopped = capped (t.some_stopped + one_if (list_any is_stop ends));
-  each_stopped = capped (t.each_stopped + one_if (list_all is_stop ends));
+  some_stopped = saturated (t.some_stopped + one_if (list_any is_stop ends));
+  each_stopped = saturated (t.each_stopped + one_if (list_all is_stop ends));
   longest = longest_with t.longest most (count_by is_exit ends);
 }
 

@@ -6,7 +6,7 @@ use Rattle.rv_hunt.specs.EndedText.{ended_text}
 use Rattle.rv_hunt.specs.ToldOrder.{benign, bugs, of_class, reports_of}
 use Rattle.rv_hunt.specs.declared.row.RaceRow.{RaceRow}
 use Rattle.rv_report.specs.declared.key.Key.{Key}
-use Rattle.rv_tally.specs.Kinds.{capped}
+use Rattle.rv_collide.specs.Counts.{saturated}
 use Rattle.rv_tally.specs.Tally.{Tally, pauses}
 use Rattle.rv_tally.specs.declared.counts.Counts.{Counts}
 
@@ -26,13 +26,13 @@ numbered name number = name ++ decimal number
 
 -- the pauses that ended with a report
 abbrev pub reports : Tally → ℕ
-reports t = capped (t.counts.hit + t.counts.changed)
+reports t = saturated (t.counts.hit + t.counts.changed)
 
 -- `races N, likely benign B, reports M of E endings in R runs`
 unfoldable pub summary_line : Tally → List (Key × RaceRow) → List ℕ
 summary_line t rows =
     numbered (codes "races ") (bugs rows) ++ (numbered (codes ", likely benign ") (benign rows) ++ (numbered (codes ", reports ") (reports t)
-    ++ (numbered (codes " of ") (capped (pauses t)) ++ (numbered (codes " endings in ") t.runs ++ codes " runs\n"))))
+    ++ (numbered (codes " of ") (saturated (pauses t)) ++ (numbered (codes " endings in ") t.runs ++ codes " runs\n"))))
 
 -- ---- the lines behind the blocks
 
@@ -58,7 +58,7 @@ pauses_text n counts =
 -- both, and `; unwatched U; steps T`
 unfoldable pub seen_line : ℕ → Tally → List ℕ
 seen_line sites t =
-    sites_text sites t ++ (pauses_text (capped (pauses t)) t.counts ++ (numbered (codes "; unwatched ") t.counts.unwatched
+    sites_text sites t ++ (pauses_text (saturated (pauses t)) t.counts ++ (numbered (codes "; unwatched ") t.counts.unwatched
     ++ (numbered (codes "; steps ") t.counts.steps ++ codes "\n")))
 
 -- which races were counted and not told

@@ -4,7 +4,8 @@ use Rattle.std.specs.List.{fold, list_any}
 use Rattle.rv_explain.specs.Classes.{rank}
 use Rattle.rv_explain.specs.declared.races.Report.{Report}
 use Rattle.rv_hunt.specs.declared.row.RaceRow.{RaceRow}
-use Rattle.rv_report.specs.Races.{capped, same_key}
+use Rattle.rv_collide.specs.Counts.{saturated}
+use Rattle.rv_report.specs.Races.{same_key}
 use Rattle.rv_report.specs.declared.key.Key.{Key}
 
 -- the row of a single report of a run
@@ -18,7 +19,7 @@ told_by first later = if nat_lt (rank later.class) (rank first.class) then later
 
 -- Two rows of a race made one. A count stays at the largest number of 64 bits once there.
 abbrev pub joined : RaceRow → RaceRow → RaceRow
-joined first later = record (told_by first later) { count = capped (first.count + later.count) }
+joined first later = record (told_by first later) { count = saturated (first.count + later.count) }
 
 -- A row more: it is joined to that of its race, or comes last where there is none.
 abbrev pub added : List (Key × RaceRow) → Key × RaceRow → List (Key × RaceRow)

@@ -1,6 +1,6 @@
 -- The lines of an ignore list, one by one.
-use Rattle.std.proofs.Common.{◌≡◌, ℕ, ◌+◌, ◌≤◌, Bool, true, false, List, [], ◌∷◌, ◌++◌, Option, Some, None, Result, Ok, Err, refl, sym, ap, subst, ◌∙◌, arith}
-use Rattle.std.specs.Prelude.{IsOkAnd, count_by, drop, length, slice_get, ◌==◌}
+use Rattle.std.proofs.Common.{◌≡◌, ℕ, ◌+◌, ◌≤◌, List, [], ◌∷◌, ◌++◌, Option, Some, None, Result, Ok, Err, refl, sym, ap, subst, ◌∙◌, arith}
+use Rattle.std.specs.Prelude.{IsOkAnd, drop, length, slice_get, ◌==◌}
 use Rattle.std.proofs.lemmas.List.{append_assoc}
 use Rattle.std.proofs.lemmas.List.Splits.{length-slice_split}
 use Rattle.std.proofs.lemmas.List.Sums.{count_by-le-length}
@@ -11,7 +11,7 @@ use Rattle.rv_merge.specs.FileFault.{IsTold, UnlessDevice, told_ignore}
 use Rattle.rv_merge.specs.Ignore.{at_line, line_of, lines_from, listed}
 use Rattle.rv_engines.specs.declared.fault.Fault.TheVariants as fault
 use Rattle.rv_merge.specs.declared.fault.FileFault.{FileFault}
-use Rattle.rv_merge.specs.declared.fault.FileFault.TheVariants.{Plain, Table, Ignore}
+use Rattle.rv_merge.specs.declared.fault.FileFault.TheVariants.{Plain, Ignore}
 use Rattle.rv_merge.specs.declared.fault.IgnoreFault.{IgnoreFault}
 use Rattle.rv_merge.specs.declared.fault.IgnoreKind.{IgnoreKind}
 use Rattle.rv_merge.specs.declared.ignore.Line.{Line}

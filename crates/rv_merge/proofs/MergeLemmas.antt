@@ -1,6 +1,6 @@
 -- Files that are merged one after another.
 use Rattle.std.proofs.Common.{◌≡◌, ℕ, ◌+◌, ◌<◌, Bool, true, false, List, [], ◌∷◌, Option, Some, None, Result, Ok, Err, zero, suc, refl, sym, ap, subst, ◌∙◌, arith}
-use Rattle.std.specs.Prelude.{◌||◌, IfSome, IsOkAnd, OnOk, drop, length, option_and_then, option_map, slice_get, slice_set}
+use Rattle.std.specs.Prelude.{◌||◌, IfSome, drop, length, option_and_then, option_map, slice_get, slice_set}
 use Rattle.std.specs.List.{fold, list_any}
 use Rattle.rv_hunt.specs.Rows.{merged}
 use Rattle.rv_memory.specs.Chain.{◌>>=◌}
@@ -8,10 +8,10 @@ use Rattle.rv_memory.specs.Flagged.{device, has_failed}
 use Rattle.rv_memory.specs.declared.flagged.Flagged.{Flagged}
 use Rattle.rv_engines.specs.declared.fault.Fault.TheVariants as fault
 use Rattle.rv_merge.specs.FileFault.{UnlessDevice}
-use Rattle.rv_merge.specs.Merge.{Files, Merge, IsTold, Table, bytes_if, bytes_of, expected_in, files_of, in_file, is_unexpected, merge_of, merged_all, tables_from}
+use Rattle.rv_merge.specs.Merge.{Files, Merge, IsTold, Table, bytes_of, expected_in, in_file, is_unexpected, merge_of, merged_all, tables_from}
 use Rattle.rv_merge.specs.TableFiles.{hunt_table}
 use Rattle.rv_merge.specs.declared.fault.FileFault.{FileFault}
-use Rattle.rv_merge.specs.declared.fault.FileFault.TheVariants.{Plain, Table as Malformed, Ignore}
+use Rattle.rv_merge.specs.declared.fault.FileFault.TheVariants.{Plain, Table as Malformed}
 use Rattle.rv_merge.specs.declared.merge.MergeFault.{MergeFault}
 use Rattle.rv_merge.specs.internal.Adding.{with_file, with_files}
 

@@ -9,7 +9,8 @@ use Rattle.rv_hunt.specs.WarningText.{warnings_text}
 use Rattle.rv_hunt.specs.declared.row.RaceRow.{RaceRow}
 use Rattle.rv_page.specs.Elements.{cell, number_cell, number_row, row, table_part, table_part_if}
 use Rattle.rv_report.specs.declared.key.Key.{Key}
-use Rattle.rv_tally.specs.Kinds.{Kinds, capped}
+use Rattle.rv_collide.specs.Counts.{saturated}
+use Rattle.rv_tally.specs.Kinds.{Kinds}
 use Rattle.rv_tally.specs.Tally.{Ended, Tally, pauses}
 use Rattle.rv_tally.specs.declared.counts.Counts.{Counts}
 use Rattle.rv_tally.specs.declared.end.End.TheVariants.{OutOfSteps}
@@ -99,7 +100,7 @@ run_rows steps runs =
 
 unfoldable pub seen_rows : ℕ → Tally → List ℕ
 seen_rows sites saw =
-    joined (site_rows sites (length saw.armed) (length saw.paused) ∷ pause_rows (capped (pauses saw)) saw.counts ∷ run_rows saw.counts.steps saw.runs ∷ [])
+    joined (site_rows sites (length saw.armed) (length saw.paused) ∷ pause_rows (saturated (pauses saw)) saw.counts ∷ run_rows saw.counts.steps saw.runs ∷ [])
 
 unfoldable pub seen_part : ℕ → Tally → List ℕ
 seen_part sites saw = table_part (codes "seen") (codes "What was seen") [] (seen_rows sites saw)

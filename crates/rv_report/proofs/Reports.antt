@@ -7,7 +7,8 @@ use Rattle.std.specs.Cmp.Rules.{comparing}
 use Rattle.std.proofs.lemmas.List.{map-append, append-nil}
 use Rattle.std.proofs.lemmas.List.Elements.{filter-append}
 use Rattle.std.proofs.lemmas.List.Sums.{sum_by_push, sum_by-cons}
-use Rattle.rv_report.specs.Races.{Report, same_key, has_key, firsts, row, rows, capped}
+use Rattle.rv_collide.specs.Counts.{saturated}
+use Rattle.rv_report.specs.Races.{Report, same_key, has_key, firsts, row, rows}
 use Rattle.rv_report.specs.internal.Added.{raised}
 use Rattle.rv_report.specs.declared.key.Key.{Key}
 use Rattle.rv_report.specs.declared.row.Row.{Row}
@@ -118,19 +119,19 @@ abbrev counted : Report → ℕ → Key × Row
 counted f n = (f.key, record { count = n; run = f.run; ending = f.ending })
 
 abbrev with_count : Report → ℕ → Key × Row
-with_count f n = counted f (capped n)
+with_count f n = counted f (saturated n)
 
-pub capped-more : (n m : ℕ) → capped (capped n + m) ≡ capped (n + m)
-capped-more n m = omega arith
+pub saturated-more : (n m : ℕ) → saturated (saturated n + m) ≡ saturated (n + m)
+saturated-more n m = omega arith
 
 row-other : (all : List Report) (r f : Report) → has_key r.key f ≡ false → row all f ≡ row (all ++ r ∷ []) f
 row-other all r f differ =
     ap (with_count f) (sym (count-push f.key all r ∙ rw (same_key_equiv.symm f.key r.key, differ) (add-zero (count_by (has_key f.key) all))))
 
-row-own : (all : List Report) (r f : Report) → has_key r.key f ≡ true → with_count f (capped (count_by (has_key f.key) all) + 1) ≡ row (all ++ r ∷ []) f
+row-own : (all : List Report) (r f : Report) → has_key r.key f ≡ true → with_count f (saturated (count_by (has_key f.key) all) + 1) ≡ row (all ++ r ∷ []) f
 row-own all r f same =
     let counts : count_by (has_key f.key) (all ++ r ∷ []) ≡ count_by (has_key f.key) all + 1 = count-push f.key all r ∙ rw (same_key_equiv.symm f.key r.key, same) refl in
-    ap (counted f) (capped-more (count_by (has_key f.key) all) 1 ∙ ap capped (sym counts))
+    ap (counted f) (saturated-more (count_by (has_key f.key) all) 1 ∙ ap saturated (sym counts))
 
 map_row-others : (all : List Report) (r : Report) (fs : List Report) → list_any (has_key r.key) fs ≡ false → map (row all) fs ≡ map (row (all ++ r ∷ [])) fs
 map_row-others all r [] none = refl

@@ -6,11 +6,12 @@ use Rattle.std.proofs.lemmas.List.Elements.{filter_map-append}
 use Rattle.std.proofs.lemmas.List.Sums.{sum_by_push}
 use Rattle.rv_prune.specs.declared.class.Class.{Class}
 use Rattle.rv_prune.specs.declared.class.Class.TheVariants.{Named, Flag, Counter, Kept}
-use Rattle.rv_report.specs.Races.{Told, Report, Table, key_of, with_key, report_of, reports, rows, capped, pruned, races, is_named, is_flag, is_counter}
+use Rattle.rv_collide.specs.Counts.{saturated}
+use Rattle.rv_report.specs.Races.{Told, Report, Table, key_of, with_key, report_of, reports, rows, pruned, races, is_named, is_flag, is_counter}
 use Rattle.rv_report.specs.internal.Added.{raised, added, added_key}
 use Rattle.rv_report.specs.declared.key.Key.{Key}
 use Rattle.rv_report.specs.declared.row.Row.{Row}
-use Rattle.rv_report.proofs.Reports.{rows-push, capped-more}
+use Rattle.rv_report.proofs.Reports.{rows-push, saturated-more}
 
 -- the key of what was told
 abbrev key_told : Told → Option Key
@@ -38,24 +39,24 @@ rows-more told t key is = ap rows (reports-push told t (Some (with_key t key)) i
 abbrev counts : (Class → Bool) → Told → Bool
 counts is_class t = is_class t.class && is_some (key_told t)
 
-pruned-sum : (is_class : Class → Bool) (told : List Told) (t : Told) (n : ℕ) → cond (counts is_class t) 1 0 ≡ n → pruned is_class (told ++ t ∷ []) ≡ capped (pruned is_class told + n)
+pruned-sum : (is_class : Class → Bool) (told : List Told) (t : Told) (n : ℕ) → cond (counts is_class t) 1 0 ≡ n → pruned is_class (told ++ t ∷ []) ≡ saturated (pruned is_class told + n)
 unfolding pruned
 pruned-sum is_class told t n is =
-    ap capped (sum_by_push (λ x. cond (counts is_class x) 1 0) told t ∙ ap (λ k. count_by (counts is_class) told + k) is)
-    ∙ sym (capped-more (count_by (counts is_class) told) n)
+    ap saturated (sum_by_push (λ x. cond (counts is_class x) 1 0) told t ∙ ap (λ k. count_by (counts is_class) told + k) is)
+    ∙ sym (saturated-more (count_by (counts is_class) told) n)
 
-pruned-more : (is_class : Class → Bool) (told : List Told) (t : Told) → counts is_class t ≡ true → pruned is_class (told ++ t ∷ []) ≡ capped (pruned is_class told + 1)
+pruned-more : (is_class : Class → Bool) (told : List Told) (t : Told) → counts is_class t ≡ true → pruned is_class (told ++ t ∷ []) ≡ saturated (pruned is_class told + 1)
 pruned-more is_class told t is = pruned-sum is_class told t 1 (ap (λ b. cond b 1 0) is)
 
-capped-twice : (n : ℕ) → capped (capped n + 0) ≡ capped n
-capped-twice n = omega arith
+saturated-twice : (n : ℕ) → saturated (saturated n + 0) ≡ saturated n
+saturated-twice n = omega arith
 
-pruned-capped : (is_class : Class → Bool) (told : List Told) → capped (pruned is_class told + 0) ≡ pruned is_class told
+pruned-saturated : (is_class : Class → Bool) (told : List Told) → saturated (pruned is_class told + 0) ≡ pruned is_class told
 unfolding pruned
-pruned-capped is_class told = capped-twice (count_by (counts is_class) told)
+pruned-saturated is_class told = saturated-twice (count_by (counts is_class) told)
 
 pruned-same : (is_class : Class → Bool) (told : List Told) (t : Told) → counts is_class t ≡ false → pruned is_class (told ++ t ∷ []) ≡ pruned is_class told
-pruned-same is_class told t is = pruned-sum is_class told t 0 (ap (λ b. cond b 1 0) is) ∙ pruned-capped is_class told
+pruned-same is_class told t is = pruned-sum is_class told t 0 (ap (λ b. cond b 1 0) is) ∙ pruned-saturated is_class told
 
 table : List (Key × Row) → ℕ → ℕ → ℕ → Table
 table rows named flag counter = record { rows = rows; named = named; flag = flag; counter = counter }

@@ -3,7 +3,6 @@ use Rattle.std.specs.Prelude.{ℕ, List, [], ◌∷◌, ◌++◌, codes}
 use Rattle.std.specs.Fmt.{decimal}
 use Rattle.std.specs.List.{flat_map}
 use Rattle.rv_hart.specs.Texts.{access_text}
-use Rattle.rv_hart.specs.declared.access.Access.{Access}
 use Rattle.rv_report.specs.declared.exhibit.Exhibit.{Exhibit}
 use Rattle.rv_text.specs.Lines.{text_of_lines}
 

@@ -1,6 +1,7 @@
 -- The race table, as a function of the whole list of what was added to it.
-use Rattle.std.specs.Prelude.{ℕ, ◌-◌, ◌^◌, ◌==◌, ◌&&◌, Bool, true, false, nat_eq, not, min, max, if◌then◌else◌, Option, Some, None, is_some, option_map, List, [], ◌∷◌, map, filter, filter_map, count_by}
+use Rattle.std.specs.Prelude.{ℕ, ◌-◌, ◌==◌, ◌&&◌, Bool, true, false, nat_eq, not, min, max, if◌then◌else◌, Option, Some, None, is_some, option_map, List, [], ◌∷◌, map, filter, filter_map, count_by}
 use Rattle.std.specs.Option.{option_eq}
+use Rattle.rv_collide.specs.Counts.{saturated}
 use Rattle.rv_collide.specs.declared.ending.Ending.{Ending}
 use Rattle.rv_collide.specs.declared.ending.Verdict.{Verdict}
 use Rattle.rv_collide.specs.declared.ending.Verdict.TheVariants.{Hit, Changed, Quiet}
@@ -56,13 +57,9 @@ unfoldable pub firsts : List Report → List Report
 firsts [] = []
 firsts (report ∷ later) = report ∷ filter (λ other. not (has_key report.key other)) (firsts later)
 
--- a count stays at the largest number of 64 bits once there
-abbrev pub capped : ℕ → ℕ
-capped count = min count (2 ^ 64 - 1)
-
 -- the row of a report that is the first of its key: how many reports have its key, and its run and ending
 abbrev pub row : List Report → Report → Key × Row
-row all report = (report.key, record { count = capped (count_by (has_key report.key) all); run = report.run; ending = report.ending })
+row all report = (report.key, record { count = saturated (count_by (has_key report.key) all); run = report.run; ending = report.ending })
 
 unfoldable pub rows : List Report → List (Key × Row)
 rows all = map (row all) (firsts all)
@@ -89,7 +86,7 @@ is_counter Kept = false
 
 -- how many endings of a class were not quiet
 unfoldable pub pruned : (Class → Bool) → List Told → ℕ
-pruned is_class told = capped (count_by (λ (t : Told). is_class t.class && is_some (key_of t.ending.access t.ending.verdict)) told)
+pruned is_class told = saturated (count_by (λ (t : Told). is_class t.class && is_some (key_of t.ending.access t.ending.verdict)) told)
 
 -- ---- the table
 

@@ -1,5 +1,5 @@
 -- Actions whose threads are there make a run go on.
-use Rattle.std.proofs.Common.{◌≡◌, List, Bool, true, Option, Some, length, refl}
+use Rattle.std.proofs.Common.{◌≡◌, List, true, Some, length, refl}
 use Rattle.rv_debug.specs.Placed.{state}
 use Rattle.rv_gdb.specs.declared.action.Action.{Action}
 use Rattle.rv_hart.specs.State.{State}

@@ -7,7 +7,7 @@ use Rattle.rv_collide.specs.Grammar.{entry_line}
 use Rattle.rv_collide.specs.Texts.{ending_line}
 use Rattle.rv_collide.specs.declared.ending.Ending.{Ending}
 use Rattle.rv_collide.specs.declared.entry.Entry.{Entry}
-use Rattle.rv_debug.specs.Placed.{Placed, moved, state}
+use Rattle.rv_debug.specs.Placed.{moved, state}
 use Rattle.rv_gdb.specs.Chosen.{aim_of, choice, chooses, stopped}
 use Rattle.rv_gdb.specs.Points.{with_point, without_point}
 use Rattle.rv_gdb.specs.Replies.{known_reply, refusal_text, state_reply}
@@ -26,7 +26,6 @@ use Rattle.rv_gdb.specs.declared.replies.Refusal.TheVariants.{Malformed, NoSuch,
 use Rattle.rv_gdb.specs.declared.stop.Stop.{Stop}
 use Rattle.rv_gdb.specs.declared.stop.Why.TheVariants.{Stands}
 use Rattle.rv_hart.specs.State.{State}
-use Rattle.rv_hart.specs.declared.hart.Hart.{Hart}
 use Rattle.rv_hart.specs.declared.machine.TheConstants.{MOST_HARTS}
 use Rattle.rv_retrace.specs.Going.{stop_at}
 use Rattle.rv_retrace.specs.Resumed.{remembered, stop_of}

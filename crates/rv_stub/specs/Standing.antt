@@ -1,5 +1,5 @@
 -- How a talk stands between two packets.
-use Rattle.std.specs.Prelude.{ℕ, ◌&&◌, Bool, true, nat_lt, Option, Some, None, List, []}
+use Rattle.std.specs.Prelude.{ℕ, ◌&&◌, Bool, true, nat_lt, Option, None, List, []}
 use Rattle.std.specs.Option.{option_map_or}
 use Rattle.rv_debug.specs.Placed.{Placed}
 use Rattle.rv_gdb.specs.Chosen as chosen

@@ -1,14 +1,11 @@
 -- How harts ended, kind by kind.
-use Rattle.std.specs.Prelude.{ℕ, ◌+◌, ◌-◌, ◌^◌, ◌==◌, ◌&&◌, Bool, true, false, nat_lt, min, if◌then◌else◌, List, [], ◌∷◌, ◌++◌, length, map}
+use Rattle.std.specs.Prelude.{ℕ, ◌+◌, ◌-◌, ◌==◌, ◌&&◌, Bool, true, false, nat_lt, if◌then◌else◌, List, [], ◌∷◌, ◌++◌, length, map}
 use Rattle.std.specs.List.{list_any}
+use Rattle.rv_collide.specs.Counts.{saturated}
 use Rattle.rv_hart.specs.Cause.{number}
 use Rattle.rv_tally.specs.declared.end.End.{End}
 use Rattle.rv_tally.specs.declared.end.End.TheVariants.{Exited, Stopped, OutOfSteps}
 use Rattle.rv_tally.specs.declared.kinds.Kind.{Kind}
-
--- a count stays at the largest number of 64 bits once there
-abbrev pub capped : ℕ → ℕ
-capped count = min count (2 ^ 64 - 1)
 
 -- the same code, or the same cause at the same address
 abbrev pub same_end : End → End → Bool
@@ -32,7 +29,7 @@ no_kinds = record { told = []; rest = 0 }
 
 -- a kind after one more end
 abbrev pub counted : End → Kind → Kind
-counted end kind = if same_end kind.end end then record { end = kind.end; count = capped (kind.count + 1) } else kind
+counted end kind = if same_end kind.end end then record { end = kind.end; count = saturated (kind.count + 1) } else kind
 
 abbrev pub is_of : End → Kind → Bool
 is_of end kind = same_end kind.end end
@@ -42,4 +39,4 @@ unfoldable pub one_more : Kinds → End → Kinds
 one_more kinds end =
     if list_any (is_of end) kinds.told then record kinds { told = map (counted end) kinds.told }
     else (if nat_lt (length kinds.told) 8 then record kinds { told = kinds.told ++ record { end = end; count = 1 } ∷ [] }
-    else record kinds { rest = capped (kinds.rest + 1) })
+    else record kinds { rest = saturated (kinds.rest + 1) })

@@ -3,7 +3,8 @@ use Rattle.std.specs.Prelude.{ℕ, ◌+◌, ◌==◌, Bool, true, false, nat_lt,
 use Rattle.std.specs.BTreeSet.{insert_key}
 use Rattle.std.specs.List.{fold, list_all, list_any}
 use Rattle.std.specs.Ordering.{nat_cmp}
-use Rattle.rv_tally.specs.Kinds.{Kinds, capped, no_kinds, one_more}
+use Rattle.rv_collide.specs.Counts.{saturated}
+use Rattle.rv_tally.specs.Kinds.{Kinds, no_kinds, one_more}
 use Rattle.rv_tally.specs.declared.counts.Counts.{Counts}
 use Rattle.rv_tally.specs.declared.end.End.{End}
 use Rattle.rv_tally.specs.declared.end.End.TheVariants.{Exited, Stopped, OutOfSteps}
@@ -21,7 +22,7 @@ pub record Ended : Type 0 where
 abbrev pub ended_with : Ended → End → Ended
 ended_with ended (Exited code) = record ended { exits = one_more ended.exits (Exited code) }
 ended_with ended (Stopped cause pc) = record ended { stops = one_more ended.stops (Stopped cause pc) }
-ended_with ended OutOfSteps = record ended { out_of_steps = capped (ended.out_of_steps + 1) }
+ended_with ended OutOfSteps = record ended { out_of_steps = saturated (ended.out_of_steps + 1) }
 
 unfoldable pub all_ended : Ended → List End → Ended
 all_ended ended ends = fold ended_with ended ends
@@ -44,12 +45,12 @@ with_addresses addresses more = fold (insert_key nat_cmp) addresses more
 
 abbrev pub sum : Counts → Counts → Counts
 sum a b = record {
-  steps = capped (a.steps + b.steps);
-  quiet = capped (a.quiet + b.quiet);
-  hit = capped (a.hit + b.hit);
-  changed = capped (a.changed + b.changed);
-  unwatched = capped (a.unwatched + b.unwatched);
-  passed = capped (a.passed + b.passed);
+  steps = saturated (a.steps + b.steps);
+  quiet = saturated (a.quiet + b.quiet);
+  hit = saturated (a.hit + b.hit);
+  changed = saturated (a.changed + b.changed);
+  unwatched = saturated (a.unwatched + b.unwatched);
+  passed = saturated (a.passed + b.passed);
 }
 
 abbrev pub no_counts : Counts
@@ -64,7 +65,7 @@ one_if holds = cond holds 1 0
 abbrev pub longest_with : Longest → ℕ → ℕ → Longest
 longest_with longest steps exits =
     if nat_lt longest.steps steps then record { steps = steps; exits = exits }
-    else (if longest.steps == steps then record { steps = longest.steps; exits = capped (longest.exits + exits) } else longest)
+    else (if longest.steps == steps then record { steps = longest.steps; exits = saturated (longest.exits + exits) } else longest)
 
 -- ---- all of it
 
@@ -94,13 +95,13 @@ nothing = record {
 -- one more run
 unfoldable pub added : Tally → Summary → Tally
 added t s = record {
-  runs = capped (t.runs + 1);
+  runs = saturated (t.runs + 1);
   ended = all_ended t.ended s.ends.items;
   armed = with_addresses t.armed s.armed.items;
   paused = with_addresses t.paused s.paused.items;
   counts = sum t.counts s.counts;
-  some_stopped = capped (t.some_stopped + one_if (list_any is_stop s.ends.items));
-  each_stopped = capped (t.each_stopped + one_if (list_all is_stop s.ends.items));
+  some_stopped = saturated (t.some_stopped + one_if (list_any is_stop s.ends.items));
+  each_stopped = saturated (t.each_stopped + one_if (list_all is_stop s.ends.items));
   longest = longest_with t.longest s.most_steps (count_by is_exit s.ends.items);
 }
 

@@ -2,7 +2,7 @@
 ghost use Rattle.std.specs.Prelude.{◌≡◌, ◌+◌, OnOk, count_by};
 ghost use Rattle.std.specs.List.{list_all, list_any};
 ghost use Rattle.rv_tally.specs.GoesOn as going;
-ghost use Rattle.rv_tally.specs.Kinds.{capped};
+ghost use Rattle.rv_collide.specs.Counts.{saturated};
 ghost use Rattle.rv_tally.specs.Tally as spec;
 ghost use Rattle.rv_tally.specs.Warnings as warning;
 
@@ -105,7 +105,7 @@ fn each_stopped(ends: &[End]) -> bool
 
 /// A count, and one more where it holds.
 fn raised(count: u64, holds: bool) -> u64
-    ensures { result ≡ capped (count + spec.one_if holds) }
+    ensures { result ≡ saturated (count + spec.one_if holds) }
 {
     if holds {
         count.saturating_add(1)
@@ -207,7 +207,7 @@ impl Tally {
 
     /// How many pauses were made.
     pub fn pauses(&self) -> u64
-        ensures { result ≡ capped (spec.pauses self.now) }
+        ensures { result ≡ saturated (spec.pauses self.now) }
     {
         self.counts
             .quiet
@@ -224,7 +224,7 @@ impl Tally {
 
     /// What the runs cost.
     fn cost(&self) -> u64
-        ensures { result ≡ capped (going.cost self.now) }
+        ensures { result ≡ saturated (going.cost self.now) }
     {
         self.counts
             .steps

@@ -3,7 +3,8 @@ use Rattle.std.specs.Prelude.{ℕ, ◌+◌, Option, Some, None, List, [], ◌∷
 use Rattle.rv_collide.specs.declared.ending.Ending.{Ending}
 use Rattle.rv_prune.specs.declared.class.Class.{Class}
 use Rattle.rv_prune.specs.declared.class.Class.TheVariants.{Named, Flag, Counter, Kept}
-use Rattle.rv_report.specs.Races.{Told, Table, key_of, same_key, capped}
+use Rattle.rv_collide.specs.Counts.{saturated}
+use Rattle.rv_report.specs.Races.{Told, Table, key_of, same_key}
 use Rattle.rv_report.specs.declared.key.Key.{Key}
 use Rattle.rv_report.specs.declared.row.Row.{Row}
 
@@ -14,7 +15,7 @@ row_of (e ∷ es) key = if same_key key e.0 then Some e.1 else row_of es key
 
 -- a row with one more ending, which is its first where there is no row yet
 abbrev pub raised_row : Option Row → ℕ → Ending → Row
-raised_row (Some row) run ending = record { count = capped (row.count + 1); run = row.run; ending = row.ending }
+raised_row (Some row) run ending = record { count = saturated (row.count + 1); run = row.run; ending = row.ending }
 raised_row None run ending = record { count = 1; run = run; ending = ending }
 
 -- the row of a key is raised, or a new one goes last
@@ -25,9 +26,9 @@ raised (e ∷ es) key run ending =
 
 abbrev pub added_key : Table → ℕ → Ending → Class → Option Key → Table
 added_key table run ending class None = table
-added_key table run ending Named (Some key) = record table { named = capped (table.named + 1) }
-added_key table run ending Flag (Some key) = record table { flag = capped (table.flag + 1) }
-added_key table run ending Counter (Some key) = record table { counter = capped (table.counter + 1) }
+added_key table run ending Named (Some key) = record table { named = saturated (table.named + 1) }
+added_key table run ending Flag (Some key) = record table { flag = saturated (table.flag + 1) }
+added_key table run ending Counter (Some key) = record table { counter = saturated (table.counter + 1) }
 added_key table run ending Kept (Some key) = record table { rows = raised table.rows key run ending }
 
 abbrev pub added : Table → Told → Table

@@ -1,5 +1,5 @@
 use Rattle.std.proofs.Common.{◌≡◌, ◌-◌, ◌≤◌, arith, refl, ap}
-use Rattle.rv_explain.specs.BlockOf.{Lines, end_shown, first_shown, lines, lines_from}
+use Rattle.rv_explain.specs.BlockOf.{Lines, first_shown, lines, lines_from}
 use Rattle.rv_explain.specs.Races.{run_of}
 use Rattle.rv_explain.specs.internal.Gathered.{gathered_of}
 use Rattle.rv_explain.proofs.BlockLemmas.{lines_passed, none_yet}

@@ -1,10 +1,7 @@
-use Rattle.std.proofs.Common.{◌≡◌, ◌∙◌, ◌||◌, Bool, Some, ◌<◌, ◌≤◌, ◌+◌, length, get_or, refl, sym, ap, arith, false}
+use Rattle.std.proofs.Common.{◌∙◌, ◌<◌, length, refl, sym, arith, false}
 use Rattle.std.proofs.lemmas.Grind.{common_steps}
 use Rattle.std.proofs.lemmas.Option.{slice_get-get_or}
 use Rattle.std.proofs.lemmas.Result.{err_from_is_err_and}
-use Rattle.std.specs.Prelude.{slice_get}
-use Rattle.std.specs.List.{list_any}
-use Rattle.rv_memory.specs.Flagged as flag
 use Rattle.rv_merge.proofs.MergeLemmas.{all_added, at_start, behind, failed_set, none_failed, refused, step}
 use Rattle.rv_merge.proofs.merge.merged_files.Goals as goal
 

@@ -1,4 +1,4 @@
-use Rattle.std.proofs.Common.{◌<◌, ap, arith, length}
+use Rattle.std.proofs.Common.{ap}
 use Rattle.std.specs.Prelude.{not}
 use Rattle.rv_merge.specs.Ignore as spec
 use Rattle.rv_merge.proofs.PartedLemmas.{row_more}

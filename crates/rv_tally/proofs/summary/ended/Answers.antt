@@ -1,4 +1,4 @@
-use Rattle.std.proofs.Common.{◌+◌, arith}
+use Rattle.std.proofs.Common.{arith}
 use Rattle.rv_tally.specs.Summary.{ended}
 use Rattle.rv_tally.proofs.SummaryLemmas.{pushed}
 use Rattle.rv_tally.proofs.summary.ended.Goals as goal

@@ -1,4 +1,4 @@
-use Rattle.std.proofs.Common.{◌≡◌, ◌≤◌, length, take}
+use Rattle.std.proofs.Common.{◌≡◌, ◌≤◌, take}
 use Rattle.rv_tally.specs.Summary.{ended}
 use Rattle.rv_tally.proofs.summary.ended.Given as goal
 

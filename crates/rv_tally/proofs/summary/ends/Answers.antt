@@ -1,4 +1,4 @@
-use Rattle.std.proofs.Common.{◌+◌, ◌≤◌, length, arith}
+use Rattle.std.proofs.Common.{arith}
 use Rattle.rv_tally.proofs.SummaryLemmas.{all_ended, ended_next}
 use Rattle.rv_tally.proofs.summary.ends.Goals as goal
 

@@ -1,4 +1,4 @@
-use Rattle.std.proofs.Common.{◌≡◌, ◌≤◌, length, map, take}
+use Rattle.std.proofs.Common.{◌≡◌, ◌≤◌, map, take}
 use Rattle.rv_tally.specs.Summary.{end_of}
 use Rattle.rv_tally.proofs.summary.ends.Given as goal
 

@@ -1,4 +1,4 @@
-use Rattle.std.proofs.Common.{◌+◌, ◌-◌, ◌≤◌, arith, sym, subst, suc, ℕ, ◌≡◌, ◌∙◌, ap, Bool, false}
+use Rattle.std.proofs.Common.{◌+◌, ◌-◌, arith, sym, subst, suc, ℕ, ◌≡◌, ◌∙◌, ap, Bool, false}
 use Rattle.std.specs.Prelude.{is_some}
 use Rattle.std.specs.List.{list_any, range_with_len}
 use Rattle.rv_collide.specs.Entries.{between, stepped_at}

@@ -1,4 +1,4 @@
-use Rattle.std.proofs.Common.{◌≡◌, ◌≤◌, length, map, take}
+use Rattle.std.proofs.Common.{◌≡◌, map, take}
 use Rattle.rv_tally.specs.Summary.{paused_at}
 use Rattle.rv_tally.proofs.summary.paused.Given as goal
 

@@ -1,11 +1,9 @@
-use Rattle.std.proofs.Common.{refl, sym}
 use Rattle.std.proofs.lemmas.Result.{err_from_is_err_and}
-use Rattle.rv_collide.specs.Numbers.{numbers}
 use Rattle.rv_collide.specs.Stored.{stored}
 use Rattle.rv_memory.specs.Flagged as flag
 use Rattle.rv_engines.specs.Asking.{asking}
 use Rattle.rv_engines.specs.CommandFault.{refusal}
-use Rattle.rv_engines.proofs.ExplainLemmas.{are_found, are_told, entry_refused, files_refused, names_refused}
+use Rattle.rv_engines.proofs.ExplainLemmas.{files_refused, names_refused}
 use Rattle.rv_engines.proofs.explain.opening.open_run.Goals as goal
 
 pub returns-in_err-files-clause-err : goal.returns-in_err-files-clause-err

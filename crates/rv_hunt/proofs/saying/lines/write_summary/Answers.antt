@@ -2,7 +2,7 @@ use Rattle.std.proofs.Common.{◌≡◌}
 use Rattle.rv_hunt.specs.HuntSays.{reports, summary_line}
 use Rattle.rv_hunt.specs.ToldOrder as order
 use Rattle.rv_hunt.proofs.Says.{put_then}
-use Rattle.rv_tally.specs.Kinds.{capped}
+use Rattle.rv_collide.specs.Counts.{saturated}
 use Rattle.rv_tally.specs.Tally.{pauses}
 use Rattle.rv_hunt.proofs.saying.lines.write_summary.Goals as goal
 
@@ -13,7 +13,7 @@ returns-clause-ok g c =
     let bugs : c.bugs.result ≡ order.bugs c.args.rows.now = cc in
     let benign : c.benign.result ≡ order.benign c.args.rows.now = cc in
     let told : c.saturating_add.result ≡ reports c.args.saw.now = rw counts at c.saturating_add.ensures in
-    let made : c.pauses.result ≡ capped (pauses c.args.saw.now) = cc in
+    let made : c.pauses.result ≡ saturated (pauses c.args.saw.now) = cc in
     let runs : c.runs.result ≡ c.args.saw.now.runs = cc in
     put_then c.put.result _ _ _ _ _ (rw bugs at c.in_ok-write_number.ensures.ok)
     (put_then c.put.result _ _ _ _ _ (rw benign at c.in_ok-write_number-2.ensures.ok)

@@ -1,7 +1,5 @@
-use Rattle.std.proofs.Common.{◌≡◌, ◌≤◌, ◌<◌, true, false, length, arith}
+use Rattle.std.proofs.Common.{◌≡◌, ◌<◌, true, false, arith}
 use Rattle.std.proofs.lemmas.Bool.Decides.{nat_tests}
-use Rattle.rv_memory.specs.Buffered as buffer
-use Rattle.rv_memory.specs.Flagged as flag
 use Rattle.rv_memory.specs.declared.flagged.TheConstants.{INPUT_LIMIT}
 use Rattle.rv_stub.proofs.TalkLemmas.{cut_read, handed, more_read, over_read}
 use Rattle.rv_stub.proofs.talk.Conversation.hear_input.Goals as goal
