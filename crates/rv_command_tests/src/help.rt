@@ -273,11 +273,15 @@ const FEWER: [(&str, usize, CommandFault); 9] = [
         CommandFault::Plain(Fault::Exhibit(ExhibitFault::TextChanged)),
     ),
     (
-        "\ncampaign NAME, of run:",
+        "\ncampaign NAME, of run and hunt:",
         2,
         CommandFault::Campaign(NumberFault::TooLarge),
     ),
-    ("\ncampaign NAME, of run:", 2, CommandFault::NoThread),
+    (
+        "\ncampaign NAME, of run and hunt:",
+        2,
+        CommandFault::NoThread,
+    ),
     (
         "\nrun NAME, of threads:",
         2,

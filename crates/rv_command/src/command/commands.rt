@@ -347,8 +347,8 @@ Exit status: 0 done; 1 the input is refused (see rvcollide help faults); 2 the c
 
 /// What the help of `replay` says after its arguments.
 const SCHEDULES: &str = "\
-A schedule is what run --save and threads --save write. After two lines that name the format and the
-plan each line is an entry:
+A schedule is what run --save, threads --save and hunt --save-to write. After two lines that name the
+format and the plan each line is an entry:
   a 00010004    the instruction at this address is armed (d: disarmed)
   s 0           hart 0 takes a step
   p 0 2         hart 0 is paused before an armed access, which slot 2 watches (-: none was free)
@@ -397,7 +397,8 @@ command prints the same table, with any number of workers. Use as many workers a
 IMAGE is as rvcollide list --help says. An address of --skip is eight hexadecimal digits.
 
 The output is a row for each pair of instructions that raced, in the order of their first report, with
-the number of reports and the run and entry of the first, then how many reports were pruned as benign:
+the number of reports and the run and entry of the first, then how many reports were left out: those on
+the bytes of --named, on flags and on counters (a counter may be a bug: rvcollide hunt shows it):
   races 1
   00010054 00010074 count 187 run 0 entry 63 hit old 00000000 new 00000001
   pruned named 0 flag 0 counter 0
