@@ -20,9 +20,14 @@ use Rattle.rv_merge.specs.declared.fault.FileFault.{FileFault}
 use Rattle.rvcollide.specs.declared.file_line.FileLine.{FileLine}
 use Rattle.rvcollide.specs.declared.file_line.FilePlace.{FilePlace}
 
+-- what is wrong, or what to do, where the file was to be made and was there already, and else
+abbrev pub sentence_of : Bool → FileFault → List ℕ
+sentence_of true fault = codes "that file is there already: name another folder"
+sentence_of false fault = file.sentence fault
+
 -- `FAULT: SENTENCE`, of a file of a hunt
-abbrev pub file_said_output : FileFault → Option (List ℕ)
-file_said_output fault = option_map (λ words. words ++ (codes ": " ++ file.sentence fault)) (file.fault_output fault)
+abbrev pub file_said_output : Bool → FileFault → Option (List ℕ)
+file_said_output stands fault = option_map (λ words. words ++ (codes ": " ++ sentence_of stands fault)) (file.fault_output fault)
 
 -- `/race-K.schedule`, of a race's file in a folder
 abbrev pub race_file : Option ℕ → List ℕ
@@ -38,7 +43,7 @@ after_place (Some place) said = place_output place ++ (codes ": " ++ said)
 
 -- the same after the file, where one is at fault
 abbrev pub file_line_output : FileLine → Option (List ℕ)
-file_line_output line = option_map (after_place line.file) (file_said_output line.fault)
+file_line_output line = option_map (after_place line.file) (file_said_output line.stands line.fault)
 
 -- the exit status: 2 for a refused command line, 5 where a hunt found what it was to look for, and else the fault's
 abbrev pub status_of : Failure → ℕ

@@ -1,5 +1,5 @@
 //! The line of a fault of a file of a hunt: with the file, and a sentence that says what is wrong or what to do.
-ghost use Rattle.std.specs.Prelude.{Some};
+ghost use Rattle.std.specs.Prelude.{◌≡◌, Some};
 ghost use Rattle.rvcollide.specs.Failure as spec;
 
 use rv_engines::shown::Shown;
@@ -24,22 +24,42 @@ impl fmt::Display for FilePlace<'_> {
     }
 }
 
-/// A fault with the file that is at fault, where one is.
+/// A fault with the file that is at fault, where one is, and whether that was to be made and was there already.
 #[derive(Clone, Copy, Debug, PartialEq, Eq)]
 pub struct FileLine<'a> {
     pub file: Option<FilePlace<'a>>,
+    pub stands: bool,
     pub fault: FileFault,
 }
 
 /// A fault and its sentence.
 #[derive(Drop)]
-struct Said(FileFault);
+struct Said {
+    stands: bool,
+    fault: FileFault,
+}
 
 impl fmt::Display for Said {
-    ghost output = { λ said. spec.file_said_output said.0 };
+    ghost output = { λ said. spec.file_said_output said.stands said.fault };
 
     fn fmt<W: fmt::Write>(&self, f: &mut fmt::Formatter<W>) -> fmt::Result {
-        write!(f, "{}: {}", self.0, sentence(self.0))
+        write!(
+            f,
+            "{}: {}",
+            self.fault,
+            sentence_of(self.stands, self.fault)
+        )
+    }
+}
+
+/// What is wrong, or what to do.
+fn sentence_of(stands: bool, fault: FileFault) -> &'static str
+    ensures { result.now ≡ spec.sentence_of stands fault }
+{
+    if stands {
+        "that file is there already: name another folder"
+    } else {
+        sentence(fault)
     }
 }
 
@@ -48,7 +68,10 @@ impl fmt::Display for FileLine<'_> {
     ghost output = { λ line. spec.file_line_output line };
 
     fn fmt<W: fmt::Write>(&self, f: &mut fmt::Formatter<W>) -> fmt::Result {
-        let said = Said(self.fault);
+        let said = Said {
+            stands: self.stands,
+            fault: self.fault,
+        };
         match self.file {
             Some(file) => write!(f, "{file}: {said}"),
             None => write!(f, "{said}"),

@@ -16,6 +16,7 @@ pub struct ScheduleFolder<'a> {
     is_used: bool,
     failed: bool,
     at: Option<u64>,
+    stands: bool,
 }
 
 impl<'a> ScheduleFolder<'a> {
@@ -26,6 +27,7 @@ impl<'a> ScheduleFolder<'a> {
             is_used: false,
             failed: false,
             at: None,
+            stands: false,
         }
     }
 
@@ -41,6 +43,13 @@ impl<'a> ScheduleFolder<'a> {
         ensures { result ≡ self.now.at }
     {
         self.at
+    }
+
+    /// Whether that file was there already.
+    pub fn stands(&self) -> bool
+        ensures { result ≡ self.now.stands }
+    {
+        self.stands
     }
 
     /// Notes why the folder takes no file.
@@ -133,6 +142,7 @@ impl Folder for ScheduleFolder<'_> {
             Ok(Some(race)) => (FolderFault::Write, Some(race)),
             Err(fault) => (fault, None),
         };
+        self.stands = race.is_some();
         self.note(fault, race);
         Err(fault)
     }

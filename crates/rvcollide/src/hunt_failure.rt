@@ -11,6 +11,8 @@ use rv_engines::sentences::{FaultLine, Paths};
 use rv_hunting::fault::HuntFault;
 use rv_merge::fault::FileFault;
 
+const WRITE: FileFault = FileFault::Plain(Fault::Write);
+
 /// What of a folder is at fault.
 #[derive(Clone, Copy, Debug, PartialEq, Eq)]
 pub enum AtFault {
@@ -18,6 +20,8 @@ pub enum AtFault {
     Folder,
     /// The file of the race of that number.
     Schedule(u64),
+    /// The same, which was there before the hunt.
+    Standing(u64),
 }
 
 /// Which of a hunt's files have failed. The others' faults name their file.
@@ -32,6 +36,7 @@ pub struct Failed {
 pub fn at_fault_in(folder: &Option<ScheduleFolder<'_>>) -> AtFault {
     match folder {
         Some(folder) if folder.has_failed() => match folder.race() {
+            Some(race) if folder.stands() => AtFault::Standing(race),
             Some(race) => AtFault::Schedule(race),
             None => AtFault::Folder,
         },
@@ -39,13 +44,33 @@ pub fn at_fault_in(folder: &Option<ScheduleFolder<'_>>) -> AtFault {
     }
 }
 
-/// The line of a fault of a file, or of the schedule of a race in a folder.
-fn of_file<'a>(path: Option<&'a str>, race: Option<u64>, fault: FileFault) -> Failure<'a> {
+/// The line of a fault of a file.
+fn of_file<'a>(path: Option<&'a str>, fault: FileFault) -> Failure<'a> {
     let file = match path {
-        Some(path) => Some(FilePlace { path, race }),
+        Some(path) => Some(FilePlace { path, race: None }),
         None => None,
     };
-    Failure::OfFile(FileLine { file, fault })
+    Failure::OfFile(FileLine {
+        file,
+        stands: false,
+        fault,
+    })
+}
+
+/// The line of the schedule of a race in a folder, which was there before the hunt or can't be written.
+fn of_schedule<'a>(folder: Option<&'a str>, race: u64, stands: bool) -> Failure<'a> {
+    let file = match folder {
+        Some(path) => Some(FilePlace {
+            path,
+            race: Some(race),
+        }),
+        None => None,
+    };
+    Failure::OfFile(FileLine {
+        file,
+        stands,
+        fault: WRITE,
+    })
 }
 
 /// The line of a fault of the image or of the command line.
@@ -68,11 +93,11 @@ fn of_command<'a>(
     failed: Failed,
     fault: CommandFault<'a>,
 ) -> Failure<'a> {
-    const WRITE: FileFault = FileFault::Plain(Fault::Write);
     match failed.folder {
-        AtFault::Folder => of_file(folder_path(line.save_to), None, WRITE),
-        AtFault::Schedule(race) => of_file(folder_path(line.save_to), Some(race), WRITE),
-        AtFault::Nothing if failed.page => of_file(page_path(line.page), None, WRITE),
+        AtFault::Folder => of_file(folder_path(line.save_to), WRITE),
+        AtFault::Schedule(race) => of_schedule(folder_path(line.save_to), race, false),
+        AtFault::Standing(race) => of_schedule(folder_path(line.save_to), race, true),
+        AtFault::Nothing if failed.page => of_file(page_path(line.page), WRITE),
         AtFault::Nothing => of_image(image, failed.image, fault),
     }
 }
@@ -85,8 +110,8 @@ pub fn failure_of<'a>(
     fault: HuntFault<'a>,
 ) -> Failure<'a> {
     match fault {
-        HuntFault::Ignored(fault) => of_file(ignore_path(line.ignore), None, fault),
-        HuntFault::Expected(fault) => of_file(expect_path(line.expect), None, fault),
+        HuntFault::Ignored(fault) => of_file(ignore_path(line.ignore), fault),
+        HuntFault::Expected(fault) => of_file(expect_path(line.expect), fault),
         HuntFault::Command(fault) => of_command(image, line, failed, fault),
     }
 }

@@ -65,6 +65,7 @@ pub fn merge_files<'a>(
         Ok(true) => Err(Failure::Found),
         Err(fault) => Err(Failure::OfFile(FileLine {
             file: place_of(tables, expected, fault.file),
+            stands: false,
             fault: fault.fault,
         })),
     }
