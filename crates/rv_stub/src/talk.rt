@@ -1,6 +1,6 @@
 //! A talk: bytes in, answers out.
 ghost use Rattle.std.specs.Prelude.{◌≡◌, ◌<◌, ◌≤◌, ◌&&◌, ◌||◌, false, not, is_err, IfErr, IfSome, OnOk, codes, if◌then◌else◌};
-ghost use Rattle.std.specs.Io.KnownBytes.{Appends};
+ghost use Rattle.std.specs.Io.KnownBytes.{Appends, Keeps};
 ghost use Rattle.rv_debug.specs.Fault.{fails_by, is_read, is_write};
 ghost use Rattle.rv_memory.specs.Buffered as buffer;
 ghost use Rattle.rv_memory.specs.Flagged as flag;
@@ -227,6 +227,14 @@ fn acknowledge<W: Write>(writer: &mut Buffered<W>, right: bool) -> Result<(), Wr
     writer.finish()
 }
 
+/// Sends the last answers: nothing is put after them.
+fn send_last<W: Write>(answers: &mut Buffered<W>) -> Result<(), WriteFault>
+    ensures sent { OnOk result (Keeps (buffer.written W.contents answers.old) (buffer.sent W.contents answers.new)) }
+    ensures failed { buffer.has_failed answers.new ≡ (buffer.has_failed answers.old || is_err result) }
+{
+    answers.finish()
+}
+
 impl Conversation {
     /// Answers the packets of an input, as below.
     fn hear_input<C: Read, W: Write>(
@@ -258,11 +266,11 @@ impl Conversation {
             let within = within(count, left);
             self.hear_all(alloc, &chunk[..within], writer)?;
             if self.is_over {
-                writer.finish()?;
+                send_last(writer)?;
                 return Ok(());
             }
             if within < count {
-                writer.finish()?;
+                send_last(writer)?;
                 return Err(TalkFault::TooLong);
             }
             left -= count;

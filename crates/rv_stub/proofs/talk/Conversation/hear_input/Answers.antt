@@ -8,14 +8,14 @@ pub returns-then-self-clause-text : goal.returns-then-self-clause-text
 returns-then-self-clause-text g c =
     let over : c.hear_all.new.self.is_over ≡ true = rw (← c.self.view_is) c.if-self.true in
     over_read INPUT_LIMIT c.args.self.now c.reads.self c.hear_all.new.self _ _ _ c.reads.left c.in-Ok.count c.within-within.result _ _ _ _ _ _ c.reads.invariant.so_far c.in-Ok.ensures.bytes.0 c.within-within.ensures.some
-    (handed _ _ _ c.in_ok-finish.ensures.sent c.in_ok-finish.ensures.pending) c.in_ok-hear_all.ensures.talk over c.in_ok-finish-2.ensures.sent
+    (handed _ _ _ c.in_ok-finish.ensures.sent c.in_ok-finish.ensures.pending) c.in_ok-hear_all.ensures.talk over c.in_ok-send_last.ensures.sent
 
 pub returns-then-within-count-clause-stopped : goal.returns-then-within-count-clause-stopped
 returns-then-within-count-clause-stopped g c =
     let on : c.hear_all.new.self.is_over ≡ false = rw (← c.self.view_is) c.if-self.false in
     let cut : c.within-within.result < c.in-Ok.count = omega arith in
     cut_read c.args.self.now c.reads.self c.hear_all.new.self _ _ _ c.reads.left c.in-Ok.count c.within-within.result _ _ _ _ _ _ c.reads.invariant.so_far c.in-Ok.ensures.bytes.0 c.in-Ok.ensures.bound.0 cut (c.within-within.ensures.cut cut)
-    (handed _ _ _ c.in_ok-finish.ensures.sent c.in_ok-finish.ensures.pending) c.in_ok-hear_all.ensures.talk on c.in_ok-finish-3.ensures.sent
+    (handed _ _ _ c.in_ok-finish.ensures.sent c.in_ok-finish.ensures.pending) c.in_ok-hear_all.ensures.talk on c.in_ok-send_last-2.ensures.sent
 
 pub reads-preserved : goal.reads-preserved
 reads-preserved g c =
