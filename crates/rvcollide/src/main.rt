@@ -22,7 +22,8 @@ use crate::failure::Failure;
 use crate::files::{InputFile, OutputFile};
 use crate::hunting::hunt_file;
 use crate::merging::merge_files;
-use rv_command::arguments::{ImagePath, PicturePath, SavePath, SchedulePath};
+use rv_collide::plan::Plan;
+use rv_command::arguments::{ImagePath, PicturePath, SavePath, SchedulePath, SourcePath};
 use rv_command::command::{Job, LineFault, Notice, command_of, notice_of};
 use rv_engines::asm::run_asm;
 use rv_engines::debug::engine::run_debug;
@@ -91,75 +92,120 @@ fn run_line<'a>(
     }
 }
 
-/// Runs the engine of a job. Here, in `debug_files`, in `run_files` and in `explain_files` a path becomes a file, and
-/// nowhere else.
+/// Runs the engine of a job. Below, in a function for each command, a path becomes a file, and nowhere else.
 fn run_job<'a>(
     rt: &HostRuntime,
     threads: &(impl Threads + Wait + Sync),
     words: &[&str],
     job: Job<'a>,
 ) -> Result<(), Failure<'a>> {
-    let alloc = rt.alloc();
-    let mut writer = Buffered::new(alloc, rt.stdout());
-    let plain = match job {
-        Job::Words => run_words(alloc, &mut Flagged::new(rt.stdin()), &mut writer),
-        Job::Asm { source, image } => {
-            let mut reader = Flagged::new(InputFile::new(rt, source.0));
-            run_asm(alloc, &mut reader, &mut OutputFile::new(rt, image.0))
-        }
-        Job::List { image } => {
-            let mut reader = Flagged::new(InputFile::new(rt, image.0));
-            run_list(alloc, &mut reader, &mut writer)
-        }
-        Job::Replay { image, schedule } => {
-            let mut image = Flagged::new(InputFile::new(rt, image.0));
-            let mut schedule = Flagged::new(InputFile::new(rt, schedule.0));
-            run_replay(alloc, &mut image, &mut schedule, &mut writer)
-        }
+    match job {
+        Job::Words => Ok(words_read(rt)?),
+        Job::Asm { source, image } => Ok(asm_files(rt, source, image)?),
+        Job::List { image } => Ok(list_file(rt, image)?),
+        Job::Replay { image, schedule } => Ok(replay_files(rt, image, schedule)?),
         Job::Exhibit {
             image,
             schedule,
             number,
-        } => {
-            let mut image = Flagged::new(InputFile::new(rt, image.0));
-            let mut schedule = Flagged::new(InputFile::new(rt, schedule.0));
-            run_exhibit(alloc, &mut image, &mut schedule, number, &mut writer)
-        }
-        Job::Debug { image, schedule } => debug_files(rt, image, schedule),
-        Job::Gdb { image, schedule } => return Ok(gdb_files(rt, image, schedule)?),
-        Job::Hunt { image, line } => return hunt_file(rt, threads, words, image, &line),
-        Job::Merge { tables, expected } => return merge_files(rt, tables, expected),
+        } => Ok(exhibit_files(rt, image, schedule, number)?),
+        Job::Debug { image, schedule } => Ok(debug_files(rt, image, schedule)?),
+        Job::Gdb { image, schedule } => Ok(gdb_files(rt, image, schedule)?),
+        Job::Hunt { image, line } => hunt_file(rt, threads, words, image, &line),
+        Job::Merge { tables, expected } => merge_files(rt, tables, expected),
         Job::Run {
             image,
             options,
             save,
-        } => return Ok(run_files(rt, threads, image, &options, save)?),
+        } => Ok(run_files(rt, threads, image, &options, save)?),
         Job::Explain {
             image,
             schedule,
             options,
             picture,
-        } => return Ok(explain_files(rt, image, schedule, &options, picture)?),
+        } => Ok(explain_files(rt, image, schedule, &options, picture)?),
         Job::Threads {
             image,
             plan,
             seed,
             save,
-        } => {
-            let mut image = Flagged::new(InputFile::new(rt, image.0));
-            let mut file = save.map(|path| OutputFile::new(rt, path.0));
-            run_by_threads(
-                threads,
-                alloc,
-                plan,
-                seed,
-                &mut image,
-                &mut file,
-                &mut writer,
-            )
-        }
-    };
-    Ok(plain?)
+        } => Ok(threads_files(rt, threads, image, plan, seed, save)?),
+    }
+}
+
+/// Runs the engine of `words` on the standard input.
+fn words_read(rt: &HostRuntime) -> Result<(), Fault> {
+    let alloc = rt.alloc();
+    let mut writer = Buffered::new(alloc, rt.stdout());
+    run_words(alloc, &mut Flagged::new(rt.stdin()), &mut writer)
+}
+
+/// Runs the engine of `asm` on a file, and on one that it makes.
+fn asm_files(rt: &HostRuntime, source: SourcePath<'_>, image: ImagePath<'_>) -> Result<(), Fault> {
+    let mut reader = Flagged::new(InputFile::new(rt, source.0));
+    run_asm(rt.alloc(), &mut reader, &mut OutputFile::new(rt, image.0))
+}
+
+/// Runs the engine of `list` on a file.
+fn list_file(rt: &HostRuntime, image: ImagePath<'_>) -> Result<(), Fault> {
+    let alloc = rt.alloc();
+    let mut writer = Buffered::new(alloc, rt.stdout());
+    run_list(
+        alloc,
+        &mut Flagged::new(InputFile::new(rt, image.0)),
+        &mut writer,
+    )
+}
+
+/// Runs the engine of `replay` on two files.
+fn replay_files(
+    rt: &HostRuntime,
+    image: ImagePath<'_>,
+    schedule: SchedulePath<'_>,
+) -> Result<(), Fault> {
+    let alloc = rt.alloc();
+    let mut image = Flagged::new(InputFile::new(rt, image.0));
+    let mut schedule = Flagged::new(InputFile::new(rt, schedule.0));
+    let mut writer = Buffered::new(alloc, rt.stdout());
+    run_replay(alloc, &mut image, &mut schedule, &mut writer)
+}
+
+/// Runs the engine of `exhibit` on two files.
+fn exhibit_files(
+    rt: &HostRuntime,
+    image: ImagePath<'_>,
+    schedule: SchedulePath<'_>,
+    number: u32,
+) -> Result<(), Fault> {
+    let alloc = rt.alloc();
+    let mut image = Flagged::new(InputFile::new(rt, image.0));
+    let mut schedule = Flagged::new(InputFile::new(rt, schedule.0));
+    let mut writer = Buffered::new(alloc, rt.stdout());
+    run_exhibit(alloc, &mut image, &mut schedule, number, &mut writer)
+}
+
+/// Runs the engine of `threads` on a file, and on one that it makes where that is asked for.
+fn threads_files(
+    rt: &HostRuntime,
+    threads: &(impl Threads + Wait + Sync),
+    image: ImagePath<'_>,
+    plan: Plan,
+    seed: u32,
+    save: Option<SavePath<'_>>,
+) -> Result<(), Fault> {
+    let alloc = rt.alloc();
+    let mut image = Flagged::new(InputFile::new(rt, image.0));
+    let mut file = save.map(|path| OutputFile::new(rt, path.0));
+    let mut writer = Buffered::new(alloc, rt.stdout());
+    run_by_threads(
+        threads,
+        alloc,
+        plan,
+        seed,
+        &mut image,
+        &mut file,
+        &mut writer,
+    )
 }
 
 /// Runs the engine of `debug` on two files, with commands from the standard input.
