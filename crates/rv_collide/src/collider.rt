@@ -137,11 +137,11 @@ impl<S: ByteStore> Collider<S> {
     {
         // Apart from one another, since a step that is shown to no claim stays in registers.
         if self.goes_on_unwatched(h) {
-            if let Some(event) = self.step(h, false, false) {
+            if let Some(event) = self.step::<0>(h, false, false) {
                 return Ok(Turned::Stepped(event));
             }
         } else if self.goes_on(h) {
-            if let Some(event) = self.step(h, true, false) {
+            if let Some(event) = self.step::<0>(h, true, false) {
                 return Ok(Turned::Stepped(event));
             }
         }
@@ -383,7 +383,7 @@ impl<S: ByteStore> Collider<S> {
         }
         match self.armed_access(h) {
             Some(access) => Ok(Turned::Paused(self.pause(h, access))),
-            None => match self.step(h, true, false) {
+            None => match self.step::<0>(h, true, false) {
                 Some(event) => Ok(Turned::Stepped(event)),
                 None => Err(Refused::NoMemory),
             },
@@ -457,9 +457,9 @@ impl<S: ByteStore> Collider<S> {
     }
 
     /// Lets a hart make a step, if there is such a hart and it runs; or a common step alone, after which it runs on.
-    /// The claims are shown its access where there may be claims.
+    /// The claims are shown its access where there may be claims. `PLACE` is that of `Machine::step_quick`.
     #[inline(always)]
-    fn step(&mut self, h: u8, is_watched: bool, is_common: bool) -> Option<Event>
+    fn step<const PLACE: u8>(&mut self, h: u8, is_watched: bool, is_common: bool) -> Option<Event>
         requires goes_on { GoesOn self.old h }
         requires unwatched { is_watched ≡ false → openings self.old.entries ≡ [] }
         requires running { is_common ≡ true
@@ -475,7 +475,7 @@ impl<S: ByteStore> Collider<S> {
     {
         reservations_and_accesses();
         what_no_step_does();
-        let event = match stepped(&mut self.machine, h, is_common) {
+        let event = match stepped::<PLACE, S>(&mut self.machine, h, is_common) {
             Some(event) => event,
             None => return None,
         };
@@ -547,9 +547,14 @@ fn machine_of<S: ByteStore>(
     }
 }
 
-/// A step of a hart, whatever it is; or, of one that runs, a common step alone, which moves on.
+/// A step of a hart, whatever it is; or, of one that runs, a common step alone, which moves on. `PLACE` is that of
+/// `Machine::step_quick`.
 #[inline(always)]
-fn stepped<S: ByteStore>(machine: &mut Machine<S>, h: u8, is_common: bool) -> Option<Event>
+fn stepped<const PLACE: u8, S: ByteStore>(
+    machine: &mut Machine<S>,
+    h: u8,
+    is_common: bool,
+) -> Option<Event>
     requires { is_common ≡ true → is_running_hart (slice_get machine.old.state.harts h) ≡ true }
     ensures step { IfSome result (λ event. step_of machine.old.state h ≡ Some (event, machine.new.state)) }
     ensures moves { IfSome result (λ event. is_common ≡ true → event ≡ Event.Moved (accessed event)) }
@@ -561,7 +566,7 @@ fn stepped<S: ByteStore>(machine: &mut Machine<S>, h: u8, is_common: bool) -> Op
         → length machine.old.state.output < machine.old.limit → IsTrue S.can_refuse) }
 {
     if is_common {
-        return machine.step_quick(h);
+        return machine.step_quick::<PLACE>(h);
     }
     match machine.step(h) {
         Ok(event) => Some(event),

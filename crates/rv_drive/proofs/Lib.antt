@@ -6,6 +6,7 @@ pub mod Fronts
 pub mod GoingOn
 pub mod KeptLemmas
 pub mod OwedLemmas
+pub mod PickerLemmas
 pub mod RowLemmas
 pub mod RunsLemmas
 pub mod TurnsLemmas

@@ -21,6 +21,7 @@ use rv_memory::store::NoMemory;
 use rv_sample::{Generator, Sampler};
 use std::alloc::Global;
 
+mod picker;
 mod turns;
 
 /// A core, how many steps its harts have made, for each hart how many had been made when it was last paused,

@@ -218,16 +218,17 @@ impl<S: ByteStore> Machine<S> {
         ensures { AnswersStep S.can_refuse self.old self.new h result }
     {
         if self.runs(h) {
-            if let Some(event) = self.step_quick(h) {
+            if let Some(event) = self.step_quick::<0>(h) {
                 return Ok(event);
             }
         }
         self.step_apart(h)
     }
 
-    /// One step of a hart that runs, where it is a common one, which moves on; else nothing has changed.
+    /// One step of a hart that runs, where it is a common one, which moves on; else nothing has changed. `PLACE` tells
+    /// the places that call it apart: it is compiled once for each but 0, and into it.
     #[inline(always)]
-    pub fn step_quick(&mut self, h: u8) -> Option<Event>
+    pub fn step_quick<const PLACE: u8>(&mut self, h: u8) -> Option<Event>
         requires { refusals.is_running_hart (slice_get self.old.state.harts h) ≡ true }
         ensures step { IfSome result (λ event.
             step_of self.old.state h ≡ Some (event, self.new.state)) }
@@ -240,7 +241,7 @@ impl<S: ByteStore> Machine<S> {
         ensures limit { self.new.limit ≡ self.old.limit }
         ensures same { (result ≡ None) → self.new ≡ self.old }
     {
-        let attempt = tried(
+        let attempt = tried::<PLACE, S>(
             &mut self.store,
             &mut self.harts,
             &mut self.reserved,

@@ -46,9 +46,9 @@ impl Attempt {
 
 /// Takes a step of hart h, which runs, where it is a common one, and notes its access; or changes nothing. `reserved`
 /// tells whether a hart may hold a reservation. A step that sets a register asks no more, and what is left for the others
-/// reads all anew, so that nothing is kept for it over the call of `moved`.
+/// reads all anew, so that nothing is kept for it over the call of `moved`. `PLACE` is that of `Machine::step_quick`.
 #[inline(always)]
-pub fn tried<S: ByteStore>(
+pub fn tried<const PLACE: u8, S: ByteStore>(
     store: &mut S,
     harts: &mut Vec<Hart>,
     reserved: &mut bool,
@@ -61,7 +61,7 @@ pub fn tried<S: ByteStore>(
     ensures held { reserved.new ≡ false → any_holds harts.new.items ≡ false }
     ensures len { vec_len harts.new ≡ vec_len harts.old }
 {
-    let attempt = moved(store, &mut harts[h as usize], access);
+    let attempt = moved_from::<PLACE, S>(store, &mut harts[h as usize], access);
     if let Attempt::Set = attempt {
         return Attempt::Set;
     }
@@ -96,17 +96,47 @@ fn see_attempt(harts: &mut [Hart], h: u8, attempt: Attempt, access: &Access)
     }
 }
 
-/// Takes the step of a hart itself, where it is a common one; no other hart has seen its write yet. It stays
-/// a function of its own, with no more arguments than the functions of accesses have, to which it jumps.
+/// Takes the step of a hart itself, where it is a common one; no other hart has seen its write yet. It is compiled into
+/// each place but place 0.
+#[inline(always)]
+fn moved_from<const PLACE: u8, S: ByteStore>(
+    store: &mut S,
+    hart: &mut Hart,
+    access: &mut Access,
+) -> Attempt
+    requires { is_running hart.old.status ≡ true }
+    ensures { Tried hart.old hart.new (S.memory store.old) (S.memory store.new) (event_of_attempt result access.new) (is_exclusive result) }
+{
+    if PLACE == 0 {
+        moved_apart(store, hart, access)
+    } else {
+        moved::<PLACE, S>(store, hart, access)
+    }
+}
+
+/// The same as a function of its own, with no more arguments than the functions of accesses have, to which it jumps.
 #[inline(never)]
-fn moved<S: ByteStore>(store: &mut S, hart: &mut Hart, access: &mut Access) -> Attempt
+fn moved_apart<S: ByteStore>(store: &mut S, hart: &mut Hart, access: &mut Access) -> Attempt
+    requires { is_running hart.old.status ≡ true }
+    ensures { Tried hart.old hart.new (S.memory store.old) (S.memory store.new) (event_of_attempt result access.new) (is_exclusive result) }
+{
+    moved::<0, S>(store, hart, access)
+}
+
+/// The same, compiled apart for each place, so that it is called once and compiled into its caller.
+#[inline(always)]
+fn moved<const PLACE: u8, S: ByteStore>(
+    store: &mut S,
+    hart: &mut Hart,
+    access: &mut Access,
+) -> Attempt
     requires { is_running hart.old.status ≡ true }
     ensures { Tried hart.old hart.new (S.memory store.old) (S.memory store.new) (event_of_attempt result access.new) (is_exclusive result) }
 {
     let Some(word) = store.fetch_at_once(hart.pc) else {
         return Attempt::Nothing;
     };
-    dispatched(store, hart, access, word)
+    dispatched::<PLACE, S>(store, hart, access, word)
 }
 
 /// Takes the step of a word, by one jump over the opcode's five upper bits and funct3: each number stands for itself,
@@ -116,7 +146,7 @@ fn moved<S: ByteStore>(store: &mut S, hart: &mut Hart, access: &mut Access) -> A
 /// alone. What accesses memory is a function of its own for each operation, since the others need no more registers
 /// than a call may use.
 #[inline(always)]
-fn dispatched<S: ByteStore>(
+fn dispatched<const PLACE: u8, S: ByteStore>(
     store: &mut S,
     hart: &mut Hart,
     access: &mut Access,

@@ -13,7 +13,7 @@ const STORES: [u32; 3] = [0x0002_0337, 0x00a3_2023, 0x0000_0073];
 /// A common step of a hart, where there is such a hart and it runs.
 fn quick(machine: &mut Machine<Flat>, h: u8) -> Option<Event> {
     if machine.runs(h) {
-        machine.step_quick(h)
+        machine.step_quick::<0>(h)
     } else {
         None
     }

@@ -19,14 +19,14 @@ impl<S: ByteStore> Collider<S> {
         ensures same { result ≡ false → self.new ≡ self.old }
     {
         what_no_step_does();
-        // Apart from one another, since a step that is shown to no claim stays in registers.
+        // Two places, each with a step compiled into it: one that is shown to no claim stays in registers.
         if self.is_unhindered() {
-            return self.step(h, false, true).is_some();
+            return self.step::<1>(h, false, true).is_some();
         }
         if self.stands_armed(h) {
             return false;
         }
         let is_watched = !self.is_unwatched();
-        self.step(h, is_watched, true).is_some()
+        self.step::<2>(h, is_watched, true).is_some()
     }
 }

@@ -9,15 +9,13 @@ ghost use Rattle.rv_collide.specs.Stored.{setting_of};
 ghost use Rattle.rv_sample.specs.Generator.{word_at};
 
 use super::Ahead;
+use super::picker::Picker;
 use crate::driver_laws::{accepted_calls, open_pauses};
 use rv_hart::laws::what_no_step_does;
-use rv_hart::machine::MOST_HARTS;
 use rv_sample::Generator;
 
 impl Ahead {
-    /// Turns of the able harts that the next words pick, one at least; then it may be that something else is next. The row is
-    /// compiled for each count of able harts, since a division by a number that is known is a product, which takes a fourth
-    /// of the time.
+    /// Turns of the able harts that the next words pick, one at least; then it may be that something else is next.
     pub fn turns(&mut self, words: &mut Generator)
         requires driver { IsAhead self.old }
         requires undue { due (setting_of self.old.collider) self.old.collider.entries ≡ None }
@@ -29,43 +27,17 @@ impl Ahead {
         ensures words { words.new ≡ record words.old { taken = words.new.taken } }
         ensures one { words.old.taken < words.new.taken }
     {
-        match self.able_harts() {
-            1 => self.row::<1>(words),
-            2 => self.row::<2>(words),
-            3 => self.row::<3>(words),
-            4 => self.row::<4>(words),
-            5 => self.row::<5>(words),
-            6 => self.row::<6>(words),
-            7 => self.row::<7>(words),
-            8 => self.row::<8>(words),
-            9 => self.row::<9>(words),
-            10 => self.row::<10>(words),
-            11 => self.row::<11>(words),
-            12 => self.row::<12>(words),
-            13 => self.row::<13>(words),
-            14 => self.row::<14>(words),
-            15 => self.row::<15>(words),
-            _ => self.row::<16>(words),
-        }
+        let picker = Picker::new(self.count());
+        self.row(words, picker);
     }
 
-    /// How many harts are able, which are no more than there may be.
-    fn able_harts(&self) -> u32
-        requires { IsAhead self.now }
-        ensures value { result ≡ length self.now.able.items }
-        ensures most { result ≤ MOST_HARTS }
-    {
-        let _plan = self.collider.plan();
-        self.able.len() as u32
-    }
-
-    /// A row of turns of so many able harts. The hart of each turn is picked before the turn ahead of it is made, whose
+    /// A row of turns. The hart of each turn is picked before the turn ahead of it is made, whose
     /// jump a processor can't foresee: what is picked is there when it has jumped.
-    fn row<const COUNT: u32>(&mut self, words: &mut Generator)
+    fn row(&mut self, words: &mut Generator, picker: Picker)
         requires driver { IsAhead self.old }
         requires undue { due (setting_of self.old.collider) self.old.collider.entries ≡ None }
         requires some { 0 < length self.old.able.items }
-        requires count { COUNT ≡ length self.old.able.items }
+        requires count { picker ≡ length self.old.able.items }
         requires more { words.old.taken + 2 ^ 32 < 2 ^ 64 }
         ensures driver { IsAhead self.new }
         ensures turns { TakesTurns self.old.collider self.new.collider
@@ -74,14 +46,14 @@ impl Ahead {
         ensures one { words.old.taken < words.new.taken }
     {
         let mut left = self.undue();
-        let mut h = self.picked::<COUNT>(words);
+        let mut h = self.picked(words, &picker);
         let _taken = words.next();
-        let mut next = self.picked::<COUNT>(words);
+        let mut next = self.picked(words, &picker);
         while self.turn_quick(h, left) {
             left -= 1;
             h = next;
             let _taken = words.next();
-            next = self.picked::<COUNT>(words);
+            next = self.picked(words, &picker);
         }
         self.turn(h);
     }
@@ -99,15 +71,14 @@ impl Ahead {
 
     /// The able hart that the next word picks, which is not taken yet.
     #[inline(always)]
-    fn picked<const COUNT: u32>(&self, words: &Generator) -> u8
+    fn picked(&self, words: &Generator, picker: &Picker) -> u8
         requires driver { IsAhead self.now }
         requires some { 0 < length self.now.able.items }
-        requires count { COUNT ≡ length self.now.able.items }
+        requires count { picker.now ≡ length self.now.able.items }
         ensures { picked_hart (setting_of self.now.collider) self.now.collider.entries
             (word_at words.now.seed words.now.stream words.now.taken) ≡ Some result }
     {
-        let word = words.peek();
-        self.able[(word % COUNT) as usize]
+        self.able[picker.pick(words.peek()) as usize]
     }
 
     /// A turn of an able hart that is a common step, after which no pause is due and steps are left: the same harts stay

@@ -11,17 +11,17 @@ use Rattle.rv_hart.proofs.quick.tried.Goals as goal
 pub returns-in-Set-clause-tried : goal.returns-in-Set-clause-tried
 returns-in-Set-clause-tried g c =
     let before = g.S.ByteStore.memory c.args.store.now in
-    let after = g.S.ByteStore.memory c.moved-attempt.new.store in
-    let tried = subst (λ (x : Hart). Tried x c.moved-attempt.new.hart before after (event_of_attempt c.moved-attempt.result c.moved-attempt.new.access) (is_exclusive c.moved-attempt.result)) c.index_mut.ensures.value c.moved-attempt.ensures in
-    tried_set c.args.harts.now.items before after c.args.h c.index_mut.result.now c.moved-attempt.new.hart c.moved-attempt.result c.moved-attempt.new.access
+    let after = g.S.ByteStore.memory c.moved_from-attempt.new.store in
+    let tried = subst (λ (x : Hart). Tried x c.moved_from-attempt.new.hart before after (event_of_attempt c.moved_from-attempt.result c.moved_from-attempt.new.access) (is_exclusive c.moved_from-attempt.result)) c.index_mut.ensures.value c.moved_from-attempt.ensures in
+    tried_set c.args.harts.now.items before after c.args.h c.index_mut.result.now c.moved_from-attempt.new.hart c.moved_from-attempt.result c.moved_from-attempt.new.access
     c.in-Set.is (running_within c.args.harts.now.items c.args.h c.requires.running) tried
 
 pub returns-in-Set-clause-held : goal.returns-in-Set-clause-held
 returns-in-Set-clause-held g c = λ free.
     let before = g.S.ByteStore.memory c.args.store.now in
-    let after = g.S.ByteStore.memory c.moved-attempt.new.store in
-    let tried = subst (λ (x : Hart). Tried x c.moved-attempt.new.hart before after (event_of_attempt c.moved-attempt.result c.moved-attempt.new.access) (is_exclusive c.moved-attempt.result)) c.index_mut.ensures.value c.moved-attempt.ensures in
-    (tried_set c.args.harts.now.items before after c.args.h c.index_mut.result.now c.moved-attempt.new.hart c.moved-attempt.result c.moved-attempt.new.access
+    let after = g.S.ByteStore.memory c.moved_from-attempt.new.store in
+    let tried = subst (λ (x : Hart). Tried x c.moved_from-attempt.new.hart before after (event_of_attempt c.moved_from-attempt.result c.moved_from-attempt.new.access) (is_exclusive c.moved_from-attempt.result)) c.index_mut.ensures.value c.moved_from-attempt.ensures in
+    (tried_set c.args.harts.now.items before after c.args.h c.index_mut.result.now c.moved_from-attempt.new.hart c.moved_from-attempt.result c.moved_from-attempt.new.access
     c.in-Set.is (running_within c.args.harts.now.items c.args.h c.requires.running) tried).held refl (c.requires.held free)
 
 pub settle-requires : goal.settle-requires
@@ -30,10 +30,10 @@ settle-requires g c = rw length-set (running_within c.args.harts.now.items c.arg
 pub returns-then-is_exclusive : goal.returns-then-is_exclusive
 returns-then-is_exclusive g c =
     let before = g.S.ByteStore.memory c.args.store.now in
-    let after = g.S.ByteStore.memory c.moved-attempt.new.store in
-    let tried = subst (λ (x : Hart). Tried x c.moved-attempt.new.hart before after (event_of_attempt c.moved-attempt.result c.moved-attempt.new.access) (is_exclusive c.moved-attempt.result)) c.index_mut.ensures.value c.moved-attempt.ensures in
+    let after = g.S.ByteStore.memory c.moved_from-attempt.new.store in
+    let tried = subst (λ (x : Hart). Tried x c.moved_from-attempt.new.hart before after (event_of_attempt c.moved_from-attempt.result c.moved_from-attempt.new.access) (is_exclusive c.moved_from-attempt.result)) c.index_mut.ensures.value c.moved_from-attempt.ensures in
     record {
-      tried = tried_seen c.args.harts.now.items c.settle.new.harts.items before after c.args.h c.index_mut.result.now c.moved-attempt.new.hart c.moved-attempt.result c.moved-attempt.new.access
+      tried = tried_seen c.args.harts.now.items c.settle.new.harts.items before after c.args.h c.index_mut.result.now c.moved_from-attempt.new.hart c.moved_from-attempt.result c.moved_from-attempt.new.access
           (running_within c.args.harts.now.items c.args.h c.requires.running) tried c.settle.ensures.sees;
       held = λ none. sym c.settle.ensures.reserved ∙ none;
       len = c.settle.ensures.len;
@@ -42,18 +42,18 @@ returns-then-is_exclusive g c =
 pub returns-else-access : goal.returns-else-access
 returns-else-access g c =
     let before = g.S.ByteStore.memory c.args.store.now in
-    let after = g.S.ByteStore.memory c.moved-attempt.new.store in
+    let after = g.S.ByteStore.memory c.moved_from-attempt.new.store in
     let harts = c.args.harts.now.items in
-    let common : is_exclusive c.moved-attempt.result ≡ false = sym c.is_exclusive.ensures ∙ c.if-is_exclusive.false in
-    let how : (any_holds harts ≡ false) ⊎ (c.moved-attempt.new.access.write ≡ false) = elim c.if-reserved.branch [
+    let common : is_exclusive c.moved_from-attempt.result ≡ false = sym c.is_exclusive.ensures ∙ c.if-is_exclusive.false in
+    let how : (any_holds harts ≡ false) ⊎ (c.moved_from-attempt.new.access.write ≡ false) = elim c.if-reserved.branch [
       | then-reserved w ↦ inr (sym w.value-is ∙ c.if-access.false)
       | else-reserved w ↦ inl (c.requires.held w.if-reserved.false)
     ] in
-    let tried = subst (λ (x : Hart). Tried x c.moved-attempt.new.hart before after (event_of_attempt c.moved-attempt.result c.moved-attempt.new.access) (is_exclusive c.moved-attempt.result)) c.index_mut.ensures.value c.moved-attempt.ensures in
-    let at = tried_alone harts before after c.args.h c.index_mut.result.now c.moved-attempt.new.hart (event_of_attempt c.moved-attempt.result c.moved-attempt.new.access) (is_exclusive c.moved-attempt.result)
-    (running_within harts c.args.h c.requires.running) tried (none_sees_attempt c.moved-attempt.result c.moved-attempt.new.access harts common how) in
+    let tried = subst (λ (x : Hart). Tried x c.moved_from-attempt.new.hart before after (event_of_attempt c.moved_from-attempt.result c.moved_from-attempt.new.access) (is_exclusive c.moved_from-attempt.result)) c.index_mut.ensures.value c.moved_from-attempt.ensures in
+    let at = tried_alone harts before after c.args.h c.index_mut.result.now c.moved_from-attempt.new.hart (event_of_attempt c.moved_from-attempt.result c.moved_from-attempt.new.access) (is_exclusive c.moved_from-attempt.result)
+    (running_within harts c.args.h c.requires.running) tried (none_sees_attempt c.moved_from-attempt.result c.moved_from-attempt.new.access harts common how) in
     record {
       tried = at;
-      held = λ free. none_taken harts (slice_set harts c.args.h c.moved-attempt.new.hart) before after c.args.h c.moved-attempt.result c.moved-attempt.new.access at common (c.requires.held free);
+      held = λ free. none_taken harts (slice_set harts c.args.h c.moved_from-attempt.new.hart) before after c.args.h c.moved_from-attempt.result c.moved_from-attempt.new.access at common (c.requires.held free);
       len = refl;
     }
