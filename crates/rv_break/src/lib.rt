@@ -11,5 +11,3 @@ pub mod claim;
 pub mod laws;
 mod slots;
 mod span;
-#[cfg(test)]
-mod tests;

@@ -1,12 +1,15 @@
-//! The tests of rv_hart: steps of machines, worked out from the RISC-V Unprivileged ISA, and the texts that harts are shown in.
+//! The tests of rv_hart, rv_words and rv_break: steps of machines, worked out from the RISC-V Unprivileged ISA, the
+//! texts that harts are shown in, lists of instruction words, and breakpoints.
 //!
-//! They stand in a crate of their own, so that the machine is not proved a second time with its tests.
+//! They stand in a crate of their own, so that these are not proved a second time with their tests.
 #![tactic(auto)]
 
 #[cfg(test)]
 mod assertion;
 #[cfg(test)]
 mod atomics;
+#[cfg(test)]
+mod breaks;
 #[cfg(test)]
 mod causes;
 #[cfg(test)]
@@ -26,3 +29,5 @@ mod quick;
 mod sharing;
 #[cfg(test)]
 mod texts;
+#[cfg(test)]
+mod words;

@@ -13,8 +13,6 @@ mod guest;
 mod input;
 pub mod laws;
 mod steps;
-#[cfg(test)]
-mod tests;
 
 use crate::fault::WordsFault;
 use crate::guest::machine_of;
