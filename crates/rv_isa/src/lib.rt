@@ -12,5 +12,3 @@ pub mod laws;
 pub mod op;
 pub mod operands;
 pub mod shape;
-#[cfg(test)]
-mod tests;

@@ -94,6 +94,3 @@ impl<W: Write> Output for Buffered<W> {
         write_whole(&mut self.device, bytes)
     }
 }
-
-#[cfg(test)]
-mod tests;

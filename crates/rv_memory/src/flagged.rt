@@ -165,6 +165,3 @@ pub fn flush<W: Write>(writer: &mut Flagged<W>) -> Result<(), WriteFault>
         Err(_) => Err(WriteFault),
     }
 }
-
-#[cfg(test)]
-pub mod tests;

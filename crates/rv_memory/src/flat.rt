@@ -310,6 +310,3 @@ pub(crate) fn fill_both(
     all.append(&mut more)?;
     Ok(all)
 }
-
-#[cfg(test)]
-mod tests;

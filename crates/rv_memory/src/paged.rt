@@ -390,6 +390,3 @@ fn pad(alloc: Global, region: &Region) -> Result<Vec<u8>, NoMemory>
     bytes.resize(whole, 0)?;
     Ok(bytes)
 }
-
-#[cfg(test)]
-mod tests;

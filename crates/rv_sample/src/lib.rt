@@ -8,8 +8,6 @@
 mod generator;
 mod sampler;
 mod scan;
-#[cfg(test)]
-mod tests;
 
 pub use generator::Generator;
 pub use sampler::Sampler;

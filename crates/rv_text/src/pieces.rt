@@ -58,38 +58,3 @@ pub(crate) fn cut(text: &[u8], separator: u8) -> Option<(&[u8], &[u8])>
     let at = text.iter().position(|byte| *byte == separator)?;
     Some((&text[..at], &text[at + 1..]))
 }
-
-#[cfg(test)]
-mod tests {
-    use super::*;
-    use crate::numeral::tests::assert_is;
-    use std::process::Abort;
-
-    fn assert_next(rt: &impl Abort, pieces: &mut Pieces, wanted: Option<&str>) {
-        let piece = pieces.next_piece();
-        assert_is(
-            rt,
-            piece,
-            wanted.map(str::as_bytes),
-            wanted.unwrap_or("no more"),
-        );
-    }
-
-    #[test]
-    fn takes_pieces(rt: HostRuntime) {
-        let mut pieces = Pieces::of(b"a  bc ", b' ');
-        assert_next(&rt, &mut pieces, Some("a"));
-        assert_next(&rt, &mut pieces, Some(""));
-        assert_next(&rt, &mut pieces, Some("bc"));
-        assert_next(&rt, &mut pieces, Some(""));
-        assert_next(&rt, &mut pieces, None);
-        assert_next(&rt, &mut pieces, None);
-    }
-
-    #[test]
-    fn empty_text_is_one_piece(rt: HostRuntime) {
-        let mut pieces = Pieces::of(b"", b',');
-        assert_next(&rt, &mut pieces, Some(""));
-        assert_next(&rt, &mut pieces, None);
-    }
-}

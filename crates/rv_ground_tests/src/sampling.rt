@@ -1,16 +1,11 @@
-use crate::{Generator, Sampler};
+//! The sites of images, and the words that pick among them.
+use crate::assertion::assert_is;
 use rv_elf::Image;
 use rv_memory::region::Region;
+use rv_sample::{Generator, Sampler};
 use std::alloc::Global;
-use std::fmt::Debug;
 use std::process::Abort;
 use std::test::Fail;
-
-/// What was found is what is wanted. (Each assertion that a test writes out costs the check a second, and a call of
-/// this one next to nothing.)
-fn assert_is<T: PartialEq + Debug + Drop>(rt: &impl Abort, found: T, wanted: T, what: &str) {
-    assert_eq!(rt; found, wanted, "{what}");
-}
 
 /// A segment of these words that may be read and executed, then `zeros` bytes.
 fn code(alloc: Global, start: u32, words: &[u32], zeros: u32) -> Result<Region, Fail> {

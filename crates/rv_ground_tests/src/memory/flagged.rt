@@ -1,55 +1,16 @@
-use super::*;
-use std::fmt::Debug;
-use std::io::ErrorKind;
+//! Readers and writers that remember a failure.
+use super::devices::{Sink, Trickle};
+use crate::assertion::{assert_at, assert_is};
+use rv_memory::flagged::{
+    Flagged, INPUT_LIMIT, ReadFault, WriteFault, flush, read_whole, write_whole,
+};
+use std::alloc::Global;
+use std::io::{Read, Write};
 use std::process::Abort;
 use std::test::Fail;
 
-/// What was found is what is wanted. (Each assertion that a test writes out costs the check a second, and a call of
-/// this one next to nothing.)
-pub fn assert_is<T: PartialEq + Debug + Drop>(rt: &impl Abort, found: T, wanted: T, what: &str) {
-    assert_eq!(rt; found, wanted, "{what}");
-}
-
-/// The same of a row that a number tells from the others.
-pub fn assert_at<T: PartialEq + Debug + Drop>(
-    rt: &impl Abort,
-    found: T,
-    wanted: T,
-    what: &str,
-    number: u64,
-) {
-    assert_eq!(rt; found, wanted, "{what} {number}");
-}
-
-/// A reader of `bytes` sevens, one a read, whose read numbered `fails_at` from 1 on fails.
-#[derive(Drop)]
-struct Trickle {
-    bytes: u64,
-    reads: u64,
-    fails_at: u64,
-}
-
-impl Read for Trickle {
-    fn read(&mut self, buf: &mut [u8]) -> io::Result<usize> {
-        self.reads = self.reads.saturating_add(1);
-        if self.reads == self.fails_at {
-            return Err(io::Error::from(ErrorKind::Interrupted));
-        }
-        if self.bytes == 0 || buf.is_empty() {
-            return Ok(0);
-        }
-        self.bytes -= 1;
-        buf[0] = 7;
-        Ok(1)
-    }
-}
-
 fn of_bytes(bytes: u64, fails_at: u64) -> Flagged<Trickle> {
-    Flagged::new(Trickle {
-        bytes,
-        reads: 0,
-        fails_at,
-    })
+    Flagged::new(Trickle::new(bytes, fails_at))
 }
 
 fn assert_reads<R: Read>(
@@ -68,7 +29,7 @@ fn assert_reads<R: Read>(
 fn reads_whole(rt: HostRuntime) -> Result<(), Fail> {
     let mut reader = of_bytes(3, 0);
     assert_reads(&rt, rt.alloc(), &mut reader, 3, &[7, 7, 7])?;
-    assert!(rt; !reader.failed());
+    assert_is(&rt, reader.failed(), false, "failed");
     Ok(())
 }
 
@@ -100,7 +61,7 @@ fn refuses_a_byte_past_the_limit(rt: HostRuntime) {
     let mut endless = of_bytes(u64::MAX, 0);
     let refused = refusal(rt.alloc(), &mut endless, 9);
     assert_is(&rt, refused, Some(ReadFault::TooLong), "a tenth byte");
-    assert!(rt; !endless.failed());
+    assert_is(&rt, endless.failed(), false, "failed");
     assert_is(&rt, endless.into_inner().reads, 10, "reads");
 }
 
@@ -130,50 +91,6 @@ fn refuses_a_failed_read(rt: HostRuntime) {
         let want = (false, fails.then_some(ReadFault::Read), fails);
         let found = failures(rt.alloc(), fails_at);
         assert_at(&rt, found, want, "at read", fails_at);
-    }
-}
-
-/// A writer that takes at most `most` bytes a write, and whose write or flush numbered `fails_at`
-/// from 1 on fails.
-#[derive(Drop)]
-pub struct Sink {
-    pub taken: Vec<u8>,
-    most: usize,
-    pub calls: u64,
-    fails_at: u64,
-}
-
-impl Sink {
-    pub fn new(alloc: Global, most: usize, fails_at: u64) -> Sink {
-        Sink {
-            taken: Vec::new(alloc),
-            most,
-            calls: 0,
-            fails_at,
-        }
-    }
-
-    fn fails(&mut self) -> bool {
-        self.calls = self.calls.saturating_add(1);
-        self.calls == self.fails_at
-    }
-}
-
-impl Write for Sink {
-    fn write(&mut self, buf: &[u8]) -> io::Result<usize> {
-        if self.fails() {
-            return Err(io::Error::from(ErrorKind::Interrupted));
-        }
-        let count = buf.len().min(self.most);
-        self.taken.extend_from_slice(&buf[..count])?;
-        Ok(count)
-    }
-
-    fn flush(&mut self) -> io::Result<()> {
-        if self.fails() {
-            return Err(io::Error::from(ErrorKind::Interrupted));
-        }
-        Ok(())
     }
 }
 

@@ -1,5 +1,10 @@
-use super::*;
-use crate::flagged::tests::{Sink, assert_at, assert_is};
+//! Writers that gather small pieces.
+use super::devices::Sink;
+use crate::assertion::{assert_at, assert_is};
+use rv_memory::buffered::Buffered;
+use rv_memory::flagged::{Flagged, WriteFault};
+use rv_memory::output::Output;
+use std::alloc::Global;
 use std::process::Abort;
 use std::test::Fail;
 
@@ -15,8 +20,8 @@ fn assert_puts<O: Output>(rt: &impl Abort, writer: &mut O, piece: &[u8]) {
 /// The writer finishes, and its device has not failed.
 fn assert_finishes(rt: &impl Abort, writer: &mut Buffered<Sink>) {
     let finished = writer.finish();
-    assert_is(rt, finished, Ok(()), "the end");
-    assert!(rt; !writer.failed());
+    let found = (finished, writer.failed());
+    assert_is(rt, found, (Ok(()), false), "the end");
 }
 
 #[test]
@@ -132,7 +137,7 @@ fn takes_pieces_unbuffered_too(rt: HostRuntime) {
     let mut writer = Flagged::new(Sink::new(rt.alloc(), 2, 0));
     assert_puts(&rt, &mut writer, &[1, 2, 3]);
     assert_puts(&rt, &mut writer, &[4]);
-    assert!(rt; !writer.failed());
+    assert_is(&rt, writer.failed(), false, "failed");
     let device = writer.into_inner();
     assert_is(&rt, device.taken.as_slice(), &[1, 2, 3, 4], "taken");
 }

@@ -1,18 +1,12 @@
-//! Words from the RISC-V Unprivileged ISA's formats, worked by hand, and from GNU as.
-use crate::candidate::candidate;
-use crate::codec::{decode, decode_as, encode};
-use crate::form::Form;
-use crate::instr::Instr;
-use crate::op::Op;
-use crate::shape::Shape;
+//! Words of instructions, from the RISC-V Unprivileged ISA's formats, worked by hand, and from GNU as.
+use crate::assertion::{assert_at, assert_is};
+use rv_isa::codec::{decode, decode_as, encode};
+use rv_isa::form::Form;
+use rv_isa::instr::Instr;
+use rv_isa::op::Op;
+use rv_isa::shape::Shape;
 use std::fmt::Debug;
 use std::process::Abort;
-
-/// What was found is what is wanted. (Each assertion that a test writes out costs the check a second, and a call of
-/// this one next to nothing.)
-fn assert_is<T: PartialEq + Debug + Drop>(rt: &impl Abort, found: T, wanted: T, what: &str) {
-    assert_eq!(rt; found, wanted, "{what}");
-}
 
 /// The same of a word.
 fn assert_of<T: PartialEq + Debug + Drop>(
@@ -22,7 +16,7 @@ fn assert_of<T: PartialEq + Debug + Drop>(
     what: &str,
     word: u32,
 ) {
-    assert_eq!(rt; found, wanted, "{what} of {word:08x}");
+    assert_at(rt, found, wanted, what, u64::from(word));
 }
 
 fn decoded(rt: &impl Abort, word: u32) -> Instr {
@@ -272,8 +266,15 @@ fn forms(rt: HostRuntime) {
     assert_is(&rt, Op::Sw.form(), Form::S, "form of sw");
     assert_is(&rt, Op::ScW.fixed_bits(), 0x1800_202f, "fixed bits of sc.w");
     assert_is(&rt, Form::Amo.mask(), 0xf800_707f, "mask of an amo");
-    assert!(rt; Form::Amo.has_rd() && Form::Amo.has_rs1() && Form::Amo.has_rs2());
-    assert!(rt; Form::Amo.has_ordering() && !Form::R.has_ordering() && !Form::Plain.has_rs1());
+    let registers = [
+        Form::Amo.has_rd(),
+        Form::Amo.has_rs1(),
+        Form::Amo.has_rs2(),
+        Form::Plain.has_rs1(),
+    ];
+    assert_is(&rt, registers, [true, true, true, false], "registers");
+    let ordering = (Form::Amo.has_ordering(), Form::R.has_ordering());
+    assert_is(&rt, ordering, (true, false), "ordering bits");
 }
 
 #[test]
@@ -283,7 +284,7 @@ fn words_of_one_operation(rt: HostRuntime) {
         (0x8020_9063, Op::Bne),
         (0x0002_0337, Op::Lui),
     ] {
-        assert_of(&rt, candidate(word), op, "candidate", word);
+        assert_of(&rt, decoded(&rt, word).op, op, "operation", word);
         let decoded = decode_as(op, word);
         assert_of(&rt, decoded, decode(word), "decoding", word);
         let sub = decode_as(Op::Sub, word);

@@ -1,0 +1,8 @@
+//! Stores, and the readers and writers that remember a failure.
+mod buffered;
+mod devices;
+mod flagged;
+mod flat;
+mod paged;
+mod regions;
+mod stores;
