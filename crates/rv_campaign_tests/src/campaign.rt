@@ -4,8 +4,8 @@ mod kept;
 mod workers;
 
 use crate::assertion::assert_is;
-use crate::images::{ONE_STORE, P, code, plan};
-use crate::parts::zeros;
+use crate::entries::ONE_SITE;
+use crate::images::{ONE_STORE, P, image, plan};
 use rv_campaign::{CampaignFault, NumberFault, campaign, run_one};
 use rv_collide::collider::{Collider, Finished};
 use rv_collide::entry::Entry::{self, Armed, Paused, Resumed, Stepped};
@@ -20,13 +20,6 @@ use std::process::Abort;
 use std::sync::Wait;
 use std::test::Fail;
 use std::thread::Threads;
-
-/// An image of words at 00010000, and 4,096 zero bytes at 00020000.
-fn image(rt: &impl Abort, alloc: Global, words: &[u32]) -> Result<Image, Fail> {
-    let code = code(rt, alloc, words)?;
-    let segments = vec![in alloc; code, zeros(alloc)]?;
-    Ok(Image::new(0x10000, segments, Vec::new(alloc)).ok_or("an image")?)
-}
 
 /// A run's schedule is replayed to the same endings and output.
 fn is_told_again(
@@ -58,24 +51,12 @@ fn ran(
     Ok(told)
 }
 
-const BY_ITSELF: [Entry; 9] = [
-    Armed(0x10004),
-    Stepped(0),
-    Paused(0, Some(0)),
-    Resumed(0),
-    Armed(0x10004),
-    Paused(0, Some(0)),
-    Resumed(0),
-    Stepped(0),
-    Stepped(0),
-];
-
 #[test]
 fn one_site_and_one_hart(rt: HostRuntime) -> Result<(), Fail> {
     let plan = plan(1, 10, 2, 5)?;
     for seed in [0, 1, 4_294_967_295] {
         let told = ran(&rt, rt.alloc(), &ONE_STORE, plan, (seed, 0))?;
-        assert_is(&rt, told.entries.as_slice(), &BY_ITSELF, "entries");
+        assert_is(&rt, told.entries.as_slice(), &ONE_SITE, "entries");
         assert_is(&rt, told.endings.len(), 2, "endings");
     }
     Ok(())

@@ -1,5 +1,7 @@
 //! What the images of the tests are made of, and their plans.
+use crate::parts::zeros;
 use rv_collide::plan::Plan;
+use rv_elf::Image;
 use rv_memory::region::Region;
 use std::alloc::Global;
 use std::process::Abort;
@@ -27,6 +29,13 @@ pub fn code(rt: &impl Abort, alloc: Global, words: &[u32]) -> Result<Region, Fai
         w: false,
         x: true,
     })
+}
+
+/// An image of words at 00010000, and 4,096 zero bytes at 00020000.
+pub fn image(rt: &impl Abort, alloc: Global, words: &[u32]) -> Result<Image, Fail> {
+    let code = code(rt, alloc, words)?;
+    let segments = vec![in alloc; code, zeros(alloc)]?;
+    Ok(Image::new(0x10000, segments, Vec::new(alloc)).ok_or("an image")?)
 }
 
 /// A plan with four slots.

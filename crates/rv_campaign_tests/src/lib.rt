@@ -1,12 +1,16 @@
-//! The tests of rv_locked and rv_campaign, and the parts that they are made of.
+//! The tests of rv_drive, rv_locked and rv_campaign, and the parts that they are made of.
 //!
-//! They stand in a crate of their own, so that the two are not proved a second time with their tests.
+//! They stand in a crate of their own, so that these are not proved a second time with their tests.
 #![tactic(auto)]
 
 #[cfg(test)]
 mod assertion;
 #[cfg(test)]
 mod campaign;
+#[cfg(test)]
+mod driver;
+#[cfg(test)]
+mod entries;
 #[cfg(test)]
 mod images;
 #[cfg(test)]

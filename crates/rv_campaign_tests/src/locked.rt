@@ -3,10 +3,11 @@ mod gates;
 mod workers;
 
 use crate::assertion::assert_is;
+use crate::entries::{ONE_SITE, has_entries};
 use crate::images::{ONE_STORE, P, code, plan};
 use crate::parts::zeros;
 use rv_collide::collider::Finished;
-use rv_collide::entry::Entry::{self, Armed, Paused, Resumed, Stepped};
+use rv_collide::entry::Entry::{self, Stepped};
 use rv_collide::plan::Plan;
 use rv_elf::{Image, Symbol};
 use rv_locked::{Stray, Taken, Watched};
@@ -14,19 +15,6 @@ use rv_memory::region::Region;
 use std::alloc::Global;
 use std::process::Abort;
 use std::test::Fail;
-
-/// The one schedule of ONE_STORE on one hart with two pauses to draw, whatever the seed.
-const ONE_SITE: [Entry; 9] = [
-    Armed(0x10004),
-    Stepped(0),
-    Paused(0, Some(0)),
-    Resumed(0),
-    Armed(0x10004),
-    Paused(0, Some(0)),
-    Resumed(0),
-    Stepped(0),
-    Stepped(0),
-];
 
 /// The symbol of the word at 00020000.
 fn symbols(alloc: Global) -> Result<Vec<Symbol>, Fail> {
@@ -184,21 +172,6 @@ fn step(rt: &impl Abort, watched: &mut Watched, h: u8) {
     assert_is(rt, is_step, true, "a step");
 }
 
-/// Whether the core has these entries.
-fn has_entries(watched: &Watched, entries: &[Entry]) -> bool {
-    let collider = watched.collider();
-    let count = collider.entries();
-    if entries.len() != count as usize {
-        return false;
-    }
-    for n in 0..count {
-        if collider.entry(n) != entries[n as usize] {
-            return false;
-        }
-    }
-    true
-}
-
 /// ONE_STORE on one hart, with its two pauses.
 fn assert_one_site(rt: &impl Abort, watched: &mut Watched) {
     step(rt, watched, 0);
@@ -206,7 +179,12 @@ fn assert_one_site(rt: &impl Abort, watched: &mut Watched) {
     pause_and_end(rt, watched);
     step(rt, watched, 0);
     step(rt, watched, 0);
-    assert_is(rt, has_entries(watched, &ONE_SITE), true, "entries");
+    assert_is(
+        rt,
+        has_entries(watched.collider(), &ONE_SITE),
+        true,
+        "entries",
+    );
 }
 
 /// The same, begun with this seed.

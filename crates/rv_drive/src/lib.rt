@@ -10,5 +10,3 @@ mod ahead;
 pub mod driver;
 pub mod driver_laws;
 pub mod gate;
-#[cfg(test)]
-mod tests;

@@ -1,9 +1,8 @@
 //! Series of runs with plans of their own.
 ghost use Rattle.std.specs.Prelude.{⊤};
 
-use super::image;
 use crate::assertion::assert_is;
-use crate::images::{P, plan};
+use crate::images::{P, image, plan};
 use rv_campaign::{Keep, Series, kept_runs, run_one};
 use rv_collide::collider::Collider;
 use rv_collide::entry::Entry;

@@ -1,8 +1,7 @@
 //! Campaigns by several workers.
 use super::gates::{Meets, Shut, Shuts};
-use super::image;
 use crate::assertion::assert_is;
-use crate::images::{P, plan};
+use crate::images::{P, image, plan};
 use rv_campaign::{CampaignFault, campaign};
 use rv_collide::collider::Finished;
 use rv_collide::entry::Entry;

@@ -1,7 +1,8 @@
 //! Runs by threads: that the workers run side by side, that they end, and what is told of them.
 use super::gates::{Counts, Holds, Keeps, Meets, Shut};
-use super::{FOUR_AND_FOUR, ONE_SITE, image};
+use super::{FOUR_AND_FOUR, image};
 use crate::assertion::assert_is;
+use crate::entries::ONE_SITE;
 use crate::images::{ONE_STORE, P, plan};
 use rv_collide::collider::{Collider, Finished};
 use rv_collide::entry::Entry::{self, Paused, Stepped};
