@@ -13,5 +13,3 @@ pub mod ordered;
 pub mod pruning;
 pub mod role;
 mod rules;
-#[cfg(test)]
-mod tests;

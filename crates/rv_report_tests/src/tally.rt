@@ -1,11 +1,10 @@
 //! Plans, what runs saw, and what is counted of a run.
 use crate::assertion::assert_is;
+use crate::images::image;
 use rv_collide::collider::Collider;
 use rv_collide::plan::Plan;
-use rv_elf::Image;
 use rv_hart::hart::Cause;
 use rv_memory::flat::Flat;
-use rv_memory::region::Region;
 use rv_tally::counts::Counts;
 use rv_tally::end::End::{self, Exited, OutOfSteps, Stopped};
 use rv_tally::limit::Limit;
@@ -144,8 +143,8 @@ fn tally_of(alloc: Global, runs: u32, steps: u64, ends: &[End]) -> Result<Tally,
 
 fn codes(alloc: Global, first: u32) -> Result<Vec<End>, Fail> {
     let mut ends = Vec::new(alloc);
-    for code in first..first.saturating_add(16) {
-        ends.push(Exited(code))?;
+    for n in 0..16 {
+        ends.push(Exited(first.saturating_add(n)))?;
     }
     Ok(ends)
 }
@@ -230,96 +229,87 @@ fn warned(tally: &Tally, sites: u32) -> [bool; 5] {
     ]
 }
 
+/// Adds a run whose plan has more steps than those of the runs before it.
+fn add_longer(alloc: Global, tally: &mut Tally) -> Result<(), Fail> {
+    let ends = [ILLEGAL, OutOfSteps];
+    let longer = Summary {
+        most_steps: 1001,
+        counts: counts(5, 2),
+        ..run(alloc, 5, &ends)?
+    };
+    tally.add(alloc, &longer)?;
+    Ok(())
+}
+
 #[test]
-fn warns(rt: HostRuntime) -> Result<(), Fail> {
-    let alloc = rt.alloc();
-    let trapped = tally_of(alloc, 3, 5, &[ILLEGAL, OutOfSteps])?;
-    assert_is(
-        &rt,
-        warned(&trapped, 5),
-        [true, true, false, true, true],
-        "trapped",
-    );
-    let mut others = tally_of(alloc, 3, 5, &[Exited(0), OutOfSteps])?;
-    assert_is(
-        &rt,
-        warned(&others, 4),
-        [true, false, false, false, false],
-        "exited",
-    );
-    let mut longer = run(alloc, 5, &[ILLEGAL, OutOfSteps])?;
-    longer.most_steps = 1001;
-    longer.counts = counts(5, 2);
-    others.add(alloc, &longer)?;
-    assert_is(
-        &rt,
-        warned(&others, 0),
-        [false, false, true, false, true],
-        "longer",
-    );
+fn warns_where_each_run_trapped(rt: HostRuntime) -> Result<(), Fail> {
+    let tally = tally_of(rt.alloc(), 3, 5, &[ILLEGAL, OutOfSteps])?;
+    let wanted = [true, true, false, true, true];
+    assert_is(&rt, warned(&tally, 5), wanted, "trapped");
+    Ok(())
+}
+
+#[test]
+fn warns_of_the_longest_runs(rt: HostRuntime) -> Result<(), Fail> {
+    let mut tally = tally_of(rt.alloc(), 3, 5, &[Exited(0), OutOfSteps])?;
+    let wanted = [true, false, false, false, false];
+    assert_is(&rt, warned(&tally, 4), wanted, "exited");
+    add_longer(rt.alloc(), &mut tally)?;
+    let wanted = [false, false, true, false, true];
+    assert_is(&rt, warned(&tally, 0), wanted, "longer");
     Ok(())
 }
 
 // ---- a run
 
-/// A core of an image of words at 00010000, with 4,096 zero bytes at 00020000.
+/// A core of an image of words.
 fn core(rt: &impl Abort, alloc: Global, words: &[u32], plan: Plan) -> Result<Collider<Flat>, Fail> {
-    let mut bytes = Vec::new(alloc);
-    for word in words {
-        bytes.extend_from_slice(&word.to_le_bytes())?;
-    }
-    let len = bytes.len();
-    assert!(rt; 1 <= len && len <= 65_536);
-    let code = Region {
-        start: 0x10000,
-        bytes,
-        len: len as u32,
-        r: true,
-        w: false,
-        x: true,
-    };
-    let zeros = Region {
-        start: 0x20000,
-        bytes: Vec::new(alloc),
-        len: 4096,
-        r: true,
-        w: true,
-        x: false,
-    };
-    let segments = vec![in alloc; code, zeros]?;
-    let image = Image::new(0x10000, segments, Vec::new(alloc)).ok_or("an image")?;
+    let image = image(rt, alloc, words)?;
     Ok(Collider::new(alloc, &image, plan)?)
 }
 
-/// `lui x6,0x20`, `sw x10,0(x6)`, an illegal word: hart 1 pauses at the store, hart 0 makes two steps, and is stopped
-/// by the second.
+fn turns(core: &mut Collider<Flat>, harts: &[u8]) -> Result<(), Fail> {
+    for hart in harts {
+        core.turn(*hart)?;
+    }
+    Ok(())
+}
+
+/// Hart 1 pauses at its store twice, and hart 0 is stopped by the third word.
+fn play(core: &mut Collider<Flat>) -> Result<(), Fail> {
+    turns(core, &[0, 1, 0, 0])?;
+    core.arm(0x10004)?;
+    turns(core, &[1])?;
+    core.resume(1)?;
+    core.arm(0x10004)?;
+    turns(core, &[1, 2])?;
+    core.resume(1)?;
+    Ok(())
+}
+
+fn summary_after(alloc: Global, core: &mut Collider<Flat>) -> Result<Summary, Fail> {
+    play(core)?;
+    Ok(summary_of(alloc, core)?)
+}
+
+const ENDS: [End; 3] = [Stopped(Cause::Illegal, 0x10008), OutOfSteps, OutOfSteps];
+
+fn assert_counts(rt: &impl Abort, summary: &Summary) {
+    assert_is(rt, summary.ends.as_slice(), &ENDS, "ends");
+    assert_is(rt, summary.armed.as_slice(), &[0x10004, 0x10004], "armed");
+    assert_is(rt, summary.paused.as_slice(), &[0x10004, 0x10004], "paused");
+    let mut wanted = counts(5, 2);
+    wanted.passed = 1;
+    assert_is(rt, summary.counts, wanted, "numbers");
+    assert_is(rt, summary.most_steps, 20, "steps of the plan");
+}
+
+/// `lui x6,0x20`, `sw x10,0(x6)`, an illegal word, on three harts.
 #[test]
 fn counts_a_run(rt: HostRuntime) -> Result<(), Fail> {
     let plan = Plan::new(3, 20, 8, 5, 4).ok_or("a plan")?;
     let mut core = core(&rt, rt.alloc(), &[0x0002_0337, 0x00a3_2023, 0], plan)?;
-    for hart in [0u8, 1, 0, 0] {
-        core.turn(hart)?;
-    }
-    core.arm(0x10004)?;
-    core.turn(1)?;
-    core.resume(1)?;
-    core.arm(0x10004)?;
-    core.turn(1)?;
-    core.turn(2)?;
-    core.resume(1)?;
-    let summary = summary_of(rt.alloc(), &core)?;
-    let ends: [End; 3] = [Stopped(Cause::Illegal, 0x10008), OutOfSteps, OutOfSteps];
-    assert_is(&rt, summary.ends.as_slice(), &ends, "ends");
-    assert_is(&rt, summary.armed.as_slice(), &[0x10004, 0x10004], "armed");
-    assert_is(
-        &rt,
-        summary.paused.as_slice(),
-        &[0x10004, 0x10004],
-        "paused",
-    );
-    let mut wanted = counts(5, 2);
-    wanted.passed = 1;
-    assert_is(&rt, summary.counts, wanted, "numbers");
-    assert_is(&rt, summary.most_steps, 20, "steps of the plan");
+    let summary = summary_after(rt.alloc(), &mut core)?;
+    assert_counts(&rt, &summary);
     Ok(())
 }

@@ -1,5 +1,6 @@
 //! Exhibits of worked schedules, each made again on the machine alone.
 use crate::assertion::assert_is;
+use crate::images::{image_of, segment};
 use ExhibitFault::{NoEnding, NotReport, Replay, TextChanged};
 use rv_collide::entry::Entry::{self, Armed, Paused, Resumed, Stepped};
 use rv_collide::plan::Plan;
@@ -10,7 +11,6 @@ use rv_hart::access::{Access, Event};
 use rv_hart::machine::Machine;
 use rv_memory::flagged::Flagged;
 use rv_memory::flat::Flat;
-use rv_memory::region::Region;
 use rv_report::exhibit::{Exhibit, ExhibitFault};
 use rv_report::exhibiting::{exhibit, exhibits};
 use std::alloc::Global;
@@ -438,36 +438,11 @@ const TEXTS: [Row; 4] = [
     },
 ];
 
-fn code(rt: &impl Abort, alloc: Global, words: &[u32]) -> Result<Region, Fail> {
-    let mut bytes = Vec::new(alloc);
-    for word in words {
-        bytes.extend_from_slice(&word.to_le_bytes())?;
-    }
-    let len = bytes.len();
-    assert!(rt; 1 <= len && len <= 65_536);
-    Ok(Region {
-        start: 0x10000,
-        bytes,
-        len: len as u32,
-        r: true,
-        w: true,
-        x: true,
-    })
-}
-
 /// An image of words at 00010000, which may be written, and 4,096 zero bytes at 00020000.
 fn image(rt: &impl Abort, alloc: Global, words: &[u32]) -> Result<Image, Fail> {
-    let code = code(rt, alloc, words)?;
-    let data = Region {
-        start: 0x20000,
-        bytes: Vec::new(alloc),
-        len: 4096,
-        r: true,
-        w: true,
-        x: false,
-    };
-    let segments = vec![in alloc; code, data]?;
-    Ok(Image::new(0x10000, segments, Vec::new(alloc)).ok_or("an image")?)
+    let mut code = segment(rt, alloc, 0x10000, words)?;
+    code.w = true;
+    image_of(alloc, code)
 }
 
 /// The last two accesses of a list of steps.

@@ -72,9 +72,8 @@ const OTHERS: [[u32; 2]; 5] = [
 
 #[test]
 fn other_code_is_no_flag(rt: HostRuntime) -> Result<(), Fail> {
-    let ending = hit(loads(0x10000, 4), 0x10000, 0, 2);
     for words in &OTHERS {
-        let class = class_in(&rt, rt.alloc(), words, &ending, &[])?;
+        let class = flag(&rt, rt.alloc(), &(*words, 4, 0, 2))?;
         assert_is(&rt, (words, class), (words, Class::Kept), "words");
     }
     let ending = hit(loads(0x10004, 4), 0x10000, 0, 2);
@@ -193,16 +192,15 @@ fn cut(mut segment: Region, len: u32) -> Region {
 
 /// A triple whose last word is not of file bytes.
 fn without_last_bytes(rt: &impl Abort, alloc: Global) -> Result<Vec<Region>, Fail> {
-    let mut text = segment(rt, alloc, 0x10000, &[LW, ADD])?;
-    text.len = 12;
-    Ok(vec![in alloc; text]?)
+    let text = segment(rt, alloc, 0x10000, &[LW, ADD])?;
+    one(alloc, Region { len: 12, ..text })
 }
 
 /// A triple whose last word lies in two segments.
 fn with_last_in_two(rt: &impl Abort, alloc: Global) -> Result<Vec<Region>, Fail> {
     let front = segment(rt, alloc, 0x10000, &[LW, ADD, SW])?;
     let back = segment(rt, alloc, 0x1000a, &[0x53])?;
-    Ok(vec![in alloc; cut(front, 10), cut(back, 2)]?)
+    two(alloc, cut(front, 10), cut(back, 2))
 }
 
 /// A triple from `start` on whose last word is whole in a segment of its own, which may be executed or not.
@@ -213,8 +211,15 @@ fn with_last_apart(
     x: bool,
 ) -> Result<Vec<Region>, Fail> {
     let front = segment(rt, alloc, start, &[LW, ADD])?;
-    let mut back = segment(rt, alloc, start.wrapping_add(8), &[SW])?;
-    back.x = x;
+    let back = segment(rt, alloc, start.wrapping_add(8), &[SW])?;
+    two(alloc, front, Region { x, ..back })
+}
+
+fn one(alloc: Global, segment: Region) -> Result<Vec<Region>, Fail> {
+    Ok(vec![in alloc; segment]?)
+}
+
+fn two(alloc: Global, front: Region, back: Region) -> Result<Vec<Region>, Fail> {
     Ok(vec![in alloc; front, back]?)
 }
 

@@ -1,3 +1,4 @@
+//! The ranges of named symbols, and what touches them.
 use super::*;
 
 fn symbol(alloc: Global, (name, value, size): &(&str, u32, u32)) -> Result<Symbol, Fail> {

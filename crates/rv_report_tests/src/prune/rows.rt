@@ -1,18 +1,29 @@
 //! Worked schedules, each told again, and the classes of their endings.
 use super::*;
-use rv_collide::collider::Collider;
+use rv_collide::collider::{Collider, Finished};
 use rv_collide::entry::Entry::{self, Armed, Paused, Resumed, Stepped};
 use rv_collide::plan::Plan;
 use rv_collide::replay::replay;
 use rv_memory::flat::Flat;
 
+/// The first ending of a schedule that is told again.
+fn first_ending(alloc: Global, image: &Image, plan: Plan, entries: &[Entry]) -> Option<Ending> {
+    let collider: Collider<Flat> = replay(alloc, image, plan, entries).ok()?;
+    first_of(&collider.finish())
+}
+
+fn first_of(finished: &Finished) -> Option<Ending> {
+    finished.endings.first().copied()
+}
+
 /// The ending of the schedule, told again for two harts that run the words.
 fn told(rt: &impl Abort, alloc: Global, words: &[u32], entries: &[Entry]) -> Result<Ending, Fail> {
     let plan = Plan::new(2, 1000, 200, 10, 4).ok_or("a plan")?;
     let image = image(rt, alloc, words)?;
-    let collider: Collider<Flat> = replay(alloc, &image, plan, entries)?;
-    let finished = collider.finish();
-    Ok(*finished.endings.first().ok_or("an ending")?)
+    match first_ending(alloc, &image, plan, entries) {
+        Some(ending) => Ok(ending),
+        None => Err(Fail::from("an ending")),
+    }
 }
 
 /// Of a hit, the place of the access that was met, and its address.

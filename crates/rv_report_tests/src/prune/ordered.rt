@@ -1,7 +1,7 @@
 //! Each part that an access has in an order, just met and just missed. The words are the manual's own encodings.
 use super::*;
-use crate::ordered::{is_ordered, role_at};
-use crate::role::Role;
+use rv_prune::ordered::{is_ordered, role_at};
+use rv_prune::role::Role;
 
 const SW: u32 = 0x0063_a023;
 
@@ -67,15 +67,24 @@ static PARTS: [([u32; 6], u32, Role); 24] = [
     ([LUI, 0, 0, 0, 0, 0], 0x10000, Role::Plain),
 ];
 
+fn role_in(rt: &impl Abort, alloc: Global, words: &[u32], address: u32) -> Result<Role, Fail> {
+    let image = image(rt, alloc, words)?;
+    Ok(role_at(&image, address))
+}
+
 #[test]
 fn the_part_of_an_access(rt: HostRuntime) -> Result<(), Fail> {
     for (words, address, wanted) in &PARTS {
-        let image = image(&rt, rt.alloc(), words)?;
-        let found = role_at(&image, *address);
-        assert_is(&rt, found, *wanted, "the part");
+        let role = role_in(&rt, rt.alloc(), words, *address)?;
+        assert_is(
+            &rt,
+            (words, address, role),
+            (words, address, *wanted),
+            "words",
+        );
     }
-    let image = image(&rt, rt.alloc(), &[SW])?;
-    assert_is(&rt, role_at(&image, 0x2_0000), Role::Plain, "no file byte");
+    let role = role_in(&rt, rt.alloc(), &[SW], 0x2_0000)?;
+    assert_is(&rt, role, Role::Plain, "no file byte");
     Ok(())
 }
 
@@ -95,15 +104,22 @@ static PAIRS: [(u32, u32, bool); 9] = [
     (0x10014, 0x10018, false),
 ];
 
+fn assert_pairs(rt: &impl Abort, image: &Image) {
+    for (paused, met, wanted) in &PAIRS {
+        let ending = hit(loads(*paused, 4), *met, 0, 1);
+        let found = (paused, met, is_ordered(image, &ending));
+        assert_is(rt, found, (paused, met, *wanted), "the pair");
+    }
+    let changed = Ending {
+        verdict: Verdict::Changed,
+        ..hit(loads(0x10008, 4), 0x10004, 0, 1)
+    };
+    assert_is(rt, is_ordered(image, &changed), false, "no hit");
+}
+
 #[test]
 fn two_that_order(rt: HostRuntime) -> Result<(), Fail> {
     let image = image(&rt, rt.alloc(), &PROGRAM)?;
-    for (paused, met, wanted) in &PAIRS {
-        let ending = hit(loads(*paused, 4), *met, 0, 1);
-        assert_is(&rt, is_ordered(&image, &ending), *wanted, "the pair");
-    }
-    let mut changed = hit(loads(0x10008, 4), 0x10004, 0, 1);
-    changed.verdict = Verdict::Changed;
-    assert_is(&rt, is_ordered(&image, &changed), false, "no hit");
+    assert_pairs(&rt, &image);
     Ok(())
 }
