@@ -1,6 +1,6 @@
-//! The tests of rv_explain and rv_hunt, and the parts that they are made of.
+//! The tests of rv_explain, rv_hunt and rv_page, and the parts that they are made of.
 //!
-//! They stand in a crate of their own, so that the two are not proved a second time with their tests.
+//! They stand in a crate of their own, so that these are not proved a second time with their tests.
 #![tactic(auto)]
 
 #[cfg(test)]
@@ -9,4 +9,6 @@ mod assertion;
 mod explain;
 #[cfg(test)]
 mod hunt;
+#[cfg(test)]
+mod page;
 pub mod parts;

@@ -14,7 +14,5 @@ pub mod pieces;
 mod races;
 mod runs;
 mod style;
-#[cfg(test)]
-mod tests;
 
 pub use crate::page::page_text;

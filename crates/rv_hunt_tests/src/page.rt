@@ -1,26 +1,21 @@
 //! The pages of small hunts.
-use crate::page::page_text;
-use crate::parts::{Outcome, RacePart};
+use crate::assertion::assert_is;
 use rv_explain::block::RaceClass::{self, Flag, Kept, Named, Ordered};
 use rv_hunt::row::RaceRow;
+use rv_page::page_text;
+use rv_page::parts::{Outcome, RacePart};
 use rv_report::key::Key;
 use rv_tally::counts::Counts;
 use rv_tally::end::End;
 use rv_tally::summary::Summary;
 use rv_tally::tally::Tally;
 use std::alloc::Global;
-use std::fmt::Debug;
 use std::process::Abort;
 use std::test::Fail;
 
-/// What was found is what is wanted. (Each assertion that a test writes out costs the check a second.)
-fn assert_is<T: PartialEq + Debug + Drop>(rt: &impl Abort, found: T, wanted: T, what: &str) {
-    assert_eq!(rt; found, wanted, "{what}");
-}
-
-/// What one run of two harts saw.
-fn one_run(alloc: Global) -> Result<Tally, Fail> {
-    let run = Summary {
+/// A run of two harts.
+fn run(alloc: Global) -> Result<Summary, Fail> {
+    Ok(Summary {
         most_steps: 2000,
         ends: vec![in alloc; End::Exited(5050), End::OutOfSteps]?,
         armed: vec![in alloc; 0x10054, 0x10074]?,
@@ -33,9 +28,13 @@ fn one_run(alloc: Global) -> Result<Tally, Fail> {
             unwatched: 4,
             passed: 7,
         },
-    };
+    })
+}
+
+/// What one run saw.
+fn seen(alloc: Global, run: &Summary) -> Result<Tally, Fail> {
     let mut saw = Tally::new(alloc);
-    saw.add(alloc, &run)?;
+    saw.add(alloc, run)?;
     Ok(saw)
 }
 
@@ -74,21 +73,33 @@ fn race(
     })
 }
 
-/// The page of races of that run, of which `rows` are all.
+/// The page of races of what was seen, of which `rows` are all.
+fn page_of(
+    alloc: Global,
+    command: &[u8],
+    saw: &Tally,
+    rows: &[(Key, RaceRow)],
+    races: &[RacePart],
+) -> Result<Vec<u8>, Fail> {
+    let outcome = Outcome {
+        sites: 3,
+        saw,
+        rows,
+        ignored: &[],
+    };
+    Ok(page_text(alloc, command, &outcome, races)?)
+}
+
+/// The same of that run.
 fn page(
     alloc: Global,
     command: &[u8],
     rows: &[(Key, RaceRow)],
     races: &[RacePart],
 ) -> Result<Vec<u8>, Fail> {
-    let saw = one_run(alloc)?;
-    let outcome = Outcome {
-        sites: 3,
-        saw: &saw,
-        rows,
-        ignored: &[],
-    };
-    Ok(page_text(alloc, command, &outcome, races)?)
+    let run = run(alloc)?;
+    let saw = seen(alloc, &run)?;
+    page_of(alloc, command, &saw, rows, races)
 }
 
 /// How many times a text stands in another.
@@ -284,29 +295,39 @@ fn a_hostile_name(rt: HostRuntime) -> Result<(), Fail> {
     Ok(())
 }
 
-/// Of 101 races the last has no picture.
+/// So many races, of which the last has no picture.
+fn all_but_one_drawn(alloc: Global, count: u32) -> Result<Vec<RacePart>, Fail> {
+    let mut races = Vec::new(alloc);
+    for number in 0..count {
+        let is_drawn = number + 1 < count;
+        let picture = is_drawn.then_some(b"<svg></svg>\n".as_slice());
+        races.push(race(alloc, row(Kept, 1, 0), b"a and b", b"block\n", picture)?)?;
+    }
+    Ok(races)
+}
+
+/// Parts of a page of 101 races, and how often it has each.
+static OF_MANY: [(&[u8], usize); 6] = [
+    (b"<figure>\n<svg></svg>\n</figure>", 100),
+    (b"<pre>block\n</pre>", 101),
+    (b"<section id='race-101'>\n<h3>race 101</h3>\n<pre>", 1),
+    (b"<a href='#race-101'>race 101</a>", 1),
+    (b"<section id='race-100'>\n<h3>race 100</h3>\n<figure>", 1),
+    (b"race-102", 0),
+];
+
 #[test]
 fn many_races(rt: HostRuntime) -> Result<(), Fail> {
     let alloc = rt.alloc();
-    let mut races = Vec::new(alloc);
-    for number in 1..102 {
-        let picture = if number < 101 {
-            Some(b"<svg></svg>\n".as_slice())
-        } else {
-            None
-        };
-        races.push(race(alloc, row(Kept, 1, 0), b"a and b", b"block\n", picture)?)?;
-    }
+    let races = all_but_one_drawn(alloc, 101)?;
     let page = page(alloc, b"", &[row(Kept, 1, 0)], &races)?;
-    for (part, wanted) in [
-        (b"<figure>\n<svg></svg>\n</figure>".as_slice(), 100),
-        (b"<pre>block\n</pre>", 101),
-        (b"<section id='race-101'>\n<h3>race 101</h3>\n<pre>", 1),
-        (b"<a href='#race-101'>race 101</a>", 1),
-        (b"<section id='race-100'>\n<h3>race 100</h3>\n<figure>", 1),
-        (b"race-102", 0),
-    ] {
-        assert_is(&rt, count(&page, part), wanted, "how often");
+    for (part, wanted) in &OF_MANY {
+        assert_is(
+            &rt,
+            (part, count(&page, part)),
+            (part, *wanted),
+            "how often",
+        );
     }
     Ok(())
 }
