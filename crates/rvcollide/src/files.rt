@@ -105,6 +105,3 @@ impl<R: Files> NewFile for OutputFile<'_, R> {
         written
     }
 }
-
-#[cfg(test)]
-mod tests;

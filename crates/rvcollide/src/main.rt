@@ -6,8 +6,6 @@ ghost use Rattle.std.specs.Prelude.{◌≡◌};
 ghost use Rattle.std.specs.Process.{exit_status};
 ghost use Rattle.rvcollide.specs.Failure.{status_of};
 
-#[cfg(test)]
-mod assertion;
 pub mod failure;
 pub mod file_line;
 pub mod files;
