@@ -8,6 +8,7 @@ pub mod NextLemmas
 pub mod OutputLemmas
 pub mod ProductLemmas
 pub mod QuickLemmas
+pub mod RefusalLemmas
 pub mod RegisterLemmas
 pub mod ReservationLemmas
 pub mod RunsOnLemmas

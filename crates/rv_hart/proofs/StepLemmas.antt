@@ -1,8 +1,9 @@
-use Rattle.std.proofs.Common.{◌≡◌, ℕ, Bool, true, false, cond, List, ◌++◌, Option, Some, None, length, map, set, take, drop, refl, sym, ap, subst, ◌∙◌, arith}
-use Rattle.std.specs.Prelude.{slice_get, IsSomeAnd}
+use Rattle.std.proofs.Common.{◌≡◌, ℕ, ◌+◌, ◌<◌, ◌≤◌, Bool, IsTrue, true, false, cond, List, ◌++◌, Option, Some, None, length, map, set, take, drop, refl, sym, ap, subst, ◌∙◌, arith, length-append, length-drop}
+use Rattle.std.specs.Prelude.{slice_get, IsSomeAnd, Result, Ok, Err, is_err, OnErr, OnOk}
 use Rattle.std.proofs.Math.ListN.{length-set}
 use Rattle.std.proofs.lemmas.Grind.{common_steps}
-use Rattle.std.proofs.lemmas.List.{length-map, append-nil}
+use Rattle.std.proofs.lemmas.List.{length-map, append-nil, length-take}
+use Rattle.rv_hart.specs.Refusals.{is_print}
 use Rattle.rv_hart.specs.internal.Able.{IsAble, IsAbleWrite, AreBytes}
 use Rattle.rv_hart.specs.internal.Harts.{HartsAfter}
 use Rattle.rv_hart.specs.internal.Machine.{RunsTo, Takes}
@@ -16,6 +17,8 @@ use Rattle.rv_hart.specs.declared.hart.Hart.{Hart}
 use Rattle.rv_hart.specs.declared.write.Write.{Write}
 use Rattle.rv_hart.proofs.HartsLemmas.{none_seen}
 use Rattle.rv_memory.specs.Memory.{Memory}
+use Rattle.rv_memory.specs.MemoryLaws.{StoreKeepsSound}
+use Rattle.rv_memory.specs.Sound.{IsSound}
 
 -- what an able action writes are bytes that there are
 able_if : (m : Memory) (b : Bool) (w : Write) → AreBytes m w.address w.size → IsAbleWrite m (cond b (Some w) None)
@@ -94,3 +97,34 @@ harts_back old lent new n h loaded action w hart e count found after =
     let from_old : HartsAfter old new h loaded action w = subst (λ (x : List Hart). HartsAfter x new h loaded action w) e after in
     let same : take n (new ++ drop (length new) old) ≡ new = take_whole new (drop (length new) old) n (count ∙ sym (harts_count old new h loaded action w hart found from_old)) in
     rw same from_old
+
+-- and their number
+pub length_back : (old new : List Hart) (n : ℕ) → n ≡ length old → length (take n (new ++ drop (length new) old)) ≡ length old
+length_back old new n count = simp (length-take, length-append, length-drop) (omega arith)
+
+pub sound_after : (m : Memory) (w : Option Write) → StoreKeepsSound → IsSound m → IsSound (memory_after m w)
+sound_after m None keeps sound = sound
+sound_after m (Some w) keeps sound = keeps m w.address w.size w.value sound
+
+-- what is printed has room
+pub prints_within : (action : Action) (n limit : ℕ) → n ≤ limit → (IsTrue (is_print action) → n < limit) → n + length (printed action) ≤ limit
+prints_within (Print byte) n limit within room =
+    let below : n < limit = room refl in
+    omega arith
+prints_within (Trap cause) n limit within room = omega arith
+prints_within (Set rd value next) n limit within room = omega arith
+prints_within (Load rd address size signed) n limit within room = omega arith
+prints_within (Store address size value) n limit within room = omega arith
+prints_within (Reserve rd address) n limit within room = omega arith
+prints_within (Conditional rd address value) n limit within room = omega arith
+prints_within (Replace rd address combine value) n limit within room = omega arith
+prints_within (Exit code) n limit within room = omega arith
+
+-- what was answered without an error, and with one
+pub on_ok : {T E P : Type 0} (r : Result T E) → is_err r ≡ false → OnOk r P → P
+on_ok (Ok value) fine p = p
+on_ok (Err fault) fine p = cc
+
+pub on_err : {T E P : Type 0} (r : Result T E) → is_err r ≡ true → OnErr r P → P
+on_err (Ok value) failed p = cc
+on_err (Err fault) failed p = p

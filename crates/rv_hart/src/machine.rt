@@ -319,7 +319,6 @@ impl<S: ByteStore> Machine<S> {
     }
 
     /// Takes the action, or changes nothing where the store is refused memory.
-    #[tactic(auto, using(crate::proofs::StepLemmas::able_write))]
     fn take(&mut self, h: u8, action: Action) -> Result<Event, StepFault>
         requires takes { machine.Takes self.old.state h action }
         requires hart { h < length self.old.state.harts }
