@@ -1,6 +1,7 @@
 -- Texts written piece by piece, into a writer whose bytes may be known.
-use Rattle.std.proofs.Common.{◌≡◌, ℕ, ◌+◌, List, [], ◌∷◌, ◌++◌, take, length, Option, None, Some, ap, refl, sym, ◌∙◌, append-nil, subst, zero, suc, zero-add, add-zero, arith}
+use Rattle.std.proofs.Common.{◌≡◌, ℕ, ◌+◌, List, [], ◌∷◌, ◌++◌, take, length, Option, None, Some, Result, Ok, Err, OnOk, codes, ap, refl, sym, ◌∙◌, append_assoc, append-nil, subst, zero, suc, zero-add, add-zero, arith}
 use Rattle.std.specs.Prelude.{slice_get, IsSomeAnd}
+use Rattle.std.specs.Fmt.{decimal}
 use Rattle.std.specs.List.{flat_map, range_with_len}
 use Rattle.std.specs.Io.KnownBytes.{Appends}
 use Rattle.std.proofs.KnownBytes.{Appends-trans}
@@ -8,10 +9,12 @@ use Rattle.std.proofs.lemmas.Grind.{flat_map-append}
 use Rattle.std.proofs.lemmas.List.{take_more, length-take-le}
 use Rattle.std.proofs.lemmas.Option.{slice_get_within, get_or_from_slice_get}
 use Rattle.rv_hart.specs.Registers.{get}
+use Rattle.rv_hart.specs.declared.access.Access.{Access}
 use Rattle.rv_hart.specs.declared.hart.Hart.{Hart}
 use Rattle.rv_hart.specs.declared.hart.Status.{Status}
+use Rattle.rv_text.specs.Hexadecimal.{word_digits}
 use Rattle.rv_text.specs.Lines.{text_of_lines}
-use Rattle.rv_hart.specs.Texts.{front_text, hart_line, hart_lines, pc_text, register_text, registers_text, reservation_text, status_text, value_text}
+use Rattle.rv_hart.specs.Texts.{access_text, front_text, hart_line, hart_lines, kind_text, pc_text, register_text, registers_text, reservation_text, status_text, value_text}
 
 -- what was written before and the next piece are the whole
 appends_then : (a b c : Option (List ℕ)) (front piece whole : List ℕ) → Appends a b front → Appends b c piece → front ++ piece ≡ whole → Appends a c whole
@@ -73,3 +76,21 @@ lines_next harts h a b c before next =
     let push = ap (λ k. hart_lines 0 front ++ hart_line k hart ∷ []) (sym count) ∙ hart_lines_push front 0 hart ∙ ap (hart_lines 0) more in
     appends_then a b c (text_of_lines (hart_lines 0 front)) (hart_line h hart ++ 10 ∷ []) _ before found.2
     (flat_map_next (λ line. line ++ 10 ∷ []) (hart_lines 0 front) (hart_line h hart) ∙ ap text_of_lines push)
+
+-- an access in the order of writing
+abbrev pub access_front : (pc kind : List ℕ) → List ℕ
+access_front pc kind = codes "pc " ++ (pc ++ (codes " " ++ (kind ++ (codes " " ++ []))))
+
+abbrev pub access_end : (first size : List ℕ) → List ℕ
+access_end first size = first ++ (codes " " ++ (size ++ []))
+
+access_is : (pc kind first size : List ℕ) → access_front pc kind ++ access_end first size ≡ codes "pc " ++ pc ++ codes " " ++ kind ++ codes " " ++ first ++ codes " " ++ size
+access_is pc kind first size = simp (append_assoc, append-nil)
+
+pub access_written : {T E : Type 0} (access : Access) (r : Result T E) (a b c : Option (List ℕ)) (pc kind first size : List ℕ)
+    → pc ≡ word_digits access.pc → kind ≡ kind_text access.read access.write → first ≡ word_digits access.first → size ≡ decimal access.size
+    → Appends a b (access_front pc kind) → OnOk r (Appends b c (access_end first size)) → OnOk r (Appends a c (access_text access))
+access_written access (Err fault) a b c pc kind first size p k f s front end = tt
+access_written access (Ok value) a b c pc kind first size p k f s front end =
+    let whole = Appends-trans a b c (access_front pc kind) (access_end first size) front end in
+    subst (Appends a c) (access_is (word_digits access.pc) (kind_text access.read access.write) (word_digits access.first) (decimal access.size)) (rw (p, k, f, s) at whole)
