@@ -1,14 +1,17 @@
 -- Endings written line by line.
-use Rattle.std.proofs.Common.{◌≡◌, ℕ, ◌+◌, ◌<◌, List, [], ◌∷◌, ◌++◌, take, length, Option, Result, Ok, Err, OnOk, codes, ap, sym, ◌∙◌, append-nil, subst, zero-add, add-zero, arith}
+use Rattle.std.proofs.Common.{◌≡◌, ℕ, ◌+◌, ◌<◌, List, [], ◌∷◌, ◌++◌, take, length, Option, Result, Ok, Err, OnOk, codes, ap, sym, ◌∙◌, append_assoc, append-nil, subst, zero-add, add-zero, arith}
+use Rattle.std.specs.Fmt.{decimal}
 use Rattle.std.specs.List.{slice_index_or}
 use Rattle.std.specs.Io.KnownBytes.{Appends}
 use Rattle.std.proofs.KnownBytes.{Appends-trans}
 use Rattle.std.proofs.lemmas.Grind.{flat_map-append}
 use Rattle.std.proofs.lemmas.List.{take_more, length-take-le}
 use Rattle.std.proofs.lemmas.Option.{get_or_from_slice_get, slice_get_within}
+use Rattle.rv_break.specs.declared.claim.Seen.{Seen}
+use Rattle.rv_hart.specs.Texts.{access_text}
 use Rattle.rv_text.specs.Lines.{text_of_lines}
 use Rattle.rv_collide.specs.Grammar.{slot_text}
-use Rattle.rv_collide.specs.Texts.{OneEndingMore, ending_line, ending_lines, endings_text, pause_text, values_text, verdict_text}
+use Rattle.rv_collide.specs.Texts.{OneEndingMore, ending_line, ending_lines, endings_text, pause_text, seen_text, values_text, verdict_text}
 use Rattle.rv_collide.specs.declared.ending.Ending.{Ending}
 
 lines_push : (endings : List Ending) (first : ℕ) (ending : Ending) → ending_lines first endings ++ ending_line (first + length endings) ending ∷ [] ≡ ending_lines first (endings ++ ending ∷ [])
@@ -54,3 +57,30 @@ ending_written number e (Ok value) a b c d f g h i pause slot_word slot blank ve
     let to_values = Appends-trans a f g _ _ to_verdict verdict in
     let to_feed = Appends-trans a g h _ _ to_values values in
     Appends-trans a h i _ _ to_feed feed
+
+-- what stands before an access, in the order of writing
+abbrev pub hit_text : (place hart : List ℕ) → List ℕ
+hit_text place hart = codes "hit " ++ (place ++ (codes " hart " ++ (hart ++ (codes " " ++ []))))
+
+abbrev pub paused_text : (number hart : List ℕ) → List ℕ
+paused_text number hart = codes "ending " ++ (number ++ (codes " hart " ++ (hart ++ (codes " " ++ []))))
+
+hit_is : (place hart rest : List ℕ) → hit_text place hart ++ rest ≡ codes "hit " ++ place ++ codes " hart " ++ hart ++ codes " " ++ rest
+hit_is place hart rest = simp (append_assoc, append-nil)
+
+paused_is : (number hart rest : List ℕ) → paused_text number hart ++ rest ≡ codes "ending " ++ number ++ codes " hart " ++ hart ++ codes " " ++ rest
+paused_is number hart rest = simp (append_assoc, append-nil)
+
+pub seen_written : {T E : Type 0} (seen : Seen) (r : Result T E) (a b c : Option (List ℕ)) (place hart : List ℕ) → place ≡ decimal seen.place → hart ≡ decimal seen.hart
+    → Appends a b (hit_text place hart) → OnOk r (Appends b c (access_text seen.access)) → OnOk r (Appends a c (seen_text seen))
+seen_written seen (Err fault) a b c place hart p h front access = tt
+seen_written seen (Ok value) a b c place hart p h front access =
+    let whole = Appends-trans a b c (hit_text place hart) (access_text seen.access) front access in
+    subst (Appends a c) (hit_is (decimal seen.place) (decimal seen.hart) (access_text seen.access)) (rw (p, h) at whole)
+
+pub pause_written : {T E : Type 0} (number : ℕ) (e : Ending) (r : Result T E) (a b c : Option (List ℕ)) (digits hart : List ℕ) → digits ≡ decimal number → hart ≡ decimal e.hart
+    → Appends a b (paused_text digits hart) → OnOk r (Appends b c (access_text e.access)) → OnOk r (Appends a c (pause_text number e))
+pause_written number e (Err fault) a b c digits hart d h front access = tt
+pause_written number e (Ok value) a b c digits hart d h front access =
+    let whole = Appends-trans a b c (paused_text digits hart) (access_text e.access) front access in
+    subst (Appends a c) (paused_is (decimal number) (decimal e.hart) (access_text e.access)) (rw (d, h) at whole)
