@@ -10,6 +10,7 @@ use rv_elf::Image;
 use rv_hart::machine::Machine;
 use rv_memory::flagged::Flagged;
 use rv_memory::paged::Paged;
+use rv_memory::store::ByteStore;
 use std::alloc::Global;
 
 /// The program that stores its hart's number and loads it again, with a name for where it stores it.
@@ -41,13 +42,22 @@ pub(crate) fn plan(harts: u8, steps: u32, arms: u32, pause: u32) -> Result<Plan,
     }
 }
 
+/// A core that has made no turn.
+pub(crate) fn new_core<S: ByteStore>(alloc: Global, plan: Plan) -> Result<Collider<S>, Refusal> {
+    let image = image(alloc)?;
+    Ok(Collider::new(alloc, &image, plan)?)
+}
+
 /// A core over pages whose harts have made their first step.
 pub(crate) fn begun(alloc: Global) -> Result<Collider<Paged>, Refusal> {
-    let image = image(alloc)?;
-    let mut collider = Collider::new(alloc, &image, plan(2, 100, 8, 10)?)?;
-    step(&mut collider, 0)?;
-    step(&mut collider, 1)?;
+    let mut collider = new_core(alloc, plan(2, 100, 8, 10)?)?;
+    make_first_steps(&mut collider)?;
     Ok(collider)
+}
+
+fn make_first_steps(collider: &mut Collider<Paged>) -> Result<(), Refusal> {
+    step(collider, 0)?;
+    step(collider, 1)
 }
 
 fn step(collider: &mut Collider<Paged>, hart: u8) -> Result<(), Refusal> {
@@ -64,9 +74,13 @@ pub(crate) fn machine(alloc: Global) -> Result<Machine<Paged>, Refusal> {
 
 /// The session of a hit, at a place.
 pub(crate) fn session(alloc: Global, place: u32) -> Result<Session, Refusal> {
-    let image = image(alloc)?;
-    let (plan, entries) = schedule(alloc, HIT)?;
-    let mut session = Session::new(alloc, &image, plan, entries)?;
+    let mut session = session_of_a_hit(alloc)?;
     session.go(place)?;
     Ok(session)
+}
+
+fn session_of_a_hit(alloc: Global) -> Result<Session, Refusal> {
+    let (plan, entries) = schedule(alloc, HIT)?;
+    let image = image(alloc)?;
+    Ok(Session::new(alloc, &image, plan, entries)?)
 }

@@ -1,4 +1,5 @@
 //! A call between two marks, and once more where it is refused.
+use crate::failure::Failure;
 use crate::refusal::Refusal;
 use rv_memory::flagged::WriteFault;
 use rv_memory::output::{Output, put_pieces};
@@ -25,12 +26,16 @@ pub(crate) trait Probed {
     }
 }
 
-/// Makes a call, and once more where it is refused, and writes what it answers each time and what its caller holds before
-/// and after.
-pub(crate) fn probe<P: Probed, O: Output>(
+/// Makes the call of a row, and once more where it is refused, and writes what it answers each time and what its caller
+/// holds before and after.
+pub(crate) fn probe<P: Probed + Drop, O: Output>(
     screen: &mut O,
-    probed: &mut P,
-) -> Result<(), WriteFault> {
+    mut row: P,
+) -> Result<(), Failure> {
+    make_calls(screen, &mut row)
+}
+
+fn make_calls<P: Probed, O: Output>(screen: &mut O, probed: &mut P) -> Result<(), Failure> {
     screen.put(b"before\n")?;
     probed.write_held(screen)?;
     if is_refused(screen, probed)? {
@@ -44,10 +49,18 @@ pub(crate) fn probe<P: Probed, O: Output>(
 fn is_refused<P: Probed, O: Output>(screen: &mut O, probed: &mut P) -> Result<bool, WriteFault> {
     screen.put(BEGIN)?;
     let answered = probed.call();
-    let ended = screen.put(END);
-    ended?;
-    tell(screen, probed, &answered)?;
+    end(screen, probed, &answered)?;
     Ok(answered.is_err())
+}
+
+/// Writes the mark behind a call, and what it answered.
+fn end<P: Probed, O: Output>(
+    screen: &mut O,
+    probed: &P,
+    answered: &Result<P::Answer, Refusal>,
+) -> Result<(), WriteFault> {
+    screen.put(END)?;
+    tell(screen, probed, answered)
 }
 
 /// Writes what a call answered, and what its caller holds now.

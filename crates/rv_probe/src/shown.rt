@@ -92,7 +92,11 @@ pub(crate) fn write_image<O: Output>(screen: &mut O, image: &Image) -> Result<()
     for segment in image.segments() {
         write_segment(screen, segment)?;
     }
-    for symbol in image.symbols() {
+    write_symbols(screen, image.symbols())
+}
+
+fn write_symbols<O: Output>(screen: &mut O, symbols: &[Symbol]) -> Result<(), WriteFault> {
+    for symbol in symbols {
         write_symbol(screen, symbol)?;
     }
     Ok(())

@@ -1,6 +1,6 @@
 //! Calls on schedules and cores.
 use crate::failure::Failure;
-use crate::fixtures::{HIT, OVERLAP, image, plan, schedule};
+use crate::fixtures::{HIT, OVERLAP, image, new_core, plan, schedule};
 use crate::probed::{Probed, probe};
 use crate::refusal::Refusal;
 use crate::shown::{write_collider, write_entries, write_told};
@@ -40,7 +40,7 @@ impl Probed for Reading {
 }
 
 pub(crate) fn reads_a_schedule<O: Output>(alloc: Global, screen: &mut O) -> Result<(), Failure> {
-    Ok(probe(screen, &mut Reading { alloc })?)
+    probe(screen, Reading { alloc })
 }
 
 #[derive(Drop)]
@@ -63,9 +63,9 @@ impl Probed for Beginning {
 }
 
 pub(crate) fn begins<O: Output>(alloc: Global, screen: &mut O) -> Result<(), Failure> {
-    let image = image(alloc)?;
     let plan = plan(2, 100, 8, 10)?;
-    Ok(probe(screen, &mut Beginning { alloc, image, plan })?)
+    let image = image(alloc)?;
+    probe(screen, Beginning { alloc, image, plan })
 }
 
 #[derive(Drop)]
@@ -89,8 +89,8 @@ impl Probed for Replaying {
 }
 
 fn replay_of_a_hit(alloc: Global) -> Result<Replaying, Refusal> {
-    let image = image(alloc)?;
     let (plan, entries) = schedule(alloc, HIT)?;
+    let image = image(alloc)?;
     Ok(Replaying {
         alloc,
         image,
@@ -100,7 +100,7 @@ fn replay_of_a_hit(alloc: Global) -> Result<Replaying, Refusal> {
 }
 
 pub(crate) fn replays<O: Output>(alloc: Global, screen: &mut O) -> Result<(), Failure> {
-    Ok(probe(screen, &mut replay_of_a_hit(alloc)?)?)
+    probe(screen, replay_of_a_hit(alloc)?)
 }
 
 /// A core over plain memory, and the calls of a schedule that it has not made yet.
@@ -145,15 +145,14 @@ fn make(collider: &mut Collider<Flat>, entry: Entry) -> Result<(), Refusal> {
 }
 
 fn overlap(alloc: Global) -> Result<Overlapping, Refusal> {
-    let image = image(alloc)?;
     let (plan, entries) = schedule(alloc, OVERLAP)?;
-    let collider = Collider::new(alloc, &image, plan)?;
+    let collider = new_core(alloc, plan)?;
     Ok(Overlapping { collider, entries })
 }
 
 /// The calls of a core over plain memory, none of which asks for memory.
 pub(crate) fn takes_no_memory<O: Output>(alloc: Global, screen: &mut O) -> Result<(), Failure> {
-    Ok(probe(screen, &mut overlap(alloc)?)?)
+    probe(screen, overlap(alloc)?)
 }
 
 #[derive(Drop)]
@@ -176,9 +175,9 @@ impl Probed for Running {
 }
 
 pub(crate) fn runs_once<O: Output>(alloc: Global, screen: &mut O) -> Result<(), Failure> {
-    let image = image(alloc)?;
     let plan = plan(2, 100, 4, 5)?;
-    Ok(probe(screen, &mut Running { alloc, image, plan })?)
+    let image = image(alloc)?;
+    probe(screen, Running { alloc, image, plan })
 }
 
 #[derive(Drop)]
@@ -201,9 +200,9 @@ impl Probed for Watching {
 }
 
 pub(crate) fn begins_watched<O: Output>(alloc: Global, screen: &mut O) -> Result<(), Failure> {
-    let image = image(alloc)?;
     let plan = plan(2, 100, 4, 5)?;
-    Ok(probe(screen, &mut Watching { alloc, image, plan })?)
+    let image = image(alloc)?;
+    probe(screen, Watching { alloc, image, plan })
 }
 
 #[derive(Drop)]
@@ -239,7 +238,7 @@ fn ending(alloc: Global) -> Result<Ending, Refusal> {
 }
 
 pub(crate) fn adds_an_ending<O: Output>(alloc: Global, screen: &mut O) -> Result<(), Failure> {
-    let table = RaceTable::new(alloc);
     let ending = ending(alloc)?;
-    Ok(probe(screen, &mut Adding { table, ending })?)
+    let table = RaceTable::new(alloc);
+    probe(screen, Adding { table, ending })
 }

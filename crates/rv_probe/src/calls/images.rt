@@ -32,7 +32,7 @@ impl Probed for Loading {
 
 pub(crate) fn loads<O: Output>(alloc: Global, screen: &mut O) -> Result<(), Failure> {
     let file = write(alloc, &image(alloc)?)?;
-    Ok(probe(screen, &mut Loading { alloc, file })?)
+    probe(screen, Loading { alloc, file })
 }
 
 #[derive(Drop)]
@@ -55,7 +55,7 @@ impl Probed for Writing {
 
 pub(crate) fn writes<O: Output>(alloc: Global, screen: &mut O) -> Result<(), Failure> {
     let image = image(alloc)?;
-    Ok(probe(screen, &mut Writing { alloc, image })?)
+    probe(screen, Writing { alloc, image })
 }
 
 #[derive(Drop)]
@@ -78,7 +78,7 @@ impl Probed for Copying {
 
 pub(crate) fn copies<O: Output>(alloc: Global, screen: &mut O) -> Result<(), Failure> {
     let image = image(alloc)?;
-    Ok(probe(screen, &mut Copying { alloc, image })?)
+    probe(screen, Copying { alloc, image })
 }
 
 #[derive(Drop)]
@@ -99,7 +99,7 @@ impl Probed for Assembling {
 }
 
 pub(crate) fn assembles<O: Output>(alloc: Global, screen: &mut O) -> Result<(), Failure> {
-    Ok(probe(screen, &mut Assembling { alloc })?)
+    probe(screen, Assembling { alloc })
 }
 
 #[derive(Drop)]
@@ -120,7 +120,7 @@ impl Probed for Line {
 }
 
 pub(crate) fn tells_a_line<O: Output>(alloc: Global, screen: &mut O) -> Result<(), Failure> {
-    Ok(probe(screen, &mut Line { alloc })?)
+    probe(screen, Line { alloc })
 }
 
 /// How many bytes there is room for in each of the writers of a listing.
@@ -160,16 +160,16 @@ fn rooms(alloc: Global) -> Result<Vec<Vec<u8>>, Refusal> {
 }
 
 pub(crate) fn lists<O: Output>(alloc: Global, screen: &mut O) -> Result<(), Failure> {
-    let image = image(alloc)?;
     let rooms = rooms(alloc)?;
-    Ok(probe(
+    let image = image(alloc)?;
+    probe(
         screen,
-        &mut Listing {
+        Listing {
             alloc,
             image,
             rooms,
         },
-    )?)
+    )
 }
 
 #[derive(Drop)]
@@ -194,7 +194,7 @@ impl Probed for Sites {
 
 pub(crate) fn finds_sites<O: Output>(alloc: Global, screen: &mut O) -> Result<(), Failure> {
     let image = image(alloc)?;
-    Ok(probe(screen, &mut Sites { alloc, image })?)
+    probe(screen, Sites { alloc, image })
 }
 
 #[derive(Drop)]
@@ -221,5 +221,5 @@ impl Probed for NamedRanges {
 
 pub(crate) fn finds_ranges<O: Output>(alloc: Global, screen: &mut O) -> Result<(), Failure> {
     let image = image(alloc)?;
-    Ok(probe(screen, &mut NamedRanges { alloc, image })?)
+    probe(screen, NamedRanges { alloc, image })
 }

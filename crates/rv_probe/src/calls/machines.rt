@@ -37,7 +37,7 @@ impl Probed for Beginning {
 
 pub(crate) fn begins<O: Output>(alloc: Global, screen: &mut O) -> Result<(), Failure> {
     let image = image(alloc)?;
-    Ok(probe(screen, &mut Beginning { alloc, image })?)
+    probe(screen, Beginning { alloc, image })
 }
 
 #[derive(Drop)]
@@ -73,11 +73,18 @@ fn pages_of_the_image(alloc: Global) -> Result<Paged, Refusal> {
 
 pub(crate) fn shares_pages<O: Output>(alloc: Global, screen: &mut O) -> Result<(), Failure> {
     let pages = pages_of_the_image(alloc)?;
-    Ok(probe(screen, &mut Pages { pages })?)
+    probe(screen, Pages { pages })
 }
 
 /// How many bytes a shared machine may print.
 const PRINTED: u32 = 100;
+
+fn shared(machine: &mut Machine<Paged>) -> Result<Machine<Paged>, Refusal> {
+    if machine.output().len() > PRINTED as usize {
+        return Err(Refusal::Other);
+    }
+    Ok(machine.share(PRINTED)?)
+}
 
 #[derive(Drop)]
 struct Sharing {
@@ -88,10 +95,7 @@ impl Probed for Sharing {
     type Answer = Machine<Paged>;
 
     fn call(&mut self) -> Result<Machine<Paged>, Refusal> {
-        if self.machine.output().len() > PRINTED as usize {
-            return Err(Refusal::Other);
-        }
-        Ok(self.machine.share(PRINTED)?)
+        shared(&mut self.machine)
     }
 
     fn write_answer<O: Output>(answer: &Machine<Paged>, screen: &mut O) -> Result<(), WriteFault> {
@@ -105,7 +109,7 @@ impl Probed for Sharing {
 
 pub(crate) fn shares<O: Output>(alloc: Global, screen: &mut O) -> Result<(), Failure> {
     let machine = machine(alloc)?;
-    Ok(probe(screen, &mut Sharing { machine })?)
+    probe(screen, Sharing { machine })
 }
 
 /// A machine that stands before a store into pages that another machine shares.
@@ -146,15 +150,12 @@ fn write_event<O: Output>(screen: &mut O, event: &Event) -> Result<(), WriteFaul
 
 fn before_a_step(alloc: Global) -> Result<Stepping, Refusal> {
     let mut machine = machine(alloc)?;
-    if machine.output().len() > PRINTED as usize {
-        return Err(Refusal::Other);
-    }
-    let other = machine.share(PRINTED)?;
+    let other = shared(&mut machine)?;
     Ok(Stepping { machine, other })
 }
 
 pub(crate) fn steps<O: Output>(alloc: Global, screen: &mut O) -> Result<(), Failure> {
-    Ok(probe(screen, &mut before_a_step(alloc)?)?)
+    probe(screen, before_a_step(alloc)?)
 }
 
 /// A core that stands before a store into pages that another machine shares.
@@ -191,5 +192,5 @@ fn before_a_turn(alloc: Global) -> Result<Turning, Refusal> {
 }
 
 pub(crate) fn turns<O: Output>(alloc: Global, screen: &mut O) -> Result<(), Failure> {
-    Ok(probe(screen, &mut before_a_turn(alloc)?)?)
+    probe(screen, before_a_turn(alloc)?)
 }

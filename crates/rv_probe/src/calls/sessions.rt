@@ -40,25 +40,23 @@ impl Probed for Beginning {
 }
 
 fn lists(alloc: Global) -> Result<(Plan, Vec<Vec<Entry>>), Refusal> {
-    let mut lists = Vec::new(alloc);
-    let (plan, entries) = schedule(alloc, HIT)?;
-    lists.push(entries.clone()?)?;
-    lists.push(entries)?;
-    Ok((plan, lists))
+    let (plan, first) = schedule(alloc, HIT)?;
+    let (_, second) = schedule(alloc, HIT)?;
+    Ok((plan, vec![in alloc; first, second]?))
 }
 
 pub(crate) fn begins<O: Output>(alloc: Global, screen: &mut O) -> Result<(), Failure> {
-    let image = image(alloc)?;
     let (plan, lists) = lists(alloc)?;
-    Ok(probe(
+    let image = image(alloc)?;
+    probe(
         screen,
-        &mut Beginning {
+        Beginning {
             alloc,
             image,
             plan,
             lists,
         },
-    )?)
+    )
 }
 
 /// How a session moves.
@@ -98,7 +96,7 @@ impl Probed for Moving {
 
 fn moves<O: Output>(alloc: Global, screen: &mut O, place: u32, way: Way) -> Result<(), Failure> {
     let session = session(alloc, place)?;
-    Ok(probe(screen, &mut Moving { session, way })?)
+    probe(screen, Moving { session, way })
 }
 
 pub(crate) fn goes<O: Output>(alloc: Global, screen: &mut O) -> Result<(), Failure> {
@@ -137,7 +135,7 @@ impl Probed for Bytes {
 
 pub(crate) fn shows_bytes<O: Output>(alloc: Global, screen: &mut O) -> Result<(), Failure> {
     let session = session(alloc, 6)?;
-    Ok(probe(screen, &mut Bytes { alloc, session })?)
+    probe(screen, Bytes { alloc, session })
 }
 
 #[derive(Drop)]
@@ -167,7 +165,7 @@ impl Probed for Lines {
 
 pub(crate) fn lists_lines<O: Output>(alloc: Global, screen: &mut O) -> Result<(), Failure> {
     let session = session(alloc, 6)?;
-    Ok(probe(screen, &mut Lines { alloc, session })?)
+    probe(screen, Lines { alloc, session })
 }
 
 #[derive(Drop)]
@@ -193,5 +191,5 @@ impl Probed for Finding {
 
 pub(crate) fn finds<O: Output>(alloc: Global, screen: &mut O) -> Result<(), Failure> {
     let session = session(alloc, 0)?;
-    Ok(probe(screen, &mut Finding { session })?)
+    probe(screen, Finding { session })
 }

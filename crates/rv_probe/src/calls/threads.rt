@@ -56,17 +56,17 @@ pub(crate) fn campaigns<R: Threads + Wait, O: Output>(
     alloc: Global,
     screen: &mut O,
 ) -> Result<(), Failure> {
-    let image = image(alloc)?;
     let plan = plan(2, 100, 4, 5)?;
-    Ok(probe(
+    let image = image(alloc)?;
+    probe(
         screen,
-        &mut Campaigning {
+        Campaigning {
             rt,
             alloc,
             image,
             plan,
         },
-    )?)
+    )
 }
 
 /// A run by three threads without a pause: how many turns they take does not hang on how they are scheduled. It is no
@@ -76,15 +76,24 @@ pub(crate) fn runs<R: Threads + Wait + Sync, O: Output>(
     alloc: Global,
     screen: &mut O,
 ) -> Result<(), Failure> {
-    let image = image(alloc)?;
     let plan = plan(3, 100, 0, 5)?;
+    let image = image(alloc)?;
+    make_runs(rt, alloc, &image, plan, screen)
+}
+
+fn make_runs<R: Threads + Wait + Sync, O: Output>(
+    rt: &R,
+    alloc: Global,
+    image: &Image,
+    plan: Plan,
+    screen: &mut O,
+) -> Result<(), Failure> {
     screen.put(b"before\nlent\n")?;
     screen.put(BEGIN)?;
-    let answered = run(rt, alloc, &image, plan);
-    screen.put(END)?;
-    tell(screen, &answered)?;
+    let answered = run(rt, alloc, image, plan);
+    end(screen, &answered)?;
     if answered.is_err() {
-        tell(screen, &run(rt, alloc, &image, plan))?;
+        tell(screen, &run(rt, alloc, image, plan))?;
     }
     Ok(())
 }
@@ -96,6 +105,12 @@ fn run<R: Threads + Wait + Sync>(
     plan: Plan,
 ) -> Result<Finished, Refusal> {
     Ok(run_threads(rt, alloc, image, plan, 1, &FreeGate)?)
+}
+
+/// Writes the mark behind a run, and what it answered.
+fn end<O: Output>(screen: &mut O, answered: &Result<Finished, Refusal>) -> Result<(), WriteFault> {
+    screen.put(END)?;
+    tell(screen, answered)
 }
 
 /// Writes what a run answered.
