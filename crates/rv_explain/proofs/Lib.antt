@@ -3,6 +3,7 @@ pub mod BlockLemmas
 pub mod Choices
 pub mod Chosen
 pub mod Counted
+pub mod FlatMaps
 pub mod Merging
 pub mod RaceLemmas
 pub mod Ranges

@@ -14,7 +14,7 @@ pub enum RaceClass {
 
 /// One of the two accesses of a report: its hart, the access, the word that memory had at its instruction's
 /// address, and what the hart's x1 named where that lies in an executable segment.
-#[derive(Clone, Copy, Debug, PartialEq, Eq)]
+#[derive(Clone, Copy)]
 pub struct Side {
     pub hart: u8,
     pub access: Access,
@@ -24,7 +24,7 @@ pub struct Side {
 
 /// What is told of a race: how many reports it has, and one of them. That is the ending `number` of its run, with
 /// what the paused hart was about to do, what the other hart did at the place `second`, and the lines around them.
-#[derive(Debug, Drop)]
+#[derive(Drop)]
 pub struct Block {
     pub reports: u64,
     pub class: RaceClass,

@@ -18,7 +18,7 @@ use std::alloc::Global;
 
 /// What lines are told of: a report, the places that it is about, how many entries are shown around each, and which
 /// entries within its pause meet the bytes.
-#[derive(Debug, Drop)]
+#[derive(Drop)]
 pub(crate) struct About {
     pub told: Ending,
     pub places: Vec<u32>,
@@ -27,7 +27,7 @@ pub(crate) struct About {
 }
 
 /// The lines so far, how many entries were left out since the last of them, and how many of those meet the bytes.
-#[derive(Debug, Drop)]
+#[derive(Drop)]
 struct Gathered {
     lines: Vec<Shown>,
     hidden: u32,

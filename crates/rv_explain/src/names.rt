@@ -1,7 +1,8 @@
 //! How an address is written, as `specs/Names.antt` has it.
-ghost use Rattle.std.specs.Prelude.{◌≡◌, ◌++◌, IfOk, OnOk};
+ghost use Rattle.std.specs.Prelude.{◌≡◌, ◌++◌, IfOk, OnOk, codes};
 ghost use Rattle.std.specs.String.{string_bytes};
 ghost use Rattle.rv_explain.specs.Names as spec;
+ghost use Rattle.rv_text.specs.Hexadecimal.{byte_digits};
 
 use crate::pieces::joined;
 use crate::symbol_table::SymbolTable;
@@ -16,13 +17,21 @@ fn is_hidden(byte: u8) -> bool
     byte <= b' ' || byte > b'~'
 }
 
+fn add_hidden(text: &mut Vec<u8>, byte: u8) -> Result<(), NoMemory>
+    ensures { OnOk result (text.new.items ≡ text.old.items ++ (codes "\\x" ++ byte_digits byte)) }
+{
+    text.extend_from_slice(b"\\x")?;
+    text.extend_from_slice(&byte_digits(byte))?;
+    Ok(())
+}
+
 fn add_byte(text: &mut Vec<u8>, byte: u8) -> Result<(), NoMemory>
     ensures { OnOk result (text.new.items ≡ text.old.items ++ spec.escaped_byte byte) }
 {
     if is_hidden(byte) {
-        text.extend_from_slice(b"\\x")?;
-        text.extend_from_slice(&byte_digits(byte))?;
-    } else if byte == b'\\' {
+        return add_hidden(text, byte);
+    }
+    if byte == b'\\' {
         text.extend_from_slice(b"\\\\")?;
     } else {
         text.push(byte)?;

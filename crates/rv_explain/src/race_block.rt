@@ -1,7 +1,9 @@
 //! The block of a race of a run, as `specs/BlockOf.antt` has it.
-ghost use Rattle.std.specs.Prelude.{◌≡◌, ◌<◌, IfOk, IfSome, Some, option_map, slice_get};
+ghost use Rattle.std.specs.Prelude.{◌≡◌, ◌<◌, IfOk, IfSome, Some, length, map, option_map, slice_get};
 ghost use Rattle.std.specs.Option.{option_copied};
 ghost use Rattle.rv_break.specs.declared.claim.Seen.{Seen};
+ghost use Rattle.rv_collide.specs.Answers.{pause_of};
+ghost use Rattle.rv_collide.specs.Pause.{within};
 ghost use Rattle.rv_collide.specs.Verdict.{endings};
 ghost use Rattle.rv_collide.specs.declared.ending.Verdict.TheVariants.{Hit};
 ghost use Rattle.rv_debug.specs.Placed.{moved};
@@ -14,8 +16,9 @@ ghost use Rattle.rv_report.specs.OfPause.{IsOfPause};
 use crate::block::Block;
 use crate::lines::{About, lines};
 use crate::races::{Race, RunRaces};
+use crate::row::Shown;
 use crate::sides::side_at;
-use crate::walk::walk;
+use crate::walk::{Walked, walk};
 use rv_break::claim::Seen;
 use rv_collide::ending::{Ending, Verdict};
 use rv_debug::session::Session;
@@ -66,6 +69,32 @@ fn places_about(
     Ok(places)
 }
 
+/// The lines of a block, by what a walk over the pause has found.
+fn lines_about(
+    alloc: Global,
+    session: &mut Session,
+    told: &Ending,
+    around: u32,
+    other: &Seen,
+    walked: Walked,
+) -> Result<Vec<Shown>, NoMemory>
+    requires knows { walked.meets.items ≡ map (spec.meets_at (run_of session.old) told.now) (within (pause_of told.now)) }
+    requires starts { told.now.paused_at < told.now.resumed_at }
+    requires inside { told.now.resumed_at < length session.old.entries }
+    ensures lines { IfOk result (λ lines. lines.items
+        ≡ spec.lines (run_of session.old) around told.now (spec.places_about told.now other.now walked.last)) }
+    ensures same { session.new ≡ moved session.old session.new.place }
+{
+    let places = places_about(alloc, told, other, walked.last)?;
+    let about = About {
+        told: *told,
+        places,
+        around,
+        meets: walked.meets,
+    };
+    lines(alloc, session, &about)
+}
+
 /// The block of a race of a session's run, with so many entries around each place. The session is then at some place.
 /// It goes once over the pause, and to each other place from the checkpoint before.
 pub fn race_block(
@@ -100,18 +129,11 @@ fn block_of(
     ensures same { session.new ≡ moved session.old session.new.place }
 {
     let told = race.told.ending;
+    let paused = side_at(session, image, &own_access(&told))?;
     let walked = walk(alloc, session, &told)?;
     let other = second_of(&told, walked.last);
-    let places = places_about(alloc, &told, &other, walked.last)?;
-    let paused = side_at(session, image, &own_access(&told))?;
     let second = side_at(session, image, &other)?;
-    let about = About {
-        told,
-        places,
-        around,
-        meets: walked.meets,
-    };
-    let lines = lines(alloc, session, &about)?;
+    let lines = lines_about(alloc, session, &told, around, &other, walked)?;
     Ok(Block {
         reports: race.reports,
         class: race.told.class,

@@ -21,7 +21,7 @@ use rv_report::key::{Key, key_of};
 use std::alloc::Global;
 
 /// An ending that is a report: its number among the endings of its run, what it is about, and what it counts as.
-#[derive(Clone, Copy, Debug, PartialEq, Eq)]
+#[derive(Clone, Copy, Debug)]
 pub struct Report {
     pub number: u32,
     pub key: Key,
@@ -30,14 +30,14 @@ pub struct Report {
 }
 
 /// A race: how many reports it has, and the one that it is told by, the first of those with the strongest class.
-#[derive(Clone, Copy, Debug, PartialEq, Eq)]
+#[derive(Clone, Copy)]
 pub struct Race {
     pub reports: u64,
     pub told: Report,
 }
 
 /// The races of a run in the order of their first reports, and how many reports and endings there are.
-#[derive(Debug, Drop)]
+#[derive(Drop)]
 pub struct RunRaces {
     pub races: Vec<Race>,
     pub reports: u64,

@@ -24,7 +24,7 @@ pub struct Row {
 }
 
 /// A line among the entries: one of them, or how many are left out and how many of those meet the bytes.
-#[derive(Clone, Copy, Debug, PartialEq, Eq)]
+#[derive(Clone, Copy)]
 pub enum Shown {
     Row(Row),
     Gap { entries: u32, meeting: u32 },

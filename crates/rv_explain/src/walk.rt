@@ -19,7 +19,7 @@ use rv_memory::store::NoMemory;
 use std::alloc::Global;
 
 /// What the entries within a pause do to its bytes: the last store, and of each whether its access meets them.
-#[derive(Debug, Drop)]
+#[derive(Drop)]
 pub(crate) struct Walked {
     pub last: Option<Seen>,
     pub meets: Vec<bool>,

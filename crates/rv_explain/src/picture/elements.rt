@@ -1,5 +1,6 @@
 //! The elements of a picture, a function each.
-ghost use Rattle.std.specs.Prelude.{◌≡◌, ◌+◌, ◌<◌, ◌++◌, IfOk, OnOk};
+ghost use Rattle.std.specs.Prelude.{◌≡◌, ◌+◌, ◌<◌, [], ◌∷◌, ◌++◌, IfOk, OnOk};
+ghost use Rattle.std.specs.Option.{option_map_or};
 ghost use Rattle.rv_explain.specs.Picture as spec;
 
 use crate::picture::frame::{Frame, LEGEND, bar_height, bar_left, baseline, lane_x};
@@ -8,15 +9,25 @@ use rv_memory::store::NoMemory;
 use rv_text::decimal::Decimal;
 use std::alloc::Global;
 
+/// What XML has in the place of a byte, where that is something else.
+fn entity_of(byte: u8) -> Option<&'static [u8]>
+    ensures { option_map_or (λ entity. entity.now) result (byte ∷ []) ≡ spec.entity byte }
+{
+    match byte {
+        b'&' => Some(b"&amp;"),
+        b'<' => Some(b"&lt;"),
+        b'>' => Some(b"&gt;"),
+        b'"' => Some(b"&quot;"),
+        _ => None,
+    }
+}
+
 fn add_entity(text: &mut Vec<u8>, byte: u8) -> Result<(), NoMemory>
     ensures { OnOk result (text.new.items ≡ text.old.items ++ spec.entity byte) }
 {
-    match byte {
-        b'&' => text.extend_from_slice(b"&amp;")?,
-        b'<' => text.extend_from_slice(b"&lt;")?,
-        b'>' => text.extend_from_slice(b"&gt;")?,
-        b'"' => text.extend_from_slice(b"&quot;")?,
-        _ => text.push(byte)?,
+    match entity_of(byte) {
+        Some(entity) => text.extend_from_slice(entity)?,
+        None => text.push(byte)?,
     }
     Ok(())
 }

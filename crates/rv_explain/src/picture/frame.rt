@@ -14,7 +14,7 @@ pub(crate) const LEGEND: &[u8] =
 
 /// How many lines a picture has and which of them is the first entry's, how many characters the longest has,
 /// and how many lanes there are.
-#[derive(Clone, Copy, Debug)]
+#[derive(Clone, Copy)]
 pub struct Frame {
     pub lines: u32,
     pub first: u32,

@@ -8,7 +8,7 @@ second_of-other-requires-clause-hit c seen is = (c.requires.of_pause.hit seen is
 pub returns-clause-block : goal.returns-clause-block
 returns-clause-block c =
     block_is (run_of c.args.session.now) c.args.around c.args.race.now c.second_of-other.result c.in_ok-walked.walked.last c.in_ok-paused.paused c.in_ok-second.second c.in_ok-lines.lines.items
-    c.in_ok-walked.ensures.last c.second_of-other.ensures.value
-    (rw (c.walk.ensures.same, c.own_access.ensures) at c.in_ok-paused.ensures.side)
-    (rw (c.side_at.ensures.same, c.walk.ensures.same) at c.in_ok-second.ensures.side)
-    (rw (c.side_at-2.ensures.same, c.side_at.ensures.same, c.walk.ensures.same, c.in_ok-places.ensures) at c.in_ok-lines.ensures.lines)
+    (rw c.side_at.ensures.same at c.in_ok-walked.ensures.last) c.second_of-other.ensures.value
+    (rw c.own_access.ensures at c.in_ok-paused.ensures.side)
+    (rw (c.walk.ensures.same, c.side_at.ensures.same) at c.in_ok-second.ensures.side)
+    (rw (c.side_at-2.ensures.same, c.walk.ensures.same, c.side_at.ensures.same) at c.in_ok-lines.ensures.lines)

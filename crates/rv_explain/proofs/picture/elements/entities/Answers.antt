@@ -1,0 +1,7 @@
+use Rattle.std.proofs.Common.{◌<◌, length, arith}
+use Rattle.rv_explain.proofs.FlatMaps.{flat_map_next}
+use Rattle.rv_explain.proofs.picture.elements.entities.Goals as goal
+use Rattle.rv_explain.specs.Picture.{entity}
+
+pub loop-byte-preserved : goal.loop-byte-preserved
+loop-byte-preserved c = flat_map_next entity c.args.text.now c.loop-byte.byte-index _ _ (omega arith) c.loop-byte.invariant c.in_ok-add_entity.ensures
