@@ -6,7 +6,7 @@ ghost use Rattle.rv_locked.specs.Threaded.{IsThreaded, IsToldBy};
 ghost use Rattle.rv_locked.specs.internal.Rooms.{HaveRoom};
 ghost use Rattle.rv_locked.specs.declared.threads.RunFault.TheVariants.{NoMemory as OutOfMemory};
 
-use crate::watched::{Stray, Watched};
+use crate::watched::Watched;
 use crate::worker::{Left, Record, Shared, work};
 use rv_collide::collider::Finished;
 use rv_collide::plan::Plan;
@@ -114,20 +114,21 @@ fn lists_of<G: Gate>(
 }
 
 /// What the locked value leaves where each worker's places are the schedule's entries of its hart.
-fn finished(
+fn finished<G: Gate>(
     image: &Image,
     plan: Plan,
     seed: u64,
     watched: Watched,
     lists: &[Vec<u32>],
-) -> Result<Finished, Stray>
+) -> Result<Finished, RunFault<G::Shut>>
     requires { length lists.now ≡ plan.harts }
-    ensures { IfOk result (λ told. IsThreaded image.now (numbers plan) seed told) }
+    ensures ok { IfOk result (λ told. IsThreaded image.now (numbers plan) seed told) }
+    ensures err { IfErr result (λ fault. IsToldBy G.shuts fault) }
 {
     watched.facts();
     match watched.finish(image, plan, seed, lists) {
         Ok(told) => Ok(told),
-        Err(stray) => Err(stray),
+        Err(stray) => Err(RunFault::Stray(stray.hart)),
     }
 }
 
@@ -164,10 +165,7 @@ fn told<G: Gate>(
 {
     let Left { watched, records } = left;
     let lists = gathered(plan, records, rooms)?;
-    match finished(image, plan, seed, watched, &lists) {
-        Ok(told) => Ok(told),
-        Err(stray) => Err(RunFault::Stray(stray.hart)),
-    }
+    finished::<G>(image, plan, seed, watched, &lists)
 }
 
 /// Starts a worker for each list of places, and waits until all have ended. Where one can't be started, the
@@ -212,7 +210,7 @@ pub fn run_threads<R: Threads + Wait + Sync, G: Gate>(
 {
     let places = places(alloc, plan)?;
     let rooms = Rooms::new(alloc, plan)?;
-    let shared = Shared::new(alloc, Watched::new(alloc, image, plan, seed)?, plan.harts)?;
+    let shared = Shared::new(alloc, image, plan, seed)?;
     start_all(rt, &shared, gate, places);
     told(image, plan, seed, shared.into_left(), rooms)
 }

@@ -179,13 +179,24 @@ impl Watched {
         ensures stray { IfErr result (λ stray. IsStray self image.now (numbers plan) seed
             (map (λ p. p.items) places.now) stray.hart) }
     {
-        if !self.has_copies(image, plan, seed) {
-            return Err(Stray { hart: 0 });
-        }
-        match first_stray(&self.driver, places) {
+        match self.stray_in(image, plan, seed, places) {
             None => Ok(self.driver.into_collider().finish()),
             Some(hart) => Err(Stray { hart }),
         }
+    }
+
+    /// The hart that `finish` answers as the stray.
+    fn stray_in(&self, image: &Image, plan: Plan, seed: u64, places: &[Vec<u32>]) -> Option<u8>
+        requires { length places.now ≡ plan.harts }
+        ensures copies { IfNone result (AreCopies self.now image.now (numbers plan) seed) }
+        ensures own { IfNone result (AreOwn self.now.core (map (λ p. p.items) places.now)) }
+        ensures stray { IfSome result (λ hart. IsStray self.now image.now (numbers plan) seed
+            (map (λ p. p.items) places.now) hart) }
+    {
+        if !self.has_copies(image, plan, seed) {
+            return Some(0);
+        }
+        first_stray(&self.driver, places)
     }
 
     fn has_copies(&self, image: &Image, plan: Plan, seed: u64) -> bool

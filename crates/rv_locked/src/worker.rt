@@ -3,7 +3,9 @@ ghost use Rattle.std.specs.Prelude.{IfErr, IfSome};
 
 use crate::seats::{PATIENCE, Pace, Seats};
 use crate::watched::{Taken, Watched};
+use rv_collide::plan::Plan;
 use rv_drive::gate::Gate;
+use rv_elf::Image;
 use rv_hart::access::Event;
 use rv_memory::store::NoMemory;
 use std::alloc::Global;
@@ -99,10 +101,11 @@ fn empty_records<G: Gate>(
 }
 
 impl<G: Gate> Shared<G> {
-    /// What a number of workers share. All room is made here.
-    pub fn new(alloc: Global, watched: Watched, harts: u8) -> Result<Shared<G>, NoMemory> {
-        let seats = Seats::new(alloc, harts)?;
-        let records = empty_records(alloc, harts)?;
+    /// What the workers of a run share, one for each hart. All room is made here.
+    pub fn new(alloc: Global, image: &Image, plan: Plan, seed: u64) -> Result<Shared<G>, NoMemory> {
+        let seats = Seats::new(alloc, plan.harts)?;
+        let records = empty_records(alloc, plan.harts)?;
+        let watched = Watched::new(alloc, image, plan, seed)?;
         Ok(Shared {
             watched: Mutex::new(watched),
             seats,
