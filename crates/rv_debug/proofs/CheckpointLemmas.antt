@@ -145,11 +145,6 @@ module _ (image : Contents) (plan : Numbers) (xs : List Entry) where
         ];
       })
 
-  pub legal_all : (n : ℕ) (core : Stored) → core ≡ stored image plan (take n xs) → length xs ≤ n → IsLegal (setting_of core) core.entries → IsLegal (setting_of (stored image plan [])) xs
-  legal_all n core is past legal =
-      subst (λ (ys : List Entry). IsLegal (setting_of (stored image plan [])) ys) (take_all n xs past)
-      (subst (λ (s : Stored). IsLegal (setting_of s) s.entries) is legal)
-
 pub shared : {E : Type 0} (schedule : Stored) (place : ℕ) (m : Guest) (r : Result Guest E) → HasStateAt schedule place m → IfOk r (λ copy. copy ≡ record { state = m.state; limit = schedule.plan.steps }) → IfOk r (λ copy. StandsAt schedule place copy)
 shared schedule place m (Ok copy) at is = subst (StandsAt schedule place) (sym is) (record { state = at; limit = refl })
 shared schedule place m (Err e) at is = tt

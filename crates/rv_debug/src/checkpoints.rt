@@ -1,5 +1,5 @@
 //! Machines at some of a schedule's places, from which any other is near.
-ghost use Rattle.std.specs.Prelude.{◌≡◌, ◌⊎◌, ◌≤◌, ◌+◌, ◌*◌, ◌<◌, [], IfOk, IfErr, OnOk, length};
+ghost use Rattle.std.specs.Prelude.{◌≡◌, ◌⊎◌, ◌≤◌, ◌+◌, ◌*◌, ◌/◌, ◌<◌, [], IfOk, IfErr, OnOk, length};
 ghost use Rattle.rv_collide.specs.Legal.{IsLegal};
 ghost use Rattle.rv_collide.specs.Numbers.{numbers};
 ghost use Rattle.rv_collide.specs.Replays.{IsReplayFault};
@@ -34,20 +34,38 @@ pub(crate) fn checkpoints_of(
     ensures err { IfErr result (λ fault. IsReplayFault (setting_of (stored image.now (numbers plan) [])) entries.now fault) }
 {
     let count = entries.len() / CHECKPOINT_ENTRIES as usize + 1;
-    let Ok(mut collider) = Collider::new(alloc, image, plan) else {
-        return Err(ReplayFault::NoMemory);
-    };
     let Ok(mut checkpoints) = Vec::with_capacity(alloc, count) else {
         return Err(ReplayFault::NoMemory);
     };
-    for c in 0..count {
-        let Ok(()) = add_checkpoint(&mut checkpoints, &mut collider) else {
-            return Err(ReplayFault::NoMemory);
-        };
-        replay_up_to(&mut collider, entries, next_checkpoint(c, entries.len()))?;
-    }
+    let Ok(mut collider) = Collider::new(alloc, image, plan) else {
+        return Err(ReplayFault::NoMemory);
+    };
+    add_checkpoints(&mut checkpoints, &mut collider, entries, count)?;
     collider.facts();
     Ok((checkpoints, collider.entries()))
+}
+
+/// Makes the calls of a list of entries on a new core, and adds the checkpoints on the way.
+fn add_checkpoints(
+    checkpoints: &mut Vec<Machine<Paged>>,
+    collider: &mut Collider<Paged>,
+    entries: &[Entry],
+    count: usize,
+) -> Result<(), ReplayFault>
+    requires new { collider.old ≡ stored collider.old.image collider.old.plan [] }
+    requires none { checkpoints.old.items ≡ [] }
+    requires count { count ≡ length entries.now / CHECKPOINT_ENTRIES + 1 }
+    ensures core { OnOk result (collider.new ≡ stored collider.old.image collider.old.plan entries.now) }
+    ensures held { OnOk result (AreCheckpoints (stored collider.old.image collider.old.plan entries.now) checkpoints.new.items) }
+    ensures err { IfErr result (λ fault. IsReplayFault (setting_of collider.old) entries.now fault) }
+{
+    for c in 0..count {
+        let Ok(()) = add_checkpoint(checkpoints, collider) else {
+            return Err(ReplayFault::NoMemory);
+        };
+        replay_up_to(collider, entries, next_checkpoint(c, entries.len()))?;
+    }
+    Ok(())
 }
 
 /// The place of the checkpoint after one, or how many entries there are, if that is less.
