@@ -1,8 +1,9 @@
 -- The slots of a series, and what is kept in the order of the places.
-use Rattle.std.proofs.Common.{◌≡◌, ℕ, zero, suc, ◌⊎◌, inl, inr, List, [], ◌∷◌, ◌++◌, length, Option, None, Some, replicate, refl, sym, ap, subst, ◌∙◌}
-use Rattle.std.specs.Prelude.{slice_get, slice_set}
-use Rattle.rv_campaign.specs.Kept.{AreKept, Source}
+use Rattle.std.proofs.Common.{◌≡◌, ℕ, zero, suc, ◌+◌, ◌⊎◌, inl, inr, List, [], ◌∷◌, ◌++◌, length, Option, None, Some, Result, Ok, Err, replicate, refl, sym, ap, subst, ◌∙◌}
+use Rattle.std.specs.Prelude.{IfOk, slice_get, slice_set}
+use Rattle.rv_campaign.specs.Kept.{AreKept, IsCoreOf, IsKept, Source}
 use Rattle.rv_campaign.specs.internal.Series.{AreSlots, IsKeptAt}
+use Rattle.rv_collide.specs.Numbers.{numbers}
 use Rattle.rv_collide.specs.Stored.{Stored}
 use Rattle.rv_collide.specs.declared.plan.Plan.{Plan}
 
@@ -30,6 +31,13 @@ read_set (x ∷ xs) (suc at) (suc place) new' other there =
 
 same_some : {X : Type 0} (x y : X) → Some x ≡ Some y → x ≡ y
 same_some x y h = cc
+
+-- what is kept of the core of the plan's run, where something is
+pub kept_of : {K E : Type 0} (keeps : Stored → K → Type 0) (source : Source) (first : ℕ) (plans : List Plan) (place : ℕ) (plan : Plan) (core : Stored) (r : Result K E) → slice_get plans place ≡ Some plan
+    → IsCoreOf source (numbers plan) (first + place) core → IfOk r (λ kept. keeps core kept) → IfOk r (λ kept. IsKeptAt keeps source first plans place kept)
+kept_of keeps source first plans place plan core (Err e) there is_core is_kept = tt
+kept_of keeps source first plans place plan core (Ok kept) there is_core is_kept = λ other there_too.
+    subst (λ (p : Plan). IsKept keeps source (numbers p) (first + place) kept) (same_some plan other (sym there ∙ there_too)) (record { core = core; is_core = is_core; is_kept = is_kept })
 
 pub filled_one : {K : Type 0} (keeps : Stored → K → Type 0) (source : Source) (first : ℕ) (plans : List Plan) (old new' : List (Option K)) (at : ℕ) (kept : K) → new' ≡ slice_set old at (Some kept) → IsKeptAt keeps source first plans at kept → AreSlots keeps source first plans old → AreSlots keeps source first plans new'
 filled_one keeps source first plans old new' at kept is here before = λ place one there.
