@@ -56,6 +56,6 @@ or_or false b x = refl
 pub writer_failed : (q a w x b : Bool) → a ≡ (q || false) → w ≡ (b || x) → (a || w) ≡ ((q || b) || x)
 writer_failed q a w x b first next = rw (first, next, or_false q) (or_or q b x)
 
--- the same, where the folder was looked at before
-pub later_failed : (d p n v l a x : Bool) → l ≡ (d || false) → a ≡ ((l || p) || x) → (a || (n || v)) ≡ (((d || p) || (n || v)) || x)
-later_failed d p n v l a x looked first = file_failed d p n v a x (first ∙ ap (λ k. (k || p) || x) (looked ∙ or_false d))
+-- a folder or a page failed, where the folder was looked at before
+pub later_file : (d p l a x : Bool) → l ≡ (d || false) → a ≡ ((l || p) || x) → a ≡ ((d || p) || x)
+later_file d p l a x looked first = first ∙ ap (λ k. (k || p) || x) (looked ∙ or_false d)

@@ -39,11 +39,17 @@ write_same NoMemory = refl
 write_same NoThread = refl
 write_same Write = refl
 
-pub told_known : (known : Option Files) (asked : Asked) (line : Onward) (shows : Shows) (hunting : Hunting) (Writes Notes : List ℕ → Type 0) (Saves : Hunting → List Row → Type 0) (Pages : Hunting → Outcome → List Row → Type 0) (made : Made)
-    → IfSome known (λ files. IsHuntingOf asked files hunting) → IsMade line shows hunting (Saves hunting) (Pages hunting) made → Writes made.text.items → Notes made.notes.items
+pub made_known : (known : Option Files) (asked : Asked) (line : Onward) (shows : Shows) (hunting : Hunting) (Saves : Hunting → List Row → Type 0) (Pages : Hunting → Outcome → List Row → Type 0) (made : Made)
+    → IfSome known (λ files. IsHuntingOf asked files hunting) → IsMade line shows hunting (Saves hunting) (Pages hunting) made
+    → IfSome known (λ files. (x : Hunting) × IsHuntingOf asked files x × IsMade line shows x (Saves x) (Pages x) made)
+made_known None asked line shows hunting Saves Pages made is all = tt
+made_known (Some files) asked line shows hunting Saves Pages made is all = (hunting, is, all)
+
+pub told_known : (known : Option Files) (asked : Asked) (line : Onward) (shows : Shows) (Writes Notes : List ℕ → Type 0) (Saves : Hunting → List Row → Type 0) (Pages : Hunting → Outcome → List Row → Type 0) (made : Made)
+    → IfSome known (λ files. (x : Hunting) × IsHuntingOf asked files x × IsMade line shows x (Saves x) (Pages x) made) → Writes made.text.items → Notes made.notes.items
     → IfSome known (λ files. (x : Hunting) × IsHuntingOf asked files x × IsTold line shows x made.found Writes Notes (Saves x) (Pages x))
-told_known None asked line shows hunting Writes Notes Saves Pages made is all text notes = tt
-told_known (Some files) asked line shows hunting Writes Notes Saves Pages made is all text notes = (
+told_known None asked line shows Writes Notes Saves Pages made is text notes = tt
+told_known (Some files) asked line shows Writes Notes Saves Pages made (hunting, is, all) text notes = (
   hunting,
   is,
   record {

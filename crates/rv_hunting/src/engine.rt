@@ -9,7 +9,7 @@ ghost use Rattle.rv_hunting.specs.HuntFault.{IsTold, fails_by, is_of_files, is_r
 ghost use Rattle.rv_hunting.specs.Hunting as spec;
 ghost use Rattle.rv_hunting.specs.Paged.{IsPaged};
 ghost use Rattle.rv_hunting.specs.Saved.{AreSaved};
-ghost use Rattle.rv_hunting.specs.internal.Opened.{hunt_in, hunting_with};
+ghost use Rattle.rv_hunting.specs.internal.Opened.{IsMade, hunt_in, hunting_with};
 
 use crate::fault::HuntFault;
 use crate::folder::{Folder, FolderFault};
@@ -84,6 +84,49 @@ fn look<D: Folder>(folder: &mut Option<D>) -> Result<(), FolderFault>
     }
 }
 
+/// Reads the image and the lists, looks at the folder, and makes the runs of a hunt, the schedules of the races that are told,
+/// the page, and the texts of what the runs saw.
+fn make<'a, T: Threads + Wait + Sync, R: Read, D: Folder, F: NewFile, P: Watch>(
+    rt: &T,
+    alloc: Global,
+    options: &HuntOptions<'a, '_>,
+    inputs: &mut Inputs<R>,
+    folder: &mut Option<D>,
+    page: &mut Option<F>,
+    watch: &mut P,
+) -> Result<Made, HuntFault<'a>>
+    requires { AreLegal options.now }
+    ensures made { IfOk result (λ made. IfSome (spec.files_of R.remaining inputs.old) (λ files.
+        (hunting : spec.Hunting) × spec.IsHuntingOf (asked options.now) files hunting
+        × IsMade (parts options.now.line) options.now.shows hunting
+        (λ rows. IfSome folder.new (λ saved. AreSaved hunting.hunt (D.Holds saved) rows))
+        (λ came rows. IfSome page.new (λ file. IsPaged (parts options.now.line) hunting.hunt came rows (F.Holds file)))
+        made)) }
+    ensures wanted { (is_some folder.new ≡ is_some folder.old) × (is_some page.new ≡ is_some page.old) }
+    ensures refused { IfErr result (λ fault. IfSome (spec.files_of R.remaining inputs.old) (λ files.
+        IsTold (asked options.now) files fault)) }
+    ensures no_schedules { IfErr result (λ fault. is_of_files fault ≡ true
+        → passes D.is_used folder.new ≡ passes D.is_used folder.old) }
+    ensures no_page { IfErr result (λ fault. is_of_files fault ≡ true
+        → passes F.is_made page.new ≡ passes F.is_made page.old) }
+    ensures readers { spec.any_failed inputs.new ≡ (spec.any_failed inputs.old || fails_by is_read result) }
+    ensures writers { (passes D.has_failed folder.new || passes F.has_failed page.new)
+        ≡ ((passes D.has_failed folder.old || passes F.has_failed page.old) || fails_by is_write result) }
+{
+    let (opened, lists) = match read(alloc, options, inputs) {
+        Ok(read) => read,
+        Err(fault) => return Err(fault),
+    };
+    match look(folder) {
+        Ok(()) => {}
+        Err(fault) => return Err(HuntFault::from(fault)),
+    }
+    match make_hunt(rt, alloc, options, &opened, &lists, folder, page, watch) {
+        Ok(made) => Ok(made),
+        Err(fault) => Err(HuntFault::Command(fault.as_command())),
+    }
+}
+
 /// Reads the image and the lists, looks at the folder, makes the runs of a hunt, the schedules of the races that are told
 /// and the page, and writes what the runs saw. `notes` is the standard error: it has got all of the notes before the first byte
 /// of the text is written. Where a file or a list is refused, or the folder is, nothing is made or written.
@@ -137,17 +180,9 @@ pub fn run_hunt<
         ≡ (((passes D.has_failed folder.old || passes F.has_failed page.old)
         || (buffer.has_failed notes.old || buffer.has_failed writer.old)) || fails_by is_write result) }
 {
-    let (opened, lists) = match read(alloc, options, inputs) {
-        Ok(read) => read,
-        Err(fault) => return Err(fault),
-    };
-    match look(folder) {
-        Ok(()) => {}
-        Err(fault) => return Err(HuntFault::from(fault)),
-    }
-    let made = match make_hunt(rt, alloc, options, &opened, &lists, folder, page, watch) {
+    let made = match make(rt, alloc, options, inputs, folder, page, watch) {
         Ok(made) => made,
-        Err(fault) => return Err(HuntFault::Command(fault.as_command())),
+        Err(fault) => return Err(fault),
     };
     match publish(&made, writer, notes) {
         Ok(()) => Ok(made.found),

@@ -111,8 +111,36 @@ fn found_in(lists: &Lists, rows: &[(Key, RaceRow)]) -> Found
     }
 }
 
-/// What is told of all that a hunt's runs saw. The text is made first, then the schedules of the races that are told are
-/// saved, and the page is made last: what wants memory comes before a file.
+/// The texts of what a hunt came to. They are made first, then the schedules of the races that are told are saved, and the
+/// page is made last: what wants memory comes before a file.
+fn texts_and_files<D: Folder, F: NewFile>(
+    alloc: Global,
+    hunt: &Hunt,
+    excluded: &[u32],
+    options: &HuntOptions<'_, '_>,
+    outcome: &Outcome,
+    told: &[(Key, RaceRow)],
+    folder: &mut Option<D>,
+    page: &mut Option<F>,
+) -> Result<(Vec<u8>, Vec<u8>), MakeFault>
+    requires sites { hunt.now.source.sites ≡ sites hunt.now.source.image excluded.now }
+    requires races { All (HasRace hunt.now) told.now }
+    ensures texts { IfOk result (λ texts. spec.AreTextsOf (parts options.now.line) options.now.shows hunt.now outcome.now told.now
+        (record { text = texts.0.items; notes = texts.1.items })) }
+    ensures saved { IfOk result (λ _. IfSome folder.new (λ made. AreSaved hunt.now (D.Holds made) told.now)) }
+    ensures paged { IfOk result (λ _. IfSome page.new (λ file.
+        IsPaged (parts options.now.line) hunt.now outcome.now told.now (F.Holds file))) }
+    ensures wanted { (is_some folder.new ≡ is_some folder.old) × (is_some page.new ≡ is_some page.old) }
+    ensures failed { (passes D.has_failed folder.new || passes F.has_failed page.new)
+        ≡ (passes D.has_failed folder.old || passes F.has_failed page.old || fails_by_write result) }
+{
+    let texts = texts(alloc, hunt, excluded, options, outcome, told)?;
+    save_races(alloc, hunt, excluded, told, folder)?;
+    page_races(alloc, hunt, excluded, &options.line, outcome, told, page)?;
+    Ok(texts)
+}
+
+/// What is told of all that a hunt's runs saw.
 fn told<D: Folder, F: NewFile>(
     alloc: Global,
     hunt: &Hunt,
@@ -141,9 +169,9 @@ fn told<D: Folder, F: NewFile>(
         rows: &parted.told,
         ignored: &parted.ignored,
     };
-    let (text, notes) = texts(alloc, hunt, excluded, options, &outcome, &told)?;
-    save_races(alloc, hunt, excluded, &told, folder)?;
-    page_races(alloc, hunt, excluded, &options.line, &outcome, &told, page)?;
+    let (text, notes) = texts_and_files(
+        alloc, hunt, excluded, options, &outcome, &told, folder, page,
+    )?;
     Ok(Made {
         found: found_in(lists, &parted.told),
         text,

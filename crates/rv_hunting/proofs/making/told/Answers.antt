@@ -16,13 +16,8 @@ pub count_of-requires-clause-few : goal.count_of-requires-clause-few
 count_of-requires-clause-few g c =
     subst (λ (xs : List ℕ). length xs < 2 ^ 32) (sym (ap (λ (h : Hunt). h.source.sites) c.hunt.view_is ∙ c.requires.sites)) (sites_are_few c.args.hunt.now.source.image c.args.excluded.now)
 
-pub page_races-requires-clause-races : goal.page_races-requires-clause-races
-page_races-requires-clause-races g c =
-    told_found (hunting_with c.args.hunt.now c.args.lists.now) c.args.saw.now c.in_ok-parted.parted.told.items c.deref-6.result.now c.in_ok-parted.ensures.told (c.deref-6.ensures.value ∙ rw c.deref.ensures.value at c.in_ok-told.ensures)
-    (table_has_races c.hunts_have_one_result.ensures.told c.args.hunt.now c.args.saw.now c.requires.hunted)
-
-pub texts-requires-clause-races : goal.texts-requires-clause-races
-texts-requires-clause-races g c =
+pub texts_and_files-requires-clause-races : goal.texts_and_files-requires-clause-races
+texts_and_files-requires-clause-races g c =
     told_found (hunting_with c.args.hunt.now c.args.lists.now) c.args.saw.now c.in_ok-parted.parted.told.items c.deref-4.result.now c.in_ok-parted.ensures.told (c.deref-4.ensures.value ∙ rw c.deref.ensures.value at c.in_ok-told.ensures)
     (table_has_races c.hunts_have_one_result.ensures.told c.args.hunt.now c.args.saw.now c.requires.hunted)
 
@@ -32,5 +27,5 @@ returns-clause-made g c =
     c.in_ok-parted.ensures.told (rw c.deref.ensures.value at c.in_ok-told.ensures)
     (outcome_is (hunting_with c.args.hunt.now c.args.lists.now) c.args.saw.now c.count_of.result _ c.deref-2.result.now c.deref-3.result.now
     (c.count_of.ensures ∙ ap (λ (h : Hunt). length h.source.sites) c.hunt.view_is) refl (c.deref-2.ensures.value ∙ c.in_ok-parted.ensures.told) (c.deref-3.ensures.value ∙ c.in_ok-parted.ensures.ignored))
-    (rw c.deref-5.ensures.value at c.in_ok-save_races.ensures.saved) (rw c.deref-6.ensures.value at c.in_ok-page_races.ensures.paged)
-    (rw c.deref-4.ensures.value at c.in_ok-text.ensures) (rw c.deref-7.ensures.value at c.found_in.ensures)
+    (rw c.deref-4.ensures.value at c.in_ok-text.ensures.saved) (rw c.deref-4.ensures.value at c.in_ok-text.ensures.paged)
+    (rw c.deref-4.ensures.value at c.in_ok-text.ensures.texts) (rw c.deref-5.ensures.value at c.found_in.ensures)
