@@ -2,6 +2,7 @@
 use crate::assertion::assert_is;
 use crate::samples::PLAIN;
 use crate::sources::{fault_of, file_of, symbol_of};
+use crate::statements::assert_one_label;
 use rv_asm::{AsmKind, assemble};
 use rv_elf::Image;
 use rv_memory::region::Region;
@@ -32,24 +33,19 @@ fn file_with_one_symbol(rt: HostRuntime) -> Result<(), Fail> {
 #[test]
 fn one_symbol(rt: HostRuntime) -> Result<(), Fail> {
     let image = assemble(rt.alloc(), "x: addi x1, x0, 5")?;
-    assert_is(&rt, image.symbols().len(), 1, "how many symbols");
+    assert_one_label(&rt, &image, "x");
     assert_is(&rt, symbol_of(&image, 0), Some((0x1_0000, 4, 2)), "x");
-    for symbol in image.symbols() {
-        assert_is(&rt, symbol.name.as_str(), "x", "its name");
-    }
     Ok(())
 }
 
+/// The code of `la`.
+const LATER: &[u8] = &[0xb7, 0x12, 0x02, 0, 0x93, 0x82, 0x02, 0x80];
+
 /// The code of `la`, and the data behind the label.
 fn assert_later_label(rt: &impl Abort, text: &Region, data: &Region) {
-    let code = [0xb7, 0x12, 0x02, 0, 0x93, 0x82, 0x02, 0x80];
-    assert_is(rt, text.bytes.as_slice(), &code, "the code");
-    assert_is(
-        rt,
-        (data.start, data.len),
-        (0x2_0000, 2052),
-        "where the data stands",
-    );
+    assert_is(rt, text.bytes.as_slice(), LATER, "the code");
+    let place = (data.start, data.len);
+    assert_is(rt, place, (0x2_0000, 2052), "where the data stands");
     assert_is(rt, (data.w, data.x), (true, false), "what the data allows");
 }
 

@@ -10,7 +10,8 @@ fn assert_word(rt: &impl Abort, line: &str, word: u32) {
     assert_is(rt, word_at(line, HERE), Ok(word), line);
 }
 
-fn assert_line(
+/// Asserts that a word is listed so at its address, and that the line is read back.
+pub fn assert_line(
     rt: &impl Abort,
     alloc: Global,
     word: u32,
@@ -24,7 +25,7 @@ fn assert_line(
 }
 
 /// A word and its line, which is the same at each address.
-const FORMATS: [(u32, &str); 27] = [
+const FORMATS: &[(u32, &str)] = &[
     (0x0031_00b3, "add x1, x2, x3"),
     (0x4031_00b3, "sub x1, x2, x3"),
     (0xffb1_0093, "addi x1, x2, -5"),
@@ -55,7 +56,7 @@ const FORMATS: [(u32, &str); 27] = [
 ];
 
 fn assert_formats(rt: &impl Abort, alloc: Global, address: u32) -> Result<(), Fail> {
-    for (word, text) in &FORMATS {
+    for (word, text) in FORMATS {
         assert_line(rt, alloc, *word, address, text)?;
     }
     Ok(())
@@ -69,7 +70,7 @@ fn lists_each_format(rt: HostRuntime) -> Result<(), Fail> {
 }
 
 /// A word, its address and its line.
-const TARGETS: [(u32, u32, &str); 5] = [
+const TARGETS: &[(u32, u32, &str)] = &[
     (0x0020_8463, HERE, "beq x1, x2, 0x00010008"),
     (0x0100_00ef, HERE, "jal x1, 0x00010010"),
     (0xfe00_0ee3, 0, "beq x0, x0, 0xfffffffc"),
@@ -79,13 +80,13 @@ const TARGETS: [(u32, u32, &str); 5] = [
 
 #[test]
 fn lists_targets_by_their_address(rt: HostRuntime) -> Result<(), Fail> {
-    for (word, address, text) in &TARGETS {
+    for (word, address, text) in TARGETS {
         assert_line(&rt, rt.alloc(), *word, *address, text)?;
     }
     Ok(())
 }
 
-const WRITTEN: [(&str, u32); 18] = [
+const WRITTEN: &[(&str, u32)] = &[
     ("lw x5, (x6)", 0x0003_2283),
     ("\tlw t0,(t1)  # a load", 0x0003_2283),
     ("lw t0 ,  0x0 (t1)", 0x0003_2283),
@@ -108,7 +109,7 @@ const WRITTEN: [(&str, u32); 18] = [
 
 #[test]
 fn reads_what_people_write(rt: HostRuntime) {
-    for (line, word) in &WRITTEN {
+    for (line, word) in WRITTEN {
         assert_word(&rt, line, *word);
     }
 }

@@ -2,6 +2,7 @@
 use crate::assertion::assert_is;
 use crate::samples::{PLAIN, patched};
 use rv_elf::{Image, LoadFault, load, write};
+use rv_memory::region::Region;
 use std::alloc::Global;
 use std::process::Abort;
 use std::test::Fail;
@@ -10,20 +11,20 @@ fn fault_of(alloc: Global, file: &[u8]) -> Option<LoadFault> {
     load(alloc, file).err()
 }
 
+const PLAIN_BYTES: &[u8] = &[0x93, 0x00, 0x50, 0x00];
+
+fn assert_is_plain_segment(rt: &impl Abort, segment: &Region) {
+    let place = (segment.start, segment.len, segment.bytes.as_slice());
+    assert_is(rt, place, (0x10000, 4, PLAIN_BYTES), "segment");
+    let flags = (segment.r, segment.w, segment.x);
+    assert_is(rt, flags, (true, false, true), "flags");
+}
+
 fn assert_is_plain(rt: &impl Abort, image: &Image) {
     assert_is(rt, image.entry(), 0x10000, "entry");
     assert_is(rt, image.segments().len(), 1, "segments");
     for segment in image.segments() {
-        assert_is(rt, segment.start, 0x10000, "start");
-        assert_is(
-            rt,
-            segment.bytes.as_slice(),
-            &[0x93, 0x00, 0x50, 0x00],
-            "bytes",
-        );
-        assert_is(rt, segment.len, 4, "length");
-        let flags = (segment.r, segment.w, segment.x);
-        assert_is(rt, flags, (true, false, true), "flags");
+        assert_is_plain_segment(rt, segment);
     }
     assert_is(rt, image.symbols().len(), 0, "symbols");
 }
@@ -47,7 +48,7 @@ fn cut_files(rt: HostRuntime) {
 
 /// Where a field of the plain file is, its other bytes, and what is then wrong: each field set to all ones, and the
 /// entry to an address in mid-word.
-const FIELDS: [(usize, &[u8], Option<LoadFault>); 27] = [
+const FIELDS: &[(usize, &[u8], Option<LoadFault>)] = &[
     (0, &[0xff; 4], Some(LoadFault::NotElf)),
     (4, &[0xff; 1], Some(LoadFault::NotElf32Little)),
     (5, &[0xff; 1], Some(LoadFault::NotElf32Little)),
@@ -84,7 +85,7 @@ fn fault_with(alloc: Global, at: usize, new: &[u8]) -> Result<Option<LoadFault>,
 
 #[test]
 fn changed_fields(rt: HostRuntime) -> Result<(), Fail> {
-    for (at, new, want) in &FIELDS {
+    for (at, new, want) in FIELDS {
         let fault = fault_with(rt.alloc(), *at, new)?;
         assert_is(&rt, (at, fault), (at, *want), "changed field");
     }
@@ -107,7 +108,7 @@ fn with_header(alloc: Global, header: &[u32; 8]) -> Result<Vec<u8>, Fail> {
     Ok(out)
 }
 
-const HEADERS: [([u32; 8], Option<LoadFault>); 21] = [
+const HEADERS: &[([u32; 8], Option<LoadFault>)] = &[
     // up to the last address, and one past it
     ([1, 0, 0xffff_f000, 0, 0, 0x1000, 6, 1], None),
     (
@@ -156,7 +157,7 @@ const HEADERS: [([u32; 8], Option<LoadFault>); 21] = [
 
 #[test]
 fn second_program_header(rt: HostRuntime) -> Result<(), Fail> {
-    for (header, want) in &HEADERS {
+    for (header, want) in HEADERS {
         let file = with_header(rt.alloc(), header)?;
         let fault = fault_of(rt.alloc(), &file);
         assert_is(&rt, (header, fault), (header, *want), "header");

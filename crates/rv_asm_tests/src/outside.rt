@@ -1,6 +1,6 @@
 //! Words and their lines as another assembler has them.
 use crate::assertion::assert_is;
-use rv_asm::{line_of, word_at};
+use crate::lines::assert_line;
 use rv_text::hexadecimal::read_word;
 use std::alloc::Global;
 use std::process::Abort;
@@ -158,16 +158,19 @@ const LISTING: &str = "\
     0001024c: 026271b3 remu x3, x4, x6\n\
 ";
 
+/// The address, the word and the line.
+fn parts_of(line: &str) -> Option<(u32, u32, &str)> {
+    let (place, rest) = line.split_once(": ")?;
+    let (digits, text) = rest.split_once(" ")?;
+    let address = read_word(place.as_bytes())?;
+    let word = read_word(digits.as_bytes())?;
+    Some((address, word, text))
+}
+
 /// Asserts that the line's word is listed so, and read back.
 fn assert_agrees(rt: &impl Abort, alloc: Global, line: &str) -> Result<(), Fail> {
-    let (place, rest) = line.split_once(": ").ok_or("address")?;
-    let (digits, text) = rest.split_once(" ").ok_or("word")?;
-    let address = read_word(place.as_bytes()).ok_or("address")?;
-    let word = read_word(digits.as_bytes()).ok_or("word")?;
-    let listed = line_of(alloc, word, address)?;
-    assert_is(rt, listed.as_str(), text, "the line");
-    assert_is(rt, word_at(text, address), Ok(word), text);
-    Ok(())
+    let (address, word, text) = parts_of(line).ok_or("a line")?;
+    assert_line(rt, alloc, word, address, text)
 }
 
 #[test]

@@ -13,29 +13,49 @@ pub fn assert_is_symbol(rt: &impl Abort, symbol: &Symbol, wanted: (&str, u32, u3
 }
 
 /// Where the linked file's segments begin, how many bytes each has in the file, and how long it is.
-const LINKED_SEGMENTS: [(u32, usize, u32); 2] = [(0x10000, 24, 24), (0x20000, 4, 12)];
+const LINKED_SEGMENTS: &[(u32, usize, u32)] = &[(0x10000, 24, 24), (0x20000, 4, 12)];
 
-const LINKED_SYMBOLS: [(&str, u32, u32, u8); 4] = [
+const LINKED_SYMBOLS: &[(&str, u32, u32, u8)] = &[
     ("$xrv32i2p1_a2p1", 0x10000, 0, 0),
     ("_start", 0x10000, 24, 2),
     ("buffer", 0x20004, 8, 1),
     ("counter", 0x20000, 4, 1),
 ];
 
+/// Where an image's segment begins, how many bytes it has, and how long it is.
+fn segment_of(image: &Image, place: usize) -> Option<(u32, usize, u32)> {
+    match image.segments().get(place) {
+        Some(segment) => Some((segment.start, segment.bytes.len(), segment.len)),
+        None => None,
+    }
+}
+
+/// The name, value, size and kind of an image's symbol.
+fn named_symbol_of(image: &Image, place: usize) -> Option<(&str, u32, u32, u8)> {
+    match image.symbols().get(place) {
+        Some(symbol) => Some((symbol.name.as_str(), symbol.value, symbol.size, symbol.kind)),
+        None => None,
+    }
+}
+
 fn assert_has_linked_segments(rt: &impl Abort, image: &Image) {
     assert_is(rt, image.entry(), 0x10000, "entry");
     assert_is(rt, image.segments().len(), 2, "segments");
-    for (segment, wanted) in image.segments().iter().zip(&LINKED_SEGMENTS) {
-        let found = (segment.start, segment.bytes.len(), segment.len);
-        assert_is(rt, found, *wanted, "segment");
+    for (place, wanted) in LINKED_SEGMENTS.iter().enumerate() {
+        assert_is(rt, segment_of(image, place), Some(*wanted), "segment");
     }
 }
 
 fn assert_has_linked_symbols(rt: &impl Abort, image: &Image) {
     assert_is(rt, image.symbols().len(), 4, "symbols");
-    for (symbol, wanted) in image.symbols().iter().zip(&LINKED_SYMBOLS) {
-        assert_is_symbol(rt, symbol, *wanted);
+    for (place, wanted) in LINKED_SYMBOLS.iter().enumerate() {
+        assert_is(rt, named_symbol_of(image, place), Some(*wanted), "symbol");
     }
+}
+
+fn assert_is_linked(rt: &impl Abort, image: &Image) {
+    assert_has_linked_segments(rt, image);
+    assert_has_linked_symbols(rt, image);
 }
 
 /// The image of what is written for a copy.
@@ -50,11 +70,8 @@ fn written_and_loaded(alloc: Global, image: &Image) -> Result<Image, Fail> {
 #[test]
 fn linked_file(rt: HostRuntime) -> Result<(), Fail> {
     let image = load(rt.alloc(), &LINKED)?;
-    assert_has_linked_segments(&rt, &image);
-    assert_has_linked_symbols(&rt, &image);
-    let again = written_and_loaded(rt.alloc(), &image)?;
-    assert_has_linked_segments(&rt, &again);
-    assert_has_linked_symbols(&rt, &again);
+    assert_is_linked(&rt, &image);
+    assert_is_linked(&rt, &written_and_loaded(rt.alloc(), &image)?);
     Ok(())
 }
 
@@ -62,7 +79,7 @@ const BAD: Result<usize, LoadFault> = Err(LoadFault::BadSymbols);
 
 /// The linked file's symbol table has its header at 0x21c and `_start`'s entry at 0xf0; its strings
 /// begin at 0x120. Each row has a place, other bytes, and how many symbols are then found.
-const CHANGES: [(usize, &[u8], Result<usize, LoadFault>); 17] = [
+const CHANGES: &[(usize, &[u8], Result<usize, LoadFault>)] = &[
     // a type that is kept, one that isn't, no section, no name
     (0xfc, &[0x11], Ok(4)),
     (0xfc, &[0x13], Ok(3)),
@@ -101,7 +118,7 @@ fn symbols_with(alloc: Global, at: usize, new: &[u8]) -> Result<Result<usize, Lo
 
 #[test]
 fn changed_symbols(rt: HostRuntime) -> Result<(), Fail> {
-    for (at, new, want) in &CHANGES {
+    for (at, new, want) in CHANGES {
         let found = symbols_with(rt.alloc(), *at, new)?;
         assert_is(&rt, (at, new, found), (at, new, *want), "changed bytes");
     }

@@ -7,6 +7,7 @@ use rv_collide::entry::Entry::{self, Armed, Disarmed, Paused, Resumed, Stepped};
 use rv_collide::number::number_at;
 use rv_collide::refused::Refused;
 use rv_collide::replay::{ReplayFault, Why};
+use rv_hart::machine::Machine;
 use rv_memory::flat::Flat;
 use std::alloc::Global;
 use std::process::Abort;
@@ -45,20 +46,42 @@ fn arm_and_disarm(rt: &impl Abort, c: &mut Collider<Flat>) {
     assert_arms(rt, c, 0x10002, Err(Refused::ArmsSpent));
 }
 
+fn assert_turns(
+    rt: &impl Abort,
+    c: &mut Collider<Flat>,
+    hart: u8,
+    wanted: Result<Turned, Refused>,
+) {
+    let answer = c.turn(hart);
+    assert_is(rt, answer, wanted, "a turn");
+}
+
+fn assert_steps(rt: &impl Abort, c: &mut Collider<Flat>) {
+    let answer = c.turn(0);
+    let is_step = matches!(answer, Ok(Turned::Stepped(_)));
+    assert_is(rt, is_step, true, "a step");
+}
+
+fn assert_resumes(rt: &impl Abort, c: &mut Collider<Flat>, wanted: Option<Refused>) {
+    let fault = c.resume(0).err();
+    assert_is(rt, fault, wanted, "a resume");
+}
+
+/// Asserts since when hart 0 is paused, and that 00010004 is not armed.
+fn assert_paused(rt: &impl Abort, c: &Collider<Flat>, since: Option<u32>) {
+    let told = (c.paused(0), c.is_armed(0x10004));
+    assert_is(rt, told, (since, false), "since when");
+}
+
 fn pause_and_resume(rt: &impl Abort, c: &mut Collider<Flat>) {
-    let early = c.resume(0).err();
-    assert_is(rt, early, Some(Refused::NotPaused), "no pause");
-    let turned = c.turn(2).err();
-    assert_is(rt, turned, Some(Refused::NoHart), "no hart");
-    assert!(rt; matches!(&c.turn(0), Ok(Turned::Stepped(_))));
-    let turned = c.turn(0);
-    assert_is(rt, turned, Ok(Turned::Paused(Some(0))), "the pause");
-    assert_is(rt, c.paused(0), Some(6), "since when");
-    assert!(rt; !c.is_armed(0x10004));
-    let turned = c.turn(0);
-    assert_is(rt, turned, Err(Refused::Paused), "while paused");
-    assert!(rt; c.resume(0).is_ok());
-    assert_is(rt, c.paused(0), None, "no more");
+    assert_resumes(rt, c, Some(Refused::NotPaused));
+    assert_turns(rt, c, 2, Err(Refused::NoHart));
+    assert_steps(rt, c);
+    assert_turns(rt, c, 0, Ok(Turned::Paused(Some(0))));
+    assert_paused(rt, c, Some(6));
+    assert_turns(rt, c, 0, Err(Refused::Paused));
+    assert_resumes(rt, c, None);
+    assert_paused(rt, c, None);
 }
 
 const CALLED: [Entry; 8] = [
@@ -72,13 +95,16 @@ const CALLED: [Entry; 8] = [
     Resumed(0),
 ];
 
+fn call_in_order(rt: &impl Abort, mut c: Collider<Flat>) {
+    arm_and_disarm(rt, &mut c);
+    pause_and_resume(rt, &mut c);
+    let finished = c.finish();
+    assert_is(rt, finished.entries.as_slice(), &CALLED, "entries");
+}
+
 #[test]
 fn calls_are_refused_in_order(rt: HostRuntime) -> Result<(), Fail> {
-    let mut c = begun(&rt, rt.alloc(), 3)?;
-    arm_and_disarm(&rt, &mut c);
-    pause_and_resume(&rt, &mut c);
-    let finished = c.finish();
-    assert_is(&rt, finished.entries.as_slice(), &CALLED, "entries");
+    call_in_order(&rt, begun(&rt, rt.alloc(), 3)?);
     Ok(())
 }
 
@@ -90,16 +116,15 @@ fn arm_sixty_four(rt: &impl Abort, c: &mut Collider<Flat>) {
     assert_is(rt, c.entries(), 64, "entries");
 }
 
-/// What the first arming of a plan answers.
-fn first_arming(rt: &impl Abort, alloc: Global, arms: u32) -> Result<Result<(), Refused>, Fail> {
-    let mut c = begun(rt, alloc, arms)?;
-    Ok(c.arm(0x10004))
+#[test]
+fn none_is_armed_where_none_may_be(rt: HostRuntime) -> Result<(), Fail> {
+    let mut c = begun(&rt, rt.alloc(), 0)?;
+    assert_arms(&rt, &mut c, 0x10004, Err(Refused::ArmsSpent));
+    Ok(())
 }
 
 #[test]
 fn as_many_are_armed_as_may_be(rt: HostRuntime) -> Result<(), Fail> {
-    let none = first_arming(&rt, rt.alloc(), 0)?;
-    assert_is(&rt, none, Err(Refused::ArmsSpent), "no arm");
     let mut c = begun(&rt, rt.alloc(), 100)?;
     arm_sixty_four(&rt, &mut c);
     Ok(())
@@ -113,55 +138,68 @@ fn see_places(rt: &impl Abort, c: &Collider<Flat>) {
     assert_is(rt, places, (3, 5), "places");
 }
 
-/// An access that traps leaves its address armed.
+/// A pause that another hart's store meets.
+const HIT: &[Entry] = &[
+    Armed(0x10004),
+    Stepped(0),
+    Stepped(1),
+    Paused(0, Some(0)),
+    Stepped(1),
+    Resumed(0),
+];
+
 #[test]
-fn tells_places_and_what_is_armed(rt: HostRuntime) -> Result<(), Fail> {
-    let alloc = rt.alloc();
-    let hit = [
-        Armed(0x10004),
-        Stepped(0),
-        Stepped(1),
-        Paused(0, Some(0)),
-        Stepped(1),
-        Resumed(0),
-    ];
-    see_places(&rt, &told(&rt, alloc, P, plan(2, 100, 8)?, &hit)?);
-    let traps = [Armed(0x10004), Stepped(0), Stepped(0)];
-    let c = told(&rt, alloc, TRAPS, plan(1, 100, 8)?, &traps)?;
-    assert!(rt; c.is_armed(0x10004));
+fn tells_places(rt: HostRuntime) -> Result<(), Fail> {
+    let plan = plan(2, 100, 8)?;
+    see_places(&rt, &told(&rt, rt.alloc(), P, plan, HIT)?);
     Ok(())
 }
 
-fn spend_steps(rt: &impl Abort, c: &mut Collider<Flat>) {
-    let turned = c.turn(1);
-    assert_is(rt, turned, Err(Refused::StepsSpent), "a turn");
-    assert_is(rt, c.entries(), 5, "entries before");
+fn see_armed(rt: &impl Abort, c: &Collider<Flat>) {
+    assert_is(rt, c.is_armed(0x10004), true, "is armed");
+}
+
+/// An access that traps leaves its address armed.
+#[test]
+fn tells_what_is_armed(rt: HostRuntime) -> Result<(), Fail> {
+    let plan = plan(1, 100, 8)?;
+    let traps = &[Armed(0x10004), Stepped(0), Stepped(0)];
+    see_armed(&rt, &told(&rt, rt.alloc(), TRAPS, plan, traps)?);
+    Ok(())
+}
+
+/// The pause's end is the last entry.
+fn resume_last(rt: &impl Abort, c: &mut Collider<Flat>) {
     let ending = c.resume(0).ok();
-    assert!(rt; matches!(ending, Some(ending) if ending.verdict == Verdict::Quiet));
+    let verdict = ending.map(|ending| ending.verdict);
+    assert_is(rt, verdict, Some(Verdict::Quiet), "the verdict");
     assert_eq!(rt; c.entries(), 6);
     assert_is(rt, c.entry(5), Resumed(0), "the last entry");
 }
 
+fn spend_steps(rt: &impl Abort, mut c: Collider<Flat>) {
+    assert_turns(rt, &mut c, 1, Err(Refused::StepsSpent));
+    assert_is(rt, c.entries(), 5, "entries before");
+    resume_last(rt, &mut c);
+}
+
+const SPENT: &[Entry] = &[
+    Armed(0x10004),
+    Stepped(0),
+    Paused(0, Some(0)),
+    Stepped(1),
+    Armed(0x10004),
+];
+
 #[test]
 fn steps_are_spent_before_any_pause(rt: HostRuntime) -> Result<(), Fail> {
-    let list = [
-        Armed(0x10004),
-        Stepped(0),
-        Paused(0, Some(0)),
-        Stepped(1),
-        Armed(0x10004),
-    ];
-    let mut collider = told(&rt, rt.alloc(), P, plan(2, 2, 2)?, &list)?;
-    spend_steps(&rt, &mut collider);
+    let plan = plan(2, 2, 2)?;
+    spend_steps(&rt, told(&rt, rt.alloc(), P, plan, SPENT)?);
     Ok(())
 }
 
-fn at(place: u32, why: Why) -> Option<ReplayFault> {
-    Some(ReplayFault::Entry { place, why })
-}
-
 /// Harts 1 to 5 are paused at their stores, the last one unwatched.
-const UNWATCHED: [Entry; 16] = [
+const UNWATCHED: &[Entry] = &[
     Stepped(0),
     Stepped(1),
     Stepped(2),
@@ -180,27 +218,73 @@ const UNWATCHED: [Entry; 16] = [
     Paused(5, None),
 ];
 
-#[test]
-fn tells_the_first_entry_that_no_call_adds(rt: HostRuntime) -> Result<(), Fail> {
-    let alloc = rt.alloc();
-    let traps = [Armed(0x10004), Stepped(0), Paused(0, Some(0))];
-    let fault = fault_of(&rt, alloc, TRAPS, plan(1, 1000, 200)?, &traps)?;
-    assert_is(&rt, fault, at(2, Why::Differs), "an access that traps");
-    let fault = fault_of(&rt, alloc, P, plan(2, 2, 2)?, &[Stepped(3)])?;
-    let wanted = at(0, Why::Refused(Refused::NoHart));
-    assert_is(&rt, fault, wanted, "hart 3 of two");
-    let fault = fault_of(&rt, alloc, P, plan(2, 100, 0)?, &[Paused(0, None)])?;
-    assert_is(&rt, fault, at(0, Why::Differs), "no address is armed");
-    let fault = fault_of(&rt, alloc, P, slotted(6, 100, 8, 5)?, &UNWATCHED)?;
-    assert_is(&rt, fault, at(15, Why::Differs), "a fifth slot is free");
+/// A list that is no schedule: its words, the harts, steps, arms and slots of its plan, and the first entry that no call
+/// adds.
+struct Untold {
+    name: &'static str,
+    words: &'static [u32],
+    numbers: (u8, u32, u32, u8),
+    entries: &'static [Entry],
+    place: u32,
+    why: Why,
+}
+
+const UNTOLD: &[Untold] = &[
+    Untold {
+        name: "an access that traps",
+        words: TRAPS,
+        numbers: (1, 1000, 200, 4),
+        entries: &[Armed(0x10004), Stepped(0), Paused(0, Some(0))],
+        place: 2,
+        why: Why::Differs,
+    },
+    Untold {
+        name: "hart 3 of two",
+        words: P,
+        numbers: (2, 2, 2, 4),
+        entries: &[Stepped(3)],
+        place: 0,
+        why: Why::Refused(Refused::NoHart),
+    },
+    Untold {
+        name: "no address is armed",
+        words: P,
+        numbers: (2, 100, 0, 4),
+        entries: &[Paused(0, None)],
+        place: 0,
+        why: Why::Differs,
+    },
+    Untold {
+        name: "a fifth slot is free",
+        words: P,
+        numbers: (6, 100, 8, 5),
+        entries: UNWATCHED,
+        place: 15,
+        why: Why::Differs,
+    },
+];
+
+fn assert_untold(rt: &impl Abort, alloc: Global, row: &Untold) -> Result<(), Fail> {
+    let (harts, steps, arms, slots) = row.numbers;
+    let plan = slotted(harts, steps, arms, slots)?;
+    let fault = fault_of(rt, alloc, row.words, plan, row.entries)?;
+    let wanted = ReplayFault::Entry {
+        place: row.place,
+        why: row.why,
+    };
+    assert_is(rt, fault, Some(wanted), row.name);
     Ok(())
 }
 
-/// The words of P, parts of them, and bytes that there are not.
 #[test]
-fn reads_bytes_as_a_number(rt: HostRuntime) -> Result<(), Fail> {
-    let core = begun(&rt, rt.alloc(), 0)?;
-    let machine = core.machine();
+fn tells_the_first_entry_that_no_call_adds(rt: HostRuntime) -> Result<(), Fail> {
+    for row in UNTOLD {
+        assert_untold(&rt, rt.alloc(), row)?;
+    }
+    Ok(())
+}
+
+fn read_bytes(rt: &impl Abort, machine: &Machine<Flat>) {
     let found = [
         number_at(machine, 0x10000, 4),
         number_at(machine, 0x10000, 1),
@@ -208,6 +292,12 @@ fn reads_bytes_as_a_number(rt: HostRuntime) -> Result<(), Fail> {
         number_at(machine, 0x1000d, 4),
         number_at(machine, 0x30000, 4),
     ];
-    assert_is(&rt, found, [0x0002_0337, 0x37, 0x7300, 0, 0], "numbers");
+    assert_is(rt, found, [0x0002_0337, 0x37, 0x7300, 0, 0], "numbers");
+}
+
+/// The words of P, parts of them, and bytes that there are not.
+#[test]
+fn reads_bytes_as_a_number(rt: HostRuntime) -> Result<(), Fail> {
+    read_bytes(&rt, begun(&rt, rt.alloc(), 0)?.machine());
     Ok(())
 }

@@ -7,7 +7,7 @@ use std::process::Abort;
 use std::test::Fail;
 
 /// Each refusal of a call, and its name.
-const REFUSED: [(Refused, &str); 11] = [
+const REFUSED: &[(Refused, &str)] = &[
     (Refused::NoHart, "NoHart"),
     (Refused::NotRunning, "NotRunning"),
     (Refused::Paused, "Paused"),
@@ -31,7 +31,7 @@ fn assert_told(rt: &impl Abort, alloc: Global, why: Why, name: &str) -> Result<(
 #[test]
 fn refusals_are_told_by_their_names(rt: HostRuntime) -> Result<(), Fail> {
     let alloc = rt.alloc();
-    for (refused, name) in &REFUSED {
+    for (refused, name) in REFUSED {
         assert_told(&rt, alloc, Why::Refused(*refused), name)?;
     }
     assert_told(&rt, alloc, Why::Differs, "Differs")

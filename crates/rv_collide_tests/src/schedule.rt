@@ -55,10 +55,10 @@ pub const FIRST: &[u8] = b"rvcollide schedule 1\n";
 /// The first line of format 2.
 pub const SECOND: &[u8] = b"rvcollide schedule 2\n";
 
-/// The text with these first and second lines and one entry.
-pub fn with_plan(alloc: Global, header: &[u8], line: &[u8]) -> Option<(u32, ScheduleKind)> {
+/// The text with these first lines, one more, and an entry.
+pub fn with_line(alloc: Global, first: &[u8], line: &[u8]) -> Option<(u32, ScheduleKind)> {
     let mut text = Vec::new(alloc);
-    text.extend_from_slice(header).ok()?;
+    text.extend_from_slice(first).ok()?;
     text.extend_from_slice(line).ok()?;
     text.extend_from_slice(b"\ns 0\nend\n").ok()?;
     fault_of(alloc, &text)

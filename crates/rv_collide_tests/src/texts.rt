@@ -8,6 +8,8 @@ use rv_collide::plan::Plan;
 use rv_collide::texts::{write_endings, write_finished};
 use rv_hart::access::Access;
 use rv_memory::flagged::Flagged;
+use std::alloc::Global;
+use std::process::Abort;
 use std::test::Fail;
 
 /// `sw` to 0x00020000 by the instruction at 0x00010004.
@@ -60,35 +62,40 @@ fn writes_endings(rt: HostRuntime) -> Result<(), Fail> {
     Ok(())
 }
 
-/// Steps and pauses are turns; no other entry is.
-#[test]
-fn counts_turns(rt: HostRuntime) -> Result<(), Fail> {
-    let alloc = rt.alloc();
-    let mut entries = Vec::new(alloc);
-    for entry in [
-        Entry::Armed(0x0001_0004),
-        Entry::Stepped(0),
-        Entry::Paused(0, None),
-        Entry::Resumed(0),
-        Entry::Stepped(1),
-        Entry::Disarmed(0x0001_0004),
-    ] {
-        entries.push(entry)?;
-    }
-    let told = Finished {
-        plan: Plan::new(2, 10, 2, 5, 4).ok_or("a plan")?,
-        entries,
-        endings: Vec::new(alloc),
-        output: Vec::new(alloc),
-    };
+const TURNS: &[Entry] = &[
+    Entry::Armed(0x0001_0004),
+    Entry::Stepped(0),
+    Entry::Paused(0, None),
+    Entry::Resumed(0),
+    Entry::Stepped(1),
+    Entry::Disarmed(0x0001_0004),
+];
+
+fn see_turns(rt: &impl Abort, alloc: Global, told: &Finished) {
     let mut writer = Flagged::new(Vec::new(alloc));
-    let is_written = write_finished(&mut writer, &told).is_ok();
+    let is_written = write_finished(&mut writer, told).is_ok();
     let written = writer.into_inner();
     assert_is(
-        &rt,
+        rt,
         (is_written, written.as_slice()),
         (true, b"turns 3\n".as_slice()),
         "a run",
     );
+}
+
+/// Steps and pauses are turns; no other entry is.
+#[test]
+fn counts_turns(rt: HostRuntime) -> Result<(), Fail> {
+    let alloc = rt.alloc();
+    let plan = Plan::new(2, 10, 2, 5, 4).ok_or("a plan")?;
+    let mut entries = Vec::new(alloc);
+    entries.extend_from_slice(TURNS)?;
+    let told = Finished {
+        plan,
+        entries,
+        endings: Vec::new(alloc),
+        output: Vec::new(alloc),
+    };
+    see_turns(&rt, alloc, &told);
     Ok(())
 }

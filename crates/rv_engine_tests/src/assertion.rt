@@ -6,6 +6,7 @@ use rv_memory::flagged::Flagged;
 use std::alloc::Global;
 use std::fmt::Debug;
 use std::process::Abort;
+use std::test::Fail;
 
 /// What was found is what is wanted. (Each assertion that a test writes out costs the check a second, and a call of
 /// this one next to nothing.)
@@ -36,4 +37,18 @@ pub fn assert_tells_each_failing_read<F: Fn(&mut Flagged<Failing<'_>>) -> Result
 {
     let told = tells_each_failing_read(text, engine);
     assert_is(rt, told, Ok(()), "a failing reader");
+}
+
+/// Asserts that an outcome is a fault of status 1 that is told so.
+pub fn assert_told(
+    rt: &impl Abort,
+    alloc: Global,
+    outcome: Result<(), Fault>,
+    told: &'static str,
+) -> Result<(), Fail> {
+    let fault = outcome.err().ok_or(told)?;
+    assert_is(rt, fault.status(), 1, told);
+    let text = format!(in alloc; "{fault}")?;
+    assert_is(rt, text.as_str(), told, "what is told");
+    Ok(())
 }

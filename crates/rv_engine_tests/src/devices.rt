@@ -141,23 +141,34 @@ pub fn tells_each_failing_call<F: Fn(&mut Buffered<Sink>) -> Result<(), Fault>>(
     for fails_at in 1..100 {
         let mut writer = failing_at(alloc, fails_at, takes_none);
         let outcome = engine(&mut writer);
-        let has_failed = writer.failed();
+        let told = outcome_of(outcome, writer.failed(), Fault::Write);
         let device = writer.into_inner();
-        if has_failed != outcome.is_err() {
-            return Err("a failure is told just where there was one");
+        match told {
+            Told::Nothing => return ends_well(&device, fails_at, flush_failed),
+            Told::Failure if device.calls == fails_at => flush_failed = device.flush_failed,
+            Told::Failure => return Err("the failed call was the last"),
+            Told::Wrongly(owed) => return Err(owed),
         }
-        if outcome.is_ok() {
-            return ends_well(&device, fails_at, flush_failed);
-        }
-        if outcome != Err(Fault::Write) {
-            return Err("a writer's failure is told as one");
-        }
-        if device.calls != fails_at {
-            return Err("the failed call was the last");
-        }
-        flush_failed = device.flush_failed;
     }
     Err("some call does not fail")
+}
+
+/// What an engine told of a device.
+enum Told {
+    Nothing,
+    Failure,
+    /// And what it owes.
+    Wrongly(&'static str),
+}
+
+/// What an outcome tells of a device that has failed or not, whose failure is this fault.
+fn outcome_of(outcome: Result<(), Fault>, has_failed: bool, fault: Fault) -> Told {
+    match outcome {
+        Ok(()) if !has_failed => Told::Nothing,
+        Err(told) if has_failed && told == fault => Told::Failure,
+        Err(_) if has_failed => Told::Wrongly("a device's failure is told as one"),
+        _ => Told::Wrongly("a failure is told just where there was one"),
+    }
 }
 
 /// What an engine owes that no call of its writer failed.
@@ -189,22 +200,14 @@ pub fn tells_each_failing_read<F: Fn(&mut Flagged<Failing<'_>>) -> Result<(), Fa
             fails_at,
         });
         let outcome = engine(&mut reader);
-        let has_failed = reader.failed();
-        let device = reader.into_inner();
-        if has_failed != outcome.is_err() {
-            return Err("a failure is told just where there was one");
-        }
-        if outcome.is_ok() {
-            if fails_at <= device.reads {
-                return Err("each read was made to fail");
-            }
-            return Ok(());
-        }
-        if outcome != Err(Fault::Read) {
-            return Err("a reader's failure is told as one");
-        }
-        if device.reads != fails_at {
-            return Err("the failed read was the last");
+        let told = outcome_of(outcome, reader.failed(), Fault::Read);
+        let reads = reader.into_inner().reads;
+        match told {
+            Told::Nothing if fails_at > reads => return Ok(()),
+            Told::Nothing => return Err("each read was made to fail"),
+            Told::Failure if reads == fails_at => {}
+            Told::Failure => return Err("the failed read was the last"),
+            Told::Wrongly(owed) => return Err(owed),
         }
     }
     Err("some read does not fail")

@@ -1,13 +1,14 @@
 mod drawn;
 
-use crate::assertion::{assert_is, assert_tells_each_failing_call, assert_tells_each_failing_read};
+use crate::assertion::{
+    assert_is, assert_tells_each_failing_call, assert_tells_each_failing_read, assert_told,
+};
 use crate::devices::Endless;
-use rv_elf::{Image, write};
+use crate::images::file_of;
 use rv_engines::exhibit::engine::run_exhibit;
 use rv_engines::fault::Fault;
 use rv_memory::buffered::Buffered;
 use rv_memory::flagged::Flagged;
-use rv_memory::region::Region;
 use std::alloc::Global;
 use std::io::{Read, Write};
 use std::process::Abort;
@@ -18,45 +19,6 @@ pub const P: &[u32] = &[0x0002_0337, 0x00a3_2023, 0x0003_2283, 0x0000_0073];
 
 /// `lui x6,0x10`, `sw x10,4(x6)`, `ecall`: the store is at the address that it stores to.
 const OVERWRITES: &[u32] = &[0x0001_0337, 0x00a3_2223, 0x0000_0073];
-
-/// Words at 00010000, which may be written.
-fn code(rt: &impl Abort, alloc: Global, words: &[u32]) -> Result<Region, Fail> {
-    let mut bytes = Vec::new(alloc);
-    for word in words {
-        bytes.extend_from_slice(&word.to_le_bytes())?;
-    }
-    let len = bytes.len();
-    assert!(rt; 1 <= len && len <= 65_536);
-    Ok(Region {
-        start: 0x10000,
-        bytes,
-        len: len as u32,
-        r: true,
-        w: true,
-        x: true,
-    })
-}
-
-/// An image of them and 4,096 zero bytes at 00020000, R and W.
-fn image_of(rt: &impl Abort, alloc: Global, words: &[u32]) -> Result<Image, Fail> {
-    let code = code(rt, alloc, words)?;
-    let data = Region {
-        start: 0x20000,
-        bytes: Vec::new(alloc),
-        len: 4096,
-        r: true,
-        w: true,
-        x: false,
-    };
-    let segments = vec![in alloc; code, data]?;
-    Ok(Image::new(0x10000, segments, Vec::new(alloc)).ok_or("an image")?)
-}
-
-/// Its file.
-pub fn file_of(rt: &impl Abort, alloc: Global, words: &[u32]) -> Result<Vec<u8>, Fail> {
-    let image = image_of(rt, alloc, words)?;
-    Ok(write(alloc, &image)?)
-}
 
 pub const HIT: &[u8] = b"rvcollide schedule 2\nharts 2 steps 100 arms 8 pause 10 slots 4\n\
     a 00010004\ns 0\ns 1\np 0 0\ns 1\nr 0\nend\n";
@@ -119,75 +81,72 @@ fn shown<W: Write>(
     )
 }
 
+/// Schedules, numbers of endings, and their exhibits.
+const EXHIBITS: &[(&[u8], u32, &[u8])] = &[
+    (HIT, 0, FOUR_STEPS),
+    (FIRST_HIT, 0, FOUR_STEPS),
+    (CHANGED, 0, EIGHT_STEPS),
+    (CHANGED, 4, NINE_STEPS),
+    (WATCHED, 4, SIX_HARTS_HIT),
+];
+
+fn assert_exhibits(rt: &impl Abort, alloc: Global, image: &[u8]) {
+    for (schedule, number, text) in EXHIBITS {
+        let mut writer = Buffered::new(alloc, Vec::new(alloc));
+        let outcome = shown(alloc, image, schedule, *number, &mut writer);
+        let written = writer.into_inner();
+        let told = (outcome, written.as_slice());
+        assert_is(rt, told, (Ok(()), *text), "an exhibit");
+    }
+}
+
 #[test]
 fn writes_exhibits(rt: HostRuntime) -> Result<(), Fail> {
-    let alloc = rt.alloc();
-    let image = file_of(&rt, alloc, P)?;
-    for (schedule, number, text) in [
-        (HIT, 0, FOUR_STEPS),
-        (FIRST_HIT, 0, FOUR_STEPS),
-        (CHANGED, 0, EIGHT_STEPS),
-        (CHANGED, 4, NINE_STEPS),
-        (WATCHED, 4, SIX_HARTS_HIT),
-    ] {
-        let mut writer = Buffered::new(alloc, Vec::new(alloc));
-        let outcome = shown(alloc, &image, schedule, number, &mut writer);
-        let written = writer.into_inner();
-        assert_is(
-            &rt,
-            (outcome, written.as_slice()),
-            (Ok(()), text),
-            "an exhibit",
-        );
-    }
+    assert_exhibits(&rt, rt.alloc(), &file_of(&rt, rt.alloc(), P, true)?);
     Ok(())
 }
 
+/// The words of an image, a schedule, the number of an ending, and what is told: the files' faults come before the
+/// ending's, and of those an entry's first.
+type Fails = (&'static [u32], &'static [u8], u32, &'static str);
+
+const FAILS: &[Fails] = &[
+    (P, HIT, 1, "exhibit NoEnding"),
+    (P, HIT, 4_294_967_295, "exhibit NoEnding"),
+    (P, QUIET, 0, "exhibit NotReport"),
+    (OVERWRITES, HIT, 0, "exhibit TextChanged"),
+    (P, ILLEGAL, 7, "replay entry 1 NoHart"),
+    (P, NO_PLAN, 0, "schedule line 2 PlanLine"),
+];
+
 /// Asserts that a fault is told, and nothing written.
-fn assert_tells(
-    rt: &impl Abort,
-    alloc: Global,
-    words: &[u32],
-    schedule: &[u8],
-    number: u32,
-    told: &'static str,
-) -> Result<(), Fail> {
-    let image = file_of(rt, alloc, words)?;
+fn assert_tells(rt: &impl Abort, alloc: Global, row: &Fails) -> Result<(), Fail> {
+    let (words, schedule, number, told) = *row;
+    let image = file_of(rt, alloc, words, true)?;
     let mut writer = Buffered::new(alloc, Vec::new(alloc));
     let outcome = shown(alloc, &image, schedule, number, &mut writer);
     let written = writer.into_inner().len();
     assert_is(rt, written, 0, told);
-    let fault = outcome.err().ok_or(told)?;
-    assert_is(rt, fault.status(), 1, told);
-    let text = format!(in alloc; "{fault}")?;
-    assert_is(rt, text.as_str(), told, "what is told");
+    assert_told(rt, alloc, outcome, told)
+}
+
+#[test]
+fn tells_why_there_is_no_exhibit(rt: HostRuntime) -> Result<(), Fail> {
+    for row in FAILS {
+        assert_tells(&rt, rt.alloc(), row)?;
+    }
     Ok(())
 }
 
-/// The files' faults come before the ending's, and of those an entry's first.
 #[test]
-fn tells_why_there_is_no_exhibit(rt: HostRuntime) -> Result<(), Fail> {
+fn refuses_an_endless_image(rt: HostRuntime) {
     let alloc = rt.alloc();
-    for (words, schedule, number, told) in [
-        (P, HIT, 1, "exhibit NoEnding"),
-        (P, HIT, 4_294_967_295, "exhibit NoEnding"),
-        (P, QUIET, 0, "exhibit NotReport"),
-        (OVERWRITES, HIT, 0, "exhibit TextChanged"),
-        (P, ILLEGAL, 7, "replay entry 1 NoHart"),
-        (P, NO_PLAN, 0, "schedule line 2 PlanLine"),
-    ] {
-        assert_tells(&rt, alloc, words, schedule, number, told)?;
-    }
-    let mut writer = Buffered::new(alloc, Vec::new(alloc));
-    let outcome = run_exhibit(
+    let outcome = read_by(
         alloc,
         &mut Flagged::new(Endless),
         &mut Flagged::new(NO_PLAN),
-        0,
-        &mut writer,
     );
     assert_is(&rt, outcome, Err(Fault::TooLong), "an endless image");
-    Ok(())
 }
 
 /// `lui x6,0x20`, `sw x10,0(x6)`, and back to the store.
@@ -209,7 +168,7 @@ pub fn long_schedule(alloc: Global) -> Result<String, Fail> {
 #[test]
 fn tells_a_writer_that_fails(rt: HostRuntime) -> Result<(), Fail> {
     let alloc = rt.alloc();
-    let image = file_of(&rt, alloc, STORES)?;
+    let image = file_of(&rt, alloc, STORES, true)?;
     let schedule = long_schedule(alloc)?;
     for takes_none in [false, true] {
         assert_tells_each_failing_call(&rt, alloc, takes_none, |writer| {
@@ -232,7 +191,7 @@ fn read_by<I: Read, S: Read>(
 #[test]
 fn tells_a_reader_that_fails(rt: HostRuntime) -> Result<(), Fail> {
     let alloc = rt.alloc();
-    let image = file_of(&rt, alloc, P)?;
+    let image = file_of(&rt, alloc, P, true)?;
     assert_tells_each_failing_read(&rt, &image, |reader| {
         read_by(alloc, reader, &mut Flagged::new(HIT))
     });

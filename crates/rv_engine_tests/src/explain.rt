@@ -1,6 +1,7 @@
 use crate::assertion::{assert_is, assert_tells_each_failing_call, assert_tells_each_failing_read};
 use crate::devices::Kept;
-use crate::exhibit::{HIT, ILLEGAL, NO_PLAN, P, QUIET, STORES, file_of, long_schedule};
+use crate::exhibit::{HIT, ILLEGAL, NO_PLAN, P, QUIET, STORES, long_schedule};
+use crate::images::file_of;
 use rv_engines::explain::engine::run_explain;
 use rv_engines::explain::options::ExplainOptions;
 use rv_engines::fault::Fault;
@@ -59,7 +60,7 @@ race 1: 00010004 and 00010004, 1 report, kept
 #[test]
 fn tells_a_race(rt: HostRuntime) -> Result<(), Fail> {
     let alloc = rt.alloc();
-    let image = file_of(&rt, alloc, P)?;
+    let image = file_of(&rt, alloc, P, true)?;
     let mut writer = Buffered::new(alloc, Vec::new(alloc));
     let outcome = told(alloc, &PLAIN, &image, HIT, &mut None, &mut writer);
     assert_is(&rt, outcome, Ok(()), "a race");
@@ -68,22 +69,32 @@ fn tells_a_race(rt: HostRuntime) -> Result<(), Fail> {
     Ok(())
 }
 
+fn told_without_text(
+    rt: &impl Abort,
+    alloc: Global,
+    options: &ExplainOptions<'static>,
+    image: &[u8],
+    schedule: &[u8],
+) -> Result<(), CommandFault<'static>> {
+    let mut writer = Buffered::new(alloc, Vec::new(alloc));
+    let mut picture = Some(Kept::new(alloc, false));
+    let outcome = told(alloc, options, image, schedule, &mut picture, &mut writer);
+    assert_is(rt, writer.into_inner().len(), 0, "nothing is written");
+    let made = picture.is_some_and(|file| file.is_made);
+    assert_is(rt, made, false, "no picture");
+    outcome
+}
+
 /// Asserts that a fault is told with a file and a sentence, nothing is written and no picture is made.
 fn assert_tells(
     rt: &impl Abort,
     alloc: Global,
-    options: &ExplainOptions<'static>,
-    schedule: &[u8],
-    line: &'static str,
+    row: &(ExplainOptions<'static>, &[u8], &'static str),
+    image: &[u8],
 ) -> Result<(), Fail> {
-    let image = file_of(rt, alloc, P)?;
-    let mut writer = Buffered::new(alloc, Vec::new(alloc));
-    let mut picture = Some(Kept::new(alloc, false));
-    let outcome = told(alloc, options, &image, schedule, &mut picture, &mut writer);
-    assert_is(rt, writer.into_inner().len(), 0, line);
-    let made = picture.is_some_and(|file| file.is_made);
-    assert_is(rt, made, false, line);
-    let fault = outcome.err().ok_or(line)?;
+    let (options, schedule, line) = row;
+    let outcome = told_without_text(rt, alloc, options, image, schedule);
+    let fault = outcome.err().ok_or(*line)?;
     assert_is(rt, fault.status(), 1, line);
     let paths = Paths {
         image: "a.elf",
@@ -95,61 +106,69 @@ fn assert_tells(
         fault,
     };
     let text = format!(in alloc; "{told}")?;
-    assert_is(rt, text.as_str(), line, "what is told");
+    assert_is(rt, text.as_str(), *line, "what is told");
     Ok(())
 }
 
+const UNNAMED: ExplainOptions<'static> = ExplainOptions {
+    named: Some("none"),
+    around: 3,
+    race: Some(2),
+};
+
+const SECOND: ExplainOptions<'static> = ExplainOptions {
+    named: None,
+    around: 3,
+    race: Some(2),
+};
+
 /// The files' faults come before the names', and these before a race that is not there.
-#[test]
-fn tells_why_there_is_no_text(rt: HostRuntime) -> Result<(), Fail> {
-    let alloc = rt.alloc();
-    let named = ExplainOptions {
-        named: Some("none"),
-        around: 3,
-        race: Some(2),
-    };
-    let second = ExplainOptions {
-        named: None,
-        around: 3,
-        race: Some(2),
-    };
-    for (options, schedule, line) in [
-        (
-            named,
-            NO_PLAN,
-            "s.txt: schedule line 2 PlanLine: the plan has the form: harts N steps N arms N pause N slots N",
-        ),
-        (
-            named,
-            ILLEGAL,
-            "s.txt: replay entry 1 NoHart: the plan has no such hart",
-        ),
-        (
-            named,
-            HIT,
-            "a.elf: name none: the image has no symbol with this name",
-        ),
-        (
-            second,
-            HIT,
-            "s.txt: explain NoRace: there is no race with this number",
-        ),
-        (
-            PLAIN,
-            QUIET,
-            "s.txt: explain NoRace: there is no race with this number",
-        ),
-    ] {
-        assert_tells(&rt, alloc, &options, schedule, line)?;
+const FAULTS: &[(ExplainOptions<'static>, &[u8], &str)] = &[
+    (
+        UNNAMED,
+        NO_PLAN,
+        "s.txt: schedule line 2 PlanLine: the plan has the form: harts N steps N arms N pause N slots N",
+    ),
+    (
+        UNNAMED,
+        ILLEGAL,
+        "s.txt: replay entry 1 NoHart: the plan has no such hart",
+    ),
+    (
+        UNNAMED,
+        HIT,
+        "a.elf: name none: the image has no symbol with this name",
+    ),
+    (
+        SECOND,
+        HIT,
+        "s.txt: explain NoRace: there is no race with this number",
+    ),
+    (
+        PLAIN,
+        QUIET,
+        "s.txt: explain NoRace: there is no race with this number",
+    ),
+];
+
+fn assert_tells_all(rt: &impl Abort, alloc: Global, image: &[u8]) -> Result<(), Fail> {
+    for row in FAULTS {
+        assert_tells(rt, alloc, row, image)?;
     }
     Ok(())
+}
+
+#[test]
+fn tells_why_there_is_no_text(rt: HostRuntime) -> Result<(), Fail> {
+    let image = file_of(&rt, rt.alloc(), P, true)?;
+    assert_tells_all(&rt, rt.alloc(), &image)
 }
 
 /// Without a picture a schedule with no report has its first line.
 #[test]
 fn tells_that_there_is_no_race(rt: HostRuntime) -> Result<(), Fail> {
     let alloc = rt.alloc();
-    let image = file_of(&rt, alloc, P)?;
+    let image = file_of(&rt, alloc, P, true)?;
     let mut writer = Buffered::new(alloc, Vec::new(alloc));
     let outcome = told(alloc, &PLAIN, &image, QUIET, &mut None, &mut writer);
     assert_is(&rt, outcome, Ok(()), "no race");
@@ -163,17 +182,28 @@ fn tells_that_there_is_no_race(rt: HostRuntime) -> Result<(), Fail> {
     Ok(())
 }
 
-#[test]
-fn draws_a_race(rt: HostRuntime) -> Result<(), Fail> {
-    let alloc = rt.alloc();
-    let image = file_of(&rt, alloc, P)?;
+fn assert_draws(rt: &impl Abort, alloc: Global, image: &[u8]) {
     let mut writer = Buffered::new(alloc, Vec::new(alloc));
     let mut picture = Some(Kept::new(alloc, false));
-    let outcome = told(alloc, &PLAIN, &image, HIT, &mut picture, &mut writer);
-    assert_is(&rt, outcome, Ok(()), "a race");
-    let drawn = picture.ok_or("a file")?.bytes;
-    assert!(rt; drawn.as_slice().starts_with(b"<svg "));
-    assert!(rt; drawn.as_slice().ends_with(b"</svg>\n"));
+    let outcome = told(alloc, &PLAIN, image, HIT, &mut picture, &mut writer);
+    assert_is(rt, outcome, Ok(()), "a race");
+    assert_is_drawn(rt, picture);
+}
+
+fn assert_is_drawn(rt: &impl Abort, picture: Option<Kept>) {
+    let ends = match picture {
+        Some(file) => (
+            file.bytes.starts_with(b"<svg "),
+            file.bytes.ends_with(b"</svg>\n"),
+        ),
+        None => (false, false),
+    };
+    assert_is(rt, ends, (true, true), "a picture");
+}
+
+#[test]
+fn draws_a_race(rt: HostRuntime) -> Result<(), Fail> {
+    assert_draws(&rt, rt.alloc(), &file_of(&rt, rt.alloc(), P, true)?);
     Ok(())
 }
 
@@ -181,7 +211,7 @@ fn draws_a_race(rt: HostRuntime) -> Result<(), Fail> {
 #[test]
 fn tells_a_picture_that_fails(rt: HostRuntime) -> Result<(), Fail> {
     let alloc = rt.alloc();
-    let image = file_of(&rt, alloc, P)?;
+    let image = file_of(&rt, alloc, P, true)?;
     let mut writer = Buffered::new(alloc, Vec::new(alloc));
     let mut picture = Some(Kept::new(alloc, true));
     let outcome = told(alloc, &PLAIN, &image, HIT, &mut picture, &mut writer);
@@ -208,7 +238,7 @@ fn plain(outcome: Result<(), CommandFault<'static>>) -> Result<(), Fault> {
 #[test]
 fn tells_a_writer_that_fails(rt: HostRuntime) -> Result<(), Fail> {
     let alloc = rt.alloc();
-    let image = file_of(&rt, alloc, STORES)?;
+    let image = file_of(&rt, alloc, STORES, true)?;
     let schedule = long_schedule(alloc)?;
     let wide = ExplainOptions {
         named: None,
@@ -238,7 +268,7 @@ fn read_by<I: Read, S: Read>(
 #[test]
 fn tells_a_reader_that_fails(rt: HostRuntime) -> Result<(), Fail> {
     let alloc = rt.alloc();
-    let image = file_of(&rt, alloc, P)?;
+    let image = file_of(&rt, alloc, P, true)?;
     assert_tells_each_failing_read(&rt, &image, |reader| {
         read_by(alloc, reader, &mut Flagged::new(HIT))
     });

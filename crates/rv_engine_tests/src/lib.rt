@@ -15,6 +15,8 @@ mod exhibit;
 #[cfg(test)]
 mod explain;
 #[cfg(test)]
+mod images;
+#[cfg(test)]
 mod list;
 #[cfg(test)]
 mod replay;

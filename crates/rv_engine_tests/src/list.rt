@@ -6,6 +6,8 @@ use rv_engines::list::run_list;
 use rv_memory::buffered::Buffered;
 use rv_memory::flagged::Flagged;
 use std::alloc::{AllocError, Global};
+use std::io::Read;
+use std::process::Abort;
 use std::test::Fail;
 
 /// An ELF32 file of one segment from 00010000 on, R and X, with these words.
@@ -34,53 +36,69 @@ const LISTING: &[u8] = b"00010000: 00020337 lui x6, 0x20\n\
     0001000c: 00000073 ecall\n\
     00010010: 00000000 .word 0x00000000\n";
 
+/// Asserts that a file is listed so.
+pub fn assert_lists(rt: &impl Abort, alloc: Global, file: &[u8], listing: &[u8], what: &str) {
+    let mut writer = Buffered::new(alloc, Vec::new(alloc));
+    let outcome = run_list(alloc, &mut Flagged::new(file), &mut writer);
+    assert_is(rt, outcome, Ok(()), what);
+    let written = writer.into_inner();
+    assert_is(rt, written.as_slice(), listing, what);
+}
+
+const WORDS: &[u32] = &[0x0002_0337, 0x00a3_2023, 0x0003_2283, 0x0000_0073, 0];
+
 #[test]
 fn lists_an_image(rt: HostRuntime) -> Result<(), Fail> {
     let alloc = rt.alloc();
-    let file = file_of(
-        alloc,
-        &[0x0002_0337, 0x00a3_2023, 0x0003_2283, 0x0000_0073, 0],
-    )?;
-    let mut reader = Flagged::new(file.as_slice());
-    let mut writer = Buffered::new(alloc, Vec::new(alloc));
-    let outcome = run_list(alloc, &mut reader, &mut writer);
-    assert_is(&rt, outcome, Ok(()), "the outcome");
-    let written = writer.into_inner();
-    assert_is(&rt, written.as_slice(), LISTING, "the listing");
+    let file = file_of(alloc, WORDS)?;
+    assert_lists(&rt, alloc, &file, LISTING, "the listing");
     Ok(())
+}
+
+/// Asserts that a fault is told of a reader, and nothing is written.
+fn assert_refuses<R: Read + Drop>(rt: &impl Abort, alloc: Global, reader: R, fault: Fault) {
+    let mut writer = Buffered::new(alloc, Vec::new(alloc));
+    let outcome = run_list(alloc, &mut Flagged::new(reader), &mut writer);
+    assert_is(rt, outcome, Err(fault), "the fault");
+    let written = writer.into_inner().len();
+    assert_is(rt, written, 0, "bytes");
+}
+
+fn assert_refuses_parts(rt: &impl Abort, alloc: Global, file: &[u8]) {
+    let truncated = Fault::Load(LoadFault::Truncated);
+    assert_refuses(rt, alloc, &file[..0], truncated);
+    assert_refuses(rt, alloc, &file[..file.len().saturating_sub(1)], truncated);
 }
 
 #[test]
 fn refuses_what_is_no_image(rt: HostRuntime) -> Result<(), Fail> {
     let alloc = rt.alloc();
-    let file = file_of(alloc, &[0x0002_0337])?;
-    for (bytes, fault) in [
-        (b"".as_slice(), LoadFault::Truncated),
-        (&file[..file.len().saturating_sub(1)], LoadFault::Truncated),
-        (&[0; 88], LoadFault::NotElf),
-    ] {
-        let mut writer = Buffered::new(alloc, Vec::new(alloc));
-        let outcome = run_list(alloc, &mut Flagged::new(bytes), &mut writer);
-        assert_is(&rt, outcome, Err(Fault::Load(fault)), "the fault");
-        let written = writer.into_inner().len();
-        assert_is(&rt, written, 0, "bytes");
-    }
-    let mut writer = Buffered::new(alloc, Vec::new(alloc));
-    let outcome = run_list(alloc, &mut Flagged::new(Endless), &mut writer);
-    assert_is(&rt, outcome, Err(Fault::TooLong), "the fault");
-    let written = writer.into_inner().len();
-    assert_is(&rt, written, 0, "bytes");
+    assert_refuses_parts(&rt, alloc, &file_of(alloc, &WORDS[..1])?);
     Ok(())
 }
 
 #[test]
-fn tells_failing_devices(rt: HostRuntime) -> Result<(), Fail> {
+fn refuses_zeros_and_an_endless_file(rt: HostRuntime) {
     let alloc = rt.alloc();
-    let small = file_of(alloc, &[0x0002_0337])?;
-    assert_tells_each_failing_read(&rt, small.as_slice(), |reader| {
+    let zeros = [0; 88].as_slice();
+    assert_refuses(&rt, alloc, zeros, Fault::Load(LoadFault::NotElf));
+    assert_refuses(&rt, alloc, Endless, Fault::TooLong);
+}
+
+#[test]
+fn tells_a_reader_that_fails(rt: HostRuntime) -> Result<(), Fail> {
+    let alloc = rt.alloc();
+    let file = file_of(alloc, &WORDS[..1])?;
+    assert_tells_each_failing_read(&rt, file.as_slice(), |reader| {
         let mut writer = Buffered::new(alloc, Vec::new(alloc));
         run_list(alloc, reader, &mut writer)
     });
+    Ok(())
+}
+
+#[test]
+fn tells_a_writer_that_fails(rt: HostRuntime) -> Result<(), Fail> {
+    let alloc = rt.alloc();
     let file = file_of(alloc, &[0x0002_0337; 200])?;
     for takes_none in [false, true] {
         assert_tells_each_failing_call(&rt, alloc, takes_none, |writer| {

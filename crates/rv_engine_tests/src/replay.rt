@@ -1,11 +1,12 @@
-use crate::assertion::{assert_is, assert_tells_each_failing_call, assert_tells_each_failing_read};
+use crate::assertion::{
+    assert_is, assert_tells_each_failing_call, assert_tells_each_failing_read, assert_told,
+};
 use crate::devices::Endless;
-use rv_elf::{Image, write};
+use crate::images::file_of;
 use rv_engines::fault::Fault;
 use rv_engines::replay::engine::run_replay;
 use rv_memory::buffered::Buffered;
 use rv_memory::flagged::Flagged;
-use rv_memory::region::Region;
 use std::alloc::Global;
 use std::io::{Read, Write};
 use std::process::Abort;
@@ -57,44 +58,6 @@ const FAILS: &[u32] = &[
 /// After the `lui`: `lw x5,2(x6)`.
 const TRAPS: &[u32] = &[0x0002_0337, 0x0023_2283];
 
-/// Words at 00010000, R and X.
-fn code(rt: &impl Abort, alloc: Global, words: &[u32]) -> Result<Region, Fail> {
-    let mut bytes = Vec::new(alloc);
-    for word in words {
-        bytes.extend_from_slice(&word.to_le_bytes())?;
-    }
-    let len = bytes.len();
-    assert!(rt; 1 <= len && len <= 65_536);
-    Ok(Region {
-        start: 0x10000,
-        bytes,
-        len: len as u32,
-        r: true,
-        w: false,
-        x: true,
-    })
-}
-
-/// An image of them and 4,096 zero bytes at 00020000, R and W.
-fn image(rt: &impl Abort, alloc: Global, words: &[u32]) -> Result<Image, Fail> {
-    let code = code(rt, alloc, words)?;
-    let data = Region {
-        start: 0x20000,
-        bytes: Vec::new(alloc),
-        len: 4096,
-        r: true,
-        w: true,
-        x: false,
-    };
-    let segments = vec![in alloc; code, data]?;
-    Ok(Image::new(0x10000, segments, Vec::new(alloc)).ok_or("an image")?)
-}
-
-/// The file of that image.
-fn file_of(rt: &impl Abort, alloc: Global, words: &[u32]) -> Result<Vec<u8>, Fail> {
-    Ok(write(alloc, &image(rt, alloc, words)?)?)
-}
-
 /// The text of a schedule: the plan's numbers, and the lines of its entries.
 fn text_of(alloc: Global, plan: &str, entries: &str) -> Result<String, Fail> {
     let text = format!(in alloc; "rvcollide schedule 1\n{plan}\n{entries}end\n")?;
@@ -119,7 +82,7 @@ struct Row {
 }
 
 /// Each schedule is of two harts where nothing else is said.
-const ROWS: [Row; 15] = [
+const ROWS: &[Row] = &[
     Row {
         name: "a store within a pause",
         words: P,
@@ -315,7 +278,7 @@ fn replayed<W: Write>(
 }
 
 fn assert_writes(rt: &impl Abort, alloc: Global, row: &Row) -> Result<(), Fail> {
-    let image = file_of(rt, alloc, row.words)?;
+    let image = file_of(rt, alloc, row.words, false)?;
     let schedule = text_of(alloc, row.plan, row.entries)?;
     let mut writer = Buffered::new(alloc, Vec::new(alloc));
     let outcome = replayed(alloc, &image, schedule.as_str(), &mut writer);
@@ -328,14 +291,14 @@ fn assert_writes(rt: &impl Abort, alloc: Global, row: &Row) -> Result<(), Fail> 
 #[test]
 fn writes_endings_harts_and_output(rt: HostRuntime) -> Result<(), Fail> {
     let alloc = rt.alloc();
-    for row in &ROWS {
+    for row in ROWS {
         assert_writes(&rt, alloc, row)?;
     }
     Ok(())
 }
 
 /// What is told of an image and the plan and entries of a schedule.
-const FAULTS: [(&[u32], &str, &str, &str); 7] = [
+const FAULTS: &[(&[u32], &str, &str, &str)] = &[
     (P, "harts 2", "s 3\n", "schedule line 2 PlanLine"),
     (P, SHORT, "s 3\nx\n", "schedule line 4 Entry"),
     (P, SHORT, "s 3\ns 1\nend\n", "schedule line 6 AfterEnd"),
@@ -356,7 +319,7 @@ const FAULTS: [(&[u32], &str, &str, &str); 7] = [
 ];
 
 /// Files that are no image, and what is told of them, however bad the schedule is.
-const NO_IMAGES: [(&[u8], &str, &str, &str); 2] = [
+const NO_IMAGES: &[(&[u8], &str, &str, &str)] = &[
     (b"", "harts 0", "s 16\n", "load Truncated"),
     (&[0; 88], TWO, "s 0\n", "load NotElf"),
 ];
@@ -373,25 +336,37 @@ fn assert_tells(
     let outcome = replayed(alloc, image, schedule, &mut writer);
     let written = writer.into_inner().len();
     assert_is(rt, written, 0, told);
-    let fault = outcome.err().ok_or(told)?;
-    assert_is(rt, fault.status(), 1, told);
-    let text = format!(in alloc; "{fault}")?;
-    assert_is(rt, text.as_str(), told, "what is told");
-    Ok(())
+    assert_told(rt, alloc, outcome, told)
+}
+
+fn assert_tells_of_file(
+    rt: &impl Abort,
+    alloc: Global,
+    row: &(&[u8], &str, &str, &'static str),
+) -> Result<(), Fail> {
+    let (image, plan, entries, told) = *row;
+    let schedule = text_of(alloc, plan, entries)?;
+    assert_tells(rt, alloc, image, schedule.as_str(), told)
+}
+
+fn assert_tells_of_words(
+    rt: &impl Abort,
+    alloc: Global,
+    row: &(&[u32], &str, &str, &'static str),
+) -> Result<(), Fail> {
+    let (words, plan, entries, told) = *row;
+    let image = file_of(rt, alloc, words, false)?;
+    assert_tells_of_file(rt, alloc, &(image.as_slice(), plan, entries, told))
 }
 
 /// The image's faults are told before the schedule's, and those before an entry's.
 #[test]
 fn tells_the_first_fault(rt: HostRuntime) -> Result<(), Fail> {
-    let alloc = rt.alloc();
-    for (image, plan, entries, told) in NO_IMAGES {
-        let schedule = text_of(alloc, plan, entries)?;
-        assert_tells(&rt, alloc, image, schedule.as_str(), told)?;
+    for row in NO_IMAGES {
+        assert_tells_of_file(&rt, rt.alloc(), row)?;
     }
-    for (words, plan, entries, told) in FAULTS {
-        let image = file_of(&rt, alloc, words)?;
-        let schedule = text_of(alloc, plan, entries)?;
-        assert_tells(&rt, alloc, &image, schedule.as_str(), told)?;
+    for row in FAULTS {
+        assert_tells_of_words(&rt, rt.alloc(), row)?;
     }
     Ok(())
 }
@@ -423,7 +398,7 @@ fn long_schedule(alloc: Global) -> Result<String, Fail> {
 #[test]
 fn tells_a_writer_that_fails(rt: HostRuntime) -> Result<(), Fail> {
     let alloc = rt.alloc();
-    let image = file_of(&rt, alloc, P)?;
+    let image = file_of(&rt, alloc, P, false)?;
     let schedule = long_schedule(alloc)?;
     for takes_none in [false, true] {
         assert_tells_each_failing_call(&rt, alloc, takes_none, |writer| {
@@ -449,7 +424,7 @@ fn read_by<I: Read, S: Read>(
 #[test]
 fn tells_a_reader_that_fails(rt: HostRuntime) -> Result<(), Fail> {
     let alloc = rt.alloc();
-    let image = file_of(&rt, alloc, P)?;
+    let image = file_of(&rt, alloc, P, false)?;
     assert_tells_each_failing_read(&rt, &image, |reader| {
         read_by(alloc, reader, &mut Flagged::new(GOOD))
     });

@@ -4,7 +4,7 @@ use rv_engines::run::fault::CommandFault;
 use rv_engines::sentences::FaultLine;
 use std::test::Fail;
 
-const LINES: [(Option<&str>, CommandFault, &str); 4] = [
+const LINES: &[(Option<&str>, CommandFault, &str)] = &[
     (
         Some("a b.elf"),
         CommandFault::Plain(Fault::TooLong),
@@ -31,9 +31,12 @@ const LINES: [(Option<&str>, CommandFault, &str); 4] = [
 #[test]
 fn lines_steer_no_terminal(rt: HostRuntime) -> Result<(), Fail> {
     for (file, fault, wanted) in LINES {
-        let line = FaultLine { file, fault };
+        let line = FaultLine {
+            file: *file,
+            fault: *fault,
+        };
         let told = format!(in rt.alloc(); "{line}")?;
-        assert_is(&rt, told.as_str(), wanted, wanted);
+        assert_is(&rt, told.as_str(), *wanted, wanted);
     }
     Ok(())
 }

@@ -59,14 +59,19 @@ fn an_empty_table(rt: HostRuntime) -> Result<(), Fail> {
     shows(&rt, rt.alloc(), &[], b"races 0\n")
 }
 
+/// The first of the rows, and the last.
+const FIRST: Said = (0x10054, Some(0x10074), 13, Ordered, 0, 63);
+
+const LAST: Said = (0x10054, Some(0x10078), 1, Counter, 5, 6);
+
 static ROWS: [Said; 7] = [
-    (0x10054, Some(0x10074), 13, Ordered, 0, 63),
+    FIRST,
     (0x1000c, None, 1, Flag, 0, 64),
     (0x10054, Some(0x10074), 1, Kept, 1, 9),
     (0x10054, Some(0x10074), 2, Kept, 2, 10),
     (0x10054, None, 7, Named, 4_294_967_295, 4),
     (0x1000c, None, u64::MAX, Named, 4, 5),
-    (0x10054, Some(0x10078), 1, Counter, 5, 6),
+    LAST,
 ];
 
 static WHOLE: &[u8] = b"races 4\n\
@@ -80,15 +85,21 @@ fn rows_of_a_race_are_joined(rt: HostRuntime) -> Result<(), Fail> {
     shows(&rt, rt.alloc(), &ROWS, WHOLE)
 }
 
+fn merge_rows(alloc: Global, table: &mut HuntTable, rows: &[Said]) -> Result<(), Fail> {
+    table.merge(&table_of(alloc, rows)?)?;
+    Ok(())
+}
+
+fn merge_pieces(alloc: Global, table: &mut HuntTable, place: usize) -> Result<(), Fail> {
+    let place = place.min(ROWS.len());
+    merge_rows(alloc, table, &ROWS[..place])?;
+    merge_rows(alloc, table, &ROWS[place..])
+}
+
 /// The tables of the rows before the place and from it on, merged.
 fn merged(alloc: Global, place: usize) -> Result<Vec<u8>, Fail> {
     let mut table = HuntTable::new(alloc);
-    for piece in [
-        &ROWS[..place.min(ROWS.len())],
-        &ROWS[place.min(ROWS.len())..],
-    ] {
-        table.merge(&table_of(alloc, piece)?)?;
-    }
+    merge_pieces(alloc, &mut table, place)?;
     text(alloc, &table)
 }
 
@@ -101,54 +112,75 @@ fn tables_of_pieces_are_merged(rt: HostRuntime) -> Result<(), Fail> {
     Ok(())
 }
 
+/// Races, and whether they have a row.
+const RACES: &[(u32, Option<u32>, bool)] = &[
+    (0x10054, Some(0x10074), true),
+    (0x10054, None, true),
+    (0x10074, None, false),
+    (0x1000c, Some(0x1000c), false),
+];
+
+fn assert_has(rt: &impl Abort, table: &HuntTable) {
+    assert_is(rt, table.len(), 4, "rows");
+    for (first, second, found) in RACES {
+        let key = Key {
+            first: *first,
+            second: *second,
+        };
+        assert_is(rt, table.has(&key), *found, "has");
+    }
+}
+
 #[test]
 fn which_races_have_a_row(rt: HostRuntime) -> Result<(), Fail> {
-    let table = table_of(rt.alloc(), &ROWS)?;
-    assert_is(&rt, table.len(), 4, "rows");
-    for (first, second, found) in [
-        (0x10054, Some(0x10074), true),
-        (0x10054, None, true),
-        (0x10074, None, false),
-        (0x1000c, Some(0x1000c), false),
-    ] {
-        assert_is(&rt, table.has(&Key { first, second }), found, "has");
+    assert_has(&rt, &table_of(rt.alloc(), &ROWS)?);
+    Ok(())
+}
+
+/// Tables that have all of the races, some of them, or none, and whether a race was not expected. Only those that may be
+/// a bug are asked for, and of which class the expected row is does not matter.
+const EXPECTED: &[(&[Said], bool)] = &[
+    (&[FIRST], true),
+    (&[LAST], true),
+    (&[FIRST, LAST], false),
+    (&[(0x10054, Some(0x10074), 1, Named, 9, 9), LAST], false),
+    (
+        &[
+            (0x10054, Some(0x10074), 1, Kept, 9, 9),
+            (0x10078, None, 1, Counter, 9, 9),
+        ],
+        true,
+    ),
+    (&[], true),
+];
+
+fn assert_unexpected(
+    rt: &impl Abort,
+    alloc: Global,
+    expected: &[Said],
+    unexpected: bool,
+) -> Result<(), Fail> {
+    let found = table_of(alloc, &ROWS)?;
+    let table = table_of(alloc, expected)?;
+    assert_is(rt, found.has_unexpected(&table), unexpected, "unexpected");
+    Ok(())
+}
+
+#[test]
+fn which_races_were_not_expected(rt: HostRuntime) -> Result<(), Fail> {
+    assert_unexpected(&rt, rt.alloc(), &ROWS, false)?;
+    for (expected, unexpected) in EXPECTED {
+        assert_unexpected(&rt, rt.alloc(), expected, *unexpected)?;
     }
     Ok(())
 }
 
-/// A table that has all of the races, some of them, or none. Only those that may be a bug are asked for, and of which
-/// class the expected row is does not matter.
 #[test]
-fn which_races_were_not_expected(rt: HostRuntime) -> Result<(), Fail> {
-    let alloc = rt.alloc();
-    let found = table_of(alloc, &ROWS)?;
-    for (expected, unexpected) in [
-        (ROWS.as_slice(), false),
-        (&ROWS[..1], true),
-        (&ROWS[6..], true),
-        (&[ROWS[0], ROWS[6]], false),
-        (&[(0x10054, Some(0x10074), 1, Named, 9, 9), ROWS[6]], false),
-        (
-            &[
-                (0x10054, Some(0x10074), 1, Kept, 9, 9),
-                (0x10078, None, 1, Counter, 9, 9),
-            ],
-            true,
-        ),
-        (&[], true),
-    ] {
-        let table = table_of(alloc, expected)?;
-        assert_is(&rt, found.has_unexpected(&table), unexpected, "unexpected");
-    }
-    let benign = table_of(alloc, &ROWS[4..6])?;
-    let none = HuntTable::new(alloc);
-    assert_is(
-        &rt,
-        benign.has_unexpected(&none),
-        false,
-        "of none that may be a bug",
-    );
-    assert_is(&rt, none.has_unexpected(&none), false, "of none");
+fn no_race_that_may_be_a_bug_was_not_expected(rt: HostRuntime) -> Result<(), Fail> {
+    let benign = table_of(rt.alloc(), &ROWS[4..6])?;
+    let none = HuntTable::new(rt.alloc());
+    let found = (benign.has_unexpected(&none), none.has_unexpected(&none));
+    assert_is(&rt, found, (false, false), "benign ones, and none");
     Ok(())
 }
 

@@ -33,7 +33,7 @@ const FAILS: &[u32] = &[
     0x0000_0073,
 ];
 
-const CONFLICTS: [Row; 6] = [
+const CONFLICTS: &[Row] = &[
     Row {
         name: "a load of byte 1 and a store of byte 2 do not conflict",
         words: BYTES,
@@ -139,5 +139,5 @@ const CONFLICTS: [Row; 6] = [
 
 #[test]
 fn shows_conflicts(rt: HostRuntime) -> Result<(), Fail> {
-    assert_all_show(&rt, rt.alloc(), &CONFLICTS, 4)
+    assert_all_show(&rt, rt.alloc(), CONFLICTS, 4)
 }

@@ -5,7 +5,7 @@ use rv_collide::entry::Entry::{Armed, Paused, Resumed, Stepped};
 use std::test::Fail;
 
 /// Harts 1 to 5 are paused at their stores, the last one unwatched, before hart 0's store.
-const OVERLAPS: [Row; 3] = [
+const OVERLAPS: &[Row] = &[
     Row {
         name: "a fifth pause is unwatched",
         words: P,
@@ -140,5 +140,5 @@ const OVERLAPS: [Row; 3] = [
 
 #[test]
 fn shows_overlaps(rt: HostRuntime) -> Result<(), Fail> {
-    assert_all_show(&rt, rt.alloc(), &OVERLAPS, 4)
+    assert_all_show(&rt, rt.alloc(), OVERLAPS, 4)
 }

@@ -27,7 +27,7 @@ const LOADS_BETWEEN: &[u32] = &[
 ];
 
 /// Hart 0's SC fails where its x7, or x8, is 1.
-const RESERVATIONS: [Row; 5] = [
+const RESERVATIONS: &[Row] = &[
     Row {
         name: "a store ends a reservation",
         words: RESERVES,
@@ -129,5 +129,5 @@ const RESERVATIONS: [Row; 5] = [
 
 #[test]
 fn shows_reservations(rt: HostRuntime) -> Result<(), Fail> {
-    assert_all_show(&rt, rt.alloc(), &RESERVATIONS, 4)
+    assert_all_show(&rt, rt.alloc(), RESERVATIONS, 4)
 }

@@ -5,7 +5,7 @@ use rv_collide::entry::Entry::{Armed, Paused, Resumed, Stepped};
 use std::test::Fail;
 
 /// The fifth pause where there are five slots.
-const FIVE_SLOTS: [Row; 1] = [Row {
+const FIVE_SLOTS: &[Row] = &[Row {
     name: "a fifth slot watches a fifth pause",
     words: P,
     harts: 6,
@@ -53,7 +53,7 @@ const FIVE_SLOTS: [Row; 1] = [Row {
 }];
 
 /// The pauses where there is one slot.
-const ONE_SLOT: [Row; 1] = [Row {
+const ONE_SLOT: &[Row] = &[Row {
     name: "one slot watches one pause",
     words: P,
     harts: 6,
@@ -98,6 +98,6 @@ const ONE_SLOT: [Row; 1] = [Row {
 
 #[test]
 fn shows_as_many_slots_as_there_are(rt: HostRuntime) -> Result<(), Fail> {
-    assert_all_show(&rt, rt.alloc(), &FIVE_SLOTS, 5)?;
-    assert_all_show(&rt, rt.alloc(), &ONE_SLOT, 1)
+    assert_all_show(&rt, rt.alloc(), FIVE_SLOTS, 5)?;
+    assert_all_show(&rt, rt.alloc(), ONE_SLOT, 1)
 }

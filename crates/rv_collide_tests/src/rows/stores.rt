@@ -7,7 +7,7 @@ use std::test::Fail;
 /// `lui x6,0x10`, `sw x10,4(x6)`, `ecall`: the store is at the address that it stores to.
 const OVERWRITES: &[u32] = &[0x0001_0337, 0x00a3_2223, 0x0000_0073];
 
-const STORES: [Row; 6] = [
+const STORES: &[Row] = &[
     Row {
         name: "a store within a pause is a hit",
         words: P,
@@ -122,5 +122,5 @@ const STORES: [Row; 6] = [
 
 #[test]
 fn shows_stores(rt: HostRuntime) -> Result<(), Fail> {
-    assert_all_show(&rt, rt.alloc(), &STORES, 4)
+    assert_all_show(&rt, rt.alloc(), STORES, 4)
 }

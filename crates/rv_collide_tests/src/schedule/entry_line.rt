@@ -1,21 +1,21 @@
 //! The lines after the plan, and the names of what is wrong.
 use crate::assertion::assert_is;
-use crate::schedule::{FIRST, SECOND, assert_told, fault_of, with_plan};
+use crate::schedule::{assert_told, fault_of, with_line};
 use rv_collide::schedule::ScheduleKind;
 use std::alloc::Global;
+use std::process::Abort;
 use std::test::Fail;
 
 /// The text with these lines after the plan.
 fn with_lines(alloc: Global, lines: &[u8]) -> Option<(u32, ScheduleKind)> {
     let mut text = Vec::new(alloc);
-    text.extend_from_slice(b"rvcollide schedule 1\nharts 1 steps 1 arms 0 pause 1\n")
-        .ok()?;
+    text.extend_from_slice(FIRST_LINES).ok()?;
     text.extend_from_slice(lines).ok()?;
     fault_of(alloc, &text)
 }
 
 /// Third lines that are no entry.
-const NO_ENTRIES: [&[u8]; 33] = [
+const NO_ENTRIES: &[&[u8]] = &[
     b"\n",
     b"s\nend\n",
     b"s \nend\n",
@@ -54,7 +54,7 @@ const NO_ENTRIES: [&[u8]; 33] = [
 #[test]
 fn tells_a_line_that_is_no_entry(rt: HostRuntime) {
     let alloc = rt.alloc();
-    for lines in &NO_ENTRIES {
+    for lines in NO_ENTRIES {
         assert_told(
             &rt,
             lines,
@@ -65,7 +65,7 @@ fn tells_a_line_that_is_no_entry(rt: HostRuntime) {
 }
 
 /// Slots of pauses in either format, and whether they are in its range.
-const SLOTS: [(&[u8], bool, bool); 6] = [
+const SLOTS: &[(&[u8], bool, bool)] = &[
     (b"p 0 -", true, true),
     (b"p 0 0", true, true),
     (b"p 0 3", true, true),
@@ -74,24 +74,21 @@ const SLOTS: [(&[u8], bool, bool); 6] = [
     (b"p 0 8", false, false),
 ];
 
+/// The first two lines of format 1.
+const FIRST_LINES: &[u8] = b"rvcollide schedule 1\nharts 1 steps 1 arms 0 pause 1\n";
+
+/// The first two lines of format 2.
+const SECOND_LINES: &[u8] = b"rvcollide schedule 2\nharts 1 steps 1 arms 0 pause 1 slots 1\n";
+
 #[test]
-fn tells_the_slots_of_a_format(rt: HostRuntime) -> Result<(), Fail> {
+fn tells_the_slots_of_a_format(rt: HostRuntime) {
     let alloc = rt.alloc();
-    for (entry, in_first, in_second) in &SLOTS {
-        let first = format!(in alloc;
-            "harts 1 steps 1 arms 0 pause 1\n{}",
-            str::from_utf8(entry)?
-        )?;
-        let second = format!(in alloc;
-            "harts 1 steps 1 arms 0 pause 1 slots 1\n{}",
-            str::from_utf8(entry)?
-        )?;
-        let told = with_plan(alloc, FIRST, first.as_bytes());
+    for (entry, in_first, in_second) in SLOTS {
+        let told = with_line(alloc, FIRST_LINES, entry);
         assert_told(&rt, entry, told, fault_unless(*in_first));
-        let told = with_plan(alloc, SECOND, second.as_bytes());
+        let told = with_line(alloc, SECOND_LINES, entry);
         assert_told(&rt, entry, told, fault_unless(*in_second));
     }
-    Ok(())
 }
 
 /// What is told of a pause: its own line, or that there is no room for the entry after it.
@@ -104,7 +101,7 @@ fn fault_unless(is_entry: bool) -> Option<(u32, ScheduleKind)> {
 }
 
 /// Lines of a plan of one step, and what is told of them: the shape of an entry comes before its being one too many.
-const LAST_LINES: [(&[u8], Option<(u32, ScheduleKind)>); 12] = [
+const LAST_LINES: &[(&[u8], Option<(u32, ScheduleKind)>)] = &[
     (b"s 0\nend\n", None),
     (b"s 0\ns 0\nend\n", Some((4, ScheduleKind::TooMany))),
     (b"s 0\ns 16\nend\n", Some((4, ScheduleKind::Entry))),
@@ -128,13 +125,13 @@ const LAST_LINES: [(&[u8], Option<(u32, ScheduleKind)>); 12] = [
 #[test]
 fn tells_what_stands_at_the_end(rt: HostRuntime) {
     let alloc = rt.alloc();
-    for (lines, told) in &LAST_LINES {
+    for (lines, told) in LAST_LINES {
         assert_told(&rt, lines, with_lines(alloc, lines), *told);
     }
 }
 
 /// Names as the program prints them.
-const NAMES: [(ScheduleKind, &str); 10] = [
+const NAMES: &[(ScheduleKind, &str)] = &[
     (ScheduleKind::Read, "Read"),
     (ScheduleKind::Header, "Header"),
     (ScheduleKind::PlanLine, "PlanLine"),
@@ -147,11 +144,21 @@ const NAMES: [(ScheduleKind, &str); 10] = [
     (ScheduleKind::NoMemory, "NoMemory"),
 ];
 
+fn assert_named(
+    rt: &impl Abort,
+    alloc: Global,
+    kind: ScheduleKind,
+    name: &str,
+) -> Result<(), Fail> {
+    let text = format!(in alloc; "{kind}")?;
+    assert_is(rt, text.as_str(), name, "a name");
+    Ok(())
+}
+
 #[test]
 fn names_kinds(rt: HostRuntime) -> Result<(), Fail> {
-    for (kind, name) in &NAMES {
-        let text = format!(in rt.alloc(); "{kind}")?;
-        assert_is(&rt, text.as_str(), *name, "a name");
+    for (kind, name) in NAMES {
+        assert_named(&rt, rt.alloc(), *kind, name)?;
     }
     Ok(())
 }

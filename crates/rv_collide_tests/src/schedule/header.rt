@@ -23,7 +23,7 @@ fn tells_a_text_that_is_cut(rt: HostRuntime) {
 }
 
 /// Texts whose first line is refused, the longest lines of 64 and of 65 bytes.
-const FIRST_LINES: [(&[u8], ScheduleKind); 15] = [
+const FIRST_LINES: &[(&[u8], ScheduleKind)] = &[
     (b"\n", ScheduleKind::Header),
     (b"rvcollide schedule 3\nend\n", ScheduleKind::Header),
     (b"rvcollide schedule 0\nend\n", ScheduleKind::Header),
@@ -56,7 +56,7 @@ const FIRST_LINES: [(&[u8], ScheduleKind); 15] = [
 #[test]
 fn tells_the_fault_of_the_first_line(rt: HostRuntime) {
     let alloc = rt.alloc();
-    for (text, kind) in &FIRST_LINES {
+    for (text, kind) in FIRST_LINES {
         assert_told(&rt, text, fault_of(alloc, text), Some((1, *kind)));
     }
 }

@@ -1,9 +1,9 @@
 //! The second line.
-use crate::schedule::{FIRST, SECOND, assert_told, with_plan};
+use crate::schedule::{FIRST, SECOND, assert_told, with_line};
 use rv_collide::schedule::ScheduleKind;
 
 /// Second lines that are no plan.
-const SHAPES: [&[u8]; 15] = [
+const SHAPES: &[&[u8]] = &[
     b"",
     b"harts 02 steps 1 arms 0 pause 1",
     b"harts 2 steps 1 arms 0 pause",
@@ -22,7 +22,7 @@ const SHAPES: [&[u8]; 15] = [
 ];
 
 /// The same in format 2.
-const SECOND_SHAPES: [&[u8]; 8] = [
+const SECOND_SHAPES: &[&[u8]] = &[
     b"harts 2 steps 1 arms 0 pause 1",
     b"harts 2 steps 1 arms 0 pause 1 slots",
     b"harts 2 steps 1 arms 0 pause 1 slots ",
@@ -36,19 +36,19 @@ const SECOND_SHAPES: [&[u8]; 8] = [
 #[test]
 fn tells_the_shape_of_the_plan(rt: HostRuntime) {
     let alloc = rt.alloc();
-    for line in &SHAPES {
+    for line in SHAPES {
         assert_told(
             &rt,
             line,
-            with_plan(alloc, FIRST, line),
+            with_line(alloc, FIRST, line),
             Some((2, ScheduleKind::PlanLine)),
         );
     }
-    for line in &SECOND_SHAPES {
+    for line in SECOND_SHAPES {
         assert_told(
             &rt,
             line,
-            with_plan(alloc, SECOND, line),
+            with_line(alloc, SECOND, line),
             Some((2, ScheduleKind::PlanLine)),
         );
     }
@@ -56,13 +56,13 @@ fn tells_the_shape_of_the_plan(rt: HostRuntime) {
     assert_told(
         &rt,
         long,
-        with_plan(alloc, FIRST, long),
+        with_line(alloc, FIRST, long),
         Some((2, ScheduleKind::TooLong)),
     );
 }
 
 /// Plans out of range.
-const RANGES: [&[u8]; 11] = [
+const RANGES: &[&[u8]] = &[
     b"harts 17 steps 1 arms 0 pause 1",
     b"harts 0 steps 1 arms 0 pause 1",
     b"harts 257 steps 1 arms 0 pause 1",
@@ -77,7 +77,7 @@ const RANGES: [&[u8]; 11] = [
 ];
 
 /// The same in format 2.
-const SECOND_RANGES: [&[u8]; 5] = [
+const SECOND_RANGES: &[&[u8]] = &[
     b"harts 2 steps 1 arms 0 pause 1 slots 0",
     b"harts 2 steps 1 arms 0 pause 1 slots 9",
     b"harts 2 steps 1 arms 0 pause 1 slots 260",
@@ -88,24 +88,24 @@ const SECOND_RANGES: [&[u8]; 5] = [
 #[test]
 fn tells_the_range_of_the_plan(rt: HostRuntime) {
     let alloc = rt.alloc();
-    for line in &RANGES {
+    for line in RANGES {
         assert_told(
             &rt,
             line,
-            with_plan(alloc, FIRST, line),
+            with_line(alloc, FIRST, line),
             Some((2, ScheduleKind::PlanRange)),
         );
     }
-    for line in &SECOND_RANGES {
+    for line in SECOND_RANGES {
         assert_told(
             &rt,
             line,
-            with_plan(alloc, SECOND, line),
+            with_line(alloc, SECOND, line),
             Some((2, ScheduleKind::PlanRange)),
         );
     }
     let least = b"harts 1 steps 1 arms 0 pause 1";
-    assert_told(&rt, least, with_plan(alloc, FIRST, least), None);
+    assert_told(&rt, least, with_line(alloc, FIRST, least), None);
     let least = b"harts 1 steps 1 arms 0 pause 1 slots 1";
-    assert_told(&rt, least, with_plan(alloc, SECOND, least), None);
+    assert_told(&rt, least, with_line(alloc, SECOND, least), None);
 }

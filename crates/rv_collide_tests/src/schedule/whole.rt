@@ -23,16 +23,6 @@ const FIRST_TEXT: &[u8] = b"rvcollide schedule 1\n\
     d 00010004\n\
     end\n";
 
-/// Asserts that a text is read to these entries; the plan that it is read to.
-fn read_to(rt: &impl Abort, alloc: Global, text: &[u8], entries: &[Entry]) -> Result<Plan, Fail> {
-    let mut reader = Flagged::new(text);
-    let read = read_schedule(alloc, &mut reader);
-    assert_is(rt, reader.failed(), false, "the reader");
-    let (plan, read) = read.ok().ok_or("refused")?;
-    assert_is(rt, read.as_slice(), entries, "entries");
-    Ok(plan)
-}
-
 /// Asserts that a schedule is written as this text.
 fn assert_written(rt: &impl Abort, alloc: Global, plan: &Plan, entries: &[Entry], text: &[u8])
     requires { spec.IsWritable (numbers plan.now) entries.now }
@@ -80,36 +70,82 @@ const FIRST_GREATEST: [Entry; 6] = [
 /// No entries at all.
 const NONE: &[u8] = b"rvcollide schedule 2\nharts 1 steps 1 arms 0 pause 1 slots 1\nend\n";
 
-#[test]
-fn reads_schedules(rt: HostRuntime) -> Result<(), Fail> {
-    let alloc = rt.alloc();
-    let plan = read_to(&rt, alloc, TEXT, &ENTRIES)?;
-    let numbers = (plan.harts, plan.steps, plan.arms, plan.pause, plan.slots);
-    assert_is(&rt, numbers, (2, 100, 4, 10, 4), "a plan");
-    let most = read_to(&rt, alloc, LIMITS, &GREATEST)?;
-    let numbers = (most.most_entries(), most.slots);
-    assert_is(&rt, numbers, (1_016_384, 8), "the most entries");
-    Ok(())
+/// A text, the entries and the plan that it is read to, and the most entries of that plan.
+struct Read {
+    text: &'static [u8],
+    entries: &'static [Entry],
+    numbers: (u8, u32, u32, u32, u8),
+    most: u32,
 }
 
 /// A text of format 1 is of four slots.
-#[test]
-fn reads_the_first_format(rt: HostRuntime) -> Result<(), Fail> {
-    let alloc = rt.alloc();
-    let plan = read_to(&rt, alloc, FIRST_TEXT, &ENTRIES)?;
-    assert_is(&rt, plan, read_to(&rt, alloc, TEXT, &ENTRIES)?, "a plan");
-    let most = read_to(&rt, alloc, FIRST_LIMITS, &FIRST_GREATEST)?;
-    let numbers = (most.most_entries(), most.slots);
-    assert_is(&rt, numbers, (1_016_384, 4), "the most entries");
+const READ: &[Read] = &[
+    Read {
+        text: TEXT,
+        entries: &ENTRIES,
+        numbers: (2, 100, 4, 10, 4),
+        most: 116,
+    },
+    Read {
+        text: FIRST_TEXT,
+        entries: &ENTRIES,
+        numbers: (2, 100, 4, 10, 4),
+        most: 116,
+    },
+    Read {
+        text: LIMITS,
+        entries: &GREATEST,
+        numbers: (16, 1_000_000, 4096, 65_535, 8),
+        most: 1_016_384,
+    },
+    Read {
+        text: FIRST_LIMITS,
+        entries: &FIRST_GREATEST,
+        numbers: (16, 1_000_000, 4096, 65_535, 4),
+        most: 1_016_384,
+    },
+    Read {
+        text: NONE,
+        entries: &[],
+        numbers: (1, 1, 0, 1, 1),
+        most: 1,
+    },
+];
+
+fn see_plan(rt: &impl Abort, row: &Read, plan: Plan) {
+    let numbers = (plan.harts, plan.steps, plan.arms, plan.pause, plan.slots);
+    assert_is(rt, numbers, row.numbers, "a plan");
+    assert_is(rt, plan.most_entries(), row.most, "the most entries");
+}
+
+fn assert_read(rt: &impl Abort, alloc: Global, row: &Read) -> Result<(), Fail> {
+    let mut reader = Flagged::new(row.text);
+    let read = read_schedule(alloc, &mut reader);
+    assert_is(rt, reader.failed(), false, "the reader");
+    let (plan, entries) = read.ok().ok_or("refused")?;
+    see_plan(rt, row, plan);
+    assert_is(rt, entries.as_slice(), row.entries, "entries");
     Ok(())
 }
 
 #[test]
-fn writes_schedules(rt: HostRuntime) -> Result<(), Fail> {
-    let alloc = rt.alloc();
+fn reads_schedules(rt: HostRuntime) -> Result<(), Fail> {
+    for row in READ {
+        assert_read(&rt, rt.alloc(), row)?;
+    }
+    Ok(())
+}
+
+#[test]
+fn writes_a_schedule(rt: HostRuntime) -> Result<(), Fail> {
     let plan = Plan::new(2, 100, 4, 10, 4).ok_or("no plan")?;
-    assert_written(&rt, alloc, &plan, &ENTRIES, TEXT);
-    let least = read_to(&rt, alloc, NONE, &[])?;
-    assert_written(&rt, alloc, &least, &[], NONE);
+    assert_written(&rt, rt.alloc(), &plan, &ENTRIES, TEXT);
+    Ok(())
+}
+
+#[test]
+fn writes_no_entries(rt: HostRuntime) -> Result<(), Fail> {
+    let plan = Plan::new(1, 1, 0, 1, 1).ok_or("no plan")?;
+    assert_written(&rt, rt.alloc(), &plan, &[], NONE);
     Ok(())
 }

@@ -1,6 +1,6 @@
 //! Exhibits of drawn runs, each made again on the machine alone.
-use super::image_of;
 use crate::assertion::assert_is;
+use crate::images::image_of;
 use Verdict::{Changed, Hit, Quiet};
 use rv_campaign::run_one;
 use rv_collide::collider::Finished;
@@ -97,7 +97,7 @@ fn assert_runs_show(
     words: &[u32],
     name: &'static str,
 ) -> Result<(), Fail> {
-    let image = image_of(rt, alloc, words)?;
+    let image = image_of(rt, alloc, words, true)?;
     let plan = Plan::new(3, 40, 3, 10, 1).ok_or("a plan")?;
     let mut reports = Reports {
         hits: 0,

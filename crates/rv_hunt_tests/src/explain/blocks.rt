@@ -228,13 +228,23 @@ static REASONS: [(RaceClass, &str); 4] = [
 #[test]
 fn each_reason(rt: HostRuntime) -> Result<(), Fail> {
     for (class, wanted) in &REASONS {
-        let mut block = ring(rt.alloc())?;
-        block.class = *class;
-        let text = text(rt.alloc(), b"", &block)?;
-        let start = "race 1: put+0x24/0x30 and take+0x14/0x28, 8 reports, ".len();
-        let found = text.get(start..start + wanted.len());
-        assert_is(&rt, found, Some(wanted.as_bytes()), "the reason");
+        assert_reason(&rt, rt.alloc(), *class, wanted)?;
     }
+    Ok(())
+}
+
+fn assert_reason(
+    rt: &impl Abort,
+    alloc: Global,
+    class: RaceClass,
+    wanted: &'static str,
+) -> Result<(), Fail> {
+    let mut block = ring(alloc)?;
+    block.class = class;
+    let text = text(alloc, b"", &block)?;
+    let start = "race 1: put+0x24/0x30 and take+0x14/0x28, 8 reports, ".len();
+    let found = text.get(start..start.saturating_add(wanted.len()));
+    assert_is(rt, found, Some(wanted.as_bytes()), "the reason");
     Ok(())
 }
 

@@ -6,6 +6,7 @@ use rv_collide::plan::Plan;
 use rv_debug::session::Session;
 use rv_explain::explain::explain;
 use rv_explain::races::races_of_run;
+use rv_memory::region::Region;
 
 /// `examples/ring.s`.
 const RING: &str =
@@ -206,9 +207,9 @@ fn text_of(
     around: u32,
     asked: Option<u64>,
 ) -> Result<Result<Vec<u8>, ExplainFault>, Fail> {
-    let image = assembled(alloc, run.source)?;
     let plan = plan_of(run)?;
     let entries = entries_of(alloc, run.entries, run.letters)?;
+    let image = assembled(alloc, run.source)?;
     explained(alloc, &image, plan, entries, around, asked)
 }
 
@@ -604,25 +605,40 @@ race 1: place+0x0/0x8 and other+0x8/0x10, 1 report, kept
 /// The image of a source, with code that may be written.
 fn writable(alloc: Global, source: &str) -> Result<Image, Fail> {
     let image = assembled(alloc, source)?;
+    writable_of(alloc, &image)
+}
+
+fn writable_of(alloc: Global, image: &Image) -> Result<Image, Fail> {
+    let segments = writable_segments(alloc, image)?;
+    let symbols = copied_symbols(alloc, image)?;
+    Ok(Image::new(image.entry(), segments, symbols).ok_or("an image")?)
+}
+
+fn writable_segments(alloc: Global, image: &Image) -> Result<Vec<Region>, Fail> {
     let mut segments = Vec::new(alloc);
     for segment in image.segments() {
         let mut segment = segment.copy(alloc)?;
         segment.w = true;
         segments.push(segment)?;
     }
+    Ok(segments)
+}
+
+fn copied_symbols(alloc: Global, image: &Image) -> Result<Vec<Symbol>, Fail> {
     let mut symbols = Vec::new(alloc);
     for symbol in image.symbols() {
         symbols.push(symbol.copy(alloc)?)?;
     }
-    Ok(Image::new(image.entry(), segments, symbols).ok_or("an image")?)
+    Ok(symbols)
 }
 
 #[test]
 fn an_instruction_that_is_written_over(rt: HostRuntime) -> Result<(), Fail> {
     let alloc = rt.alloc();
-    let image = writable(alloc, WRITTEN_OVER.source)?;
+    let plan = plan_of(&WRITTEN_OVER)?;
     let entries = entries_of(alloc, WRITTEN_OVER.entries, WRITTEN_OVER.letters)?;
-    let text = explained(alloc, &image, plan_of(&WRITTEN_OVER)?, entries, 1, None)?;
+    let image = writable(alloc, WRITTEN_OVER.source)?;
+    let text = explained(alloc, &image, plan, entries, 1, None)?;
     assert_told(&rt, text, WRITTEN_OVER_TEXT)
 }
 
@@ -648,9 +664,17 @@ fn one_race_alone(rt: HostRuntime) -> Result<(), Fail> {
     let all = text_of(rt.alloc(), &THE_LOST, 3, None)?;
     let one = text_of(rt.alloc(), &THE_LOST, 3, Some(1))?;
     assert_is(&rt, one, all, "the one race");
-    let none = text_of(rt.alloc(), &THE_LOST, 3, Some(2))?;
-    assert_is(&rt, none, Err(ExplainFault::NoRace), "no race 2");
-    let none = text_of(rt.alloc(), &THE_LOST, 3, Some(0))?;
-    assert_is(&rt, none, Err(ExplainFault::NoRace), "no race 0");
     Ok(())
+}
+
+fn assert_no_race(rt: &impl Abort, alloc: Global, number: u64) -> Result<(), Fail> {
+    let none = text_of(alloc, &THE_LOST, 3, Some(number))?;
+    assert_is(rt, none, Err(ExplainFault::NoRace), "no such race");
+    Ok(())
+}
+
+#[test]
+fn no_race_of_the_number(rt: HostRuntime) -> Result<(), Fail> {
+    assert_no_race(&rt, rt.alloc(), 2)?;
+    assert_no_race(&rt, rt.alloc(), 0)
 }

@@ -37,24 +37,46 @@ static NAMES: [(u32, &str); 16] = [
     (0x30000, "00030000"),
 ];
 
+fn assert_name(
+    rt: &impl Abort,
+    alloc: Global,
+    symbols: &SymbolTable,
+    row: &(u32, &str),
+) -> Result<(), Fail> {
+    let name = name_text(alloc, symbols, row.0)?;
+    assert_is(rt, name.as_slice(), row.1.as_bytes(), "the name");
+    Ok(())
+}
+
+fn assert_digits(
+    rt: &impl Abort,
+    alloc: Global,
+    symbols: &SymbolTable,
+    row: &(u32, &str),
+) -> Result<(), Fail> {
+    let text = address_text(alloc, symbols, row.0)?;
+    assert_is(rt, text.as_slice(), row.1.as_bytes(), "with its digits");
+    Ok(())
+}
+
+/// Addresses with their digits, and one without a name.
+const DIGITS: &[(u32, &str)] = &[(0x20008, "00020008 first+0x4/0x8"), (0x10050, "00010050")];
+
+fn assert_names(rt: &impl Abort, alloc: Global, symbols: &SymbolTable) -> Result<(), Fail> {
+    for row in &NAMES {
+        assert_name(rt, alloc, symbols, row)?;
+    }
+    for row in DIGITS {
+        assert_digits(rt, alloc, symbols, row)?;
+    }
+    Ok(())
+}
+
 #[test]
 fn an_address_by_its_symbol(rt: HostRuntime) -> Result<(), Fail> {
     let image = image(rt.alloc(), &SYMBOLS)?;
     let symbols = SymbolTable::new(rt.alloc(), &image)?;
-    for (address, wanted) in &NAMES {
-        let name = name_text(rt.alloc(), &symbols, *address)?;
-        assert_is(&rt, name.as_slice(), wanted.as_bytes(), "the name");
-    }
-    let text = address_text(rt.alloc(), &symbols, 0x20008)?;
-    assert_is(
-        &rt,
-        text.as_slice(),
-        b"00020008 first+0x4/0x8",
-        "with its digits",
-    );
-    let text = address_text(rt.alloc(), &symbols, 0x10050)?;
-    assert_is(&rt, text.as_slice(), b"00010050", "without a name");
-    Ok(())
+    assert_names(&rt, rt.alloc(), &symbols)
 }
 
 /// At each address a table of these symbols finds what a walk over them finds.
@@ -63,12 +85,16 @@ fn assert_same(rt: &impl Abort, alloc: Global, rows: &[Row4]) -> Result<(), Fail
     let symbols = SymbolTable::new(alloc, &image)?;
     for (first, end) in &ADDRESSES {
         for address in *first..*end {
-            let found = symbols.symbol_of(address).map(name_and_place);
-            let wanted = symbol_of(&image, address).map(name_and_place);
-            assert_is(rt, found, wanted, "the symbol");
+            assert_same_at(rt, &image, &symbols, address);
         }
     }
     Ok(())
+}
+
+fn assert_same_at(rt: &impl Abort, image: &Image, symbols: &SymbolTable, address: u32) {
+    let found = symbols.symbol_of(address).map(name_and_place);
+    let wanted = symbol_of(image, address).map(name_and_place);
+    assert_is(rt, found, wanted, "the symbol");
 }
 
 fn name_and_place(symbol: &Symbol) -> (&str, u32, u32) {

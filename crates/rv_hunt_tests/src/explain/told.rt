@@ -33,10 +33,10 @@ fn program(alloc: Global) -> Result<Image, Fail> {
 
 #[test]
 fn a_step_that_stores(rt: HostRuntime) -> Result<(), Fail> {
-    let image = program(rt.alloc())?;
     let plan = Plan::new(2, 100, 1, 10, 4).ok_or("a plan")?;
     let mut entries = Vec::new(rt.alloc());
     entries.push(Entry::Stepped(0))?;
+    let image = program(rt.alloc())?;
     match Session::new(rt.alloc(), &image, plan, entries) {
         Ok(mut session) => {
             let row = row_here(&mut session, Entry::Stepped(0), &STORES);

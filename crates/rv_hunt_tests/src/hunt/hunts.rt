@@ -87,24 +87,32 @@ impl Watch for Seen {
     }
 }
 
-/// An image of words at 00010000, and 4,096 zero bytes at 00020000.
-fn image(rt: &impl Abort, alloc: Global, words: &[u32]) -> Result<Image, Fail> {
+fn bytes_of(alloc: Global, words: &[u32]) -> Result<Vec<u8>, Fail> {
     let mut bytes = Vec::new(alloc);
     for word in words {
         bytes.extend_from_slice(&word.to_le_bytes())?;
     }
+    Ok(bytes)
+}
+
+fn code(rt: &impl Abort, alloc: Global, words: &[u32]) -> Result<Region, Fail> {
+    let bytes = bytes_of(alloc, words)?;
     let len = bytes.len();
     assert!(rt; 1 <= len && len <= 65_536);
-    let code = Region {
+    Ok(Region {
         start: 0x10000,
         bytes,
         len: len as u32,
         r: true,
         w: false,
         x: true,
-    };
-    let zeros = zeros(alloc, 0x20000, 4096, false);
-    let segments = vec![in alloc; code, zeros]?;
+    })
+}
+
+/// An image of words at 00010000, and 4,096 zero bytes at 00020000.
+fn image(rt: &impl Abort, alloc: Global, words: &[u32]) -> Result<Image, Fail> {
+    let code = code(rt, alloc, words)?;
+    let segments = vec![in alloc; code, zeros(alloc, 0x20000, 4096, false)]?;
     Ok(Image::new(0x10000, segments, Vec::new(alloc)).ok_or("an image")?)
 }
 
@@ -134,8 +142,8 @@ fn hunted<R: Threads + Wait + Abort>(
     seen: &mut Seen,
 ) -> Result<Hunted, Fail> {
     let (words, _, _, first, limit) = tried;
-    let image = image(rt, alloc, words)?;
     let plans = plans_of(tried)?;
+    let image = image(rt, alloc, words)?;
     let sampler = Sampler::sites(alloc, &image, &[])?;
     let hunt = Hunt {
         image: &image,
@@ -146,6 +154,16 @@ fn hunted<R: Threads + Wait + Abort>(
         first: *first,
         limit: *limit,
     };
+    hunted_by(rt, alloc, &hunt, workers, seen)
+}
+
+fn hunted_by<R: Threads + Wait + Abort>(
+    rt: &R,
+    alloc: Global,
+    hunt: &Hunt<'_>,
+    workers: u8,
+    seen: &mut Seen,
+) -> Result<Hunted, Fail> {
     assert!(rt; hunt.is_legal() && workers <= 16);
     Ok(hunt.hunted(rt, alloc, workers, seen)?)
 }
@@ -168,7 +186,12 @@ fn told<R: Threads + Wait + Abort>(
     let mut seen = Seen { runs: 0 };
     let hunted = hunted(rt, alloc, tried, workers, &mut seen)?;
     assert_is(rt, seen.runs, hunted.tally.runs(), "runs told");
-    Ok((text(alloc, &hunted.table)?, numbers(&hunted)))
+    told_of(alloc, &hunted)
+}
+
+fn told_of(alloc: Global, hunted: &Hunted) -> Result<(Vec<u8>, Numbers), Fail> {
+    let numbers = numbers(hunted);
+    Ok((text(alloc, &hunted.table)?, numbers))
 }
 
 const RING_ROWS: &[u8] = b"races 1\n\
@@ -191,6 +214,24 @@ fn the_rings_races(rt: HostRuntime) -> Result<(), Fail> {
     Ok(())
 }
 
+/// The race of the ring's hunt.
+const KEY: Key = Key {
+    first: 0x10054,
+    second: Some(0x10074),
+};
+
+/// Its row, of a run and of a pause that began at the entry.
+fn row_of(run: u32, entry: u32) -> RaceRow {
+    RaceRow {
+        count: 13,
+        class: RaceClass::Kept,
+        run,
+        entry,
+        old: 0,
+        new: 1,
+    }
+}
+
 /// The number and the count of what is found again of a row of the ring's hunt, whose pause began at the entry.
 fn found_again(
     rt: &impl Abort,
@@ -198,8 +239,9 @@ fn found_again(
     run: u32,
     entry: u32,
 ) -> Result<Option<(u32, u64)>, Fail> {
-    let image = image(rt, alloc, &RING)?;
+    let row = row_of(run, entry);
     let plans = plans_of(&RING_HUNT)?;
+    let image = image(rt, alloc, &RING)?;
     let sampler = Sampler::sites(alloc, &image, &[])?;
     let hunt = Hunt {
         image: &image,
@@ -210,19 +252,7 @@ fn found_again(
         first: 0,
         limit: Runs(3),
     };
-    let key = Key {
-        first: 0x10054,
-        second: Some(0x10074),
-    };
-    let row = RaceRow {
-        count: 13,
-        class: RaceClass::Kept,
-        run,
-        entry,
-        old: 0,
-        new: 1,
-    };
-    let again = hunt.remade(alloc, &[], &key, &row)?;
+    let again = hunt.remade(alloc, &[], &KEY, &row)?;
     Ok(again.race.map(|race| (race.told.number, race.reports)))
 }
 
@@ -266,15 +296,34 @@ static SHARED: [Tried; 3] = [
     (&NO_SITES, None, None, 0, Runs(600)),
 ];
 
+/// Asserts that so many workers see the same.
+fn assert_same<R: Threads + Wait + Abort>(
+    rt: &R,
+    alloc: Global,
+    tried: &Tried,
+    workers: u8,
+    one: &(Vec<u8>, Numbers),
+) -> Result<(), Fail> {
+    let other = told(rt, alloc, tried, workers)?;
+    assert_is(rt, other.0.as_slice(), one.0.as_slice(), "rows");
+    assert_is(rt, other.1, one.1, "numbers");
+    Ok(())
+}
+
+fn assert_any_number_sees_the_same<R: Threads + Wait + Abort>(
+    rt: &R,
+    alloc: Global,
+    tried: &Tried,
+) -> Result<(), Fail> {
+    let one = told(rt, alloc, tried, 1)?;
+    assert_same(rt, alloc, tried, 2, &one)?;
+    assert_same(rt, alloc, tried, 16, &one)
+}
+
 #[test]
 fn any_number_of_workers_sees_the_same(rt: HostRuntime) -> Result<(), Fail> {
     for tried in &SHARED {
-        let one = told(&rt, rt.alloc(), tried, 1)?;
-        for workers in [2u8, 16] {
-            let other = told(&rt, rt.alloc(), tried, workers)?;
-            assert_is(&rt, other.0.as_slice(), one.0.as_slice(), "rows");
-            assert_is(&rt, other.1, one.1, "numbers");
-        }
+        assert_any_number_sees_the_same(&rt, rt.alloc(), tried)?;
     }
     Ok(())
 }
