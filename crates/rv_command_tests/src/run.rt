@@ -131,203 +131,210 @@ fn takes_the_ends_of_the_ranges(rt: HostRuntime) -> Result<(), Fail> {
     Ok(())
 }
 
+const OUT_OF_RANGE: &[Change] = &[
+    (
+        "--harts 2",
+        "--harts 0",
+        "'0' for '--harts': it is a decimal number from 1 to 16",
+    ),
+    (
+        "--harts 2",
+        "--harts 17",
+        "'17' for '--harts': it is a decimal number from 1 to 16",
+    ),
+    (
+        "--steps 20",
+        "--steps 0",
+        "'0' for '--steps': it is a decimal number from 1 to 1000000",
+    ),
+    ("--steps 20", "--steps 1000001", "'1000001' for '--steps'"),
+    (
+        "--arms 4",
+        "--arms 4097",
+        "'4097' for '--arms': it is a decimal number from 0 to 4096",
+    ),
+    (
+        "--pause 5",
+        "--pause 0",
+        "'0' for '--pause': it is a decimal number from 1 to 65535",
+    ),
+    ("--pause 5", "--pause 65536", "'65536' for '--pause'"),
+    (
+        "--pause 5",
+        "--pause 5 --slots 0",
+        "'0' for '--slots': it is a decimal number from 1 to 8",
+    ),
+    ("--pause 5", "--pause 5 --slots 9", "'9' for '--slots'"),
+    (
+        "--seed 7",
+        "--seed 4294967296",
+        "'4294967296' for '--seed': it is a decimal number from 0 to 4294967295",
+    ),
+    (
+        "--runs 3",
+        "--runs 0",
+        "'0' for '--runs': it is a decimal number from 1 to 1000",
+    ),
+    ("--runs 3", "--runs 1001", "'1001' for '--runs'"),
+    (
+        "--workers 6",
+        "--workers 0",
+        "'0' for '--workers': it is a decimal number from 1 to 16",
+    ),
+    ("--workers 6", "--workers 17", "'17' for '--workers'"),
+    (
+        "--runs 3",
+        "--runs 1000 --keep 1000",
+        "'1000' for '--keep': it is a decimal number from 0 to 999",
+    ),
+];
+
 #[test]
 fn refuses_numbers_out_of_range(rt: HostRuntime) -> Result<(), Fail> {
-    let changes = [
-        (
-            "--harts 2",
-            "--harts 0",
-            "'0' for '--harts': it is a decimal number from 1 to 16",
-        ),
-        (
-            "--harts 2",
-            "--harts 17",
-            "'17' for '--harts': it is a decimal number from 1 to 16",
-        ),
-        (
-            "--steps 20",
-            "--steps 0",
-            "'0' for '--steps': it is a decimal number from 1 to 1000000",
-        ),
-        ("--steps 20", "--steps 1000001", "'1000001' for '--steps'"),
-        (
-            "--arms 4",
-            "--arms 4097",
-            "'4097' for '--arms': it is a decimal number from 0 to 4096",
-        ),
-        (
-            "--pause 5",
-            "--pause 0",
-            "'0' for '--pause': it is a decimal number from 1 to 65535",
-        ),
-        ("--pause 5", "--pause 65536", "'65536' for '--pause'"),
-        (
-            "--pause 5",
-            "--pause 5 --slots 0",
-            "'0' for '--slots': it is a decimal number from 1 to 8",
-        ),
-        ("--pause 5", "--pause 5 --slots 9", "'9' for '--slots'"),
-        (
-            "--seed 7",
-            "--seed 4294967296",
-            "'4294967296' for '--seed': it is a decimal number from 0 to 4294967295",
-        ),
-        (
-            "--runs 3",
-            "--runs 0",
-            "'0' for '--runs': it is a decimal number from 1 to 1000",
-        ),
-        ("--runs 3", "--runs 1001", "'1001' for '--runs'"),
-        (
-            "--workers 6",
-            "--workers 0",
-            "'0' for '--workers': it is a decimal number from 1 to 16",
-        ),
-        ("--workers 6", "--workers 17", "'17' for '--workers'"),
-        (
-            "--runs 3",
-            "--runs 1000 --keep 1000",
-            "'1000' for '--keep': it is a decimal number from 0 to 999",
-        ),
-    ];
-    assert_changes_refused(&rt, rt.alloc(), &changes)
+    assert_changes_refused(&rt, rt.alloc(), OUT_OF_RANGE)
 }
 
 /// What is no decimal number, and a run to be saved that is none of the runs.
+const OTHER_VALUES: &[Change] = &[
+    ("--harts 2", "--harts=", "'' for '--harts'"),
+    ("--harts 2", "--harts +2", "'+2' for '--harts'"),
+    ("--harts 2", "--harts=-2", "'-2' for '--harts'"),
+    ("--harts 2", "--harts 0x2", "'0x2' for '--harts'"),
+    (
+        "--seed 7",
+        "--seed 7 --keep 3",
+        "'3' for '--keep': it is less than '--runs', which is 3",
+    ),
+    ("--seed 7", "--seed 7 --keep=", "'' for '--keep'"),
+];
+
 #[test]
 fn refuses_other_values(rt: HostRuntime) -> Result<(), Fail> {
-    let changes = [
-        ("--harts 2", "--harts=", "'' for '--harts'"),
-        ("--harts 2", "--harts +2", "'+2' for '--harts'"),
-        ("--harts 2", "--harts=-2", "'-2' for '--harts'"),
-        ("--harts 2", "--harts 0x2", "'0x2' for '--harts'"),
-        (
-            "--seed 7",
-            "--seed 7 --keep 3",
-            "'3' for '--keep': it is less than '--runs', which is 3",
-        ),
-        ("--seed 7", "--seed 7 --keep=", "'' for '--keep'"),
-    ];
-    assert_changes_refused(&rt, rt.alloc(), &changes)
+    assert_changes_refused(&rt, rt.alloc(), OTHER_VALUES)
 }
 
 /// Each option that is required left out, and the image.
+const LEFT_OUT: &[Change] = &[
+    (" --harts 2", "", "--harts <N>"),
+    (" --steps 20", "", "--steps <N>"),
+    (" --arms 4", "", "--arms <N>"),
+    (" --pause 5", "", "--pause <N>"),
+    (" --seed 7", "", "--seed <N>"),
+    (" --runs 3", "", "--runs <N>"),
+    (" --workers 6", "", "--workers <N>"),
+    (" a.elf", "", "<IMAGE>"),
+];
+
 #[test]
 fn wants_each_required_option(rt: HostRuntime) -> Result<(), Fail> {
-    let changes = [
-        (" --harts 2", "", "--harts <N>"),
-        (" --steps 20", "", "--steps <N>"),
-        (" --arms 4", "", "--arms <N>"),
-        (" --pause 5", "", "--pause <N>"),
-        (" --seed 7", "", "--seed <N>"),
-        (" --runs 3", "", "--runs <N>"),
-        (" --workers 6", "", "--workers <N>"),
-        (" a.elf", "", "<IMAGE>"),
-    ];
-    assert_changes_refused(&rt, rt.alloc(), &changes)
+    assert_changes_refused(&rt, rt.alloc(), LEFT_OUT)
 }
 
 /// Each option of the plan and of the runs twice.
+const NUMBERS_TWICE: &[Change] = &[
+    (
+        "--harts 2",
+        "--harts 2 --harts 2",
+        "'--harts <N>' cannot be used multiple times",
+    ),
+    (
+        "--steps 20",
+        "--steps 20 --steps=20",
+        "'--steps <N>' cannot be used multiple times",
+    ),
+    (
+        "--arms 4",
+        "--arms 4 --arms 4",
+        "'--arms <N>' cannot be used multiple times",
+    ),
+    (
+        "--pause 5",
+        "--pause 5 --pause 5",
+        "'--pause <N>' cannot be used multiple times",
+    ),
+    (
+        "--seed 7",
+        "--seed 7 --seed 7",
+        "'--seed <N>' cannot be used multiple times",
+    ),
+    (
+        "--runs 3",
+        "--runs 3 --runs 3",
+        "'--runs <N>' cannot be used multiple times",
+    ),
+    (
+        "--workers 6",
+        "--workers 6 --workers 6",
+        "'--workers <N>' cannot be used multiple times",
+    ),
+];
+
 #[test]
 fn refuses_a_number_twice(rt: HostRuntime) -> Result<(), Fail> {
-    let changes = [
-        (
-            "--harts 2",
-            "--harts 2 --harts 2",
-            "'--harts <N>' cannot be used multiple times",
-        ),
-        (
-            "--steps 20",
-            "--steps 20 --steps=20",
-            "'--steps <N>' cannot be used multiple times",
-        ),
-        (
-            "--arms 4",
-            "--arms 4 --arms 4",
-            "'--arms <N>' cannot be used multiple times",
-        ),
-        (
-            "--pause 5",
-            "--pause 5 --pause 5",
-            "'--pause <N>' cannot be used multiple times",
-        ),
-        (
-            "--seed 7",
-            "--seed 7 --seed 7",
-            "'--seed <N>' cannot be used multiple times",
-        ),
-        (
-            "--runs 3",
-            "--runs 3 --runs 3",
-            "'--runs <N>' cannot be used multiple times",
-        ),
-        (
-            "--workers 6",
-            "--workers 6 --workers 6",
-            "'--workers <N>' cannot be used multiple times",
-        ),
-    ];
-    assert_changes_refused(&rt, rt.alloc(), &changes)
+    assert_changes_refused(&rt, rt.alloc(), NUMBERS_TWICE)
 }
 
 /// Each option that may be left out twice.
+const LISTS_TWICE: &[Change] = &[
+    (
+        "a.elf",
+        "a.elf --named a --named b",
+        "'--named <LIST>' cannot be used multiple times",
+    ),
+    (
+        "a.elf",
+        "a.elf --skip a --skip b",
+        "'--skip <LIST>' cannot be used multiple times",
+    ),
+    (
+        "a.elf",
+        "a.elf --keep 1 --keep 1",
+        "'--keep <RUN>' cannot be used multiple times",
+    ),
+    (
+        "a.elf",
+        "a.elf --save a --save a",
+        "'--save <FILE>' cannot be used multiple times",
+    ),
+];
+
 #[test]
 fn refuses_a_list_twice(rt: HostRuntime) -> Result<(), Fail> {
-    let changes = [
-        (
-            "a.elf",
-            "a.elf --named a --named b",
-            "'--named <LIST>' cannot be used multiple times",
-        ),
-        (
-            "a.elf",
-            "a.elf --skip a --skip b",
-            "'--skip <LIST>' cannot be used multiple times",
-        ),
-        (
-            "a.elf",
-            "a.elf --keep 1 --keep 1",
-            "'--keep <RUN>' cannot be used multiple times",
-        ),
-        (
-            "a.elf",
-            "a.elf --save a --save a",
-            "'--save <FILE>' cannot be used multiple times",
-        ),
-    ];
-    assert_changes_refused(&rt, rt.alloc(), &changes)
+    assert_changes_refused(&rt, rt.alloc(), LISTS_TWICE)
 }
 
 /// Values with control bytes are shown without them.
+const CONTROL_BYTES: &[Change] = &[
+    (
+        "--harts 2",
+        "--harts \x1b[2J",
+        "invalid value '\\x1b[2J' for '--harts': it is",
+    ),
+    (
+        "a.elf",
+        "a.elf --keep \u{9b}3",
+        "invalid value '\\xc2\\x9b3' for '--keep': it is",
+    ),
+    ("a.elf", "a.elf \x07", "'\\x07'"),
+];
+
 #[test]
 fn shows_no_control_byte_of_a_value(rt: HostRuntime) -> Result<(), Fail> {
-    let changes = [
-        (
-            "--harts 2",
-            "--harts \x1b[2J",
-            "invalid value '\\x1b[2J' for '--harts': it is",
-        ),
-        (
-            "a.elf",
-            "a.elf --keep \u{9b}3",
-            "invalid value '\\xc2\\x9b3' for '--keep': it is",
-        ),
-        ("a.elf", "a.elf \x07", "'\\x07'"),
-    ];
-    assert_changes_refused(&rt, rt.alloc(), &changes)
+    assert_changes_refused(&rt, rt.alloc(), CONTROL_BYTES)
 }
 
 /// One option without its value, unknown ones, and two images.
+const OTHER_OPTIONS: &[Change] = &[
+    (" a.elf", " a.elf b.elf", "'b.elf'"),
+    ("--harts 2", "--harts", "--harts <N>"),
+    ("--harts 2", "--hart 2", "'--hart'"),
+    ("--harts 2", "-x2", "'-x'"),
+    ("a.elf", "a.elf --named", "--named <LIST>"),
+];
+
 #[test]
 fn refuses_other_options(rt: HostRuntime) -> Result<(), Fail> {
-    let changes = [
-        (" a.elf", " a.elf b.elf", "'b.elf'"),
-        ("--harts 2", "--harts", "--harts <N>"),
-        ("--harts 2", "--hart 2", "'--hart'"),
-        ("--harts 2", "-x2", "'-x'"),
-        ("a.elf", "a.elf --named", "--named <LIST>"),
-    ];
-    assert_changes_refused(&rt, rt.alloc(), &changes)
+    assert_changes_refused(&rt, rt.alloc(), OTHER_OPTIONS)
 }
 
 /// An argument's name, and what the help says of it.
