@@ -33,17 +33,25 @@ fn count(text: &str, part: &str) -> usize {
     text.split(part).count().saturating_sub(1)
 }
 
+/// What asks for the help of the program.
+const HELP: [&str; 3] = ["--help", "-h", "help"];
+
+fn assert_in_overview(rt: &impl Abort, alloc: Global, command: &str) -> Result<(), Fail> {
+    let row = format!(in alloc; "\n  {command} ")?;
+    assert_is(rt, count(OVERVIEW, row.as_str()), 1, command);
+    Ok(())
+}
+
 /// The commands of the help are those of the table, each once, and it has none besides but `help`.
 #[test]
 fn overview_has_each_command(rt: HostRuntime) -> Result<(), Fail> {
     let alloc = rt.alloc();
-    for line in ["--help", "-h", "help"] {
-        let text = answer(alloc, &["rvcollide", line])?;
+    for line in &HELP {
+        let text = answer(alloc, &["rvcollide", *line])?;
         assert_is(&rt, text.as_str(), OVERVIEW, line);
     }
     for command in &COMMANDS {
-        let row = format!(in alloc; "\n  {} ", command.name)?;
-        assert_is(&rt, count(OVERVIEW, row.as_str()), 1, command.name);
+        assert_in_overview(&rt, alloc, command.name)?;
     }
     let (commands, _) = OVERVIEW.split_once("\nOptions:\n").ok_or("no options")?;
     let rows = count(commands, "\n  ");
@@ -51,28 +59,35 @@ fn overview_has_each_command(rt: HostRuntime) -> Result<(), Fail> {
     Ok(())
 }
 
+/// What stands in each example, behind its name.
+const IN_EXAMPLES: [&str; 6] = [
+    "\nExit status: 0 ",
+    " 1 ",
+    " 2 ",
+    "\n3 ",
+    " 4 ",
+    "help faults",
+];
+
+fn assert_has_example(rt: &impl Abort, command: &str, text: &str, name: &str) {
+    let example = match text.split_once("\nExample:\n") {
+        Some((_, example)) => example,
+        None => "",
+    };
+    assert_is(rt, example.contains(name), true, command);
+    for part in &IN_EXAMPLES {
+        assert_is(rt, example.contains(*part), true, command);
+    }
+}
+
 /// Each command's help has an example that begins with its name, and the exit statuses.
 #[test]
 fn each_help_has_an_example(rt: HostRuntime) -> Result<(), Fail> {
     let alloc = rt.alloc();
     for command in &COMMANDS {
-        let text = answer(alloc, &["rvcollide", command.name, "--help"])?;
-        let (_, example) = text
-            .as_str()
-            .split_once("\nExample:\n")
-            .ok_or(command.name)?;
         let name = format!(in alloc; "rvcollide {}", command.name)?;
-        assert_is(&rt, example.contains(name.as_str()), true, command.name);
-        for status in [
-            "\nExit status: 0 ",
-            " 1 ",
-            " 2 ",
-            "\n3 ",
-            " 4 ",
-            "help faults",
-        ] {
-            assert_is(&rt, example.contains(status), true, command.name);
-        }
+        let text = answer(alloc, &["rvcollide", command.name, "--help"])?;
+        assert_has_example(&rt, command.name, text.as_str(), name.as_str());
     }
     Ok(())
 }

@@ -8,67 +8,68 @@ const ASM: Job = Job::Asm {
     image: ImagePath("a.elf"),
 };
 
-/// Each command, with the first two hyphens at each place, and with paths that look like other words.
+const LIST: Job<'static> = Job::List {
+    image: ImagePath("a.elf"),
+};
+
+const REPLAY: Job<'static> = Job::Replay {
+    image: ImagePath("a.elf"),
+    schedule: SchedulePath("a.txt"),
+};
+
+const DEBUG: Job<'static> = Job::Debug {
+    image: ImagePath("a.elf"),
+    schedule: SchedulePath("a.txt"),
+};
+
+const GDB: Job<'static> = Job::Gdb {
+    image: ImagePath("a.elf"),
+    schedule: SchedulePath("a.txt"),
+};
+
+const EXHIBIT: Job<'static> = Job::Exhibit {
+    image: ImagePath("a.elf"),
+    schedule: SchedulePath("a.txt"),
+    number: 7,
+};
+
+const ODD: Job<'static> = Job::Replay {
+    image: ImagePath("-"),
+    schedule: SchedulePath(""),
+};
+
+/// Lines and their jobs: each command, with the first two hyphens at each place, and with paths that look like other words.
+const EACH: [(&[&str], Job<'static>); 14] = [
+    (&["rvcollide", "words"], Job::Words),
+    (&["rvcollide", "asm", "a.s", "a.elf"], ASM),
+    (&["rvcollide", "list", "a.elf"], LIST),
+    (&["rvcollide", "replay", "a.elf", "a.txt"], REPLAY),
+    (&["rvcollide", "debug", "a.elf", "--", "a.txt"], DEBUG),
+    (&["rvcollide", "gdb", "a.elf", "a.txt"], GDB),
+    (&["", "gdb", "--", "a.elf", "a.txt"], GDB),
+    (&["rvcollide", "exhibit", "a.elf", "a.txt", "7"], EXHIBIT),
+    (&["", "exhibit", "a.elf", "--", "a.txt", "007"], EXHIBIT),
+    (&["", "words", "--"], Job::Words),
+    (&["", "asm", "--", "a.s", "a.elf"], ASM),
+    (&["", "asm", "a.s", "--", "a.elf"], ASM),
+    (&["", "asm", "a.s", "a.elf", "--"], ASM),
+    (&["", "replay", "-", ""], ODD),
+];
+
+const PATHS: [&str; 4] = ["--", "-h", "words", "é"];
+
 #[test]
 fn reads_each_command(rt: HostRuntime) {
     let alloc = rt.alloc();
-    let list = Job::List {
-        image: ImagePath("a.elf"),
-    };
-    let replay = Job::Replay {
-        image: ImagePath("a.elf"),
-        schedule: SchedulePath("a.txt"),
-    };
-    let debug = Job::Debug {
-        image: ImagePath("a.elf"),
-        schedule: SchedulePath("a.txt"),
-    };
-    let gdb = Job::Gdb {
-        image: ImagePath("a.elf"),
-        schedule: SchedulePath("a.txt"),
-    };
-    let exhibit = Job::Exhibit {
-        image: ImagePath("a.elf"),
-        schedule: SchedulePath("a.txt"),
-        number: 7,
-    };
-    let odd = Job::Replay {
-        image: ImagePath("-"),
-        schedule: SchedulePath(""),
-    };
-    for (words, job) in [
-        (["rvcollide", "words"].as_slice(), Job::Words),
-        (["rvcollide", "asm", "a.s", "a.elf"].as_slice(), ASM),
-        (["rvcollide", "list", "a.elf"].as_slice(), list),
-        (["rvcollide", "replay", "a.elf", "a.txt"].as_slice(), replay),
-        (
-            ["rvcollide", "debug", "a.elf", "--", "a.txt"].as_slice(),
-            debug,
-        ),
-        (["rvcollide", "gdb", "a.elf", "a.txt"].as_slice(), gdb),
-        (["", "gdb", "--", "a.elf", "a.txt"].as_slice(), gdb),
-        (
-            ["rvcollide", "exhibit", "a.elf", "a.txt", "7"].as_slice(),
-            exhibit,
-        ),
-        (
-            ["", "exhibit", "a.elf", "--", "a.txt", "007"].as_slice(),
-            exhibit,
-        ),
-        (["", "words", "--"].as_slice(), Job::Words),
-        (["", "asm", "--", "a.s", "a.elf"].as_slice(), ASM),
-        (["", "asm", "a.s", "--", "a.elf"].as_slice(), ASM),
-        (["", "asm", "a.s", "a.elf", "--"].as_slice(), ASM),
-        (["", "replay", "-", ""].as_slice(), odd),
-    ] {
+    for (words, job) in &EACH {
         let told = command_of(alloc, words);
-        assert_is(&rt, (words, told), (words, Ok(job)), "a line");
+        assert_is(&rt, (*words, told), (*words, Ok(*job)), "a line");
     }
-    for path in ["--", "-h", "words", "é"] {
+    for path in &PATHS {
         let job = Job::List {
-            image: ImagePath(path),
+            image: ImagePath(*path),
         };
-        let words = ["", "list", "--", path];
+        let words = ["", "list", "--", *path];
         let told = command_of(alloc, &words);
         assert_is(&rt, told, Ok(job), path);
     }
