@@ -11,11 +11,10 @@ use rv_hart::machine::Machine;
 use rv_memory::flat::Flat;
 use std::alloc::Global;
 use std::process::Abort;
-use std::test::Fail;
 
-fn begun(rt: &impl Abort, alloc: Global, arms: u32) -> Result<Collider<Flat>, Fail> {
-    let image = image(rt, alloc, P)?;
-    Ok(Collider::new(alloc, &image, plan(2, 100, arms)?)?)
+fn begun(rt: &impl Abort, alloc: Global, arms: u32) -> Collider<Flat> {
+    let image = image(rt, alloc, P);
+    Collider::new(alloc, &image, plan(rt, 2, 100, arms)).expect(rt, "refused")
 }
 
 fn assert_arms(rt: &impl Abort, c: &mut Collider<Flat>, address: u32, wanted: Result<(), Refused>) {
@@ -103,9 +102,8 @@ fn call_in_order(rt: &impl Abort, mut c: Collider<Flat>) {
 }
 
 #[test]
-fn calls_are_refused_in_order(rt: HostRuntime) -> Result<(), Fail> {
-    call_in_order(&rt, begun(&rt, rt.alloc(), 3)?);
-    Ok(())
+fn calls_are_refused_in_order(rt: HostRuntime) {
+    call_in_order(&rt, begun(&rt, rt.alloc(), 3));
 }
 
 fn arm_sixty_four(rt: &impl Abort, c: &mut Collider<Flat>) {
@@ -117,17 +115,15 @@ fn arm_sixty_four(rt: &impl Abort, c: &mut Collider<Flat>) {
 }
 
 #[test]
-fn none_is_armed_where_none_may_be(rt: HostRuntime) -> Result<(), Fail> {
-    let mut c = begun(&rt, rt.alloc(), 0)?;
+fn none_is_armed_where_none_may_be(rt: HostRuntime) {
+    let mut c = begun(&rt, rt.alloc(), 0);
     assert_arms(&rt, &mut c, 0x10004, Err(Refused::ArmsSpent));
-    Ok(())
 }
 
 #[test]
-fn as_many_are_armed_as_may_be(rt: HostRuntime) -> Result<(), Fail> {
-    let mut c = begun(&rt, rt.alloc(), 100)?;
+fn as_many_are_armed_as_may_be(rt: HostRuntime) {
+    let mut c = begun(&rt, rt.alloc(), 100);
     arm_sixty_four(&rt, &mut c);
-    Ok(())
 }
 
 /// The only pause, of hart 0 from place 3 to place 5.
@@ -149,10 +145,9 @@ const HIT: &[Entry] = &[
 ];
 
 #[test]
-fn tells_places(rt: HostRuntime) -> Result<(), Fail> {
-    let plan = plan(2, 100, 8)?;
-    see_places(&rt, &told(&rt, rt.alloc(), P, plan, HIT)?);
-    Ok(())
+fn tells_places(rt: HostRuntime) {
+    let plan = plan(&rt, 2, 100, 8);
+    see_places(&rt, &told(&rt, rt.alloc(), P, plan, HIT));
 }
 
 fn see_armed(rt: &impl Abort, c: &Collider<Flat>) {
@@ -161,11 +156,10 @@ fn see_armed(rt: &impl Abort, c: &Collider<Flat>) {
 
 /// An access that traps leaves its address armed.
 #[test]
-fn tells_what_is_armed(rt: HostRuntime) -> Result<(), Fail> {
-    let plan = plan(1, 100, 8)?;
+fn tells_what_is_armed(rt: HostRuntime) {
+    let plan = plan(&rt, 1, 100, 8);
     let traps = &[Armed(0x10004), Stepped(0), Stepped(0)];
-    see_armed(&rt, &told(&rt, rt.alloc(), TRAPS, plan, traps)?);
-    Ok(())
+    see_armed(&rt, &told(&rt, rt.alloc(), TRAPS, plan, traps));
 }
 
 /// The pause's end is the last entry.
@@ -192,10 +186,9 @@ const SPENT: &[Entry] = &[
 ];
 
 #[test]
-fn steps_are_spent_before_any_pause(rt: HostRuntime) -> Result<(), Fail> {
-    let plan = plan(2, 2, 2)?;
-    spend_steps(&rt, told(&rt, rt.alloc(), P, plan, SPENT)?);
-    Ok(())
+fn steps_are_spent_before_any_pause(rt: HostRuntime) {
+    let plan = plan(&rt, 2, 2, 2);
+    spend_steps(&rt, told(&rt, rt.alloc(), P, plan, SPENT));
 }
 
 /// Harts 1 to 5 are paused at their stores, the last one unwatched.
@@ -264,24 +257,22 @@ const UNTOLD: &[Untold] = &[
     },
 ];
 
-fn assert_untold(rt: &impl Abort, alloc: Global, row: &Untold) -> Result<(), Fail> {
+fn assert_untold(rt: &impl Abort, alloc: Global, row: &Untold) {
     let (harts, steps, arms, slots) = row.numbers;
-    let plan = slotted(harts, steps, arms, slots)?;
-    let fault = fault_of(rt, alloc, row.words, plan, row.entries)?;
+    let plan = slotted(rt, harts, steps, arms, slots);
+    let fault = fault_of(rt, alloc, row.words, plan, row.entries);
     let wanted = ReplayFault::Entry {
         place: row.place,
         why: row.why,
     };
     assert_is(rt, fault, Some(wanted), row.name);
-    Ok(())
 }
 
 #[test]
-fn tells_the_first_entry_that_no_call_adds(rt: HostRuntime) -> Result<(), Fail> {
+fn tells_the_first_entry_that_no_call_adds(rt: HostRuntime) {
     for row in UNTOLD {
-        assert_untold(&rt, rt.alloc(), row)?;
+        assert_untold(&rt, rt.alloc(), row);
     }
-    Ok(())
 }
 
 fn read_bytes(rt: &impl Abort, machine: &Machine<Flat>) {
@@ -297,7 +288,6 @@ fn read_bytes(rt: &impl Abort, machine: &Machine<Flat>) {
 
 /// The words of P, parts of them, and bytes that there are not.
 #[test]
-fn reads_bytes_as_a_number(rt: HostRuntime) -> Result<(), Fail> {
-    read_bytes(&rt, begun(&rt, rt.alloc(), 0)?.machine());
-    Ok(())
+fn reads_bytes_as_a_number(rt: HostRuntime) {
+    read_bytes(&rt, begun(&rt, rt.alloc(), 0).machine());
 }

@@ -4,7 +4,6 @@ use rv_collide::refused::Refused;
 use rv_collide::replay::Why;
 use std::alloc::Global;
 use std::process::Abort;
-use std::test::Fail;
 
 /// Each refusal of a call, and its name.
 const REFUSED: &[(Refused, &str)] = &[
@@ -21,18 +20,17 @@ const REFUSED: &[(Refused, &str)] = &[
     (Refused::NoMemory, "NoMemory"),
 ];
 
-fn assert_told(rt: &impl Abort, alloc: Global, why: Why, name: &str) -> Result<(), Fail> {
-    let text = format!(in alloc; "{why}")?;
+fn assert_told(rt: &impl Abort, alloc: Global, why: Why, name: &str) {
+    let text = format!(in alloc; "{why}").expect(rt, "refused");
     assert_is(rt, text.as_str(), name, name);
-    Ok(())
 }
 
 /// An entry that a call refuses is told by the refusal's name, and one that it does not add by `Differs`.
 #[test]
-fn refusals_are_told_by_their_names(rt: HostRuntime) -> Result<(), Fail> {
+fn refusals_are_told_by_their_names(rt: HostRuntime) {
     let alloc = rt.alloc();
     for (refused, name) in REFUSED {
-        assert_told(&rt, alloc, Why::Refused(*refused), name)?;
+        assert_told(&rt, alloc, Why::Refused(*refused), name);
     }
-    assert_told(&rt, alloc, Why::Differs, "Differs")
+    assert_told(&rt, alloc, Why::Differs, "Differs");
 }

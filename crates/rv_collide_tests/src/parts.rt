@@ -1,6 +1,7 @@
-//! The memory of the images that are tried.
-ghost use Rattle.std.specs.Prelude.{◌≡◌, [], true, false};
+//! What the tests are made of: the memory of the images that are tried, and accesses.
+ghost use Rattle.std.specs.Prelude.{◌≡◌, [], not, true, false};
 
+use rv_hart::access::Access;
 use rv_memory::region::Region;
 use std::alloc::Global;
 
@@ -15,5 +16,18 @@ pub fn zeros(alloc: Global, start: u32, len: u32) -> Region
         r: true,
         w: true,
         x: false,
+    }
+}
+
+/// The access of an instruction to the word at 00020000: a store, or else a load.
+pub const fn access(pc: u32, write: bool) -> Access
+    ensures { result ≡ record { pc = pc; first = 0x20000; size = 4; read = not write; write = write } }
+{
+    Access {
+        pc,
+        first: 0x20000,
+        size: 4,
+        read: !write,
+        write,
     }
 }

@@ -11,7 +11,6 @@ use rv_memory::paged::Paged;
 use rv_memory::store::ByteStore;
 use std::alloc::Global;
 use std::process::Abort;
-use std::test::Fail;
 
 mod conflicts;
 mod overlaps;
@@ -65,28 +64,16 @@ fn see<S: ByteStore>(rt: &impl Abort, alloc: Global, row: &Row, collider: Collid
 }
 
 /// Asserts what a row's schedule shows over a store with so many slots, and that its entries and endings are handed out.
-fn assert_shows<S: ByteStore>(
-    rt: &impl Abort,
-    alloc: Global,
-    row: &Row,
-    slots: u8,
-) -> Result<(), Fail> {
-    let plan = slotted(row.harts, 1000, 200, slots)?;
-    let collider: Collider<S> = told_over(rt, alloc, row.words, plan, row.entries)?;
+fn assert_shows<S: ByteStore>(rt: &impl Abort, alloc: Global, row: &Row, slots: u8) {
+    let plan = slotted(rt, row.harts, 1000, 200, slots);
+    let collider: Collider<S> = told_over(rt, alloc, row.words, plan, row.entries);
     see(rt, alloc, row, collider);
-    Ok(())
 }
 
 /// Asserts it of each row, over either store.
-pub fn assert_all_show(
-    rt: &impl Abort,
-    alloc: Global,
-    rows: &[Row],
-    slots: u8,
-) -> Result<(), Fail> {
+pub fn assert_all_show(rt: &impl Abort, alloc: Global, rows: &[Row], slots: u8) {
     for row in rows {
-        assert_shows::<Flat>(rt, alloc, row, slots)?;
-        assert_shows::<Paged>(rt, alloc, row, slots)?;
+        assert_shows::<Flat>(rt, alloc, row, slots);
+        assert_shows::<Paged>(rt, alloc, row, slots);
     }
-    Ok(())
 }

@@ -10,7 +10,6 @@ use rv_hart::access::Access;
 use rv_memory::flagged::Flagged;
 use std::alloc::Global;
 use std::process::Abort;
-use std::test::Fail;
 
 /// `sw` to 0x00020000 by the instruction at 0x00010004.
 const STORE: Access = Access {
@@ -35,7 +34,7 @@ fn ending(hart: u8, slot: Option<u8>, verdict: Verdict, new: u32) -> Ending {
 }
 
 #[test]
-fn writes_endings(rt: HostRuntime) -> Result<(), Fail> {
+fn writes_endings(rt: HostRuntime) {
     let mut writer = Flagged::new(Vec::new(rt.alloc()));
     let seen = Seen {
         place: 4,
@@ -59,7 +58,6 @@ fn writes_endings(rt: HostRuntime) -> Result<(), Fail> {
         (true, text.as_slice()),
         "three endings",
     );
-    Ok(())
 }
 
 const TURNS: &[Entry] = &[
@@ -85,11 +83,11 @@ fn see_turns(rt: &impl Abort, alloc: Global, told: &Finished) {
 
 /// Steps and pauses are turns; no other entry is.
 #[test]
-fn counts_turns(rt: HostRuntime) -> Result<(), Fail> {
+fn counts_turns(rt: HostRuntime) {
     let alloc = rt.alloc();
-    let plan = Plan::new(2, 10, 2, 5, 4).ok_or("a plan")?;
+    let plan = Plan::new(2, 10, 2, 5, 4).expect(&rt, "a plan");
     let mut entries = Vec::new(alloc);
-    entries.extend_from_slice(TURNS)?;
+    entries.extend_from_slice(TURNS).expect(&rt, "refused");
     let told = Finished {
         plan,
         entries,
@@ -97,5 +95,4 @@ fn counts_turns(rt: HostRuntime) -> Result<(), Fail> {
         output: Vec::new(alloc),
     };
     see_turns(&rt, alloc, &told);
-    Ok(())
 }

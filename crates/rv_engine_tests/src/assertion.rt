@@ -6,7 +6,6 @@ use rv_memory::flagged::Flagged;
 use std::alloc::Global;
 use std::fmt::Debug;
 use std::process::Abort;
-use std::test::Fail;
 
 /// What was found is what is wanted. (Each assertion that a test writes out costs the check a second, and a call of
 /// this one next to nothing.)
@@ -40,15 +39,9 @@ pub fn assert_tells_each_failing_read<F: Fn(&mut Flagged<Failing<'_>>) -> Result
 }
 
 /// Asserts that an outcome is a fault of status 1 that is told so.
-pub fn assert_told(
-    rt: &impl Abort,
-    alloc: Global,
-    outcome: Result<(), Fault>,
-    told: &'static str,
-) -> Result<(), Fail> {
-    let fault = outcome.err().ok_or(told)?;
+pub fn assert_told(rt: &impl Abort, alloc: Global, outcome: Result<(), Fault>, told: &'static str) {
+    let fault = outcome.err().expect(rt, told);
     assert_is(rt, fault.status(), 1, told);
-    let text = format!(in alloc; "{fault}")?;
+    let text = format!(in alloc; "{fault}").expect(rt, "memory");
     assert_is(rt, text.as_str(), told, "what is told");
-    Ok(())
 }

@@ -11,7 +11,6 @@ use rv_memory::flagged::Flagged;
 use std::alloc::Global;
 use std::io::Read;
 use std::process::Abort;
-use std::test::Fail;
 
 /// A store of hart 1 within a pause of hart 0 at the same one.
 const HIT: &str = "rvcollide schedule 1\nharts 2 steps 100 arms 8 pause 10\n\
@@ -51,9 +50,8 @@ fn assert_all_answers(rt: &impl Abort, alloc: Global, image: &[u8]) {
 }
 
 #[test]
-fn answers_commands(rt: HostRuntime) -> Result<(), Fail> {
-    assert_all_answers(&rt, rt.alloc(), &file_of(&rt, rt.alloc(), P, true)?);
-    Ok(())
+fn answers_commands(rt: HostRuntime) {
+    assert_all_answers(&rt, rt.alloc(), &file_of(&rt, rt.alloc(), P, true));
 }
 
 const COMMANDS: &[u8] = b"g 4\nm 00020000 4\nl 00010000 4\nx 1\n\nw 00020000";
@@ -70,9 +68,9 @@ fn read_by<I: Read, S: Read, C: Read>(
 }
 
 #[test]
-fn tells_a_writer_that_fails(rt: HostRuntime) -> Result<(), Fail> {
+fn tells_a_writer_that_fails(rt: HostRuntime) {
     let alloc = rt.alloc();
-    let image = file_of(&rt, alloc, P, true)?;
+    let image = file_of(&rt, alloc, P, true);
     for takes_none in [false, true] {
         assert_tells_each_failing_call(&rt, alloc, takes_none, |writer| {
             run_debug(
@@ -84,7 +82,6 @@ fn tells_a_writer_that_fails(rt: HostRuntime) -> Result<(), Fail> {
             )
         });
     }
-    Ok(())
 }
 
 fn assert_tells_each_reader(rt: &impl Abort, alloc: Global, image: &[u8]) {
@@ -103,9 +100,8 @@ fn assert_tells_each_reader(rt: &impl Abort, alloc: Global, image: &[u8]) {
 }
 
 #[test]
-fn tells_a_reader_that_fails(rt: HostRuntime) -> Result<(), Fail> {
-    assert_tells_each_reader(&rt, rt.alloc(), &file_of(&rt, rt.alloc(), P, true)?);
-    Ok(())
+fn tells_a_reader_that_fails(rt: HostRuntime) {
+    assert_tells_each_reader(&rt, rt.alloc(), &file_of(&rt, rt.alloc(), P, true));
 }
 
 /// A faulty file is told before a command is read.
@@ -115,7 +111,7 @@ fn assert_refuses(
     image: &[u8],
     schedule: &str,
     told: &'static str,
-) -> Result<(), Fail> {
+) {
     let mut writer = Buffered::new(alloc, Vec::new(alloc));
     let outcome = run_debug(
         alloc,
@@ -126,19 +122,19 @@ fn assert_refuses(
     );
     let written = writer.into_inner().len();
     assert_is(rt, written, 0, told);
-    assert_told(rt, alloc, outcome, told)
+    assert_told(rt, alloc, outcome, told);
 }
 
 const NO_PAUSE: &str = "rvcollide schedule 1\nharts 2 steps 9 arms 8 pause 10\ns 0\nr 1\nend\n";
 
-fn assert_refuses_files(rt: &impl Abort, alloc: Global, image: &[u8]) -> Result<(), Fail> {
-    assert_refuses(rt, alloc, b"", "x", "load Truncated")?;
-    assert_refuses(rt, alloc, image, "x", "schedule line 1 NoEnd")?;
-    assert_refuses(rt, alloc, image, NO_PAUSE, "replay entry 1 NotPaused")
+fn assert_refuses_files(rt: &impl Abort, alloc: Global, image: &[u8]) {
+    assert_refuses(rt, alloc, b"", "x", "load Truncated");
+    assert_refuses(rt, alloc, image, "x", "schedule line 1 NoEnd");
+    assert_refuses(rt, alloc, image, NO_PAUSE, "replay entry 1 NotPaused");
 }
 
 #[test]
-fn tells_a_file_that_is_refused(rt: HostRuntime) -> Result<(), Fail> {
-    let image = file_of(&rt, rt.alloc(), P, true)?;
-    assert_refuses_files(&rt, rt.alloc(), &image)
+fn tells_a_file_that_is_refused(rt: HostRuntime) {
+    let image = file_of(&rt, rt.alloc(), P, true);
+    assert_refuses_files(&rt, rt.alloc(), &image);
 }

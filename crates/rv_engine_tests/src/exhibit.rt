@@ -12,7 +12,6 @@ use rv_memory::flagged::Flagged;
 use std::alloc::Global;
 use std::io::{Read, Write};
 use std::process::Abort;
-use std::test::Fail;
 
 /// `lui x6,0x20`, `sw x10,0(x6)`, `lw x5,0(x6)`, `ecall`.
 pub const P: &[u32] = &[0x0002_0337, 0x00a3_2023, 0x0003_2283, 0x0000_0073];
@@ -101,9 +100,8 @@ fn assert_exhibits(rt: &impl Abort, alloc: Global, image: &[u8]) {
 }
 
 #[test]
-fn writes_exhibits(rt: HostRuntime) -> Result<(), Fail> {
-    assert_exhibits(&rt, rt.alloc(), &file_of(&rt, rt.alloc(), P, true)?);
-    Ok(())
+fn writes_exhibits(rt: HostRuntime) {
+    assert_exhibits(&rt, rt.alloc(), &file_of(&rt, rt.alloc(), P, true));
 }
 
 /// The words of an image, a schedule, the number of an ending, and what is told: the files' faults come before the
@@ -120,22 +118,21 @@ const FAILS: &[Fails] = &[
 ];
 
 /// Asserts that a fault is told, and nothing written.
-fn assert_tells(rt: &impl Abort, alloc: Global, row: &Fails) -> Result<(), Fail> {
+fn assert_tells(rt: &impl Abort, alloc: Global, row: &Fails) {
     let (words, schedule, number, told) = *row;
-    let image = file_of(rt, alloc, words, true)?;
+    let image = file_of(rt, alloc, words, true);
     let mut writer = Buffered::new(alloc, Vec::new(alloc));
     let outcome = shown(alloc, &image, schedule, number, &mut writer);
     let written = writer.into_inner().len();
     assert_is(rt, written, 0, told);
-    assert_told(rt, alloc, outcome, told)
+    assert_told(rt, alloc, outcome, told);
 }
 
 #[test]
-fn tells_why_there_is_no_exhibit(rt: HostRuntime) -> Result<(), Fail> {
+fn tells_why_there_is_no_exhibit(rt: HostRuntime) {
     for row in FAILS {
-        assert_tells(&rt, rt.alloc(), row)?;
+        assert_tells(&rt, rt.alloc(), row);
     }
-    Ok(())
 }
 
 #[test]
@@ -153,29 +150,30 @@ fn refuses_an_endless_image(rt: HostRuntime) {
 pub const STORES: &[u32] = &[0x0002_0337, 0x00a3_2023, 0xffdf_f06f];
 
 /// A schedule whose exhibit is longer than a writer gathers.
-pub fn long_schedule(alloc: Global) -> Result<String, Fail> {
+pub fn long_schedule(rt: &impl Abort, alloc: Global) -> String {
     let mut text = String::from_str(
         alloc,
         "rvcollide schedule 2\nharts 2 steps 4000 arms 1 pause 10 slots 1\ns 0\n",
-    )?;
+    )
+    .expect(rt, "memory");
     for _ in 0..1100 {
-        text.push_str("s 0\ns 0\n")?;
+        text.push_str("s 0\ns 0\n").expect(rt, "memory");
     }
-    text.push_str("a 00010004\np 0 0\ns 1\ns 1\nr 0\nend\n")?;
-    Ok(text)
+    text.push_str("a 00010004\np 0 0\ns 1\ns 1\nr 0\nend\n")
+        .expect(rt, "memory");
+    text
 }
 
 #[test]
-fn tells_a_writer_that_fails(rt: HostRuntime) -> Result<(), Fail> {
+fn tells_a_writer_that_fails(rt: HostRuntime) {
     let alloc = rt.alloc();
-    let image = file_of(&rt, alloc, STORES, true)?;
-    let schedule = long_schedule(alloc)?;
+    let image = file_of(&rt, alloc, STORES, true);
+    let schedule = long_schedule(&rt, alloc);
     for takes_none in [false, true] {
         assert_tells_each_failing_call(&rt, alloc, takes_none, |writer| {
             shown(alloc, &image, schedule.as_bytes(), 0, writer)
         });
     }
-    Ok(())
 }
 
 /// What `exhibit` answers of two readers, whatever it writes.
@@ -189,14 +187,13 @@ fn read_by<I: Read, S: Read>(
 }
 
 #[test]
-fn tells_a_reader_that_fails(rt: HostRuntime) -> Result<(), Fail> {
+fn tells_a_reader_that_fails(rt: HostRuntime) {
     let alloc = rt.alloc();
-    let image = file_of(&rt, alloc, P, true)?;
+    let image = file_of(&rt, alloc, P, true);
     assert_tells_each_failing_read(&rt, &image, |reader| {
         read_by(alloc, reader, &mut Flagged::new(HIT))
     });
     assert_tells_each_failing_read(&rt, HIT, |reader| {
         read_by(alloc, &mut Flagged::new(image.as_slice()), reader)
     });
-    Ok(())
 }

@@ -13,7 +13,6 @@ use rv_memory::output::Output;
 use std::alloc::Global;
 use std::io::{Read, Write};
 use std::process::Abort;
-use std::test::Fail;
 
 const PLAIN: ExplainOptions<'static> = ExplainOptions {
     named: None,
@@ -58,15 +57,14 @@ race 1: 00010004 and 00010004, 1 report, kept
 ";
 
 #[test]
-fn tells_a_race(rt: HostRuntime) -> Result<(), Fail> {
+fn tells_a_race(rt: HostRuntime) {
     let alloc = rt.alloc();
-    let image = file_of(&rt, alloc, P, true)?;
+    let image = file_of(&rt, alloc, P, true);
     let mut writer = Buffered::new(alloc, Vec::new(alloc));
     let outcome = told(alloc, &PLAIN, &image, HIT, &mut None, &mut writer);
     assert_is(&rt, outcome, Ok(()), "a race");
-    let text = String::from_utf8(writer.into_inner())?;
+    let text = String::from_utf8(writer.into_inner()).expect(&rt, "a text");
     assert_is(&rt, text.as_str(), TEXT, "its text");
-    Ok(())
 }
 
 fn told_without_text(
@@ -91,10 +89,10 @@ fn assert_tells(
     alloc: Global,
     row: &(ExplainOptions<'static>, &[u8], &'static str),
     image: &[u8],
-) -> Result<(), Fail> {
+) {
     let (options, schedule, line) = row;
     let outcome = told_without_text(rt, alloc, options, image, schedule);
-    let fault = outcome.err().ok_or(*line)?;
+    let fault = outcome.err().expect(rt, *line);
     assert_is(rt, fault.status(), 1, line);
     let paths = Paths {
         image: "a.elf",
@@ -105,9 +103,8 @@ fn assert_tells(
         file: paths.at_fault(fault),
         fault,
     };
-    let text = format!(in alloc; "{told}")?;
+    let text = format!(in alloc; "{told}").expect(rt, "memory");
     assert_is(rt, text.as_str(), *line, "what is told");
-    Ok(())
 }
 
 const UNNAMED: ExplainOptions<'static> = ExplainOptions {
@@ -151,24 +148,23 @@ const FAULTS: &[(ExplainOptions<'static>, &[u8], &str)] = &[
     ),
 ];
 
-fn assert_tells_all(rt: &impl Abort, alloc: Global, image: &[u8]) -> Result<(), Fail> {
+fn assert_tells_all(rt: &impl Abort, alloc: Global, image: &[u8]) {
     for row in FAULTS {
-        assert_tells(rt, alloc, row, image)?;
+        assert_tells(rt, alloc, row, image);
     }
-    Ok(())
 }
 
 #[test]
-fn tells_why_there_is_no_text(rt: HostRuntime) -> Result<(), Fail> {
-    let image = file_of(&rt, rt.alloc(), P, true)?;
-    assert_tells_all(&rt, rt.alloc(), &image)
+fn tells_why_there_is_no_text(rt: HostRuntime) {
+    let image = file_of(&rt, rt.alloc(), P, true);
+    assert_tells_all(&rt, rt.alloc(), &image);
 }
 
 /// Without a picture a schedule with no report has its first line.
 #[test]
-fn tells_that_there_is_no_race(rt: HostRuntime) -> Result<(), Fail> {
+fn tells_that_there_is_no_race(rt: HostRuntime) {
     let alloc = rt.alloc();
-    let image = file_of(&rt, alloc, P, true)?;
+    let image = file_of(&rt, alloc, P, true);
     let mut writer = Buffered::new(alloc, Vec::new(alloc));
     let outcome = told(alloc, &PLAIN, &image, QUIET, &mut None, &mut writer);
     assert_is(&rt, outcome, Ok(()), "no race");
@@ -179,7 +175,6 @@ fn tells_that_there_is_no_race(rt: HostRuntime) -> Result<(), Fail> {
         b"races 0, reports 0 of 1 endings\n",
         "its line",
     );
-    Ok(())
 }
 
 fn assert_draws(rt: &impl Abort, alloc: Global, image: &[u8]) {
@@ -202,16 +197,15 @@ fn assert_is_drawn(rt: &impl Abort, picture: Option<Kept>) {
 }
 
 #[test]
-fn draws_a_race(rt: HostRuntime) -> Result<(), Fail> {
-    assert_draws(&rt, rt.alloc(), &file_of(&rt, rt.alloc(), P, true)?);
-    Ok(())
+fn draws_a_race(rt: HostRuntime) {
+    assert_draws(&rt, rt.alloc(), &file_of(&rt, rt.alloc(), P, true));
 }
 
 /// A picture that can't be written: nothing is on the standard output.
 #[test]
-fn tells_a_picture_that_fails(rt: HostRuntime) -> Result<(), Fail> {
+fn tells_a_picture_that_fails(rt: HostRuntime) {
     let alloc = rt.alloc();
-    let image = file_of(&rt, alloc, P, true)?;
+    let image = file_of(&rt, alloc, P, true);
     let mut writer = Buffered::new(alloc, Vec::new(alloc));
     let mut picture = Some(Kept::new(alloc, true));
     let outcome = told(alloc, &PLAIN, &image, HIT, &mut picture, &mut writer);
@@ -222,7 +216,6 @@ fn tells_a_picture_that_fails(rt: HostRuntime) -> Result<(), Fail> {
         "a picture",
     );
     assert_is(&rt, writer.into_inner().len(), 0, "nothing");
-    Ok(())
 }
 
 /// The fault of a result, as any command may tell it.
@@ -236,10 +229,10 @@ fn plain(outcome: Result<(), CommandFault<'static>>) -> Result<(), Fault> {
 
 /// The text is longer than a writer gathers, and something was gathered before.
 #[test]
-fn tells_a_writer_that_fails(rt: HostRuntime) -> Result<(), Fail> {
+fn tells_a_writer_that_fails(rt: HostRuntime) {
     let alloc = rt.alloc();
-    let image = file_of(&rt, alloc, STORES, true)?;
-    let schedule = long_schedule(alloc)?;
+    let image = file_of(&rt, alloc, STORES, true);
+    let schedule = long_schedule(&rt, alloc);
     let wide = ExplainOptions {
         named: None,
         around: 1000,
@@ -251,7 +244,6 @@ fn tells_a_writer_that_fails(rt: HostRuntime) -> Result<(), Fail> {
             plain(told(alloc, &wide, &image, schedule.as_bytes(), &mut None, writer))
         });
     }
-    Ok(())
 }
 
 /// What `explain` answers of two readers, whatever it writes.
@@ -266,14 +258,13 @@ fn read_by<I: Read, S: Read>(
 }
 
 #[test]
-fn tells_a_reader_that_fails(rt: HostRuntime) -> Result<(), Fail> {
+fn tells_a_reader_that_fails(rt: HostRuntime) {
     let alloc = rt.alloc();
-    let image = file_of(&rt, alloc, P, true)?;
+    let image = file_of(&rt, alloc, P, true);
     assert_tells_each_failing_read(&rt, &image, |reader| {
         read_by(alloc, reader, &mut Flagged::new(HIT))
     });
     assert_tells_each_failing_read(&rt, HIT, |reader| {
         read_by(alloc, &mut Flagged::new(image.as_slice()), reader)
     });
-    Ok(())
 }

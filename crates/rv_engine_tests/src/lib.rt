@@ -1,4 +1,5 @@
-//! The tests of the engines, and the devices that they are tried with: readers and writers that fail.
+//! The tests of the engines and of the command line, and the devices that engines are tried with: readers and writers
+//! that fail.
 //!
 //! They stand in a crate of their own, so that the engines are not proved a second time with their tests.
 #![tactic(auto)]
@@ -7,6 +8,8 @@
 mod asm;
 #[cfg(test)]
 mod assertion;
+#[cfg(test)]
+mod command;
 #[cfg(test)]
 mod debug;
 pub mod devices;
@@ -18,6 +21,7 @@ mod explain;
 mod images;
 #[cfg(test)]
 mod list;
+pub mod parts;
 #[cfg(test)]
 mod replay;
 #[cfg(test)]

@@ -5,13 +5,12 @@ use rv_engines::fault::Fault;
 use rv_engines::list::run_list;
 use rv_memory::buffered::Buffered;
 use rv_memory::flagged::Flagged;
-use std::alloc::{AllocError, Global};
+use std::alloc::Global;
 use std::io::Read;
 use std::process::Abort;
-use std::test::Fail;
 
 /// An ELF32 file of one segment from 00010000 on, R and X, with these words.
-fn file_of(alloc: Global, words: &[u32]) -> Result<Vec<u8>, AllocError> {
+fn file_of(rt: &impl Abort, alloc: Global, words: &[u32]) -> Vec<u8> {
     let mut file = Vec::from_slice(
         alloc,
         &[
@@ -19,15 +18,18 @@ fn file_of(alloc: Global, words: &[u32]) -> Result<Vec<u8>, AllocError> {
             0, 0, 1, 0, 0x34, 0, 0, 0, 0, 0, 0, 0, 0, 0, 0, 0, 0x34, 0, 0x20, 0, 1, 0, 0x28, 0, 0,
             0, 0, 0, 1, 0, 0, 0, 0x54, 0, 0, 0, 0, 0, 1, 0, 0, 0, 1, 0,
         ],
-    )?;
+    )
+    .expect(rt, "memory");
     let length = (words.len() as u64).wrapping_mul(4).to_le_bytes();
-    file.extend_from_slice(&length[..4])?;
-    file.extend_from_slice(&length[..4])?;
-    file.extend_from_slice(&[5, 0, 0, 0, 1, 0, 0, 0])?;
+    file.extend_from_slice(&length[..4]).expect(rt, "memory");
+    file.extend_from_slice(&length[..4]).expect(rt, "memory");
+    file.extend_from_slice(&[5, 0, 0, 0, 1, 0, 0, 0])
+        .expect(rt, "memory");
     for word in words {
-        file.extend_from_slice(&word.to_le_bytes())?;
+        file.extend_from_slice(&word.to_le_bytes())
+            .expect(rt, "memory");
     }
-    Ok(file)
+    file
 }
 
 const LISTING: &[u8] = b"00010000: 00020337 lui x6, 0x20\n\
@@ -48,11 +50,10 @@ pub fn assert_lists(rt: &impl Abort, alloc: Global, file: &[u8], listing: &[u8],
 const WORDS: &[u32] = &[0x0002_0337, 0x00a3_2023, 0x0003_2283, 0x0000_0073, 0];
 
 #[test]
-fn lists_an_image(rt: HostRuntime) -> Result<(), Fail> {
+fn lists_an_image(rt: HostRuntime) {
     let alloc = rt.alloc();
-    let file = file_of(alloc, WORDS)?;
+    let file = file_of(&rt, alloc, WORDS);
     assert_lists(&rt, alloc, &file, LISTING, "the listing");
-    Ok(())
 }
 
 /// Asserts that a fault is told of a reader, and nothing is written.
@@ -71,10 +72,9 @@ fn assert_refuses_parts(rt: &impl Abort, alloc: Global, file: &[u8]) {
 }
 
 #[test]
-fn refuses_what_is_no_image(rt: HostRuntime) -> Result<(), Fail> {
+fn refuses_what_is_no_image(rt: HostRuntime) {
     let alloc = rt.alloc();
-    assert_refuses_parts(&rt, alloc, &file_of(alloc, &WORDS[..1])?);
-    Ok(())
+    assert_refuses_parts(&rt, alloc, &file_of(&rt, alloc, &WORDS[..1]));
 }
 
 #[test]
@@ -86,24 +86,22 @@ fn refuses_zeros_and_an_endless_file(rt: HostRuntime) {
 }
 
 #[test]
-fn tells_a_reader_that_fails(rt: HostRuntime) -> Result<(), Fail> {
+fn tells_a_reader_that_fails(rt: HostRuntime) {
     let alloc = rt.alloc();
-    let file = file_of(alloc, &WORDS[..1])?;
+    let file = file_of(&rt, alloc, &WORDS[..1]);
     assert_tells_each_failing_read(&rt, file.as_slice(), |reader| {
         let mut writer = Buffered::new(alloc, Vec::new(alloc));
         run_list(alloc, reader, &mut writer)
     });
-    Ok(())
 }
 
 #[test]
-fn tells_a_writer_that_fails(rt: HostRuntime) -> Result<(), Fail> {
+fn tells_a_writer_that_fails(rt: HostRuntime) {
     let alloc = rt.alloc();
-    let file = file_of(alloc, &[0x0002_0337; 200])?;
+    let file = file_of(&rt, alloc, &[0x0002_0337; 200]);
     for takes_none in [false, true] {
         assert_tells_each_failing_call(&rt, alloc, takes_none, |writer| {
             run_list(alloc, &mut Flagged::new(file.as_slice()), writer)
         });
     }
-    Ok(())
 }

@@ -10,7 +10,6 @@ use rv_memory::flagged::Flagged;
 use std::alloc::Global;
 use std::io::{Read, Write};
 use std::process::Abort;
-use std::test::Fail;
 
 /// `lui x6,0x20`, `sw x10,0(x6)`, `lw x5,0(x6)`, `ecall`.
 const P: &[u32] = &[0x0002_0337, 0x00a3_2023, 0x0003_2283, 0x0000_0073];
@@ -59,9 +58,8 @@ const FAILS: &[u32] = &[
 const TRAPS: &[u32] = &[0x0002_0337, 0x0023_2283];
 
 /// The text of a schedule: the plan's numbers, and the lines of its entries.
-fn text_of(alloc: Global, plan: &str, entries: &str) -> Result<String, Fail> {
-    let text = format!(in alloc; "rvcollide schedule 1\n{plan}\n{entries}end\n")?;
-    Ok(text)
+fn text_of(rt: &impl Abort, alloc: Global, plan: &str, entries: &str) -> String {
+    format!(in alloc; "rvcollide schedule 1\n{plan}\n{entries}end\n").expect(rt, "memory")
 }
 
 const ONE: &str = "harts 1 steps 100 arms 8 pause 10";
@@ -277,24 +275,22 @@ fn replayed<W: Write>(
     )
 }
 
-fn assert_writes(rt: &impl Abort, alloc: Global, row: &Row) -> Result<(), Fail> {
-    let image = file_of(rt, alloc, row.words, false)?;
-    let schedule = text_of(alloc, row.plan, row.entries)?;
+fn assert_writes(rt: &impl Abort, alloc: Global, row: &Row) {
+    let image = file_of(rt, alloc, row.words, false);
+    let schedule = text_of(rt, alloc, row.plan, row.entries);
     let mut writer = Buffered::new(alloc, Vec::new(alloc));
     let outcome = replayed(alloc, &image, schedule.as_str(), &mut writer);
     assert_is(rt, outcome, Ok(()), row.name);
     let written = writer.into_inner();
     assert_is(rt, written.as_slice(), row.text, row.name);
-    Ok(())
 }
 
 #[test]
-fn writes_endings_harts_and_output(rt: HostRuntime) -> Result<(), Fail> {
+fn writes_endings_harts_and_output(rt: HostRuntime) {
     let alloc = rt.alloc();
     for row in ROWS {
-        assert_writes(&rt, alloc, row)?;
+        assert_writes(&rt, alloc, row);
     }
-    Ok(())
 }
 
 /// What is told of an image and the plan and entries of a schedule.
@@ -325,50 +321,35 @@ const NO_IMAGES: &[(&[u8], &str, &str, &str)] = &[
 ];
 
 /// Asserts that a fault is told, and nothing written.
-fn assert_tells(
-    rt: &impl Abort,
-    alloc: Global,
-    image: &[u8],
-    schedule: &str,
-    told: &'static str,
-) -> Result<(), Fail> {
+fn assert_tells(rt: &impl Abort, alloc: Global, image: &[u8], schedule: &str, told: &'static str) {
     let mut writer = Buffered::new(alloc, Vec::new(alloc));
     let outcome = replayed(alloc, image, schedule, &mut writer);
     let written = writer.into_inner().len();
     assert_is(rt, written, 0, told);
-    assert_told(rt, alloc, outcome, told)
+    assert_told(rt, alloc, outcome, told);
 }
 
-fn assert_tells_of_file(
-    rt: &impl Abort,
-    alloc: Global,
-    row: &(&[u8], &str, &str, &'static str),
-) -> Result<(), Fail> {
+fn assert_tells_of_file(rt: &impl Abort, alloc: Global, row: &(&[u8], &str, &str, &'static str)) {
     let (image, plan, entries, told) = *row;
-    let schedule = text_of(alloc, plan, entries)?;
-    assert_tells(rt, alloc, image, schedule.as_str(), told)
+    let schedule = text_of(rt, alloc, plan, entries);
+    assert_tells(rt, alloc, image, schedule.as_str(), told);
 }
 
-fn assert_tells_of_words(
-    rt: &impl Abort,
-    alloc: Global,
-    row: &(&[u32], &str, &str, &'static str),
-) -> Result<(), Fail> {
+fn assert_tells_of_words(rt: &impl Abort, alloc: Global, row: &(&[u32], &str, &str, &'static str)) {
     let (words, plan, entries, told) = *row;
-    let image = file_of(rt, alloc, words, false)?;
-    assert_tells_of_file(rt, alloc, &(image.as_slice(), plan, entries, told))
+    let image = file_of(rt, alloc, words, false);
+    assert_tells_of_file(rt, alloc, &(image.as_slice(), plan, entries, told));
 }
 
 /// The image's faults are told before the schedule's, and those before an entry's.
 #[test]
-fn tells_the_first_fault(rt: HostRuntime) -> Result<(), Fail> {
+fn tells_the_first_fault(rt: HostRuntime) {
     for row in NO_IMAGES {
-        assert_tells_of_file(&rt, rt.alloc(), row)?;
+        assert_tells_of_file(&rt, rt.alloc(), row);
     }
     for row in FAULTS {
-        assert_tells_of_words(&rt, rt.alloc(), row)?;
+        assert_tells_of_words(&rt, rt.alloc(), row);
     }
-    Ok(())
 }
 
 #[test]
@@ -387,25 +368,31 @@ fn refuses_an_endless_image(rt: HostRuntime) {
 }
 
 /// A schedule whose endings alone are more than a writer gathers.
-fn long_schedule(alloc: Global) -> Result<String, Fail> {
-    let mut entries = String::from_str(alloc, "s 0\n")?;
+fn long_schedule(rt: &impl Abort, alloc: Global) -> String {
+    let mut entries = String::from_str(alloc, "s 0\n").expect(rt, "memory");
     for _ in 0..60 {
-        entries.push_str("a 00010004\np 0 0\nr 0\n")?;
+        entries
+            .push_str("a 00010004\np 0 0\nr 0\n")
+            .expect(rt, "memory");
     }
-    text_of(alloc, "harts 1 steps 2 arms 60 pause 10", entries.as_str())
+    text_of(
+        rt,
+        alloc,
+        "harts 1 steps 2 arms 60 pause 10",
+        entries.as_str(),
+    )
 }
 
 #[test]
-fn tells_a_writer_that_fails(rt: HostRuntime) -> Result<(), Fail> {
+fn tells_a_writer_that_fails(rt: HostRuntime) {
     let alloc = rt.alloc();
-    let image = file_of(&rt, alloc, P, false)?;
-    let schedule = long_schedule(alloc)?;
+    let image = file_of(&rt, alloc, P, false);
+    let schedule = long_schedule(&rt, alloc);
     for takes_none in [false, true] {
         assert_tells_each_failing_call(&rt, alloc, takes_none, |writer| {
             replayed(alloc, &image, schedule.as_str(), writer)
         });
     }
-    Ok(())
 }
 
 /// The schedule of the readers that fail.
@@ -422,14 +409,13 @@ fn read_by<I: Read, S: Read>(
 }
 
 #[test]
-fn tells_a_reader_that_fails(rt: HostRuntime) -> Result<(), Fail> {
+fn tells_a_reader_that_fails(rt: HostRuntime) {
     let alloc = rt.alloc();
-    let image = file_of(&rt, alloc, P, false)?;
+    let image = file_of(&rt, alloc, P, false);
     assert_tells_each_failing_read(&rt, &image, |reader| {
         read_by(alloc, reader, &mut Flagged::new(GOOD))
     });
     assert_tells_each_failing_read(&rt, GOOD, |reader| {
         read_by(alloc, &mut Flagged::new(image.as_slice()), reader)
     });
-    Ok(())
 }

@@ -15,7 +15,6 @@ use rv_memory::flagged::Flagged;
 use std::alloc::Global;
 use std::process::Abort;
 use std::sync::Wait;
-use std::test::Fail;
 use std::thread::Threads;
 
 /// `lui x6,0x20`, `sw x10,0(x6)`, `lw x5,0(x6)`, `ecall`.
@@ -51,31 +50,32 @@ const NO_RACE: &[u8] = b"races 0\npruned named 0 flag 0 counter 0\n";
 
 /// The options of a campaign that lists nothing: the harts, steps, arms and pause of each run, the seed, and how many
 /// runs there are.
-fn options(numbers: (u8, u32, u32, u32), seed: u32, runs: u32) -> Result<Options<'static>, Fail>
+fn options(rt: &impl Abort, numbers: (u8, u32, u32, u32), seed: u32, runs: u32) -> Options<'static>
     requires { 1 ≤ runs }
 {
-    options_keeping(numbers, seed, runs, 0)
+    options_keeping(rt, numbers, seed, runs, 0)
 }
 
 /// The same, where the schedule of another run than the first is kept.
 fn options_keeping(
+    rt: &impl Abort,
     numbers: (u8, u32, u32, u32),
     seed: u32,
     runs: u32,
     keep: u32,
-) -> Result<Options<'static>, Fail>
+) -> Options<'static>
     requires { keep < runs }
 {
     let (harts, steps, arms, pause) = numbers;
-    Ok(Options {
-        plan: Plan::new(harts, steps, arms, pause, 4).ok_or("a plan")?,
+    Options {
+        plan: Plan::new(harts, steps, arms, pause, 4).expect(rt, "a plan"),
         seed,
         runs,
         workers: 1,
         named: None,
         skip: None,
         keep,
-    })
+    }
 }
 
 /// Asserts that a campaign of a file writes the table.
@@ -129,12 +129,11 @@ fn refuses(
     options: &Options<'_>,
     fault: CommandFault<'_>,
     text: &str,
-) -> Result<(), Fail> {
+) {
     assert_fault(rt, alloc, file, options, fault);
     assert_is(rt, fault.status(), 1, text);
-    let told = format!(in alloc; "{fault}")?;
+    let told = format!(in alloc; "{fault}").expect(rt, "memory");
     assert_is(rt, told.as_str(), text, "what is told");
-    Ok(())
 }
 
 fn assert_fault(
@@ -284,26 +283,20 @@ const CAMPAIGNS: &[Campaign] = &[
     },
 ];
 
-fn assert_writes(
-    rt: &(impl Abort + Threads + Wait + Sync),
-    alloc: Global,
-    row: &Campaign,
-) -> Result<(), Fail> {
+fn assert_writes(rt: &(impl Abort + Threads + Wait + Sync), alloc: Global, row: &Campaign) {
     assert!(rt; row.runs >= 1);
-    let mut options = options(row.numbers, row.seed, row.runs)?;
+    let mut options = options(rt, row.numbers, row.seed, row.runs);
     options.named = row.named;
     options.skip = row.skip;
-    let file = named_file_of(rt, alloc, row.words)?;
+    let file = named_file_of(rt, alloc, row.words);
     writes(rt, alloc, &file, &options, row.table);
-    Ok(())
 }
 
 #[test]
-fn writes_tables(rt: HostRuntime) -> Result<(), Fail> {
+fn writes_tables(rt: HostRuntime) {
     for row in CAMPAIGNS {
-        assert_writes(&rt, rt.alloc(), row)?;
+        assert_writes(&rt, rt.alloc(), row);
     }
-    Ok(())
 }
 
 /// A campaign of an image of words: the harts, steps, arms and pause of each run, the seed, how many runs there are and
@@ -369,24 +362,18 @@ const SAVED: &[Saved] = &[
     },
 ];
 
-fn assert_saves(
-    rt: &(impl Abort + Threads + Wait + Sync),
-    alloc: Global,
-    row: &Saved,
-) -> Result<(), Fail> {
+fn assert_saves(rt: &(impl Abort + Threads + Wait + Sync), alloc: Global, row: &Saved) {
     assert!(rt; row.keep < row.runs);
-    let options = options_keeping(row.numbers, row.seed, row.runs, row.keep)?;
-    let file = named_file_of(rt, alloc, row.words)?;
+    let options = options_keeping(rt, row.numbers, row.seed, row.runs, row.keep);
+    let file = named_file_of(rt, alloc, row.words);
     saves(rt, alloc, &file, &options, row.schedule);
-    Ok(())
 }
 
 #[test]
-fn saves_schedules(rt: HostRuntime) -> Result<(), Fail> {
+fn saves_schedules(rt: HostRuntime) {
     for row in SAVED {
-        assert_saves(&rt, rt.alloc(), row)?;
+        assert_saves(&rt, rt.alloc(), row);
     }
-    Ok(())
 }
 
 /// A campaign that is refused: how many workers there are, the names, the addresses, the fault, and what is told.
@@ -431,50 +418,44 @@ fn assert_refused(
     alloc: Global,
     file: &[u8],
     row: &Refused,
-) -> Result<(), Fail> {
+) {
     let (workers, named, skip, fault, text) = *row;
-    let mut asked = options((1, 1_000_000, 0, 1), 0, 17)?;
+    let mut asked = options(rt, (1, 1_000_000, 0, 1), 0, 17);
     asked.workers = workers;
     asked.named = named;
     asked.skip = skip;
-    refuses(rt, alloc, file, &asked, fault, text)
+    refuses(rt, alloc, file, &asked, fault, text);
 }
 
-fn assert_refused_in_order(
-    rt: &(impl Abort + Threads + Wait + Sync),
-    alloc: Global,
-    file: &[u8],
-) -> Result<(), Fail> {
+fn assert_refused_in_order(rt: &(impl Abort + Threads + Wait + Sync), alloc: Global, file: &[u8]) {
     for row in REFUSED {
-        assert_refused(rt, alloc, file, row)?;
+        assert_refused(rt, alloc, file, row);
     }
-    Ok(())
 }
 
 #[test]
-fn refuses_in_order(rt: HostRuntime) -> Result<(), Fail> {
-    let file = named_file_of(&rt, rt.alloc(), P)?;
-    assert_refused_in_order(&rt, rt.alloc(), &file)
+fn refuses_in_order(rt: HostRuntime) {
+    let file = named_file_of(&rt, rt.alloc(), P);
+    assert_refused_in_order(&rt, rt.alloc(), &file);
 }
 
 /// The image comes before all of them.
 #[test]
-fn refuses_the_image_first(rt: HostRuntime) -> Result<(), Fail> {
+fn refuses_the_image_first(rt: HostRuntime) {
     let fault = CommandFault::Plain(Fault::Load(LoadFault::Truncated));
     let skip = Some("00010004,0001000g,1");
     let row = (16, NAMES, skip, fault, "load Truncated");
-    assert_refused(&rt, rt.alloc(), b"", &row)
+    assert_refused(&rt, rt.alloc(), b"", &row);
 }
 
 /// What is told where a worker can't be started, which no input brings about.
 #[test]
-fn names_a_thread_that_is_refused(rt: HostRuntime) -> Result<(), Fail> {
+fn names_a_thread_that_is_refused(rt: HostRuntime) {
     let fault = CommandFault::from(CampaignFault::NoThread);
     assert_is(&rt, fault, CommandFault::NoThread, "the fault");
     assert_is(&rt, fault.status(), 1, "the status");
-    let told = format!(in rt.alloc(); "{fault}")?;
+    let told = format!(in rt.alloc(); "{fault}").expect(&rt, "memory");
     assert_is(&rt, told.as_str(), "campaign NoThread", "what is told");
-    Ok(())
 }
 
 /// Lists of names and of addresses, one of whose elements is empty.
@@ -488,29 +469,24 @@ const EMPTY: &[(Option<&str>, Option<&str>)] = &[
     (Some(",word"), None),
 ];
 
-fn assert_refuses_empty(
-    rt: &(impl Abort + Threads + Wait + Sync),
-    alloc: Global,
-    file: &[u8],
-) -> Result<(), Fail> {
+fn assert_refuses_empty(rt: &(impl Abort + Threads + Wait + Sync), alloc: Global, file: &[u8]) {
     for (named, skip) in EMPTY {
-        let mut asked = options((1, 10, 0, 1), 0, 1)?;
+        let mut asked = options(rt, (1, 10, 0, 1), 0, 1);
         asked.named = *named;
         asked.skip = *skip;
         if skip.is_some() {
-            refuses(rt, alloc, file, &asked, CommandFault::Skip(""), "skip ")?;
+            refuses(rt, alloc, file, &asked, CommandFault::Skip(""), "skip ");
         } else {
-            refuses(rt, alloc, file, &asked, CommandFault::Name(""), "name ")?;
+            refuses(rt, alloc, file, &asked, CommandFault::Name(""), "name ");
         }
     }
-    Ok(())
 }
 
 /// An empty element of a list is one.
 #[test]
-fn refuses_empty_elements(rt: HostRuntime) -> Result<(), Fail> {
-    let file = named_file_of(&rt, rt.alloc(), P)?;
-    assert_refuses_empty(&rt, rt.alloc(), &file)
+fn refuses_empty_elements(rt: HostRuntime) {
+    let file = named_file_of(&rt, rt.alloc(), P);
+    assert_refuses_empty(&rt, rt.alloc(), &file);
 }
 
 /// Asserts that where the file cannot be made, nothing is written.
@@ -532,11 +508,10 @@ fn assert_makes_file_first(
 }
 
 #[test]
-fn makes_the_file_first(rt: HostRuntime) -> Result<(), Fail> {
-    let asked = options((1, 10, 2, 5), 0, 1)?;
-    let file = named_file_of(&rt, rt.alloc(), P)?;
+fn makes_the_file_first(rt: HostRuntime) {
+    let asked = options(&rt, (1, 10, 2, 5), 0, 1);
+    let file = named_file_of(&rt, rt.alloc(), P);
     assert_makes_file_first(&rt, rt.alloc(), &file, &asked);
-    Ok(())
 }
 
 /// The fault that any command may tell, of an outcome that has no other.
@@ -549,27 +524,26 @@ fn plain(outcome: Result<(), CommandFault<'_>>) -> Result<(), Fault> {
 }
 
 #[test]
-fn tells_a_reader_that_fails(rt: HostRuntime) -> Result<(), Fail> {
+fn tells_a_reader_that_fails(rt: HostRuntime) {
     let alloc = rt.alloc();
-    let asked = options((1, 10, 2, 5), 0, 1)?;
-    let file = named_file_of(&rt, alloc, ONE_STORE)?;
+    let asked = options(&rt, (1, 10, 2, 5), 0, 1);
+    let file = named_file_of(&rt, alloc, ONE_STORE);
     assert_tells_each_failing_read(&rt, &file, |reader| {
         let mut save: Option<Kept> = None;
         let mut writer = Buffered::new(alloc, Vec::new(alloc));
         plain(run_campaign(&rt, alloc, &asked, reader, &mut save, &mut writer))
     });
-    Ok(())
 }
 
 /// Many stores that meet, so that the table has more bytes than go to the device at once.
 #[test]
-fn tells_a_writer_that_fails(rt: HostRuntime) -> Result<(), Fail> {
+fn tells_a_writer_that_fails(rt: HostRuntime) {
     let alloc = rt.alloc();
     let mut words = [0x00a3_2023; 22];
     words[0] = 0x0002_0337;
     words[21] = 0x0000_0073;
-    let asked = options((12, 400, 300, 30), 0, 4)?;
-    let file = named_file_of(&rt, alloc, &words)?;
+    let asked = options(&rt, (12, 400, 300, 30), 0, 4);
+    let file = named_file_of(&rt, alloc, &words);
     for takes_none in [false, true] {
         assert_tells_each_failing_call(&rt, alloc, takes_none, |writer| {
             let mut save: Option<Kept> = None;
@@ -577,5 +551,4 @@ fn tells_a_writer_that_fails(rt: HostRuntime) -> Result<(), Fail> {
             plain(run_campaign(&rt, alloc, &asked, &mut image, &mut save, writer))
         });
     }
-    Ok(())
 }

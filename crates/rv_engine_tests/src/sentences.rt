@@ -2,7 +2,6 @@ use crate::assertion::assert_is;
 use rv_engines::fault::Fault;
 use rv_engines::run::fault::CommandFault;
 use rv_engines::sentences::FaultLine;
-use std::test::Fail;
 
 const LINES: &[(Option<&str>, CommandFault, &str)] = &[
     (
@@ -29,14 +28,13 @@ const LINES: &[(Option<&str>, CommandFault, &str)] = &[
 
 /// A line has no control byte of the file's name or of a list's element.
 #[test]
-fn lines_steer_no_terminal(rt: HostRuntime) -> Result<(), Fail> {
+fn lines_steer_no_terminal(rt: HostRuntime) {
     for (file, fault, wanted) in LINES {
         let line = FaultLine {
             file: *file,
             fault: *fault,
         };
-        let told = format!(in rt.alloc(); "{line}")?;
+        let told = format!(in rt.alloc(); "{line}").expect(&rt, "memory");
         assert_is(&rt, told.as_str(), *wanted, wanted);
     }
-    Ok(())
 }

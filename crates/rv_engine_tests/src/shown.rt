@@ -1,6 +1,5 @@
 use crate::assertion::assert_is;
 use rv_engines::shown::Shown;
-use std::test::Fail;
 
 const TEXTS: [(&str, &str); 8] = [
     ("", ""),
@@ -14,11 +13,10 @@ const TEXTS: [(&str, &str); 8] = [
 ];
 
 #[test]
-fn shows_no_control_character(rt: HostRuntime) -> Result<(), Fail> {
+fn shows_no_control_character(rt: HostRuntime) {
     let alloc = rt.alloc();
     for (text, wanted) in &TEXTS {
-        let shown = format!(in alloc; "{}", Shown(*text))?;
+        let shown = format!(in alloc; "{}", Shown(*text)).expect(&rt, "memory");
         assert_is(&rt, shown.as_str(), *wanted, wanted);
     }
-    Ok(())
 }

@@ -13,7 +13,6 @@ use rv_memory::flagged::Flagged;
 use std::alloc::Global;
 use std::process::Abort;
 use std::sync::Wait;
-use std::test::Fail;
 use std::thread::Threads;
 
 const ENDINGS: &[u8] =
@@ -43,13 +42,12 @@ fn assert_is_alone(
 
 /// One hart meets no other, whatever the seed: its endings and turns, and the schedule of the same run.
 #[test]
-fn one_hart(rt: HostRuntime) -> Result<(), Fail> {
-    let plan = Plan::new(1, 10, 2, 5, 4).ok_or("a plan")?;
-    let file = named_file_of(&rt, rt.alloc(), ONE_STORE)?;
+fn one_hart(rt: HostRuntime) {
+    let plan = Plan::new(1, 10, 2, 5, 4).expect(&rt, "a plan");
+    let file = named_file_of(&rt, rt.alloc(), ONE_STORE);
     for seed in &[0, 1, 4_294_967_295] {
         assert_is_alone(&rt, rt.alloc(), plan, *seed, &file);
     }
-    Ok(())
 }
 
 fn assert_refuses(
@@ -73,43 +71,41 @@ fn assert_refuses(
 
 /// A refused image makes no file; where the file cannot be made, nothing is written.
 #[test]
-fn refuses(rt: HostRuntime) -> Result<(), Fail> {
-    let plan = Plan::new(1, 10, 2, 5, 4).ok_or("a plan")?;
+fn refuses(rt: HostRuntime) {
+    let plan = Plan::new(1, 10, 2, 5, 4).expect(&rt, "a plan");
     let truncated = Fault::Load(LoadFault::Truncated);
     assert_refuses(&rt, rt.alloc(), plan, b"", (truncated, false));
-    let whole = named_file_of(&rt, rt.alloc(), ONE_STORE)?;
+    let whole = named_file_of(&rt, rt.alloc(), ONE_STORE);
     assert_refuses(&rt, rt.alloc(), plan, &whole, (Fault::Write, true));
-    Ok(())
 }
 
 /// What is told where the threads are refused.
 #[test]
-fn names_its_faults(rt: HostRuntime) -> Result<(), Fail> {
+fn names_its_faults(rt: HostRuntime) {
     let fault = Fault::Threads(ThreadsFault::NoThread);
-    assert_told(&rt, rt.alloc(), Err(fault), "run NoThread")?;
+    assert_told(&rt, rt.alloc(), Err(fault), "run NoThread");
     let fault = Fault::Threads(ThreadsFault::Stray);
-    assert_told(&rt, rt.alloc(), Err(fault), "run Stray")
+    assert_told(&rt, rt.alloc(), Err(fault), "run Stray");
 }
 
 #[test]
-fn tells_a_reader_that_fails(rt: HostRuntime) -> Result<(), Fail> {
+fn tells_a_reader_that_fails(rt: HostRuntime) {
     let alloc = rt.alloc();
-    let file = named_file_of(&rt, alloc, ONE_STORE)?;
-    let plan = Plan::new(1, 10, 2, 5, 4).ok_or("a plan")?;
+    let file = named_file_of(&rt, alloc, ONE_STORE);
+    let plan = Plan::new(1, 10, 2, 5, 4).expect(&rt, "a plan");
     assert_tells_each_failing_read(&rt, &file, |reader| {
         let mut save: Option<Kept> = None;
         let mut writer = Buffered::new(alloc, Vec::new(alloc));
         run_by_threads(&rt, alloc, plan, 7, reader, &mut save, &mut writer)
     });
-    Ok(())
 }
 
 /// One store that is paused again and again, so that the endings have more bytes than go to the device at once.
 #[test]
-fn tells_a_writer_that_fails(rt: HostRuntime) -> Result<(), Fail> {
+fn tells_a_writer_that_fails(rt: HostRuntime) {
     let alloc = rt.alloc();
-    let file = named_file_of(&rt, alloc, ONE_STORE)?;
-    let plan = Plan::new(1, 10, 100, 5, 4).ok_or("a plan")?;
+    let file = named_file_of(&rt, alloc, ONE_STORE);
+    let plan = Plan::new(1, 10, 100, 5, 4).expect(&rt, "a plan");
     for takes_none in [false, true] {
         assert_tells_each_failing_call(&rt, alloc, takes_none, |writer| {
             let mut save: Option<Kept> = None;
@@ -117,5 +113,4 @@ fn tells_a_writer_that_fails(rt: HostRuntime) -> Result<(), Fail> {
             run_by_threads(&rt, alloc, plan, 7, &mut image, &mut save, writer)
         });
     }
-    Ok(())
 }

@@ -5,9 +5,8 @@ use rv_engines::words::engine::run_words;
 use rv_hart::machine::StepFault;
 use rv_memory::buffered::Buffered;
 use rv_memory::flagged::Flagged;
-use std::alloc::{AllocError, Global};
+use std::alloc::Global;
 use std::process::Abort;
-use std::test::Fail;
 
 /// Asserts what `words` writes of an input.
 fn assert_writes(rt: &impl Abort, alloc: Global, input: &[u8], text: &[u8]) {
@@ -130,32 +129,30 @@ fn tells_what_is_refused(rt: HostRuntime) {
 const ROW: &[u8] = b"harts 1\nsteps 0\n00500093\n";
 
 /// A step of each of 16 harts.
-fn add_steps(alloc: Global, input: &mut String) -> Result<(), AllocError> {
+fn add_steps(rt: &impl Abort, alloc: Global, input: &mut String) {
     for h in 0..16 {
-        let step = format!(in alloc; " {h}")?;
-        input.push_str(step.as_str())?;
+        let step = format!(in alloc; " {h}").expect(rt, "memory");
+        input.push_str(step.as_str()).expect(rt, "memory");
     }
-    Ok(())
 }
 
 /// `addi xr, x0, 1` for each register from x12 to x31.
-fn add_words(alloc: Global, input: &mut String) -> Result<(), AllocError> {
+fn add_words(rt: &impl Abort, alloc: Global, input: &mut String) {
     for r in 12..32 {
         let word: u32 = 0x0010_0013 + (r << 7);
-        let line = format!(in alloc; "\n{word:08x}")?;
-        input.push_str(line.as_str())?;
+        let line = format!(in alloc; "\n{word:08x}").expect(rt, "memory");
+        input.push_str(line.as_str()).expect(rt, "memory");
     }
-    Ok(())
 }
 
 /// An input whose text is longer than what a writer gathers: each of 16 harts sets its registers x12 to x31.
-fn long_input(alloc: Global) -> Result<String, AllocError> {
-    let mut input = String::from_str(alloc, "harts 16\nsteps")?;
+fn long_input(rt: &impl Abort, alloc: Global) -> String {
+    let mut input = String::from_str(alloc, "harts 16\nsteps").expect(rt, "memory");
     for _ in 0..20 {
-        add_steps(alloc, &mut input)?;
+        add_steps(rt, alloc, &mut input);
     }
-    add_words(alloc, &mut input)?;
-    Ok(input)
+    add_words(rt, alloc, &mut input);
+    input
 }
 
 #[test]
@@ -168,15 +165,14 @@ fn tells_a_reader_that_fails(rt: HostRuntime) {
 }
 
 #[test]
-fn tells_a_writer_that_fails(rt: HostRuntime) -> Result<(), Fail> {
+fn tells_a_writer_that_fails(rt: HostRuntime) {
     let alloc = rt.alloc();
-    let input = long_input(alloc)?;
+    let input = long_input(&rt, alloc);
     for takes_none in [false, true] {
         assert_tells_each_failing_call(&rt, alloc, takes_none, |writer| {
             run_words(alloc, &mut Flagged::new(input.as_bytes()), writer)
         });
     }
-    Ok(())
 }
 
 #[test]
@@ -216,17 +212,15 @@ const FAULTS: &[(Fault, &str, u8)] = &[
     (Fault::NoMemory, "memory", 4),
 ];
 
-fn assert_tells(rt: &impl Abort, alloc: Global, fault: Fault, text: &str) -> Result<(), Fail> {
-    let told = format!(in alloc; "{fault}")?;
+fn assert_tells(rt: &impl Abort, alloc: Global, fault: Fault, text: &str) {
+    let told = format!(in alloc; "{fault}").expect(rt, "memory");
     assert_is(rt, told.as_str(), text, "what is told");
-    Ok(())
 }
 
 #[test]
-fn tells_faults(rt: HostRuntime) -> Result<(), Fail> {
+fn tells_faults(rt: HostRuntime) {
     for (fault, text, status) in FAULTS {
         assert_is(&rt, fault.status(), *status, text);
-        assert_tells(&rt, rt.alloc(), *fault, text)?;
+        assert_tells(&rt, rt.alloc(), *fault, text);
     }
-    Ok(())
 }

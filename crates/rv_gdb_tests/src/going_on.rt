@@ -5,7 +5,6 @@ use crate::plain::{Going, Plain, Point, Reason, Stop, Three};
 use crate::record::{NO_ENTRY, OVERLAPPING, Record, written_of};
 use std::alloc::Global;
 use std::process::Abort;
-use std::test::Fail;
 
 const ALL: Three = [true, true, true];
 
@@ -59,67 +58,72 @@ struct Lines {
 }
 
 impl Lines {
-    fn add(&mut self, packet: &str, answer: &str) -> Result<(), Fail> {
-        self.sent.extend_from_slice(packet.as_bytes())?;
-        self.wanted.extend_from_slice(answer.as_bytes())?;
-        Ok(())
+    fn add(&mut self, rt: &impl Abort, packet: &str, answer: &str) {
+        self.sent
+            .extend_from_slice(packet.as_bytes())
+            .expect(rt, "memory");
+        self.wanted
+            .extend_from_slice(answer.as_bytes())
+            .expect(rt, "memory");
     }
 
     /// An answer in its frame.
-    fn add_framed(&mut self, alloc: Global, packet: &str, answer: &str) -> Result<(), Fail> {
+    fn add_framed(&mut self, rt: &impl Abort, alloc: Global, packet: &str, answer: &str) {
         let mut sum = 0u8;
         for byte in answer.as_bytes() {
             sum = sum.wrapping_add(*byte);
         }
-        let sent = format!(in alloc; "${packet}#00")?;
-        let wanted = format!(in alloc; "${answer}#{sum:02x}")?;
-        self.add(sent.as_str(), wanted.as_str())
+        let sent = format!(in alloc; "${packet}#00").expect(rt, "memory");
+        let wanted = format!(in alloc; "${answer}#{sum:02x}").expect(rt, "memory");
+        self.add(rt, sent.as_str(), wanted.as_str());
     }
 
-    fn add_stop(&mut self, alloc: Global, packet: &str, stop: Stop) -> Result<(), Fail> {
-        let why = why_of(alloc, stop.reason)?;
+    fn add_stop(&mut self, rt: &impl Abort, alloc: Global, packet: &str, stop: Stop) {
+        let why = why_of(rt, alloc, stop.reason);
         let thread = u32::from(stop.hart).saturating_add(1);
-        let answer = format!(in alloc; "T{:02x}{}thread:{thread:x};", stop.signal, why)?;
-        self.add_framed(alloc, packet, answer.as_str())
+        let answer = format!(in alloc; "T{:02x}{}thread:{thread:x};", stop.signal, why).expect(
+            rt, "memory",
+        );
+        self.add_framed(rt, alloc, packet, answer.as_str());
     }
 }
 
-fn why_of(alloc: Global, reason: Reason) -> Result<String, Fail> {
-    Ok(match reason {
-        Reason::Plain => format!(in alloc; "")?,
-        Reason::Seen(2, address) => format!(in alloc; "watch:{address:x};")?,
-        Reason::Seen(3, address) => format!(in alloc; "rwatch:{address:x};")?,
-        Reason::Seen(_, address) => format!(in alloc; "awatch:{address:x};")?,
-        Reason::End => format!(in alloc; "replaylog:end;")?,
-        Reason::Begin => format!(in alloc; "replaylog:begin;")?,
-    })
+fn why_of(rt: &impl Abort, alloc: Global, reason: Reason) -> String {
+    match reason {
+        Reason::Plain => format!(in alloc; "").expect(rt, "memory"),
+        Reason::Seen(2, address) => format!(in alloc; "watch:{address:x};").expect(rt, "memory"),
+        Reason::Seen(3, address) => format!(in alloc; "rwatch:{address:x};").expect(rt, "memory"),
+        Reason::Seen(_, address) => format!(in alloc; "awatch:{address:x};").expect(rt, "memory"),
+        Reason::End => format!(in alloc; "replaylog:end;").expect(rt, "memory"),
+        Reason::Begin => format!(in alloc; "replaylog:begin;").expect(rt, "memory"),
+    }
 }
 
 // ---- the packets
 
-fn set_or_clear(alloc: Global, plain: &mut Plain, lines: &mut Lines, n: u32) -> Result<(), Fail> {
-    let point = POINTS.get(n as usize).copied().ok_or("a point")?;
+fn set_or_clear(rt: &impl Abort, alloc: Global, plain: &mut Plain, lines: &mut Lines, n: u32) {
+    let point = POINTS.get(n as usize).copied().expect(rt, "a point");
     let (kind, from, length) = point;
     let was = plain.points.len();
     plain.points.retain(|other| *other != point);
     let letter = if plain.points.len() == was { "Z" } else { "z" };
     if plain.points.len() == was {
-        plain.points.push(point)?;
+        plain.points.push(point).expect(rt, "memory");
     }
-    let packet = format!(in alloc; "{letter}{kind},{from:x},{length:x}")?;
-    lines.add_framed(alloc, packet.as_str(), "OK")
+    let packet = format!(in alloc; "{letter}{kind},{from:x},{length:x}").expect(rt, "memory");
+    lines.add_framed(rt, alloc, packet.as_str(), "OK");
 }
 
-fn act(alloc: Global, plain: &mut Plain, lines: &mut Lines, n: u32) -> Result<(), Fail> {
-    let (actions, among, stepping, of_all) = ACTIONS.get(n as usize).copied().ok_or("actions")?;
+fn act(rt: &impl Abort, alloc: Global, plain: &mut Plain, lines: &mut Lines, n: u32) {
+    let (actions, among, stepping, of_all) = ACTIONS.get(n as usize).copied().expect(rt, "actions");
     let stop = plain.resume(&Going {
         back: false,
         among,
         stepping,
         of_all,
     });
-    let packet = format!(in alloc; "vCont;{actions}")?;
-    lines.add_stop(alloc, packet.as_str(), stop)
+    let packet = format!(in alloc; "vCont;{actions}").expect(rt, "memory");
+    lines.add_stop(rt, alloc, packet.as_str(), stop);
 }
 
 fn alone(hart: u8) -> Three {
@@ -128,13 +132,14 @@ fn alone(hart: u8) -> Three {
 
 /// `s`, `c`, `bs` or `bc`.
 fn go(
+    rt: &impl Abort,
     alloc: Global,
     plain: &mut Plain,
     lines: &mut Lines,
     packet: &str,
     back: bool,
     steps: bool,
-) -> Result<(), Fail> {
+) {
     let chosen = plain.chosen;
     let hart = chosen.unwrap_or(plain.focus);
     let among = match chosen {
@@ -148,112 +153,106 @@ fn go(
         of_all: chosen.is_none(),
     };
     let stop = plain.resume(&going);
-    lines.add_stop(alloc, packet, stop)
+    lines.add_stop(rt, alloc, packet, stop);
 }
 
 /// `Hc` with any thread, or with one.
-fn choose(alloc: Global, plain: &mut Plain, lines: &mut Lines, n: u32) -> Result<(), Fail> {
+fn choose(rt: &impl Abort, alloc: Global, plain: &mut Plain, lines: &mut Lines, n: u32) {
     plain.chosen = match n {
         1 => Some(0),
         2 => Some(1),
         3 => Some(2),
         _ => None,
     };
-    let packet = format!(in alloc; "Hc{n}")?;
-    lines.add_framed(alloc, packet.as_str(), "OK")
+    let packet = format!(in alloc; "Hc{n}").expect(rt, "memory");
+    lines.add_framed(rt, alloc, packet.as_str(), "OK");
 }
 
-fn focus(alloc: Global, plain: &mut Plain, lines: &mut Lines, n: u32) -> Result<(), Fail> {
+fn focus(rt: &impl Abort, alloc: Global, plain: &mut Plain, lines: &mut Lines, n: u32) {
     plain.focus = match n {
         0 => 0,
         1 => 1,
         _ => 2,
     };
-    let packet = format!(in alloc; "T{}", u32::from(plain.focus).saturating_add(1))?;
-    lines.add_framed(alloc, packet.as_str(), "OK")
+    let packet = format!(in alloc; "T{}", u32::from(plain.focus).saturating_add(1)).expect(
+        rt, "memory",
+    );
+    lines.add_framed(rt, alloc, packet.as_str(), "OK");
 }
 
 /// Shows all threads, which forgets what was passed.
-fn show(alloc: Global, plain: &mut Plain, lines: &mut Lines) -> Result<(), Fail> {
+fn show(rt: &impl Abort, alloc: Global, plain: &mut Plain, lines: &mut Lines) {
     plain.forget();
-    lines.add_framed(alloc, "qfThreadInfo", "m1,2,3")
+    lines.add_framed(rt, alloc, "qfThreadInfo", "m1,2,3");
 }
 
 fn add_packet(
+    rt: &impl Abort,
     alloc: Global,
     plain: &mut Plain,
     lines: &mut Lines,
     seed: &mut u32,
-) -> Result<(), Fail> {
+) {
     match draw(seed, 24) {
-        0 | 1 | 2 => set_or_clear(alloc, plain, lines, draw(seed, 9)),
-        3 => choose(alloc, plain, lines, draw(seed, 4)),
-        4 => focus(alloc, plain, lines, draw(seed, 3)),
-        5 => show(alloc, plain, lines),
-        6 => go(alloc, plain, lines, "s", false, true),
-        7 => go(alloc, plain, lines, "c", false, false),
-        8 | 9 | 10 | 11 => go(alloc, plain, lines, "bs", true, true),
-        12 | 13 | 14 => go(alloc, plain, lines, "bc", true, false),
-        _ => act(alloc, plain, lines, draw(seed, 10)),
+        0 | 1 | 2 => set_or_clear(rt, alloc, plain, lines, draw(seed, 9)),
+        3 => choose(rt, alloc, plain, lines, draw(seed, 4)),
+        4 => focus(rt, alloc, plain, lines, draw(seed, 3)),
+        5 => show(rt, alloc, plain, lines),
+        6 => go(rt, alloc, plain, lines, "s", false, true),
+        7 => go(rt, alloc, plain, lines, "c", false, false),
+        8 | 9 | 10 | 11 => go(rt, alloc, plain, lines, "bs", true, true),
+        12 | 13 | 14 => go(rt, alloc, plain, lines, "bc", true, false),
+        _ => act(rt, alloc, plain, lines, draw(seed, 10)),
     }
 }
 
 /// A talk of so many drawn packets: what is written of it is what the plain search tells.
-fn assert_talk(rt: &impl Abort, alloc: Global, first: u32, packets: u32) -> Result<(), Fail> {
+fn assert_talk(rt: &impl Abort, alloc: Global, first: u32, packets: u32) {
     let mut seed = first;
-    let mut plain = Plain::new(alloc, OVERLAPPING)?;
+    let mut plain = Plain::new(rt, alloc, OVERLAPPING);
     let mut lines = Lines {
         sent: Vec::new(alloc),
         wanted: Vec::new(alloc),
     };
-    lines.add("$QStartNoAckMode#b0", "+$OK#9a")?;
+    lines.add(rt, "$QStartNoAckMode#b0", "+$OK#9a");
     for _ in 0..packets {
-        add_packet(alloc, &mut plain, &mut lines, &mut seed)?;
+        add_packet(rt, alloc, &mut plain, &mut lines, &mut seed);
     }
-    let written = written_of(alloc, OVERLAPPING, &lines.sent, 4096)?;
-    let what = format!(in alloc; "the talk of seed {first}")?;
+    let written = written_of(rt, alloc, OVERLAPPING, &lines.sent, 4096);
+    let what = format!(in alloc; "the talk of seed {first}").expect(rt, "memory");
     assert_is(
         rt,
         written.as_slice(),
         lines.wanted.as_slice(),
         what.as_str(),
     );
-    Ok(())
 }
 
 #[test]
-fn goes_on_as_a_plain_search_does(rt: HostRuntime) -> Result<(), Fail> {
+fn goes_on_as_a_plain_search_does(rt: HostRuntime) {
     for seed in 0..5 {
-        assert_talk(&rt, rt.alloc(), seed, 60)?;
+        assert_talk(&rt, rt.alloc(), seed, 60);
     }
-    Ok(())
 }
 
 /// The record's steps are as many as the schedule's lines have.
 #[test]
-fn has_overlapping_pauses(rt: HostRuntime) -> Result<(), Fail> {
-    let plain = Plain::new(rt.alloc(), OVERLAPPING)?;
+fn has_overlapping_pauses(rt: HostRuntime) {
+    let plain = Plain::new(&rt, rt.alloc(), OVERLAPPING);
     assert_is(&rt, plain.count(), 42, "entries");
-    Ok(())
 }
 
-fn assert_writes(
-    rt: &impl Abort,
-    alloc: Global,
-    record: Record,
-    rows: &[(&str, &str)],
-) -> Result<(), Fail> {
+fn assert_writes(rt: &impl Abort, alloc: Global, record: Record, rows: &[(&str, &str)]) {
     let mut lines = Lines {
         sent: Vec::new(alloc),
         wanted: Vec::new(alloc),
     };
-    lines.add("$QStartNoAckMode#b0", "+$OK#9a")?;
+    lines.add(rt, "$QStartNoAckMode#b0", "+$OK#9a");
     for (packet, answer) in rows {
-        lines.add_framed(alloc, packet, answer)?;
+        lines.add_framed(rt, alloc, packet, answer);
     }
-    let written = written_of(alloc, record, &lines.sent, 4096)?;
+    let written = written_of(rt, alloc, record, &lines.sent, 4096);
     assert_is(rt, written.as_slice(), lines.wanted.as_slice(), "written");
-    Ok(())
 }
 
 /// `at 0 of 0, the end`, `fault 6 NoEnding` and `fault 1 NoPlace` in hexadecimal digits.
@@ -275,8 +274,8 @@ const NOWHERE: [(&str, &str); 11] = [
 ];
 
 #[test]
-fn talks_over_a_record_of_no_entry(rt: HostRuntime) -> Result<(), Fail> {
-    assert_writes(&rt, rt.alloc(), NO_ENTRY, &NOWHERE)
+fn talks_over_a_record_of_no_entry(rt: HostRuntime) {
+    assert_writes(&rt, rt.alloc(), NO_ENTRY, &NOWHERE);
 }
 
 /// At the end harts 0 and 1 have exited and hart 2 is stopped; also what the harts' last steps are told as.
@@ -310,6 +309,6 @@ const AT_END: [(&str, &str); 14] = [
 ];
 
 #[test]
-fn tells_how_harts_end(rt: HostRuntime) -> Result<(), Fail> {
-    assert_writes(&rt, rt.alloc(), OVERLAPPING, &AT_END)
+fn tells_how_harts_end(rt: HostRuntime) {
+    assert_writes(&rt, rt.alloc(), OVERLAPPING, &AT_END);
 }

@@ -5,7 +5,7 @@ use rv_debug::session::Session;
 use rv_hart::access::Access;
 use rv_hart::hart::Status;
 use std::alloc::Global;
-use std::test::Fail;
+use std::process::Abort;
 
 /// A step: its place, its hart, where that stood, what it accessed, and how it left the hart.
 #[derive(Clone, Copy, Debug, PartialEq, Eq)]
@@ -52,41 +52,41 @@ fn has(harts: &Three, hart: u8) -> bool {
     harts.get(hart as usize).copied().unwrap_or(false)
 }
 
-fn step_at(session: &mut Session, place: u32) -> Result<Option<Made>, Fail> {
+fn step_at(rt: &impl Abort, session: &mut Session, place: u32) -> Option<Made> {
     let Some(Entry::Stepped(hart)) = session.entries().get(place as usize).copied() else {
-        return Ok(None);
+        return None;
     };
-    session.go(place)?;
+    session.go(place).expect(rt, "a place");
     let machine = session.machine();
     if hart >= machine.harts() {
-        return Err(Fail::from("no hart"));
+        panic!(rt; "no hart");
     }
     let (pc, access) = (machine.pc(hart), machine.next_access(hart));
-    session.forward()?;
+    session.forward().expect(rt, "a place");
     let machine = session.machine();
     if hart >= machine.harts() {
-        return Err(Fail::from("no hart"));
+        panic!(rt; "no hart");
     }
-    Ok(Some(Made {
+    Some(Made {
         place,
         hart,
         pc,
         access,
         after: machine.status(hart),
-    }))
+    })
 }
 
 /// All steps of a record, and how many entries it has.
-pub fn steps_of(alloc: Global, record: Record) -> Result<(Vec<Made>, u32), Fail> {
-    let (mut session, _endings) = record_of(alloc, record)?;
+pub fn steps_of(rt: &impl Abort, alloc: Global, record: Record) -> (Vec<Made>, u32) {
+    let (mut session, _endings) = record_of(rt, alloc, record);
     let mut steps = Vec::new(alloc);
     let count = session.count();
     for place in 0..count {
-        if let Some(step) = step_at(&mut session, place)? {
-            steps.push(step)?;
+        if let Some(step) = step_at(rt, &mut session, place) {
+            steps.push(step).expect(rt, "memory");
         }
     }
-    Ok((steps, count))
+    (steps, count)
 }
 
 // ---- one step
@@ -209,9 +209,9 @@ pub struct Plain {
 }
 
 impl Plain {
-    pub fn new(alloc: Global, record: Record) -> Result<Plain, Fail> {
-        let (steps, count) = steps_of(alloc, record)?;
-        Ok(Plain {
+    pub fn new(rt: &impl Abort, alloc: Global, record: Record) -> Plain {
+        let (steps, count) = steps_of(rt, alloc, record);
+        Plain {
             steps,
             count,
             place: 0,
@@ -219,7 +219,7 @@ impl Plain {
             chosen: None,
             points: Vec::new(alloc),
             alone: None,
-        })
+        }
     }
 
     /// How many entries there are.

@@ -4,7 +4,7 @@ use rv_gdb::point::Kind;
 use rv_gdb::points::Points;
 use rv_hart::access::Access;
 use std::alloc::Global;
-use std::test::Fail;
+use std::process::Abort;
 
 /// Points that are set: a point of kind 0 and one of kind 1, one of each kind that watches, and one of more bytes than
 /// there are addresses.
@@ -17,31 +17,35 @@ const SET: [(Kind, u32, u32); 6] = [
     (Kind::Write, 0xffff_fffe, 0x1000),
 ];
 
-fn points(alloc: Global) -> Result<Points, Fail> {
+fn points(rt: &impl Abort, alloc: Global) -> Points {
     let mut points = Points::new(alloc);
-    for (kind, from, length) in SET {
-        points.set(point(kind, from, length))?;
+    for (kind, from, length) in &SET {
+        let point = point(*kind, *from, *length);
+        points.set(point).expect(rt, "memory");
     }
-    Ok(points)
+    points
 }
 
+/// Addresses of instructions, and whether a point is there.
+const BREAKS: [(u32, bool); 4] = [
+    (0x10004, true),
+    (0x10005, false),
+    (0x10008, true),
+    (0x20000, false),
+];
+
 #[test]
-fn breaks_at_points_of_kinds_0_and_1(rt: HostRuntime) -> Result<(), Fail> {
-    let points = points(rt.alloc())?;
-    let table = [
-        (0x10004, true),
-        (0x10005, false),
-        (0x10008, true),
-        (0x20000, false),
-    ];
-    for (pc, wanted) in table {
-        assert_is(&rt, points.breaks(pc), wanted, "pc");
+fn breaks_at_points_of_kinds_0_and_1(rt: HostRuntime) {
+    let points = points(&rt, rt.alloc());
+    for (pc, wanted) in &BREAKS {
+        assert_is(&rt, points.breaks(*pc), *wanted, "pc");
     }
-    Ok(())
 }
 
 /// An access's first byte, its size, whether it reads and writes; the kind and the byte that see it.
-const SEEN: [(u32, u8, bool, bool, Option<(Kind, u32)>); 11] = [
+type Seen = (u32, u8, bool, bool, Option<(Kind, u32)>);
+
+const SEEN: [Seen; 11] = [
     (0x20000, 4, true, false, Some((Kind::Access, 0x20000))),
     (0x20001, 1, true, false, Some((Kind::Read, 0x20001))),
     (0x20001, 1, true, true, Some((Kind::Write, 0x20001))),
@@ -67,26 +71,32 @@ const SEEN: [(u32, u8, bool, bool, Option<(Kind, u32)>); 11] = [
     ),
 ];
 
-#[test]
-fn sees_the_least_byte_and_there_the_least_kind(rt: HostRuntime) -> Result<(), Fail> {
-    let points = points(rt.alloc())?;
-    for (first, size, read, write, wanted) in SEEN {
-        let access = Access {
-            pc: 0x10000,
-            first,
-            size,
-            read,
-            write,
-        };
-        let found = points.seen(&access);
-        let found = found.map(|sight| (sight.kind, sight.address));
-        assert_is(&rt, found, wanted, "access");
-    }
-    Ok(())
+fn assert_sees(rt: &impl Abort, points: &Points, row: &Seen) {
+    let (first, size, read, write, wanted) = *row;
+    let access = Access {
+        pc: 0x10000,
+        first,
+        size,
+        read,
+        write,
+    };
+    let found = match points.seen(&access) {
+        Some(sight) => Some((sight.kind, sight.address)),
+        None => None,
+    };
+    assert_is(rt, found, wanted, "access");
 }
 
 #[test]
-fn holds_256_points(rt: HostRuntime) -> Result<(), Fail> {
+fn sees_the_least_byte_and_there_the_least_kind(rt: HostRuntime) {
+    let points = points(&rt, rt.alloc());
+    for row in &SEEN {
+        assert_sees(&rt, &points, row);
+    }
+}
+
+#[test]
+fn holds_256_points(rt: HostRuntime) {
     let mut points = Points::new(rt.alloc());
     for from in 0..256 {
         assert_is(
@@ -104,13 +114,12 @@ fn holds_256_points(rt: HostRuntime) -> Result<(), Fail> {
         false,
         "257",
     );
-    Ok(())
 }
 
 /// A point that is taken away is met no more, others stay, and taking away what is not there changes nothing.
 #[test]
-fn takes_points_away(rt: HostRuntime) -> Result<(), Fail> {
-    let mut points = points(rt.alloc())?;
+fn takes_points_away(rt: HostRuntime) {
+    let mut points = points(&rt, rt.alloc());
     points.clear(point(Kind::Software, 0x10004, 2));
     assert_is(&rt, points.breaks(0x10004), true, "another length");
     points.clear(point(Kind::Hardware, 0x10004, 4));
@@ -118,9 +127,8 @@ fn takes_points_away(rt: HostRuntime) -> Result<(), Fail> {
     points.clear(point(Kind::Software, 0x10004, 4));
     assert_is(&rt, points.breaks(0x10004), false, "it is gone");
     assert_is(&rt, points.breaks(0x10008), true, "another one");
-    for (kind, from, length) in SET {
-        points.clear(point(kind, from, length));
+    for (kind, from, length) in &SET {
+        points.clear(point(*kind, *from, *length));
     }
     assert_is(&rt, points.is_empty(), true, "all are gone");
-    Ok(())
 }

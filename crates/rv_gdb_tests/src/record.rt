@@ -1,5 +1,5 @@
 //! The records that talks are tried over, and what is written of an input.
-ghost use Rattle.std.specs.Prelude.{◌≡◌, IfOk};
+ghost use Rattle.std.specs.Prelude.{◌≡◌};
 ghost use Rattle.rv_stub.specs.Met as met;
 
 use rv_asm::assemble;
@@ -12,7 +12,7 @@ use rv_stub::state::met::endings_of;
 use rv_stub::talk::converse;
 use std::alloc::Global;
 use std::io::{self, Read};
-use std::test::Fail;
+use std::process::Abort;
 
 /// A source and a schedule of its image.
 #[derive(Clone, Copy)]
@@ -51,14 +51,17 @@ pub const OVERLAPPING: Record = Record {
         s 0\ns 1\na 00010000\nd 00010000\ns 0\ns 1\ns 1\nend\n",
 };
 
-pub fn record_of(alloc: Global, record: Record) -> Result<(Session, Vec<Ending>), Fail>
-    ensures { IfOk result (λ made. made.1.items ≡ met.endings_of made.0) }
+pub fn record_of(rt: &impl Abort, alloc: Global, record: Record) -> (Session, Vec<Ending>)
+    ensures { result.1.items ≡ met.endings_of result.0 }
 {
-    let image = assemble(alloc, record.source)?;
-    let (plan, entries) = read_schedule(alloc, &mut Flagged::new(record.schedule.as_bytes()))?;
-    let session = Session::new(alloc, &image, plan, entries)?;
-    let endings = endings_of(alloc, &image, plan, &session)?;
-    Ok((session, endings))
+    let image = assemble(alloc, record.source).expect(rt, "an image");
+    let (plan, entries) = read_schedule(
+        alloc,
+        &mut Flagged::new(record.schedule.as_bytes()),
+    ).expect(rt, "a schedule");
+    let session = Session::new(alloc, &image, plan, entries).expect(rt, "a session");
+    let endings = endings_of(alloc, &image, plan, &session).expect(rt, "memory");
+    (session, endings)
 }
 
 /// A reader of at most so many bytes a read.
@@ -79,17 +82,18 @@ impl Read for Pieces<'_> {
 
 /// What is written of an input, so many bytes of it a read.
 pub fn written_of(
+    rt: &impl Abort,
     alloc: Global,
     record: Record,
     text: &[u8],
     most: usize,
-) -> Result<Vec<u8>, Fail> {
+) -> Vec<u8> {
     let mut writer = Buffered::new(alloc, Vec::new(alloc));
     let mut commands = Flagged::new(Pieces { text, most });
-    let (session, endings) = record_of(alloc, record)?;
+    let (session, endings) = record_of(rt, alloc, record);
     match converse(alloc, session, endings, &mut commands, &mut writer) {
-        Ok(()) => Ok(writer.into_inner()),
-        Err(_) => Err(Fail::from("a fault")),
+        Ok(()) => writer.into_inner(),
+        Err(_) => panic!(rt; "a fault"),
     }
 }
 

@@ -1,4 +1,4 @@
-ghost use Rattle.std.specs.Prelude.{All, IfOk};
+ghost use Rattle.std.specs.Prelude.{All};
 ghost use Rattle.rv_memory.specs.Extent.{IsExtent};
 
 use crate::assertion::assert_is;
@@ -11,7 +11,6 @@ use rv_memory::flat::Flat;
 use rv_memory::region::Region;
 use std::alloc::Global;
 use std::process::Abort;
-use std::test::Fail;
 
 fn region(rt: &impl Abort, start: u32, bytes: Vec<u8>) -> Region
     ensures { IsExtent result }
@@ -27,21 +26,23 @@ fn region(rt: &impl Abort, start: u32, bytes: Vec<u8>) -> Region
     }
 }
 
-fn two(alloc: Global, first: Region, second: Region) -> Result<Vec<Region>, Fail>
+fn two(rt: &impl Abort, alloc: Global, first: Region, second: Region) -> Vec<Region>
     requires first { IsExtent first }
     requires second { IsExtent second }
-    ensures { IfOk result (λ all. All IsExtent all.items) }
+    ensures { All IsExtent result.items }
 {
-    Ok(vec![in alloc; first, second]?)
+    vec![in alloc; first, second].expect(rt, "memory")
 }
 
 /// Two harts at 00010000, with 16 bytes there and 16 at the last addresses.
-fn machine(rt: &impl Abort, alloc: Global) -> Result<Machine<Flat>, Fail> {
-    let code = [0x13, 0, 0, 0, 0x73, 0, 0, 0].to_vec(alloc)?;
+fn machine(rt: &impl Abort, alloc: Global) -> Machine<Flat> {
+    let code = [0x13, 0, 0, 0, 0x73, 0, 0, 0]
+        .to_vec(alloc)
+        .expect(rt, "memory");
     let code = region(rt, 0x10000, code);
     let last = region(rt, 0xffff_fff0, Vec::new(alloc));
-    let regions = two(alloc, code, last)?;
-    Ok(Machine::new(alloc, &regions, 0x10000, 2, 0)?)
+    let regions = two(rt, alloc, code, last);
+    Machine::new(alloc, &regions, 0x10000, 2, 0).expect(rt, "a machine")
 }
 
 const CHOSEN: Chosen = Chosen {
@@ -90,13 +91,12 @@ fn assert_state(
 }
 
 #[test]
-fn answers_what_the_state_is(rt: HostRuntime) -> Result<(), Fail> {
+fn answers_what_the_state_is(rt: HostRuntime) {
     let alloc = rt.alloc();
-    let machine = machine(&rt, alloc)?;
+    let machine = machine(&rt, alloc);
     for (text, wanted) in &STATE {
         assert_state(&rt, alloc, &machine, text, *wanted);
     }
-    Ok(())
 }
 
 const KNOWN: [(&str, Option<&str>); 8] = [

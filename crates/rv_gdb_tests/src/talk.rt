@@ -3,7 +3,6 @@ use crate::assertion::assert_is;
 use crate::record::{LOST, Row, written_of};
 use std::alloc::Global;
 use std::process::Abort;
-use std::test::Fail;
 
 const TRANSCRIPT: [Row; 27] = [
     (
@@ -44,24 +43,25 @@ const TRANSCRIPT: [Row; 27] = [
     ("$?#3f", ""),
 ];
 
-fn assert_writes(rt: &impl Abort, alloc: Global, rows: &[Row], most: usize) -> Result<(), Fail> {
+fn assert_writes(rt: &impl Abort, alloc: Global, rows: &[Row], most: usize) {
     let mut sent = Vec::new(alloc);
     let mut wanted = Vec::new(alloc);
     for (packet, answer) in rows {
-        sent.extend_from_slice(packet.as_bytes())?;
-        wanted.extend_from_slice(answer.as_bytes())?;
+        sent.extend_from_slice(packet.as_bytes())
+            .expect(rt, "memory");
+        wanted
+            .extend_from_slice(answer.as_bytes())
+            .expect(rt, "memory");
     }
-    let written = written_of(alloc, LOST, &sent, most)?;
+    let written = written_of(rt, alloc, LOST, &sent, most);
     assert_is(rt, written.as_slice(), wanted.as_slice(), "written");
-    Ok(())
 }
 
 #[test]
-fn writes_the_transcript(rt: HostRuntime) -> Result<(), Fail> {
+fn writes_the_transcript(rt: HostRuntime) {
     for most in [1, 7, 4096] {
-        assert_writes(&rt, rt.alloc(), &TRANSCRIPT, most)?;
+        assert_writes(&rt, rt.alloc(), &TRANSCRIPT, most);
     }
-    Ok(())
 }
 
 /// A bad sum, bytes outside a packet, a packet begun anew, one that is cut off, and `-` before any answer.
@@ -75,50 +75,58 @@ const NOISE: [Row; 6] = [
 ];
 
 #[test]
-fn takes_whole_packets_alone(rt: HostRuntime) -> Result<(), Fail> {
-    assert_writes(&rt, rt.alloc(), &NOISE, 3)
+fn takes_whole_packets_alone(rt: HostRuntime) {
+    assert_writes(&rt, rt.alloc(), &NOISE, 3);
 }
 
 /// A text over and over, and an answer as often.
-fn add_times(sent: &mut Vec<u8>, wanted: &mut Vec<u8>, times: u32, row: Row) -> Result<(), Fail> {
+fn add_times(rt: &impl Abort, sent: &mut Vec<u8>, wanted: &mut Vec<u8>, times: u32, row: Row) {
     for _ in 0..times {
-        sent.extend_from_slice(row.0.as_bytes())?;
-        wanted.extend_from_slice(row.1.as_bytes())?;
+        sent.extend_from_slice(row.0.as_bytes())
+            .expect(rt, "memory");
+        wanted
+            .extend_from_slice(row.1.as_bytes())
+            .expect(rt, "memory");
     }
-    Ok(())
 }
 
 /// Adds packets that set points at the addresses 0 to one less than a number.
-fn add_points(alloc: Global, sent: &mut Vec<u8>, count: u32) -> Result<(), Fail> {
+fn add_points(rt: &impl Abort, alloc: Global, sent: &mut Vec<u8>, count: u32) {
     for address in 0..count {
-        let packet = format!(in alloc; "$Z0,{address:x},4#00")?;
-        sent.extend_from_slice(packet.as_bytes())?;
+        let packet = format!(in alloc; "$Z0,{address:x},4#00").expect(rt, "memory");
+        sent.extend_from_slice(packet.as_bytes())
+            .expect(rt, "memory");
     }
-    Ok(())
 }
 
 /// 512 bytes are an unknown packet, 513 too many; and there is room for 256 points.
 #[test]
-fn has_its_limits(rt: HostRuntime) -> Result<(), Fail> {
+fn has_its_limits(rt: HostRuntime) {
     let alloc = rt.alloc();
     let mut sent = Vec::new(alloc);
     let mut wanted = Vec::new(alloc);
     add_times(
+        &rt,
         &mut sent,
         &mut wanted,
         1,
         ("$QStartNoAckMode#b0$", "+$OK#9a"),
-    )?;
-    add_times(&mut sent, &mut wanted, 512, ("y", ""))?;
-    add_times(&mut sent, &mut wanted, 1, ("#00$", "$#00"))?;
-    add_times(&mut sent, &mut wanted, 513, ("y", ""))?;
-    add_times(&mut sent, &mut wanted, 1, ("#00", "$E01#a6"))?;
-    add_points(alloc, &mut sent, 257)?;
-    add_times(&mut sent, &mut wanted, 256, ("", "$OK#9a"))?;
-    add_times(&mut sent, &mut wanted, 1, ("$Z0,0,4#00", "$E04#a9$OK#9a"))?;
-    let written = written_of(alloc, LOST, &sent, 4096)?;
+    );
+    add_times(&rt, &mut sent, &mut wanted, 512, ("y", ""));
+    add_times(&rt, &mut sent, &mut wanted, 1, ("#00$", "$#00"));
+    add_times(&rt, &mut sent, &mut wanted, 513, ("y", ""));
+    add_times(&rt, &mut sent, &mut wanted, 1, ("#00", "$E01#a6"));
+    add_points(&rt, alloc, &mut sent, 257);
+    add_times(&rt, &mut sent, &mut wanted, 256, ("", "$OK#9a"));
+    add_times(
+        &rt,
+        &mut sent,
+        &mut wanted,
+        1,
+        ("$Z0,0,4#00", "$E04#a9$OK#9a"),
+    );
+    let written = written_of(&rt, alloc, LOST, &sent, 4096);
     assert_is(&rt, written.as_slice(), wanted.as_slice(), "written");
-    Ok(())
 }
 
 /// What a user's commands answer: the text of each in hexadecimal digits. `ending 0`, `hit 0`, `hit 1`, `entry 14`, and
@@ -148,6 +156,6 @@ const ORDERS: [Row; 6] = [
 ];
 
 #[test]
-fn obeys_a_user(rt: HostRuntime) -> Result<(), Fail> {
-    assert_writes(&rt, rt.alloc(), &ORDERS, 4096)
+fn obeys_a_user(rt: HostRuntime) {
+    assert_writes(&rt, rt.alloc(), &ORDERS, 4096);
 }

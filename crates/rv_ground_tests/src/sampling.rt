@@ -5,39 +5,50 @@ use rv_memory::region::Region;
 use rv_sample::{Generator, Sampler};
 use std::alloc::Global;
 use std::process::Abort;
-use std::test::Fail;
 
 /// A segment of these words that may be read and executed, then `zeros` bytes.
-fn code(alloc: Global, start: u32, words: &[u32], zeros: u32) -> Result<Region, Fail> {
+fn code(rt: &impl Abort, alloc: Global, start: u32, words: &[u32], zeros: u32) -> Region {
     let mut bytes = Vec::new(alloc);
     for word in words {
-        bytes.extend_from_slice(&word.to_le_bytes())?;
+        bytes
+            .extend_from_slice(&word.to_le_bytes())
+            .expect(rt, "refused");
     }
-    let len = u32::try_from(bytes.len())?.checked_add(zeros).ok_or("len")?;
-    Ok(Region {
+    let len = u32::try_from(bytes.len())
+        .expect(rt, "refused")
+        .checked_add(zeros)
+        .expect(rt, "len");
+    Region {
         start,
         bytes,
         len,
         r: true,
         w: false,
         x: true,
-    })
+    }
 }
 
 /// The sampler of an image of these segments, the entry where the first begins.
 fn sampler_in(
+    rt: &impl Abort,
     alloc: Global,
     entry: u32,
     segments: Vec<Region>,
     excluded: &[u32],
-) -> Result<Sampler, Fail> {
-    let image = Image::new(entry, segments, Vec::new(alloc)).ok_or("no image")?;
-    Ok(Sampler::sites(alloc, &image, excluded)?)
+) -> Sampler {
+    let image = Image::new(entry, segments, Vec::new(alloc)).expect(rt, "no image");
+    Sampler::sites(alloc, &image, excluded).expect(rt, "refused")
 }
 
-fn sampler_of(alloc: Global, words: &[u32], excluded: &[u32]) -> Result<Sampler, Fail> {
-    let segment = code(alloc, 0x1_0000, words, 0)?;
-    sampler_in(alloc, 0x1_0000, vec![in alloc; segment]?, excluded)
+fn sampler_of(rt: &impl Abort, alloc: Global, words: &[u32], excluded: &[u32]) -> Sampler {
+    let segment = code(rt, alloc, 0x1_0000, words, 0);
+    sampler_in(
+        rt,
+        alloc,
+        0x1_0000,
+        vec![in alloc; segment].expect(rt, "refused"),
+        excluded,
+    )
 }
 
 /// Asserts which site each word picks.
@@ -68,55 +79,53 @@ const OF_THREE: [(u32, Option<u32>); 6] = [
 ];
 
 #[test]
-fn three_sites(rt: HostRuntime) -> Result<(), Fail> {
-    let sampler = sampler_of(rt.alloc(), &THREE, &[])?;
+fn three_sites(rt: HostRuntime) {
+    let sampler = sampler_of(&rt, rt.alloc(), &THREE, &[]);
     assert_picks(&rt, &sampler, &OF_THREE);
-    Ok(())
 }
 
 #[test]
-fn excluded_addresses(rt: HostRuntime) -> Result<(), Fail> {
-    let sampler = sampler_of(rt.alloc(), &THREE, &[0x1_0008])?;
+fn excluded_addresses(rt: HostRuntime) {
+    let sampler = sampler_of(&rt, rt.alloc(), &THREE, &[0x1_0008]);
     assert_picks(&rt, &sampler, &[(7, Some(0x1_000c)), (8, Some(0x1_0004))]);
-    let sampler = sampler_of(rt.alloc(), &THREE, &[0x1_000c, 0x1_0008, 0x1_0004])?;
+    let sampler = sampler_of(&rt, rt.alloc(), &THREE, &[0x1_000c, 0x1_0008, 0x1_0004]);
     assert_picks(&rt, &sampler, &[(0, None), (7, None)]);
-    Ok(())
 }
 
-fn cut_segment(alloc: Global) -> Result<Region, Fail> {
-    let mut segment = code(alloc, 0x1_0000, &[0x0003_2283, 0x0000_2283], 8)?;
+fn cut_segment(rt: &impl Abort, alloc: Global) -> Region {
+    let mut segment = code(rt, alloc, 0x1_0000, &[0x0003_2283, 0x0000_2283], 8);
     segment.bytes.truncate(6);
-    Ok(segment)
+    segment
 }
 
 /// The plain load in the last two bytes of a segment's bytes of the file, whose other two bytes are zeros of
 /// memory, is no site: 0x00002283 is `lw x5, 0(x0)`, of which the last two bytes are zero.
 #[test]
-fn cut_by_the_end_of_the_file_bytes(rt: HostRuntime) -> Result<(), Fail> {
-    let segment = cut_segment(rt.alloc())?;
-    let segments = vec![in rt.alloc(); segment]?;
-    let sampler = sampler_in(rt.alloc(), 0x1_0000, segments, &[])?;
+fn cut_by_the_end_of_the_file_bytes(rt: HostRuntime) {
+    let segment = cut_segment(&rt, rt.alloc());
+    let segments = vec![in rt.alloc(); segment].expect(&rt, "refused");
+    let sampler = sampler_in(&rt, rt.alloc(), 0x1_0000, segments, &[]);
     assert_picks(&rt, &sampler, &[(0, Some(0x1_0000)), (1, Some(0x1_0000))]);
-    Ok(())
 }
 
 /// A segment that begins between two words.
-fn odd_segment(alloc: Global) -> Result<Region, Fail> {
-    let mut odd = code(alloc, 0x1_0002, &[0, 0x0003_2283], 0)?;
+fn odd_segment(rt: &impl Abort, alloc: Global) -> Region {
+    let mut odd = code(rt, alloc, 0x1_0002, &[0, 0x0003_2283], 0);
     odd.bytes.clear();
     // two bytes, the word at 0x1_0004, and one byte more
     odd.bytes
-        .extend_from_slice(&[0x83, 0x22, 0x83, 0x22, 0x03, 0x00, 0x83])?;
-    Ok(odd)
+        .extend_from_slice(&[0x83, 0x22, 0x83, 0x22, 0x03, 0x00, 0x83])
+        .expect(rt, "refused");
+    odd
 }
 
 /// Segments in any order; one that may not be executed; one that begins between two words.
-fn segments(alloc: Global) -> Result<Vec<Region>, Fail> {
-    let high = code(alloc, 0x3_0000, &[0x0003_2283, 0x0003_2283], 4096)?;
-    let mut fixed = code(alloc, 0x2_0000, &[0x0003_2283], 0)?;
+fn segments(rt: &impl Abort, alloc: Global) -> Vec<Region> {
+    let high = code(rt, alloc, 0x3_0000, &[0x0003_2283, 0x0003_2283], 4096);
+    let mut fixed = code(rt, alloc, 0x2_0000, &[0x0003_2283], 0);
     fixed.x = false;
-    let odd = odd_segment(alloc)?;
-    Ok(vec![in alloc; high, fixed, odd]?)
+    let odd = odd_segment(rt, alloc);
+    vec![in alloc; high, fixed, odd].expect(rt, "refused")
 }
 
 const OF_SEVERAL: [(u32, Option<u32>); 4] = [
@@ -127,11 +136,10 @@ const OF_SEVERAL: [(u32, Option<u32>); 4] = [
 ];
 
 #[test]
-fn several_segments(rt: HostRuntime) -> Result<(), Fail> {
-    let segments = segments(rt.alloc())?;
-    let sampler = sampler_in(rt.alloc(), 0x3_0000, segments, &[])?;
+fn several_segments(rt: HostRuntime) {
+    let segments = segments(&rt, rt.alloc());
+    let sampler = sampler_in(&rt, rt.alloc(), 0x3_0000, segments, &[]);
     assert_picks(&rt, &sampler, &OF_SEVERAL);
-    Ok(())
 }
 
 /// LR, SC, AMO, a jump and a FENCE.
@@ -144,10 +152,9 @@ const NO_SITES: [u32; 5] = [
 ];
 
 #[test]
-fn only_plain_accesses(rt: HostRuntime) -> Result<(), Fail> {
-    let sampler = sampler_of(rt.alloc(), &NO_SITES, &[])?;
+fn only_plain_accesses(rt: HostRuntime) {
+    let sampler = sampler_of(&rt, rt.alloc(), &NO_SITES, &[]);
     assert_picks(&rt, &sampler, &[(0, None)]);
-    Ok(())
 }
 
 /// The words of the PCG reference (XSH RR 64/32), and of other seeds and streams by another implementation.
@@ -241,11 +248,10 @@ fn words_of_the_generator(rt: HostRuntime) {
 
 /// A word that is looked at is the next one, and is not taken.
 #[test]
-fn a_peek_takes_no_word(rt: HostRuntime) -> Result<(), Fail> {
+fn a_peek_takes_no_word(rt: HostRuntime) {
     let mut words = Generator::new(42, 54);
     assert_is(&rt, words.peek(), 0xa15c_02b7, "the first word");
     assert_is(&rt, words.peek(), 0xa15c_02b7, "the same");
     assert_is(&rt, words.next(), 0xa15c_02b7, "taken");
     assert_is(&rt, words.peek(), 0x7b47_f409, "the second word");
-    Ok(())
 }

@@ -16,7 +16,6 @@ use rv_hart::access::Access;
 use rv_memory::flagged::Flagged;
 use std::alloc::Global;
 use std::process::Abort;
-use std::test::Fail;
 
 mod blocks;
 mod picture;
@@ -27,24 +26,26 @@ mod told;
 /// A symbol's name, value, size and type.
 type Row4 = (&'static str, u32, u32, u8);
 
-fn symbols_of(alloc: Global, rows: &[Row4]) -> Result<Vec<Symbol>, Fail> {
+fn symbols_of(rt: &impl Abort, alloc: Global, rows: &[Row4]) -> Vec<Symbol> {
     let mut symbols = Vec::new(alloc);
     for (name, value, size, kind) in rows {
-        symbols.push(Symbol {
-            name: String::from_str(alloc, name)?,
-            value: *value,
-            size: *size,
-            kind: *kind,
-        })?;
+        symbols
+            .push(Symbol {
+                name: String::from_str(alloc, name).expect(rt, "memory"),
+                value: *value,
+                size: *size,
+                kind: *kind,
+            })
+            .expect(rt, "memory");
     }
-    Ok(symbols)
+    symbols
 }
 
 /// 4,096 bytes of code from 00010000 on, as many of data from 00020000 on, and these symbols.
-fn image(alloc: Global, rows: &[Row4]) -> Result<Image, Fail> {
+fn image(rt: &impl Abort, alloc: Global, rows: &[Row4]) -> Image {
     let code = zeros(alloc, 0x10000, 4096, true);
     let data = zeros(alloc, 0x20000, 4096, false);
-    let segments = vec![in alloc; code, data]?;
-    let symbols = symbols_of(alloc, rows)?;
-    Ok(Image::new(0x10000, segments, symbols).ok_or("an image")?)
+    let segments = vec![in alloc; code, data].expect(rt, "memory");
+    let symbols = symbols_of(rt, alloc, rows);
+    Image::new(0x10000, segments, symbols).expect(rt, "an image")
 }

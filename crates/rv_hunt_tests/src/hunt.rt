@@ -8,7 +8,6 @@ use rv_memory::flagged::Flagged;
 use rv_report::key::Key;
 use std::alloc::Global;
 use std::process::Abort;
-use std::test::Fail;
 
 mod hunts;
 mod reading;
@@ -17,7 +16,7 @@ mod saying;
 /// A row: its addresses, count, class, run, and a number that its entry and values are made of.
 type Said = (u32, Option<u32>, u64, RaceClass, u32, u32);
 
-fn add(table: &mut HuntTable, said: &Said) -> Result<(), Fail> {
+fn add(rt: &impl Abort, table: &mut HuntTable, said: &Said) {
     let (first, second, count, class, run, number) = *said;
     let row = RaceRow {
         count,
@@ -27,36 +26,33 @@ fn add(table: &mut HuntTable, said: &Said) -> Result<(), Fail> {
         old: 0,
         new: number,
     };
-    table.add(Key { first, second }, row)?;
-    Ok(())
+    table.add(Key { first, second }, row).expect(rt, "memory");
 }
 
-fn table_of(alloc: Global, rows: &[Said]) -> Result<HuntTable, Fail> {
+fn table_of(rt: &impl Abort, alloc: Global, rows: &[Said]) -> HuntTable {
     let mut table = HuntTable::new(alloc);
     for row in rows {
-        add(&mut table, row)?;
+        add(rt, &mut table, row);
     }
-    Ok(table)
+    table
 }
 
-fn text(alloc: Global, table: &HuntTable) -> Result<Vec<u8>, Fail> {
+fn text(rt: &impl Abort, alloc: Global, table: &HuntTable) -> Vec<u8> {
     let mut writer = Flagged::new(Vec::new(alloc));
-    match table.write_table(&mut writer) {
-        Ok(()) => Ok(writer.into_inner()),
-        Err(_) => Err(Fail::from("write")),
-    }
+    table.write_table(&mut writer).expect(rt, "a table");
+    writer.into_inner()
 }
 
-fn shows(rt: &impl Abort, alloc: Global, rows: &[Said], want: &[u8]) -> Result<(), Fail> {
-    let table = table_of(alloc, rows)?;
-    let text = text(alloc, &table)?;
+fn shows(rt: &impl Abort, alloc: Global, rows: &[Said], want: &[u8]) {
+    let table = table_of(rt, alloc, rows);
+    let text = text(rt, alloc, &table);
+    drop(table);
     assert_is(rt, text.as_slice(), want, "the table");
-    Ok(())
 }
 
 #[test]
-fn an_empty_table(rt: HostRuntime) -> Result<(), Fail> {
-    shows(&rt, rt.alloc(), &[], b"races 0\n")
+fn an_empty_table(rt: HostRuntime) {
+    shows(&rt, rt.alloc(), &[], b"races 0\n");
 }
 
 /// The first of the rows, and the last.
@@ -81,35 +77,37 @@ static WHOLE: &[u8] = b"races 4\n\
     00010054 00010078 count 1 run 5 entry 6 hit old 00000000 new 00000006 counter\n";
 
 #[test]
-fn rows_of_a_race_are_joined(rt: HostRuntime) -> Result<(), Fail> {
-    shows(&rt, rt.alloc(), &ROWS, WHOLE)
+fn rows_of_a_race_are_joined(rt: HostRuntime) {
+    shows(&rt, rt.alloc(), &ROWS, WHOLE);
 }
 
-fn merge_rows(alloc: Global, table: &mut HuntTable, rows: &[Said]) -> Result<(), Fail> {
-    table.merge(&table_of(alloc, rows)?)?;
-    Ok(())
+fn merge_rows(rt: &impl Abort, alloc: Global, table: &mut HuntTable, rows: &[Said]) {
+    let other = table_of(rt, alloc, rows);
+    table.merge(&other).expect(rt, "memory");
+    drop(other);
 }
 
-fn merge_pieces(alloc: Global, table: &mut HuntTable, place: usize) -> Result<(), Fail> {
+fn merge_pieces(rt: &impl Abort, alloc: Global, table: &mut HuntTable, place: usize) {
     let place = place.min(ROWS.len());
-    merge_rows(alloc, table, &ROWS[..place])?;
-    merge_rows(alloc, table, &ROWS[place..])
+    merge_rows(rt, alloc, table, &ROWS[..place]);
+    merge_rows(rt, alloc, table, &ROWS[place..]);
 }
 
 /// The tables of the rows before the place and from it on, merged.
-fn merged(alloc: Global, place: usize) -> Result<Vec<u8>, Fail> {
+fn merged(rt: &impl Abort, alloc: Global, place: usize) -> Vec<u8> {
     let mut table = HuntTable::new(alloc);
-    merge_pieces(alloc, &mut table, place)?;
-    text(alloc, &table)
+    merge_pieces(rt, alloc, &mut table, place);
+    let text = text(rt, alloc, &table);
+    drop(table);
+    text
 }
 
 #[test]
-fn tables_of_pieces_are_merged(rt: HostRuntime) -> Result<(), Fail> {
+fn tables_of_pieces_are_merged(rt: HostRuntime) {
     for place in 0..=ROWS.len() {
-        let text = merged(rt.alloc(), place)?;
+        let text = merged(&rt, rt.alloc(), place);
         assert_is(&rt, text.as_slice(), WHOLE, "merged");
     }
-    Ok(())
 }
 
 /// Races, and whether they have a row.
@@ -132,9 +130,10 @@ fn assert_has(rt: &impl Abort, table: &HuntTable) {
 }
 
 #[test]
-fn which_races_have_a_row(rt: HostRuntime) -> Result<(), Fail> {
-    assert_has(&rt, &table_of(rt.alloc(), &ROWS)?);
-    Ok(())
+fn which_races_have_a_row(rt: HostRuntime) {
+    let table = table_of(&rt, rt.alloc(), &ROWS);
+    assert_has(&rt, &table);
+    drop(table);
 }
 
 /// Tables that have all of the races, some of them, or none, and whether a race was not expected. Only those that may be
@@ -154,34 +153,30 @@ const EXPECTED: &[(&[Said], bool)] = &[
     (&[], true),
 ];
 
-fn assert_unexpected(
-    rt: &impl Abort,
-    alloc: Global,
-    expected: &[Said],
-    unexpected: bool,
-) -> Result<(), Fail> {
-    let found = table_of(alloc, &ROWS)?;
-    let table = table_of(alloc, expected)?;
+fn assert_unexpected(rt: &impl Abort, alloc: Global, expected: &[Said], unexpected: bool) {
+    let found = table_of(rt, alloc, &ROWS);
+    let table = table_of(rt, alloc, expected);
     assert_is(rt, found.has_unexpected(&table), unexpected, "unexpected");
-    Ok(())
+    drop(found);
+    drop(table);
 }
 
 #[test]
-fn which_races_were_not_expected(rt: HostRuntime) -> Result<(), Fail> {
-    assert_unexpected(&rt, rt.alloc(), &ROWS, false)?;
+fn which_races_were_not_expected(rt: HostRuntime) {
+    assert_unexpected(&rt, rt.alloc(), &ROWS, false);
     for (expected, unexpected) in EXPECTED {
-        assert_unexpected(&rt, rt.alloc(), expected, *unexpected)?;
+        assert_unexpected(&rt, rt.alloc(), expected, *unexpected);
     }
-    Ok(())
 }
 
 #[test]
-fn no_race_that_may_be_a_bug_was_not_expected(rt: HostRuntime) -> Result<(), Fail> {
-    let benign = table_of(rt.alloc(), &ROWS[4..6])?;
+fn no_race_that_may_be_a_bug_was_not_expected(rt: HostRuntime) {
+    let benign = table_of(&rt, rt.alloc(), &ROWS[4..6]);
     let none = HuntTable::new(rt.alloc());
     let found = (benign.has_unexpected(&none), none.has_unexpected(&none));
+    drop(benign);
+    drop(none);
     assert_is(&rt, found, (false, false), "benign ones, and none");
-    Ok(())
 }
 
 #[test]

@@ -1,10 +1,12 @@
-//! The tests of rv_explain, rv_hunt and rv_page, and the parts that they are made of.
+//! The tests of rv_explain, rv_hunt and rv_page, and of the engines over them, rv_merge and rv_hunting.
 //!
 //! They stand in a crate of their own, so that these are not proved a second time with their tests.
 #![tactic(auto)]
 
 #[cfg(test)]
 mod assertion;
+#[cfg(test)]
+mod engines;
 #[cfg(test)]
 mod explain;
 #[cfg(test)]

@@ -11,15 +11,14 @@ use rv_tally::summary::Summary;
 use rv_tally::tally::Tally;
 use std::alloc::Global;
 use std::process::Abort;
-use std::test::Fail;
 
 /// A run of two harts.
-fn run(alloc: Global) -> Result<Summary, Fail> {
-    Ok(Summary {
+fn run(rt: &impl Abort, alloc: Global) -> Summary {
+    Summary {
         most_steps: 2000,
-        ends: vec![in alloc; End::Exited(5050), End::OutOfSteps]?,
-        armed: vec![in alloc; 0x10054, 0x10074]?,
-        paused: vec![in alloc; 0x10074]?,
+        ends: vec![in alloc; End::Exited(5050), End::OutOfSteps].expect(rt, "memory"),
+        armed: vec![in alloc; 0x10054, 0x10074].expect(rt, "memory"),
+        paused: vec![in alloc; 0x10074].expect(rt, "memory"),
         counts: Counts {
             steps: 3000,
             quiet: 5,
@@ -28,14 +27,14 @@ fn run(alloc: Global) -> Result<Summary, Fail> {
             unwatched: 4,
             passed: 7,
         },
-    })
+    }
 }
 
 /// What one run saw.
-fn seen(alloc: Global, run: &Summary) -> Result<Tally, Fail> {
+fn seen(rt: &impl Abort, alloc: Global, run: &Summary) -> Tally {
     let mut saw = Tally::new(alloc);
-    saw.add(alloc, run)?;
-    Ok(saw)
+    saw.add(alloc, run).expect(rt, "memory");
+    saw
 }
 
 fn row(class: RaceClass, count: u64, run: u32) -> (Key, RaceRow) {
@@ -55,51 +54,54 @@ fn row(class: RaceClass, count: u64, run: u32) -> (Key, RaceRow) {
 }
 
 fn race(
+    rt: &impl Abort,
     alloc: Global,
     row: (Key, RaceRow),
     names: &[u8],
     block: &[u8],
     picture: Option<&[u8]>,
-) -> Result<RacePart, Fail> {
+) -> RacePart {
     let picture = match picture {
-        Some(picture) => Some(picture.to_vec(alloc)?),
+        Some(picture) => Some(picture.to_vec(alloc).expect(rt, "memory")),
         None => None,
     };
-    Ok(RacePart {
+    RacePart {
         row,
-        names: names.to_vec(alloc)?,
-        block: block.to_vec(alloc)?,
+        names: names.to_vec(alloc).expect(rt, "memory"),
+        block: block.to_vec(alloc).expect(rt, "memory"),
         picture,
-    })
+    }
 }
 
 /// The page of races of what was seen, of which `rows` are all.
 fn page_of(
+    rt: &impl Abort,
     alloc: Global,
     command: &[u8],
     saw: &Tally,
     rows: &[(Key, RaceRow)],
     races: &[RacePart],
-) -> Result<Vec<u8>, Fail> {
+) -> Vec<u8> {
     let outcome = Outcome {
         sites: 3,
         saw,
         rows,
         ignored: &[],
     };
-    Ok(page_text(alloc, command, &outcome, races)?)
+    page_text(alloc, command, &outcome, races).expect(rt, "memory")
 }
 
 /// The same of that run.
 fn page(
+    rt: &impl Abort,
     alloc: Global,
     command: &[u8],
     rows: &[(Key, RaceRow)],
     races: &[RacePart],
-) -> Result<Vec<u8>, Fail> {
-    let run = run(alloc)?;
-    let saw = seen(alloc, &run)?;
-    page_of(alloc, command, &saw, rows, races)
+) -> Vec<u8> {
+    let run = run(rt, alloc);
+    let saw = seen(rt, alloc, &run);
+    page_of(rt, alloc, command, &saw, rows, races)
 }
 
 /// How many times a text stands in another.
@@ -194,17 +196,17 @@ static NO_RACE: &[u8] = b"</style>\n\
 </html>\n";
 
 #[test]
-fn no_race(rt: HostRuntime) -> Result<(), Fail> {
+fn no_race(rt: HostRuntime) {
     let rows = [row(Named, 3, 0)];
     let page = page(
+        &rt,
         rt.alloc(),
         b"rvcollide hunt a.elf --page a.html",
         &rows,
         &[],
-    )?;
+    );
     assert_is(&rt, before(&page, b":root"), FRONT, "before the style");
     assert_is(&rt, from(&page, b"</style>"), NO_RACE, "behind the style");
-    Ok(())
 }
 
 static TWO_RACES: &[u8] = b"<section id='races'>\n\
@@ -237,20 +239,21 @@ static TWO_RACES: &[u8] = b"<section id='races'>\n\
 </details>\n";
 
 #[test]
-fn two_races(rt: HostRuntime) -> Result<(), Fail> {
+fn two_races(rt: HostRuntime) {
     let alloc = rt.alloc();
     let rows = [row(Kept, 12, 5), row(Ordered, 1, 0)];
     let races = [
         race(
+            &rt,
             alloc,
             rows[0],
             b"a+0x0/0x4 and b+0x0/0x4",
             b"race 1\n  one\n",
             Some(b"<svg></svg>\n"),
-        )?,
-        race(alloc, rows[1], b"c+0x8", b"race 2\n  two\n", None)?,
+        ),
+        race(&rt, alloc, rows[1], b"c+0x8", b"race 2\n  two\n", None),
     ];
-    let page = page(alloc, b"", &rows, &races)?;
+    let page = page(&rt, alloc, b"", &rows, &races);
     let found = from(&page, b"<section id='races'>");
     assert_is(
         &rt,
@@ -258,17 +261,16 @@ fn two_races(rt: HostRuntime) -> Result<(), Fail> {
         TWO_RACES,
         "the races",
     );
-    Ok(())
 }
 
 /// A name that would end the block and begin a script, in each place where it may stand.
 #[test]
-fn a_hostile_name(rt: HostRuntime) -> Result<(), Fail> {
+fn a_hostile_name(rt: HostRuntime) {
     let alloc = rt.alloc();
     let rows = [row(Flag, 1, 0)];
     let name = b"</pre><script>";
-    let races = [race(alloc, rows[0], name, name, None)?];
-    let page = page(alloc, b"a '\"&<>\x1b\xc3\xa9\\\t", &rows, &races)?;
+    let races = [race(&rt, alloc, rows[0], name, name, None)];
+    let page = page(&rt, alloc, b"a '\"&<>\x1b\xc3\xa9\\\t", &rows, &races);
     let command = before(from(&page, b"<p><code>"), b"\n<nav>");
     assert_is(
         &rt,
@@ -292,18 +294,19 @@ fn a_hostile_name(rt: HostRuntime) -> Result<(), Fail> {
         "the block",
     );
     assert_is(&rt, count(&page, b"<script"), 0, "scripts");
-    Ok(())
 }
 
 /// So many races, of which the last has no picture.
-fn all_but_one_drawn(alloc: Global, count: u32) -> Result<Vec<RacePart>, Fail> {
+fn all_but_one_drawn(rt: &impl Abort, alloc: Global, count: u32) -> Vec<RacePart> {
     let mut races = Vec::new(alloc);
     for number in 0..count {
         let is_drawn = number + 1 < count;
         let picture = is_drawn.then_some(b"<svg></svg>\n".as_slice());
-        races.push(race(alloc, row(Kept, 1, 0), b"a and b", b"block\n", picture)?)?;
+        races
+            .push(race(rt, alloc, row(Kept, 1, 0), b"a and b", b"block\n", picture))
+            .expect(rt, "memory");
     }
-    Ok(races)
+    races
 }
 
 /// Parts of a page of 101 races, and how often it has each.
@@ -317,10 +320,10 @@ static OF_MANY: [(&[u8], usize); 6] = [
 ];
 
 #[test]
-fn many_races(rt: HostRuntime) -> Result<(), Fail> {
+fn many_races(rt: HostRuntime) {
     let alloc = rt.alloc();
-    let races = all_but_one_drawn(alloc, 101)?;
-    let page = page(alloc, b"", &[row(Kept, 1, 0)], &races)?;
+    let races = all_but_one_drawn(&rt, alloc, 101);
+    let page = page(&rt, alloc, b"", &[row(Kept, 1, 0)], &races);
     for (part, wanted) in &OF_MANY {
         assert_is(
             &rt,
@@ -329,5 +332,4 @@ fn many_races(rt: HostRuntime) -> Result<(), Fail> {
             "how often",
         );
     }
-    Ok(())
 }

@@ -8,7 +8,6 @@ use rv_break::claim::{ARMED_LIMIT, MOST_SLOTS, Seen};
 use rv_hart::access::Access;
 use std::alloc::Global;
 use std::process::Abort;
-use std::test::Fail;
 
 /// Of a paused hart.
 fn load(first: u32, size: u8) -> Access {
@@ -54,11 +53,10 @@ fn assert_disarms(rt: &impl Abort, breaks: &mut Breakpoints) {
 }
 
 #[test]
-fn arms_and_disarms(rt: HostRuntime) -> Result<(), Fail> {
-    let mut breaks = Breakpoints::new(rt.alloc(), 4)?;
+fn arms_and_disarms(rt: HostRuntime) {
+    let mut breaks = Breakpoints::new(rt.alloc(), 4).expect(&rt, "memory");
     assert_arms(&rt, &mut breaks);
     assert_disarms(&rt, &mut breaks);
-    Ok(())
 }
 
 fn assert_arms_sixty_four(rt: &impl Abort, breaks: &mut Breakpoints) {
@@ -82,31 +80,29 @@ fn assert_arms_sixty_four(rt: &impl Abort, breaks: &mut Breakpoints) {
 }
 
 #[test]
-fn arms_sixty_four(rt: HostRuntime) -> Result<(), Fail> {
-    let mut breaks = Breakpoints::new(rt.alloc(), 4)?;
+fn arms_sixty_four(rt: HostRuntime) {
+    let mut breaks = Breakpoints::new(rt.alloc(), 4).expect(&rt, "memory");
     assert_arms_sixty_four(&rt, &mut breaks);
-    Ok(())
 }
 
 /// Each of so many is claimed, the least first, and then none.
-fn assert_claims(rt: &impl Abort, alloc: Global, slots: u8) -> Result<(), Fail>
+fn assert_claims(rt: &impl Abort, alloc: Global, slots: u8)
     requires { slots ≤ MOST_SLOTS }
 {
-    let mut breaks = Breakpoints::new(alloc, slots)?;
+    let mut breaks = Breakpoints::new(alloc, slots).expect(rt, "memory");
     for slot in 0..slots {
         let claimed = breaks.claim(slot, load(0x20000, 4));
         assert_is(rt, claimed, Some(slot), "the least free one");
     }
     let claimed = breaks.claim(9, load(0x20000, 4));
     assert_is(rt, claimed, None, "none is free");
-    Ok(())
 }
 
 #[test]
-fn claims_the_least_free_one(rt: HostRuntime) -> Result<(), Fail> {
-    assert_claims(&rt, rt.alloc(), 1)?;
-    assert_claims(&rt, rt.alloc(), 4)?;
-    assert_claims(&rt, rt.alloc(), MOST_SLOTS)
+fn claims_the_least_free_one(rt: HostRuntime) {
+    assert_claims(&rt, rt.alloc(), 1);
+    assert_claims(&rt, rt.alloc(), 4);
+    assert_claims(&rt, rt.alloc(), MOST_SLOTS);
 }
 
 /// The own hart's, another byte's, and another load are passed over.
@@ -114,7 +110,7 @@ fn show_five(breaks: &mut Breakpoints) {
     breaks.see(3, 1, store(0x20001, 1));
     breaks.see(4, 0, store(0x20002, 1));
     breaks.see(5, 0, load(0x20001, 1));
-    breaks.see(6, 0, store(0x20000, 4));
+    breaks.see(6, 0, access(0x1000c, 0x20000, 4, true));
     breaks.see(7, 2, access(0x10010, 0x20001, 1, true));
 }
 
@@ -126,7 +122,7 @@ fn assert_holds_the_first(rt: &impl Abort, breaks: &mut Breakpoints) {
     let first = Seen {
         place: 6,
         hart: 0,
-        access: store(0x20000, 4),
+        access: access(0x1000c, 0x20000, 4, true),
     };
     assert_is(rt, release(rt, breaks, 0), Some(first), "the first");
     assert_is(rt, breaks.is_claimed(0), false, "it is free");
@@ -135,10 +131,9 @@ fn assert_holds_the_first(rt: &impl Abort, breaks: &mut Breakpoints) {
 }
 
 #[test]
-fn holds_the_first_conflicting_access_of_another_hart(rt: HostRuntime) -> Result<(), Fail> {
-    let mut breaks = Breakpoints::new(rt.alloc(), 4)?;
+fn holds_the_first_conflicting_access_of_another_hart(rt: HostRuntime) {
+    let mut breaks = Breakpoints::new(rt.alloc(), 4).expect(&rt, "memory");
     assert_holds_the_first(&rt, &mut breaks);
-    Ok(())
 }
 
 /// Stores of a third hart beside claims of 0x20004 to 0x20007 and of the last four bytes of all: the first byte, how
@@ -164,6 +159,7 @@ fn seen_by_two(rt: &impl Abort, breaks: &mut Breakpoints, made: Access) -> (bool
     );
     assert_is(rt, claims, (Some(0), Some(1)), "the claims");
     breaks.see(3, 2, made);
+    assert_is(rt, breaks.is_claimed(1), true, "the second is claimed");
     let by_one = release(rt, breaks, 0);
     breaks.see(4, 2, made);
     let by_other = release(rt, breaks, 1);
@@ -179,10 +175,9 @@ fn assert_beside(rt: &impl Abort, breaks: &mut Breakpoints) {
 }
 
 #[test]
-fn shows_each_claim_its_bytes_alone(rt: HostRuntime) -> Result<(), Fail> {
-    let mut breaks = Breakpoints::new(rt.alloc(), 4)?;
+fn shows_each_claim_its_bytes_alone(rt: HostRuntime) {
+    let mut breaks = Breakpoints::new(rt.alloc(), 4).expect(&rt, "memory");
     assert_beside(&rt, &mut breaks);
-    Ok(())
 }
 
 /// Single bytes, and whether they are of the four from 0x20003 on.
@@ -204,8 +199,7 @@ fn assert_of_two_words(rt: &impl Abort, breaks: &mut Breakpoints) {
 }
 
 #[test]
-fn shows_a_claim_of_two_words_both(rt: HostRuntime) -> Result<(), Fail> {
-    let mut breaks = Breakpoints::new(rt.alloc(), 4)?;
+fn shows_a_claim_of_two_words_both(rt: HostRuntime) {
+    let mut breaks = Breakpoints::new(rt.alloc(), 4).expect(&rt, "memory");
     assert_of_two_words(&rt, &mut breaks);
-    Ok(())
 }

@@ -1,9 +1,12 @@
-//! The tests of rv_hart, rv_words and rv_break: steps of machines, worked out from the RISC-V Unprivileged ISA, the
-//! texts that harts are shown in, lists of instruction words, and breakpoints.
+//! The tests of rv_hart, rv_words and rv_break, and of rv_elf and rv_asm: steps of machines, worked out from the RISC-V
+//! Unprivileged ISA, the texts that harts are shown in, lists of instruction words, breakpoints, images, and the
+//! assembler.
 //!
 //! They stand in a crate of their own, so that these are not proved a second time with their tests.
 #![tactic(auto)]
 
+#[cfg(test)]
+mod assembler;
 #[cfg(test)]
 mod assertion;
 #[cfg(test)]

@@ -1,5 +1,5 @@
 //! The machines that are tried.
-ghost use Rattle.std.specs.Prelude.{◌≡◌, IfOk, All, length};
+ghost use Rattle.std.specs.Prelude.{◌≡◌, All, length};
 ghost use Rattle.rv_memory.specs.Extent.{IsExtent};
 
 use rv_hart::machine::{MOST_HARTS, Machine};
@@ -7,37 +7,51 @@ use rv_memory::flat::Flat;
 use rv_memory::region::Region;
 use std::alloc::Global;
 use std::process::Abort;
-use std::test::Fail;
 
-fn bytes_of(alloc: Global, words: &[u32]) -> Result<Vec<u8>, Fail> {
+fn bytes_of(rt: &impl Abort, alloc: Global, words: &[u32]) -> Vec<u8> {
     let mut bytes = Vec::new(alloc);
     for word in words {
-        bytes.extend_from_slice(&word.to_le_bytes())?;
+        bytes
+            .extend_from_slice(&word.to_le_bytes())
+            .expect(rt, "memory");
     }
-    Ok(bytes)
+    bytes
 }
 
 /// Words as a region from an address on.
-pub fn region(
-    rt: &impl Abort,
-    alloc: Global,
-    start: u32,
-    words: &[u32],
-    w: bool,
-) -> Result<Region, Fail>
-    ensures { IfOk result IsExtent }
+pub fn region(rt: &impl Abort, alloc: Global, start: u32, words: &[u32], w: bool) -> Region
+    ensures { IsExtent result }
 {
-    let bytes = bytes_of(alloc, words)?;
+    let bytes = bytes_of(rt, alloc, words);
     let len = bytes.len();
     assert!(rt; 1 <= len && len <= 65_536);
-    Ok(Region {
+    Region {
         start,
         bytes,
         len: len as u32,
         r: true,
         w,
         x: !w,
-    })
+    }
+}
+
+/// A page of 4,096 bytes from an address on that begins with words.
+pub fn page(rt: &impl Abort, alloc: Global, start: u32, words: &[u32]) -> Region
+    ensures { IsExtent result }
+{
+    let mut page = region(rt, alloc, start, words, true);
+    assert!(rt; page.bytes.len() <= 4096);
+    page.len = 4096;
+    page
+}
+
+/// Words from 00010000 on, and 4,096 bytes from 00020000 on that begin with data.
+pub fn regions(rt: &impl Abort, alloc: Global, words: &[u32], data: &[u32]) -> Vec<Region>
+    ensures { All IsExtent result.items }
+{
+    let text = region(rt, alloc, 0x10000, words, false);
+    let data = page(rt, alloc, 0x20000, data);
+    two(rt, alloc, text, data)
 }
 
 /// A machine that runs words from 00010000 on, with 4,096 bytes from 00020000 on that begin with data.
@@ -47,26 +61,22 @@ pub fn machine(
     words: &[u32],
     data: &[u32],
     harts: u8,
-) -> Result<Machine<Flat>, Fail> {
+) -> Machine<Flat> {
     assert!(rt; 1 <= harts && harts <= MOST_HARTS);
-    let text = region(rt, alloc, 0x10000, words, false)?;
-    let mut data = region(rt, alloc, 0x20000, data, true)?;
-    assert!(rt; data.bytes.len() <= 4096);
-    data.len = 4096;
-    let regions = two(alloc, text, data)?;
-    Ok(Machine::new(alloc, &regions, 0x10000, harts, 8)?)
+    let regions = regions(rt, alloc, words, data);
+    Machine::new(alloc, &regions, 0x10000, harts, 8).expect(rt, "a machine")
 }
 
 /// Both regions.
-pub fn two(alloc: Global, first: Region, second: Region) -> Result<Vec<Region>, Fail>
+pub fn two(rt: &impl Abort, alloc: Global, first: Region, second: Region) -> Vec<Region>
     requires first { IsExtent first }
     requires second { IsExtent second }
-    ensures { IfOk result (λ all. All IsExtent all.items) }
+    ensures { All IsExtent result.items }
 {
     let mut all = Vec::new(alloc);
-    all.push(first)?;
-    all.push(second)?;
-    Ok(all)
+    all.push(first).expect(rt, "memory");
+    all.push(second).expect(rt, "memory");
+    all
 }
 
 /// Steps of the harts in turn, each of which is made.

@@ -5,33 +5,42 @@ use crate::parts::access;
 use rv_hart::access::Event;
 use rv_hart::machine::Machine;
 use rv_memory::flat::Flat;
-use std::test::Fail;
+use std::alloc::Global;
+use std::process::Abort;
 
 /// `lui x6,0x20`, `sw x10,0(x6)`, `ecall`.
 const STORES: [u32; 3] = [0x0002_0337, 0x00a3_2023, 0x0000_0073];
 
-/// A common step of a hart, where there is such a hart and it runs.
-fn quick(machine: &mut Machine<Flat>, h: u8) -> Option<Event> {
+/// A common step of a hart, at a place of its own, where there is such a hart and it runs.
+fn quick<const PLACE: u8>(machine: &mut Machine<Flat>, h: u8) -> Option<Event> {
     if machine.runs(h) {
-        machine.step_quick::<0>(h)
+        machine.step_quick::<PLACE>(h)
     } else {
         None
     }
 }
 
 /// A common step is made; an ECALL is none, and no hart makes none.
-#[test]
-fn common_steps_are_made(rt: HostRuntime) -> Result<(), Fail> {
-    let mut machine = machine(&rt, rt.alloc(), &STORES, &[0], 1)?;
+fn assert_stores<const PLACE: u8>(rt: &impl Abort, machine: &mut Machine<Flat>) {
     let stored = access(0x10004, 0x20000, 4, true);
-    let set = quick(&mut machine, 0);
-    assert_is(&rt, set, Some(Event::Moved(None)), "lui");
-    let store = quick(&mut machine, 0);
-    assert_is(&rt, store, Some(Event::Moved(Some(stored))), "sw");
-    assert_is(&rt, quick(&mut machine, 0), None, "ecall");
-    assert_is(&rt, quick(&mut machine, 1), None, "no hart");
-    assert_is(&rt, machine.harts(), 1, "harts");
-    Ok(())
+    let set = quick::<PLACE>(machine, 0);
+    assert_is(rt, set, Some(Event::Moved(None)), "lui");
+    let store = quick::<PLACE>(machine, 0);
+    assert_is(rt, store, Some(Event::Moved(Some(stored))), "sw");
+    let others = (quick::<PLACE>(machine, 0), quick::<PLACE>(machine, 1));
+    assert_is(rt, others, (None, None), "ecall, no hart");
+    assert_is(rt, machine.harts(), 1, "harts");
+}
+
+fn assert_stores_at<const PLACE: u8>(rt: &impl Abort, alloc: Global) {
+    assert_stores::<PLACE>(rt, &mut machine(rt, alloc, &STORES, &[0], 1));
+}
+
+/// At place 0, where a step is a call, and at another, into which it is compiled.
+#[test]
+fn common_steps_are_made(rt: HostRuntime) {
+    assert_stores_at::<0>(&rt, rt.alloc());
+    assert_stores_at::<1>(&rt, rt.alloc());
 }
 
 /// What hart 0 has reserved, its x7 and its pc.
@@ -48,25 +57,28 @@ fn shown(machine: &Machine<Flat>) -> (Option<u32>, u32, u32) {
 const RESERVES: [u32; 4] = [0x0002_0337, 0x1003_22af, 0x1853_23af, 0x1853_23af];
 
 /// An LR and an SC are common steps. The second SC fails and makes no access; none leaves a reservation.
-#[test]
-fn reservations_are_common_steps(rt: HostRuntime) -> Result<(), Fail> {
-    let mut machine = machine(&rt, rt.alloc(), &RESERVES, &[0], 2)?;
+fn assert_reserves<const PLACE: u8>(rt: &impl Abort, machine: &mut Machine<Flat>) {
     let load = access(0x10004, 0x20000, 4, false);
     let store = access(0x10008, 0x20000, 4, true);
-    let _set = quick(&mut machine, 0);
-    let loaded = quick(&mut machine, 0);
-    assert_is(&rt, loaded, Some(Event::Moved(Some(load))), "lr");
-    assert_is(
-        &rt,
-        shown(&machine),
-        (Some(0x20000), 0, 0x10008),
-        "reserved",
-    );
-    let stored = quick(&mut machine, 0);
-    assert_is(&rt, stored, Some(Event::Moved(Some(store))), "sc");
-    assert_is(&rt, shown(&machine), (None, 0, 0x1000c), "stored");
-    let failed = quick(&mut machine, 0);
-    assert_is(&rt, failed, Some(Event::Moved(None)), "sc without lr");
-    assert_is(&rt, shown(&machine), (None, 1, 0x10010), "it moves on");
-    Ok(())
+    let _set = quick::<PLACE>(machine, 0);
+    let loaded = quick::<PLACE>(machine, 0);
+    assert_is(rt, loaded, Some(Event::Moved(Some(load))), "lr");
+    let reserved = (Some(0x20000), 0, 0x10008);
+    assert_is(rt, shown(machine), reserved, "reserved");
+    let stored = quick::<PLACE>(machine, 0);
+    assert_is(rt, stored, Some(Event::Moved(Some(store))), "sc");
+    assert_is(rt, shown(machine), (None, 0, 0x1000c), "stored");
+    let failed = quick::<PLACE>(machine, 0);
+    assert_is(rt, failed, Some(Event::Moved(None)), "sc without lr");
+    assert_is(rt, shown(machine), (None, 1, 0x10010), "it moves on");
+}
+
+fn assert_reserves_at<const PLACE: u8>(rt: &impl Abort, alloc: Global) {
+    assert_reserves::<PLACE>(rt, &mut machine(rt, alloc, &RESERVES, &[0], 2));
+}
+
+#[test]
+fn reservations_are_common_steps(rt: HostRuntime) {
+    assert_reserves_at::<0>(&rt, rt.alloc());
+    assert_reserves_at::<1>(&rt, rt.alloc());
 }

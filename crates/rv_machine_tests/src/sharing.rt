@@ -1,11 +1,10 @@
 //! A machine that is shared, and then stepped on both sides.
 use crate::assertion::assert_is;
-use crate::machines::{region, two};
+use crate::machines::regions;
 use rv_hart::machine::{Machine, StepFault};
 use rv_memory::paged::Paged;
 use std::alloc::Global;
 use std::process::Abort;
-use std::test::Fail;
 
 /// After the `lui`, without end: `addi x5,x5,1`, `sw x5,0(x6)`, and back.
 const COUNTS: [u32; 4] = [0x0002_0337, 0x0012_8293, 0x0053_2023, 0xff9f_f06f];
@@ -14,13 +13,9 @@ const COUNTS: [u32; 4] = [0x0002_0337, 0x0012_8293, 0x0053_2023, 0xff9f_f06f];
 const PRINTS: [u32; 4] = [0x0010_0893, 0x0410_0513, 0x0000_0073, 0xffdf_f06f];
 
 /// A machine of one hart over pages, which may print 8 bytes.
-fn over_pages(rt: &impl Abort, alloc: Global, words: &[u32]) -> Result<Machine<Paged>, Fail> {
-    let text = region(rt, alloc, 0x10000, words, false)?;
-    let mut data = region(rt, alloc, 0x20000, &[0], true)?;
-    assert!(rt; data.bytes.len() <= 4096);
-    data.len = 4096;
-    let regions = two(alloc, text, data)?;
-    Ok(Machine::new(alloc, &regions, 0x10000, 1, 8)?)
+fn over_pages(rt: &impl Abort, alloc: Global, words: &[u32]) -> Machine<Paged> {
+    let regions = regions(rt, alloc, words, &[0]);
+    Machine::new(alloc, &regions, 0x10000, 1, 8).expect(rt, "a machine")
 }
 
 fn steps(rt: &impl Abort, machine: &mut Machine<Paged>, count: u32) {
@@ -30,13 +25,9 @@ fn steps(rt: &impl Abort, machine: &mut Machine<Paged>, count: u32) {
 }
 
 /// A second machine as this one is, where there is room for what it has printed.
-fn second(
-    rt: &impl Abort,
-    machine: &mut Machine<Paged>,
-    limit: u32,
-) -> Result<Machine<Paged>, Fail> {
+fn second(rt: &impl Abort, machine: &mut Machine<Paged>, limit: u32) -> Machine<Paged> {
     assert!(rt; machine.output().len() <= limit as usize && limit <= 100);
-    Ok(machine.share(limit)?)
+    machine.share(limit).expect(rt, "memory")
 }
 
 /// The counter, and the byte that is stored.
@@ -51,43 +42,59 @@ fn assert_counts(rt: &impl Abort, machine: &Machine<Paged>, counter: u32, stored
     );
 }
 
-fn share_a_counter(rt: &impl Abort, machine: &mut Machine<Paged>) -> Result<(), Fail> {
+fn share_a_counter(rt: &impl Abort, machine: &mut Machine<Paged>) {
     steps(rt, machine, 5);
     assert_counts(rt, machine, 2, 1);
-    let mut one = second(rt, machine, 8)?;
-    let mut other = second(rt, machine, 0)?;
+    let mut one = second(rt, machine, 8);
+    let mut other = second(rt, machine, 0);
+    assert_apart(rt, machine, &mut one, &mut other);
+}
+
+fn assert_apart(
+    rt: &impl Abort,
+    machine: &mut Machine<Paged>,
+    one: &mut Machine<Paged>,
+    other: &mut Machine<Paged>,
+) {
     steps(rt, machine, 1);
     assert_counts(rt, machine, 2, 2);
-    steps(rt, &mut one, 4);
-    assert_counts(rt, &one, 3, 3);
-    assert_counts(rt, &other, 2, 1);
-    steps(rt, &mut other, 1);
-    assert_counts(rt, &other, 2, 2);
+    steps(rt, one, 4);
+    assert_counts(rt, one, 3, 3);
+    assert_counts(rt, other, 2, 1);
+    steps(rt, other, 1);
+    assert_counts(rt, other, 2, 2);
     assert_counts(rt, machine, 2, 2);
-    Ok(())
 }
 
 #[test]
-fn steps_on_both_sides_of_a_share(rt: HostRuntime) -> Result<(), Fail> {
-    let mut machine = over_pages(&rt, rt.alloc(), &COUNTS)?;
-    share_a_counter(&rt, &mut machine)
+fn steps_on_both_sides_of_a_share(rt: HostRuntime) {
+    let mut machine = over_pages(&rt, rt.alloc(), &COUNTS);
+    share_a_counter(&rt, &mut machine);
 }
 
-fn share_a_printer(rt: &impl Abort, machine: &mut Machine<Paged>) -> Result<(), Fail> {
+fn share_a_printer(rt: &impl Abort, machine: &mut Machine<Paged>) {
     steps(rt, machine, 5);
-    let mut full = second(rt, machine, 2)?;
-    let mut other = second(rt, machine, 3)?;
-    steps(rt, &mut full, 1);
-    assert_is(rt, full.step(0), Err(StepFault::OutputFull), "no room");
+    let mut full = second(rt, machine, 2);
+    let mut other = second(rt, machine, 3);
+    assert_full(rt, &mut full);
     steps(rt, &mut other, 2);
-    assert_is(rt, other.output(), b"AAA".as_slice(), "one more");
-    assert_is(rt, machine.output(), b"AA".as_slice(), "as before");
-    assert_is(rt, full.output(), b"AA".as_slice(), "as before");
-    Ok(())
+    assert_output(rt, &other, b"AAA");
+    assert_output(rt, machine, b"AA");
+    assert_output(rt, &full, b"AA");
+}
+
+fn assert_full(rt: &impl Abort, machine: &mut Machine<Paged>) {
+    steps(rt, machine, 1);
+    let stepped = machine.step(0);
+    assert_is(rt, stepped, Err(StepFault::OutputFull), "no room");
+}
+
+fn assert_output(rt: &impl Abort, machine: &Machine<Paged>, output: &[u8]) {
+    assert_is(rt, machine.output(), output, "the output");
 }
 
 #[test]
-fn prints_as_much_as_a_share_may(rt: HostRuntime) -> Result<(), Fail> {
-    let mut machine = over_pages(&rt, rt.alloc(), &PRINTS)?;
-    share_a_printer(&rt, &mut machine)
+fn prints_as_much_as_a_share_may(rt: HostRuntime) {
+    let mut machine = over_pages(&rt, rt.alloc(), &PRINTS);
+    share_a_printer(&rt, &mut machine);
 }

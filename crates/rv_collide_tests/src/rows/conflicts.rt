@@ -2,7 +2,6 @@
 use crate::rows::{Row, assert_all_show};
 use crate::samples::TRAPS;
 use rv_collide::entry::Entry::{Armed, Paused, Resumed, Stepped};
-use std::test::Fail;
 
 /// After the `lui`: `lbu x5,1(x6)`, `sb x10,2(x6)`, `sw x10,0(x6)`, `ecall`.
 const BYTES: &[u32] = &[
@@ -138,6 +137,6 @@ const CONFLICTS: &[Row] = &[
 ];
 
 #[test]
-fn shows_conflicts(rt: HostRuntime) -> Result<(), Fail> {
-    assert_all_show(&rt, rt.alloc(), CONFLICTS, 4)
+fn shows_conflicts(rt: HostRuntime) {
+    assert_all_show(&rt, rt.alloc(), CONFLICTS, 4);
 }

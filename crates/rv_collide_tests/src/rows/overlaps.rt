@@ -2,7 +2,6 @@
 use crate::rows::{Row, assert_all_show};
 use crate::samples::P;
 use rv_collide::entry::Entry::{Armed, Paused, Resumed, Stepped};
-use std::test::Fail;
 
 /// Harts 1 to 5 are paused at their stores, the last one unwatched, before hart 0's store.
 const OVERLAPS: &[Row] = &[
@@ -139,6 +138,6 @@ const OVERLAPS: &[Row] = &[
 ];
 
 #[test]
-fn shows_overlaps(rt: HostRuntime) -> Result<(), Fail> {
-    assert_all_show(&rt, rt.alloc(), OVERLAPS, 4)
+fn shows_overlaps(rt: HostRuntime) {
+    assert_all_show(&rt, rt.alloc(), OVERLAPS, 4);
 }

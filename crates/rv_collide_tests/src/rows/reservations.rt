@@ -1,7 +1,6 @@
 //! Reservations that last over a pause, and that end.
 use crate::rows::{Row, assert_all_show};
 use rv_collide::entry::Entry::{Armed, Paused, Resumed, Stepped};
-use std::test::Fail;
 
 /// After the `lui`: `beq x10,x0,0x00010010`, `sw x10,0(x6)`, `ecall`, `lr.w x5,(x6)`, `sc.w x7,x5,(x6)`, `ecall`.
 const RESERVES: &[u32] = &[
@@ -128,6 +127,6 @@ const RESERVATIONS: &[Row] = &[
 ];
 
 #[test]
-fn shows_reservations(rt: HostRuntime) -> Result<(), Fail> {
-    assert_all_show(&rt, rt.alloc(), RESERVATIONS, 4)
+fn shows_reservations(rt: HostRuntime) {
+    assert_all_show(&rt, rt.alloc(), RESERVATIONS, 4);
 }

@@ -2,7 +2,6 @@
 use crate::rows::{Row, assert_all_show};
 use crate::samples::P;
 use rv_collide::entry::Entry::{Armed, Paused, Resumed, Stepped};
-use std::test::Fail;
 
 /// `lui x6,0x10`, `sw x10,4(x6)`, `ecall`: the store is at the address that it stores to.
 const OVERWRITES: &[u32] = &[0x0001_0337, 0x00a3_2223, 0x0000_0073];
@@ -121,6 +120,6 @@ const STORES: &[Row] = &[
 ];
 
 #[test]
-fn shows_stores(rt: HostRuntime) -> Result<(), Fail> {
-    assert_all_show(&rt, rt.alloc(), STORES, 4)
+fn shows_stores(rt: HostRuntime) {
+    assert_all_show(&rt, rt.alloc(), STORES, 4);
 }

@@ -11,7 +11,6 @@ use rv_memory::flagged::Flagged;
 use std::alloc::Global;
 use std::io::{self, ErrorKind, Read, Write};
 use std::process::Abort;
-use std::test::Fail;
 
 /// A reader of the text, a byte a read, whose read numbered `fails_at` from 1 on fails.
 #[derive(Drop)]
@@ -160,12 +159,11 @@ fn assert_write_fails(
 }
 
 #[test]
-fn tells_a_writer_that_fails(rt: HostRuntime) -> Result<(), Fail> {
-    let plan = Plan::new(2, 100, 4, 10, 4).ok_or("no plan")?;
+fn tells_a_writer_that_fails(rt: HostRuntime) {
+    let plan = Plan::new(2, 100, 4, 10, 4).expect(&rt, "no plan");
     let calls = TEXT.len() as u64;
     for fails_at in 1..calls + 1 {
         assert_write_fails(&rt, rt.alloc(), &plan, &ENTRIES, fails_at, true);
     }
     assert_write_fails(&rt, rt.alloc(), &plan, &ENTRIES, calls + 1, false);
-    Ok(())
 }

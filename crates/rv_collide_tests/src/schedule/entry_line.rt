@@ -4,7 +4,6 @@ use crate::schedule::{assert_told, fault_of, with_line};
 use rv_collide::schedule::ScheduleKind;
 use std::alloc::Global;
 use std::process::Abort;
-use std::test::Fail;
 
 /// The text with these lines after the plan.
 fn with_lines(alloc: Global, lines: &[u8]) -> Option<(u32, ScheduleKind)> {
@@ -144,21 +143,14 @@ const NAMES: &[(ScheduleKind, &str)] = &[
     (ScheduleKind::NoMemory, "NoMemory"),
 ];
 
-fn assert_named(
-    rt: &impl Abort,
-    alloc: Global,
-    kind: ScheduleKind,
-    name: &str,
-) -> Result<(), Fail> {
-    let text = format!(in alloc; "{kind}")?;
+fn assert_named(rt: &impl Abort, alloc: Global, kind: ScheduleKind, name: &str) {
+    let text = format!(in alloc; "{kind}").expect(rt, "refused");
     assert_is(rt, text.as_str(), name, "a name");
-    Ok(())
 }
 
 #[test]
-fn names_kinds(rt: HostRuntime) -> Result<(), Fail> {
+fn names_kinds(rt: HostRuntime) {
     for (kind, name) in NAMES {
-        assert_named(&rt, rt.alloc(), *kind, name)?;
+        assert_named(&rt, rt.alloc(), *kind, name);
     }
-    Ok(())
 }

@@ -10,7 +10,6 @@ use rv_collide::schedule::{read_schedule, write_schedule};
 use rv_memory::flagged::Flagged;
 use std::alloc::Global;
 use std::process::Abort;
-use std::test::Fail;
 
 /// The same in format 1.
 const FIRST_TEXT: &[u8] = b"rvcollide schedule 1\n\
@@ -118,34 +117,30 @@ fn see_plan(rt: &impl Abort, row: &Read, plan: Plan) {
     assert_is(rt, plan.most_entries(), row.most, "the most entries");
 }
 
-fn assert_read(rt: &impl Abort, alloc: Global, row: &Read) -> Result<(), Fail> {
+fn assert_read(rt: &impl Abort, alloc: Global, row: &Read) {
     let mut reader = Flagged::new(row.text);
     let read = read_schedule(alloc, &mut reader);
     assert_is(rt, reader.failed(), false, "the reader");
-    let (plan, entries) = read.ok().ok_or("refused")?;
+    let (plan, entries) = read.ok().expect(rt, "refused");
     see_plan(rt, row, plan);
     assert_is(rt, entries.as_slice(), row.entries, "entries");
-    Ok(())
 }
 
 #[test]
-fn reads_schedules(rt: HostRuntime) -> Result<(), Fail> {
+fn reads_schedules(rt: HostRuntime) {
     for row in READ {
-        assert_read(&rt, rt.alloc(), row)?;
+        assert_read(&rt, rt.alloc(), row);
     }
-    Ok(())
 }
 
 #[test]
-fn writes_a_schedule(rt: HostRuntime) -> Result<(), Fail> {
-    let plan = Plan::new(2, 100, 4, 10, 4).ok_or("no plan")?;
+fn writes_a_schedule(rt: HostRuntime) {
+    let plan = Plan::new(2, 100, 4, 10, 4).expect(&rt, "no plan");
     assert_written(&rt, rt.alloc(), &plan, &ENTRIES, TEXT);
-    Ok(())
 }
 
 #[test]
-fn writes_no_entries(rt: HostRuntime) -> Result<(), Fail> {
-    let plan = Plan::new(1, 1, 0, 1, 1).ok_or("no plan")?;
+fn writes_no_entries(rt: HostRuntime) {
+    let plan = Plan::new(1, 1, 0, 1, 1).expect(&rt, "no plan");
     assert_written(&rt, rt.alloc(), &plan, &[], NONE);
-    Ok(())
 }

@@ -13,7 +13,6 @@ use rv_memory::flat::Flat;
 use rv_report::exhibiting::exhibit;
 use std::alloc::Global;
 use std::process::Abort;
-use std::test::Fail;
 
 /// `lui x6,0x20`, `sw x10,0(x6)`, `lw x5,0(x6)`, and back to the store.
 const STORES_AND_LOADS: &[u32] = &[0x0002_0337, 0x00a3_2023, 0x0003_2283, 0xff9f_f06f];
@@ -91,20 +90,15 @@ fn assert_each_shows(
 }
 
 /// 20 runs of an image of the words by three harts with one slot, so that there are changes too.
-fn assert_runs_show(
-    rt: &impl Abort,
-    alloc: Global,
-    words: &[u32],
-    name: &'static str,
-) -> Result<(), Fail> {
-    let image = image_of(rt, alloc, words, true)?;
-    let plan = Plan::new(3, 40, 3, 10, 1).ok_or("a plan")?;
+fn assert_runs_show(rt: &impl Abort, alloc: Global, words: &[u32], name: &'static str) {
+    let image = image_of(rt, alloc, words, true);
+    let plan = Plan::new(3, 40, 3, 10, 1).expect(rt, "a plan");
     let mut reports = Reports {
         hits: 0,
         changes: 0,
     };
     for run in 0..20 {
-        let told = run_one(alloc, &image, plan, 1, run, &[])?;
+        let told = run_one(alloc, &image, plan, 1, run, &[]).expect(rt, "memory");
         reports = assert_each_shows(rt, alloc, &image, &told, reports);
     }
     assert_is(
@@ -113,11 +107,10 @@ fn assert_runs_show(
         (true, true),
         name,
     );
-    Ok(())
 }
 
 #[test]
-fn drawn_runs(rt: HostRuntime) -> Result<(), Fail> {
-    assert_runs_show(&rt, rt.alloc(), STORES_AND_LOADS, "stores and loads")?;
-    assert_runs_show(&rt, rt.alloc(), PARTS_AND_ATOMICS, "parts and atomics")
+fn drawn_runs(rt: HostRuntime) {
+    assert_runs_show(&rt, rt.alloc(), STORES_AND_LOADS, "stores and loads");
+    assert_runs_show(&rt, rt.alloc(), PARTS_AND_ATOMICS, "parts and atomics");
 }

@@ -6,7 +6,6 @@ use rv_memory::flagged::{Flagged, WriteFault};
 use rv_memory::output::Output;
 use std::alloc::Global;
 use std::process::Abort;
-use std::test::Fail;
 
 fn over(alloc: Global, most: usize, fails_at: u64) -> Buffered<Sink> {
     Buffered::new(alloc, Sink::new(alloc, most, fails_at))
@@ -55,49 +54,35 @@ const PIECES: [(u8, usize); 7] = [
 ];
 
 /// Puts a piece, and notes its bytes among all that was put.
-fn put_one(
-    rt: &impl Abort,
-    writer: &mut Buffered<Sink>,
-    piece: &[u8],
-    wanted: &mut Vec<u8>,
-) -> Result<(), Fail> {
+fn put_one(rt: &impl Abort, writer: &mut Buffered<Sink>, piece: &[u8], wanted: &mut Vec<u8>) {
     assert_puts(rt, writer, piece);
-    wanted.extend_from_slice(piece)?;
-    Ok(())
+    wanted.extend_from_slice(piece).expect(rt, "refused");
 }
 
 /// Puts all pieces, and notes what was put.
-fn put_all(
-    rt: &impl Abort,
-    alloc: Global,
-    writer: &mut Buffered<Sink>,
-    wanted: &mut Vec<u8>,
-) -> Result<(), Fail> {
+fn put_all(rt: &impl Abort, alloc: Global, writer: &mut Buffered<Sink>, wanted: &mut Vec<u8>) {
     for (byte, length) in &PIECES {
-        let piece = vec![in alloc; *byte; *length]?;
-        put_one(rt, writer, &piece, wanted)?;
+        let piece = vec![in alloc; *byte; *length].expect(rt, "refused");
+        put_one(rt, writer, &piece, wanted);
     }
-    Ok(())
 }
 
-fn assert_keeps_the_order(rt: &impl Abort, alloc: Global, most: usize) -> Result<(), Fail> {
+fn assert_keeps_the_order(rt: &impl Abort, alloc: Global, most: usize) {
     let mut wanted = Vec::new(alloc);
     let mut writer = over(alloc, most, 0);
-    put_all(rt, alloc, &mut writer, &mut wanted)?;
+    put_all(rt, alloc, &mut writer, &mut wanted);
     assert_finishes(rt, &mut writer);
     let device = writer.into_inner();
     assert_is(rt, device.taken.as_slice(), wanted.as_slice(), "taken");
-    Ok(())
 }
 
 /// The pieces reach the device in order, however many bytes it takes a call, and also where a piece is longer
 /// than what is gathered.
 #[test]
-fn keeps_the_order(rt: HostRuntime) -> Result<(), Fail> {
+fn keeps_the_order(rt: HostRuntime) {
     for most in [999, 4096, 100_000] {
-        assert_keeps_the_order(&rt, rt.alloc(), most)?;
+        assert_keeps_the_order(&rt, rt.alloc(), most);
     }
-    Ok(())
 }
 
 /// What three pieces and the flush answer, over a device whose call of that number fails. It is a fault just

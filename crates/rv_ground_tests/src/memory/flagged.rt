@@ -7,7 +7,6 @@ use rv_memory::flagged::{
 use std::alloc::Global;
 use std::io::{Read, Write};
 use std::process::Abort;
-use std::test::Fail;
 
 fn of_bytes(bytes: u64, fails_at: u64) -> Flagged<Trickle> {
     Flagged::new(Trickle::new(bytes, fails_at))
@@ -19,35 +18,33 @@ fn assert_reads<R: Read>(
     reader: &mut Flagged<R>,
     limit: usize,
     wanted: &[u8],
-) -> Result<(), Fail> {
-    let bytes = read_whole(alloc, reader, limit).ok().ok_or("refused")?;
+) {
+    let bytes = read_whole(alloc, reader, limit).ok().expect(rt, "refused");
     assert_is(rt, bytes.as_slice(), wanted, "the bytes");
-    Ok(())
 }
 
 #[test]
-fn reads_whole(rt: HostRuntime) -> Result<(), Fail> {
+fn reads_whole(rt: HostRuntime) {
     let mut reader = of_bytes(3, 0);
-    assert_reads(&rt, rt.alloc(), &mut reader, 3, &[7, 7, 7])?;
+    assert_reads(&rt, rt.alloc(), &mut reader, 3, &[7, 7, 7]);
     assert_is(&rt, reader.failed(), false, "failed");
-    Ok(())
 }
 
 const TEXT: &[u8] = &[1, 2, 3, 4, 5];
 
 #[test]
-fn reads_a_slice_whole(rt: HostRuntime) -> Result<(), Fail> {
+fn reads_a_slice_whole(rt: HostRuntime) {
     let mut reader = Flagged::new(TEXT);
-    assert_reads(&rt, rt.alloc(), &mut reader, 5, TEXT)?;
+    assert_reads(&rt, rt.alloc(), &mut reader, 5, TEXT);
     assert_is(&rt, reader.into_inner().len(), 0, "bytes left");
-    assert_reads(&rt, rt.alloc(), &mut Flagged::new(TEXT), INPUT_LIMIT, TEXT)
+    assert_reads(&rt, rt.alloc(), &mut Flagged::new(TEXT), INPUT_LIMIT, TEXT);
 }
 
 #[test]
-fn reads_more_than_a_buffer(rt: HostRuntime) -> Result<(), Fail> {
+fn reads_more_than_a_buffer(rt: HostRuntime) {
     let alloc = rt.alloc();
-    let bytes = vec![in alloc; 7; 10_000]?;
-    assert_reads(&rt, alloc, &mut of_bytes(10_000, 0), INPUT_LIMIT, &bytes)
+    let bytes = vec![in alloc; 7; 10_000].expect(&rt, "refused");
+    assert_reads(&rt, alloc, &mut of_bytes(10_000, 0), INPUT_LIMIT, &bytes);
 }
 
 /// The refusal of `read_whole`, or none.

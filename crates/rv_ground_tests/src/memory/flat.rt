@@ -6,7 +6,6 @@ use crate::assertion::{assert_at, assert_is};
 use rv_memory::flat::Flat;
 use rv_memory::store::{ByteStore, MemFault, Need};
 use std::process::Abort;
-use std::test::Fail;
 
 const NUMBER: [Row; 1] = [(0x1000, &[0x78, 0x56, 0x34, 0x12], 8, RWX)];
 
@@ -21,10 +20,9 @@ const LITTLE_ENDIAN: [Loaded; 7] = [
 ];
 
 #[test]
-fn reads_little_endian_and_zeros(rt: HostRuntime) -> Result<(), Fail> {
-    let flat: Flat = store_of(&rt, rt.alloc(), &NUMBER)?;
+fn reads_little_endian_and_zeros(rt: HostRuntime) {
+    let flat: Flat = store_of(&rt, rt.alloc(), &NUMBER);
     assert_loads(&rt, &flat, &LITTLE_ENDIAN, Need::Nothing);
-    Ok(())
 }
 
 /// Stores the number where the bytes lie in one region, and says whether they do.
@@ -62,10 +60,9 @@ fn assert_stores(rt: &impl Abort, flat: &mut Flat, rows: &[Stored]) {
 }
 
 #[test]
-fn stores_the_low_bytes_alone(rt: HostRuntime) -> Result<(), Fail> {
-    let mut flat: Flat = store_of(&rt, rt.alloc(), &EIGHT)?;
+fn stores_the_low_bytes_alone(rt: HostRuntime) {
+    let mut flat: Flat = store_of(&rt, rt.alloc(), &EIGHT);
     assert_stores(&rt, &mut flat, &STORES);
-    Ok(())
 }
 
 /// Regions of four bytes at 1000, without W and X, at 1004, without R, and at the last word.
@@ -105,11 +102,10 @@ fn assert_permits(rt: &impl Abort, flat: &Flat, rows: &[(u32, u8, Need, bool)]) 
 const LAST_WORD: [Loaded; 2] = [(0xFFFF_FFFC, 4, Some(9)), (0xFFFF_FFFF, 2, None)];
 
 #[test]
-fn permits_within_one_region(rt: HostRuntime) -> Result<(), Fail> {
-    let flat: Flat = store_of(&rt, rt.alloc(), &GUARDED)?;
+fn permits_within_one_region(rt: HostRuntime) {
+    let flat: Flat = store_of(&rt, rt.alloc(), &GUARDED);
     assert_permits(&rt, &flat, &PERMITTED);
     assert_loads(&rt, &flat, &LAST_WORD, Need::Nothing);
-    Ok(())
 }
 
 const FAULTS: [Faulty; 9] = [
@@ -140,8 +136,8 @@ const FAULTS: [Faulty; 9] = [
 ];
 
 #[test]
-fn tells_the_first_fault(rt: HostRuntime) -> Result<(), Fail> {
-    assert_faults::<Flat>(&rt, rt.alloc(), &FAULTS)
+fn tells_the_first_fault(rt: HostRuntime) {
+    assert_faults::<Flat>(&rt, rt.alloc(), &FAULTS);
 }
 
 /// Four given bytes and two zeros, without W.
@@ -161,14 +157,13 @@ fn assert_refused(rt: &impl Abort, flat: &Flat, need: Need) {
 }
 
 #[test]
-fn loads_where_permitted(rt: HostRuntime) -> Result<(), Fail> {
-    let flat: Flat = store_of(&rt, rt.alloc(), &CODE)?;
+fn loads_where_permitted(rt: HostRuntime) {
+    let flat: Flat = store_of(&rt, rt.alloc(), &CODE);
     assert_loads(&rt, &flat, &GIVEN, Need::Nothing);
     assert_loads(&rt, &flat, &GIVEN, Need::Read);
     assert_loads(&rt, &flat, &GIVEN, Need::Execute);
     assert_refused(&rt, &flat, Need::Write);
     assert_refused(&rt, &flat, Need::ReadWrite);
-    Ok(())
 }
 
 const MANY: [Row; 8] = [
@@ -216,10 +211,9 @@ fn assert_among_many(rt: &impl Abort, flat: &mut Flat) {
 }
 
 #[test]
-fn finds_the_region_among_many(rt: HostRuntime) -> Result<(), Fail> {
-    let mut flat: Flat = store_of(&rt, rt.alloc(), &MANY)?;
+fn finds_the_region_among_many(rt: HostRuntime) {
+    let mut flat: Flat = store_of(&rt, rt.alloc(), &MANY);
     assert_among_many(&rt, &mut flat);
-    Ok(())
 }
 
 /// Four bytes EE at 1000, without W, and eight at 1004, without R.
@@ -254,11 +248,10 @@ fn assert_stored(rt: &impl Abort, flat: &mut Flat, rows: &[((u32, u8, u32), Need
 }
 
 #[test]
-fn stores_where_permitted(rt: HostRuntime) -> Result<(), Fail> {
-    let mut flat: Flat = store_of(&rt, rt.alloc(), &FIXED_AND_HIDDEN)?;
+fn stores_where_permitted(rt: HostRuntime) {
+    let mut flat: Flat = store_of(&rt, rt.alloc(), &FIXED_AND_HIDDEN);
     assert_stored(&rt, &mut flat, &STORED);
     assert_loads(&rt, &flat, &AFTER_SIX, Need::Nothing);
-    Ok(())
 }
 
 /// Data at 1000, code at 2000 and more code at 3000.
@@ -290,8 +283,7 @@ fn assert_fetches(rt: &impl Abort, flat: &Flat, rows: &[(u32, Option<u32>)]) {
 
 /// A word is found at once in the first executable region alone.
 #[test]
-fn fetches_at_once(rt: HostRuntime) -> Result<(), Fail> {
-    let flat: Flat = store_of(&rt, rt.alloc(), &DATA_AND_CODE)?;
+fn fetches_at_once(rt: HostRuntime) {
+    let flat: Flat = store_of(&rt, rt.alloc(), &DATA_AND_CODE);
     assert_fetches(&rt, &flat, &FETCHED);
-    Ok(())
 }

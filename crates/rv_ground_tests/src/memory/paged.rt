@@ -4,7 +4,6 @@ use crate::assertion::assert_is;
 use rv_memory::paged::Paged;
 use rv_memory::store::{ByteStore, MemFault, Need};
 use std::process::Abort;
-use std::test::Fail;
 
 /// Two pages and a bit that begin and end within a page, one byte, the last page, and two regions of one page.
 const ROWS: [Row; 5] = [
@@ -32,10 +31,9 @@ const MADE: [Loaded; 13] = [
 ];
 
 #[test]
-fn reads_what_it_is_made_of(rt: HostRuntime) -> Result<(), Fail> {
-    let store: Paged = store_of(&rt, rt.alloc(), &ROWS)?;
+fn reads_what_it_is_made_of(rt: HostRuntime) {
+    let store: Paged = store_of(&rt, rt.alloc(), &ROWS);
     assert_loads(&rt, &store, &MADE, Need::Read);
-    Ok(())
 }
 
 const OLD: [Loaded; 2] = [(0x1FFE, 4, Some(0x0403_0201)), (0xFFFF_FFFC, 4, Some(0))];
@@ -73,12 +71,11 @@ fn store_into_shared(rt: &impl Abort, first: &mut Paged, second: &mut Paged, thi
 }
 
 #[test]
-fn stores_into_shared_pages_alone(rt: HostRuntime) -> Result<(), Fail> {
-    let mut first: Paged = store_of(&rt, rt.alloc(), &ROWS)?;
-    let mut second = first.share()?;
-    let third = second.share()?;
+fn stores_into_shared_pages_alone(rt: HostRuntime) {
+    let mut first: Paged = store_of(&rt, rt.alloc(), &ROWS);
+    let mut second = first.share().expect(&rt, "refused");
+    let third = second.share().expect(&rt, "refused");
     store_into_shared(&rt, &mut first, &mut second, &third);
-    Ok(())
 }
 
 const FAULTS: [Faulty; 4] = [
@@ -96,6 +93,6 @@ const FAULTS: [Faulty; 4] = [
 ];
 
 #[test]
-fn tells_the_first_fault(rt: HostRuntime) -> Result<(), Fail> {
-    assert_faults::<Paged>(&rt, rt.alloc(), &FAULTS)
+fn tells_the_first_fault(rt: HostRuntime) {
+    assert_faults::<Paged>(&rt, rt.alloc(), &FAULTS);
 }

@@ -1,5 +1,5 @@
 //! The stores of the tests, and what each kind of store is asked.
-ghost use Rattle.std.specs.Prelude.{All, IfOk};
+ghost use Rattle.std.specs.Prelude.{All};
 ghost use Rattle.rv_memory.specs.Extent.{IsExtent};
 
 use crate::assertion::{assert_at, assert_is};
@@ -8,7 +8,6 @@ use rv_memory::region::Region;
 use rv_memory::store::{ByteStore, MemFault, Need};
 use std::alloc::Global;
 use std::process::Abort;
-use std::test::Fail;
 
 /// Where a region begins, its bytes, its length, and its permissions.
 pub type Row = (u32, &'static [u8], u32, Permissions);
@@ -16,21 +15,22 @@ pub type Row = (u32, &'static [u8], u32, Permissions);
 /// All that a region may be.
 pub const RWX: Permissions = (true, true, true);
 
-fn regions(rt: &impl Abort, alloc: Global, rows: &[Row]) -> Result<Vec<Region>, Fail>
-    ensures { IfOk result (λ regions. All IsExtent regions.items) }
+fn regions(rt: &impl Abort, alloc: Global, rows: &[Row]) -> Vec<Region>
+    ensures { All IsExtent result.items }
 {
     let mut regions = Vec::new(alloc);
     for (start, bytes, len, permissions) in rows {
         assert!(rt; 1 <= *len && bytes.len() <= *len as usize);
-        regions.push(region(alloc, *start, bytes, *len, *permissions)?)?;
+        let region = region(alloc, *start, bytes, *len, *permissions).expect(rt, "memory");
+        regions.push(region).expect(rt, "memory");
     }
-    Ok(regions)
+    regions
 }
 
 /// A store of regions.
-pub fn store_of<S: ByteStore>(rt: &impl Abort, alloc: Global, rows: &[Row]) -> Result<S, Fail> {
-    let regions = regions(rt, alloc, rows)?;
-    Ok(S::make(alloc, &regions)?)
+pub fn store_of<S: ByteStore>(rt: &impl Abort, alloc: Global, rows: &[Row]) -> S {
+    let regions = regions(rt, alloc, rows);
+    S::make(alloc, &regions).expect(rt, "refused")
 }
 
 /// Which bytes are loaded, and the number that they are where they lie in one region.
@@ -73,24 +73,19 @@ fn fault_of<S: ByteStore>(
     alloc: Global,
     one: (u32, u32),
     other: (u32, u32),
-) -> Result<Option<MemFault>, Fail> {
+) -> Option<MemFault> {
     let regions = regions(
         rt,
         alloc,
         &[(one.0, &[], one.1, RWX), (other.0, &[], other.1, RWX)],
-    )?;
-    Ok(S::make(alloc, &regions).err())
+    );
+    S::make(alloc, &regions).err()
 }
 
-pub fn assert_faults<S: ByteStore>(
-    rt: &impl Abort,
-    alloc: Global,
-    rows: &[Faulty],
-) -> Result<(), Fail> {
+pub fn assert_faults<S: ByteStore>(rt: &impl Abort, alloc: Global, rows: &[Faulty]) {
     for (one, other, wanted) in rows {
-        let fault = fault_of::<S>(rt, alloc, *one, *other)?;
+        let fault = fault_of::<S>(rt, alloc, *one, *other);
         let wanted = (*one, *other, *wanted);
         assert_is(rt, (*one, *other, fault), wanted, "two regions");
     }
-    Ok(())
 }

@@ -44,8 +44,8 @@ fn row(place: u32, entry: Entry, pc: u32, word: Option<u32>, access: Option<Acce
     })
 }
 
-fn ring_lines(alloc: Global) -> Result<Vec<Shown>, Fail> {
-    Ok(vec![in alloc;
+fn ring_lines(rt: &impl Abort, alloc: Global) -> Vec<Shown> {
+    vec![in alloc;
         row(63, Entry::Paused(1, Some(1)), 0x10074, LW, None),
         row(64, Entry::Resumed(0), 0, None, None),
         row(65, Entry::Armed(0x10074), 0, None, None),
@@ -57,7 +57,8 @@ fn ring_lines(alloc: Global) -> Result<Vec<Shown>, Fail> {
         row(106, Entry::Resumed(1), 0, None, None),
         row(107, Entry::Stepped(0), 0x10044, SLLI, None),
         row(108, Entry::Paused(1, Some(0)), 0x10074, LW, None),
-    ]?)
+    ]
+    .expect(rt, "memory")
 }
 
 const fn side(hart: u8, access: Access, word: Option<u32>) -> Side {
@@ -89,8 +90,8 @@ const HIT: Verdict = Verdict::Hit(Seen {
     access: STORES,
 });
 
-pub(super) fn ring(alloc: Global) -> Result<Block, Fail> {
-    Ok(Block {
+pub(super) fn ring(rt: &impl Abort, alloc: Global) -> Block {
+    Block {
         reports: 8,
         class: RaceClass::Kept,
         number: 1,
@@ -98,18 +99,16 @@ pub(super) fn ring(alloc: Global) -> Result<Block, Fail> {
         paused: side(1, LOADS, LW),
         other: side(0, STORES, SW),
         second: 66,
-        lines: ring_lines(alloc)?,
-    })
+        lines: ring_lines(rt, alloc),
+    }
 }
 
-fn text(alloc: Global, run: &[u8], block: &Block) -> Result<Vec<u8>, Fail> {
-    let image = image(alloc, &RING)?;
-    let symbols = SymbolTable::new(alloc, &image)?;
+fn text(rt: &impl Abort, alloc: Global, run: &[u8], block: &Block) -> Vec<u8> {
+    let image = image(rt, alloc, &RING);
+    let symbols = SymbolTable::new(alloc, &image).expect(rt, "memory");
     let mut writer = Flagged::new(Vec::new(alloc));
-    match write_block(alloc, &mut writer, &symbols, run, 1, block) {
-        Ok(()) => Ok(writer.into_inner()),
-        Err(_) => Err(Fail::from("write")),
-    }
+    write_block(alloc, &mut writer, &symbols, run, 1, block).expect(rt, "a block");
+    writer.into_inner()
 }
 
 const RING_TEXT: &str = "race 1: put+0x24/0x30 and take+0x14/0x28, 8 reports, kept
@@ -131,15 +130,14 @@ const RING_TEXT: &str = "race 1: put+0x24/0x30 and take+0x14/0x28, 8 reports, ke
 ";
 
 #[test]
-fn the_ring(rt: HostRuntime) -> Result<(), Fail> {
-    let block = ring(rt.alloc())?;
-    let text = text(rt.alloc(), b"", &block)?;
+fn the_ring(rt: HostRuntime) {
+    let block = ring(&rt, rt.alloc());
+    let text = text(&rt, rt.alloc(), b"", &block);
     assert_is(&rt, text.as_slice(), RING_TEXT.as_bytes(), "the block");
-    Ok(())
 }
 
 /// A change of one report in run 12: no data breakpoint, both harts called, the paused word written over, and each event.
-fn changed(alloc: Global) -> Result<Block, Fail> {
+fn changed(rt: &impl Abort, alloc: Global) -> Block {
     let mut exited = row(67, Entry::Stepped(2), 0x10030, None, None);
     if let Shown::Row(row) = &mut exited {
         row.after = After::Exited;
@@ -164,8 +162,9 @@ fn changed(alloc: Global) -> Result<Block, Fail> {
             meeting: 1
         },
         row(110, Entry::Stepped(0), 0x10054, SW, Some(STORES)),
-    ]?;
-    Ok(Block {
+    ]
+    .expect(rt, "memory");
+    Block {
         reports: 1,
         class: RaceClass::Named,
         number: 0,
@@ -177,7 +176,7 @@ fn changed(alloc: Global) -> Result<Block, Fail> {
         other: side(0, swaps, SW),
         second: 66,
         lines,
-    })
+    }
 }
 
 const CHANGED_TEXT: &str = "race 1: take+0x14/0x28, 1 report, named, first in run 12, 4 harts
@@ -201,11 +200,10 @@ const CHANGED_TEXT: &str = "race 1: take+0x14/0x28, 1 report, named, first in ru
 ";
 
 #[test]
-fn a_change(rt: HostRuntime) -> Result<(), Fail> {
-    let block = changed(rt.alloc())?;
-    let text = text(rt.alloc(), b", first in run 12, 4 harts", &block)?;
+fn a_change(rt: HostRuntime) {
+    let block = changed(&rt, rt.alloc());
+    let text = text(&rt, rt.alloc(), b", first in run 12, 4 harts", &block);
     assert_is(&rt, text.as_slice(), CHANGED_TEXT.as_bytes(), "the block");
-    Ok(())
 }
 
 /// A class, the word of it and the line of its reason.
@@ -226,30 +224,23 @@ static REASONS: [(RaceClass, &str); 4] = [
 ];
 
 #[test]
-fn each_reason(rt: HostRuntime) -> Result<(), Fail> {
+fn each_reason(rt: HostRuntime) {
     for (class, wanted) in &REASONS {
-        assert_reason(&rt, rt.alloc(), *class, wanted)?;
+        assert_reason(&rt, rt.alloc(), *class, wanted);
     }
-    Ok(())
 }
 
-fn assert_reason(
-    rt: &impl Abort,
-    alloc: Global,
-    class: RaceClass,
-    wanted: &'static str,
-) -> Result<(), Fail> {
-    let mut block = ring(alloc)?;
+fn assert_reason(rt: &impl Abort, alloc: Global, class: RaceClass, wanted: &'static str) {
+    let mut block = ring(rt, alloc);
     block.class = class;
-    let text = text(alloc, b"", &block)?;
+    let text = text(rt, alloc, b"", &block);
     let start = "race 1: put+0x24/0x30 and take+0x14/0x28, 8 reports, ".len();
     let found = text.get(start..start.saturating_add(wanted.len()));
     assert_is(rt, found, Some(wanted.as_bytes()), "the reason");
-    Ok(())
 }
 
 #[test]
-fn the_totals(rt: HostRuntime) -> Result<(), Fail> {
+fn the_totals(rt: HostRuntime) {
     let mut writer = Flagged::new(Vec::new(rt.alloc()));
     assert_is(&rt, write_totals(&mut writer, 1, 8, 61), Ok(()), "written");
     let text = writer.into_inner();
@@ -259,18 +250,16 @@ fn the_totals(rt: HostRuntime) -> Result<(), Fail> {
         b"races 1, reports 8 of 61 endings\n",
         "the line",
     );
-    Ok(())
 }
 
 /// Without file bytes no instruction orders, and no class but Named and Kept holds.
 #[test]
-fn the_class_of_a_report(rt: HostRuntime) -> Result<(), Fail> {
-    let image = image(rt.alloc(), &RING)?;
+fn the_class_of_a_report(rt: HostRuntime) {
+    let image = image(&rt, rt.alloc(), &RING);
     let ending = told(HIT, Some(1));
     assert_is(&rt, class_of(&image, &[], &ending), RaceClass::Kept, "kept");
     let named = class_of(&image, &[(0x20008, 1)], &ending);
     assert_is(&rt, named, RaceClass::Named, "named");
     let both = stronger(RaceClass::Ordered, RaceClass::Flag);
     assert_is(&rt, both, RaceClass::Flag, "of two");
-    Ok(())
 }

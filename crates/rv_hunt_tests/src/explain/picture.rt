@@ -4,15 +4,13 @@ use super::*;
 use rv_explain::picture::write_picture;
 
 /// The picture of the ring's race under the names of an image's symbols.
-fn drawn(alloc: Global, symbols: &[Row4]) -> Result<String, Fail> {
-    let image = image(alloc, symbols)?;
-    let table = SymbolTable::new(alloc, &image)?;
-    let block = ring(alloc)?;
+fn drawn(rt: &impl Abort, alloc: Global, symbols: &[Row4]) -> String {
+    let image = image(rt, alloc, symbols);
+    let table = SymbolTable::new(alloc, &image).expect(rt, "memory");
+    let block = ring(rt, alloc);
     let mut writer = Flagged::new(Vec::new(alloc));
-    match write_picture(alloc, &mut writer, &table, 1, &block) {
-        Ok(()) => Ok(String::from_utf8(writer.into_inner())?),
-        Err(_) => Err(Fail::from("write")),
-    }
+    write_picture(alloc, &mut writer, &table, 1, &block).expect(rt, "a picture");
+    String::from_utf8(writer.into_inner()).expect(rt, "a text")
 }
 
 /// The longest line is that of the bytes, of 90 characters: 72 pixels to the left of it, 16 behind it.
@@ -56,10 +54,9 @@ const RING_PICTURE: &str =
 ";
 
 #[test]
-fn the_ring_is_drawn(rt: HostRuntime) -> Result<(), Fail> {
-    let picture = drawn(rt.alloc(), &RING)?;
+fn the_ring_is_drawn(rt: HostRuntime) {
+    let picture = drawn(&rt, rt.alloc(), &RING);
     assert_is(&rt, picture.as_str(), RING_PICTURE, "the picture");
-    Ok(())
 }
 
 /// A name of 43 characters, one of 40 with a `+` among them, and one that ends a text in XML.
@@ -80,12 +77,11 @@ const NAMES: [Row4; 3] = [
 ];
 
 #[test]
-fn names_are_cut_and_written_as_entities(rt: HostRuntime) -> Result<(), Fail> {
-    let picture = drawn(rt.alloc(), &NAMES)?;
+fn names_are_cut_and_written_as_entities(rt: HostRuntime) {
+    let picture = drawn(&rt, rt.alloc(), &NAMES);
     let title =
         ">race 1: a23456789b23456789c23456789d23456789e234..+0x24/0x30 and &lt;/text&gt;&lt;script&gt;+0x14/0x28, 8 reports, kept</text>";
     assert_is(&rt, picture.contains(title), true, "the title");
     let data = "at 00020008 a2345678+b2345678+c2345678+d2345678+e234+0x8/0x200, ending 1</text>";
     assert_is(&rt, picture.contains(data), true, "the data");
-    Ok(())
 }

@@ -120,24 +120,26 @@ const RING_LETTERS: Letters = &[
     (b'R', Resumed(1)),
 ];
 
-fn entry_of(byte: u8, letters: Letters) -> Result<Entry, Fail> {
+fn entry_of(rt: &impl Abort, byte: u8, letters: Letters) -> Entry {
     if byte.is_ascii_digit() {
-        return Ok(Stepped(byte - b'0'));
+        return Stepped(byte - b'0');
     }
     for (letter, entry) in letters {
         if *letter == byte {
-            return Ok(*entry);
+            return *entry;
         }
     }
-    Err(Fail::from("a letter"))
+    panic!(rt; "a letter")
 }
 
-fn entries_of(alloc: Global, text: &str, letters: Letters) -> Result<Vec<Entry>, Fail> {
+fn entries_of(rt: &impl Abort, alloc: Global, text: &str, letters: Letters) -> Vec<Entry> {
     let mut entries = Vec::new(alloc);
     for byte in text.as_bytes() {
-        entries.push(entry_of(*byte, letters)?)?;
+        entries
+            .push(entry_of(rt, *byte, letters))
+            .expect(rt, "memory");
     }
-    Ok(entries)
+    entries
 }
 
 /// A run: its source, its plan's harts and slots, and its entries.
@@ -158,35 +160,29 @@ const THE_RING: Run = Run {
     letters: RING_LETTERS,
 };
 
-fn assembled(alloc: Global, source: &str) -> Result<Image, Fail> {
-    match assemble(alloc, source) {
-        Ok(image) => Ok(image),
-        Err(_) => Err(Fail::from("a source")),
-    }
+fn assembled(rt: &impl Abort, alloc: Global, source: &str) -> Image {
+    assemble(alloc, source).expect(rt, "an image")
 }
 
-fn plan_of(run: &Run) -> Result<Plan, Fail> {
-    Ok(Plan::new(run.harts, 4000, 64, 40, run.slots).ok_or("a plan")?)
+fn plan_of(rt: &impl Abort, run: &Run) -> Plan {
+    Plan::new(run.harts, 4000, 64, 40, run.slots).expect(rt, "a plan")
 }
 
 /// The text of entries of an image, or why there is none.
 fn explained(
+    rt: &impl Abort,
     alloc: Global,
     image: &Image,
     plan: Plan,
     entries: Vec<Entry>,
     around: u32,
     asked: Option<u64>,
-) -> Result<Result<Vec<u8>, ExplainFault>, Fail> {
-    let Ok(found) = races_of_run(alloc, image, plan, &entries, &[]) else {
-        return Err(Fail::from("races"));
-    };
-    let Ok(mut session) = Session::new(alloc, image, plan, entries) else {
-        return Err(Fail::from("a schedule"));
-    };
-    let symbols = SymbolTable::new(alloc, image)?;
+) -> Result<Vec<u8>, ExplainFault> {
+    let found = races_of_run(alloc, image, plan, &entries, &[]).expect(rt, "races");
+    let symbols = SymbolTable::new(alloc, image).expect(rt, "memory");
+    let mut session = Session::new(alloc, image, plan, entries).expect(rt, "a session");
     let mut writer = Flagged::new(Vec::new(alloc));
-    match explain(
+    let outcome = explain(
         alloc,
         &mut session,
         &symbols,
@@ -194,48 +190,36 @@ fn explained(
         around,
         asked,
         &mut writer,
-    ) {
-        Ok(()) => Ok(Ok(writer.into_inner())),
-        Err(fault) => Ok(Err(fault)),
+    );
+    drop(session);
+    match outcome {
+        Ok(()) => Ok(writer.into_inner()),
+        Err(fault) => Err(fault),
     }
 }
 
 /// The text of a run, or why there is none.
 fn text_of(
+    rt: &impl Abort,
     alloc: Global,
     run: &Run,
     around: u32,
     asked: Option<u64>,
-) -> Result<Result<Vec<u8>, ExplainFault>, Fail> {
-    let plan = plan_of(run)?;
-    let entries = entries_of(alloc, run.entries, run.letters)?;
-    let image = assembled(alloc, run.source)?;
-    explained(alloc, &image, plan, entries, around, asked)
+) -> Result<Vec<u8>, ExplainFault> {
+    let plan = plan_of(rt, run);
+    let entries = entries_of(rt, alloc, run.entries, run.letters);
+    let image = assembled(rt, alloc, run.source);
+    explained(rt, alloc, &image, plan, entries, around, asked)
 }
 
-fn assert_text(
-    rt: &impl Abort,
-    alloc: Global,
-    run: &Run,
-    around: u32,
-    wanted: &str,
-) -> Result<(), Fail> {
-    assert_told(rt, text_of(alloc, run, around, None)?, wanted)
+fn assert_text(rt: &impl Abort, alloc: Global, run: &Run, around: u32, wanted: &str) {
+    assert_told(rt, text_of(rt, alloc, run, around, None), wanted);
 }
 
-fn assert_told(
-    rt: &impl Abort,
-    told: Result<Vec<u8>, ExplainFault>,
-    wanted: &str,
-) -> Result<(), Fail> {
-    match told {
-        Ok(text) => match str::from_utf8(&text) {
-            Ok(text) => assert_is(rt, text, wanted, "the text"),
-            Err(_) => return Err(Fail::from("a text")),
-        },
-        Err(_) => return Err(Fail::from("explain")),
-    }
-    Ok(())
+fn assert_told(rt: &impl Abort, told: Result<Vec<u8>, ExplainFault>, wanted: &str) {
+    let told = told.expect(rt, "a text");
+    let text = str::from_utf8(&told).expect(rt, "characters");
+    assert_is(rt, text, wanted, "the text");
 }
 
 /// Names, numbers, entries and marks are those of another implementation.
@@ -270,8 +254,8 @@ race 1: put+0x24/0x30 and take+0x14/0x28, 8 reports, kept
 ";
 
 #[test]
-fn the_rings_run(rt: HostRuntime) -> Result<(), Fail> {
-    assert_text(&rt, rt.alloc(), &THE_RING, 3, RING_TEXT)
+fn the_rings_run(rt: HostRuntime) {
+    assert_text(&rt, rt.alloc(), &THE_RING, 3, RING_TEXT);
 }
 
 /// `examples/lost.s`, and the run of `examples/lost.schedule`.
@@ -322,8 +306,8 @@ race 1: _start+0x8/0x20 and _start+0x10/0x20, 1 report, counter
 ";
 
 #[test]
-fn a_lost_update(rt: HostRuntime) -> Result<(), Fail> {
-    assert_text(&rt, rt.alloc(), &THE_LOST, 3, LOST_TEXT)
+fn a_lost_update(rt: HostRuntime) {
+    assert_text(&rt, rt.alloc(), &THE_LOST, 3, LOST_TEXT);
 }
 
 /// Hart 0 is paused at the store with the one data breakpoint, hart 1 without; then hart 2 stores, goes out of its function,
@@ -410,8 +394,8 @@ race 2: put+0x0/0x10, 1 report, kept
 ";
 
 #[test]
-fn a_hit_and_a_change(rt: HostRuntime) -> Result<(), Fail> {
-    assert_text(&rt, rt.alloc(), &TWO_PAUSES, 2, TWO_PAUSES_TEXT)
+fn a_hit_and_a_change(rt: HostRuntime) {
+    assert_text(&rt, rt.alloc(), &TWO_PAUSES, 2, TWO_PAUSES_TEXT);
 }
 
 /// With no entry around them: the pause, the hit, the store that does the damage, and the end; of the gaps one has two entries
@@ -436,16 +420,16 @@ race 1: _start+0x8/0x20 and _start+0x10/0x20, 1 report, counter
 ";
 
 #[test]
-fn no_entries_around(rt: HostRuntime) -> Result<(), Fail> {
-    assert_text(&rt, rt.alloc(), &THE_LOST, 0, LOST_ALONE)
+fn no_entries_around(rt: HostRuntime) {
+    assert_text(&rt, rt.alloc(), &THE_LOST, 0, LOST_ALONE);
 }
 
 #[test]
-fn all_entries_around(rt: HostRuntime) -> Result<(), Fail> {
-    let all = text_of(rt.alloc(), &THE_LOST, 1000, None)?;
-    let more = text_of(rt.alloc(), &THE_LOST, 4_294_967_295, None)?;
+fn all_entries_around(rt: HostRuntime) {
+    let all = text_of(&rt, rt.alloc(), &THE_LOST, 1000, None).expect(&rt, "a text");
+    let more = text_of(&rt, rt.alloc(), &THE_LOST, 4_294_967_295, None).expect(&rt, "a text");
+    assert_is(&rt, all.is_empty(), false, "an empty text");
     assert_is(&rt, &all, &more, "no more than all");
-    Ok(())
 }
 
 /// Hart 0 is paused at its load; hart 1 stores, and jumps to where nothing can be fetched.
@@ -496,8 +480,8 @@ race 1: _start+0xc/0x14 and other+0x0/0xc, 1 report, kept
 ";
 
 #[test]
-fn a_hart_that_stops(rt: HostRuntime) -> Result<(), Fail> {
-    assert_text(&rt, rt.alloc(), &STRAY, 1, STRAY_TEXT)
+fn a_hart_that_stops(rt: HostRuntime) {
+    assert_text(&rt, rt.alloc(), &STRAY, 1, STRAY_TEXT);
 }
 
 /// Hart 0 is paused at its store, which the load of hart 1 hits; hart 1 goes round a loop before it stores.
@@ -551,8 +535,8 @@ race 1: _start+0x8/0x14 and add+0x4/0xc, 1 report, kept
 ";
 
 #[test]
-fn a_store_long_after_the_hit(rt: HostRuntime) -> Result<(), Fail> {
-    assert_text(&rt, rt.alloc(), &LATE, 1, LATE_TEXT)
+fn a_store_long_after_the_hit(rt: HostRuntime) {
+    assert_text(&rt, rt.alloc(), &LATE, 1, LATE_TEXT);
 }
 
 /// Hart 0 is paused at its load. Hart 1 writes an `ecall` over that, and then stores to the bytes.
@@ -603,43 +587,45 @@ race 1: place+0x0/0x8 and other+0x8/0x10, 1 report, kept
 ";
 
 /// The image of a source, with code that may be written.
-fn writable(alloc: Global, source: &str) -> Result<Image, Fail> {
-    let image = assembled(alloc, source)?;
-    writable_of(alloc, &image)
+fn writable(rt: &impl Abort, alloc: Global, source: &str) -> Image {
+    let image = assembled(rt, alloc, source);
+    writable_of(rt, alloc, &image)
 }
 
-fn writable_of(alloc: Global, image: &Image) -> Result<Image, Fail> {
-    let segments = writable_segments(alloc, image)?;
-    let symbols = copied_symbols(alloc, image)?;
-    Ok(Image::new(image.entry(), segments, symbols).ok_or("an image")?)
+fn writable_of(rt: &impl Abort, alloc: Global, image: &Image) -> Image {
+    let segments = writable_segments(rt, alloc, image);
+    let symbols = copied_symbols(rt, alloc, image);
+    Image::new(image.entry(), segments, symbols).expect(rt, "an image")
 }
 
-fn writable_segments(alloc: Global, image: &Image) -> Result<Vec<Region>, Fail> {
+fn writable_segments(rt: &impl Abort, alloc: Global, image: &Image) -> Vec<Region> {
     let mut segments = Vec::new(alloc);
     for segment in image.segments() {
-        let mut segment = segment.copy(alloc)?;
+        let mut segment = segment.copy(alloc).expect(rt, "memory");
         segment.w = true;
-        segments.push(segment)?;
+        segments.push(segment).expect(rt, "memory");
     }
-    Ok(segments)
+    segments
 }
 
-fn copied_symbols(alloc: Global, image: &Image) -> Result<Vec<Symbol>, Fail> {
+fn copied_symbols(rt: &impl Abort, alloc: Global, image: &Image) -> Vec<Symbol> {
     let mut symbols = Vec::new(alloc);
     for symbol in image.symbols() {
-        symbols.push(symbol.copy(alloc)?)?;
+        symbols
+            .push(symbol.copy(alloc).expect(rt, "memory"))
+            .expect(rt, "memory");
     }
-    Ok(symbols)
+    symbols
 }
 
 #[test]
-fn an_instruction_that_is_written_over(rt: HostRuntime) -> Result<(), Fail> {
+fn an_instruction_that_is_written_over(rt: HostRuntime) {
     let alloc = rt.alloc();
-    let plan = plan_of(&WRITTEN_OVER)?;
-    let entries = entries_of(alloc, WRITTEN_OVER.entries, WRITTEN_OVER.letters)?;
-    let image = writable(alloc, WRITTEN_OVER.source)?;
-    let text = explained(alloc, &image, plan, entries, 1, None)?;
-    assert_told(&rt, text, WRITTEN_OVER_TEXT)
+    let plan = plan_of(&rt, &WRITTEN_OVER);
+    let entries = entries_of(&rt, alloc, WRITTEN_OVER.entries, WRITTEN_OVER.letters);
+    let image = writable(&rt, alloc, WRITTEN_OVER.source);
+    let text = explained(&rt, alloc, &image, plan, entries, 1, None);
+    assert_told(&rt, text, WRITTEN_OVER_TEXT);
 }
 
 /// The steps of two harts alone.
@@ -649,32 +635,31 @@ const NO_PAUSE: Run = Run {
 };
 
 #[test]
-fn no_report(rt: HostRuntime) -> Result<(), Fail> {
+fn no_report(rt: HostRuntime) {
     assert_text(
         &rt,
         rt.alloc(),
         &NO_PAUSE,
         3,
         "races 0, reports 0 of 0 endings\n",
-    )
+    );
 }
 
 #[test]
-fn one_race_alone(rt: HostRuntime) -> Result<(), Fail> {
-    let all = text_of(rt.alloc(), &THE_LOST, 3, None)?;
-    let one = text_of(rt.alloc(), &THE_LOST, 3, Some(1))?;
-    assert_is(&rt, one, all, "the one race");
-    Ok(())
+fn one_race_alone(rt: HostRuntime) {
+    let all = text_of(&rt, rt.alloc(), &THE_LOST, 3, None).expect(&rt, "a text");
+    let one = text_of(&rt, rt.alloc(), &THE_LOST, 3, Some(1)).expect(&rt, "a text");
+    assert_is(&rt, all.is_empty(), false, "an empty text");
+    assert_is(&rt, &one, &all, "the one race");
 }
 
-fn assert_no_race(rt: &impl Abort, alloc: Global, number: u64) -> Result<(), Fail> {
-    let none = text_of(alloc, &THE_LOST, 3, Some(number))?;
+fn assert_no_race(rt: &impl Abort, alloc: Global, number: u64) {
+    let none = text_of(rt, alloc, &THE_LOST, 3, Some(number));
     assert_is(rt, none, Err(ExplainFault::NoRace), "no such race");
-    Ok(())
 }
 
 #[test]
-fn no_race_of_the_number(rt: HostRuntime) -> Result<(), Fail> {
-    assert_no_race(&rt, rt.alloc(), 2)?;
-    assert_no_race(&rt, rt.alloc(), 0)
+fn no_race_of_the_number(rt: HostRuntime) {
+    assert_no_race(&rt, rt.alloc(), 2);
+    assert_no_race(&rt, rt.alloc(), 0);
 }

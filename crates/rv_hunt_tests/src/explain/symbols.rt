@@ -37,58 +37,44 @@ static NAMES: [(u32, &str); 16] = [
     (0x30000, "00030000"),
 ];
 
-fn assert_name(
-    rt: &impl Abort,
-    alloc: Global,
-    symbols: &SymbolTable,
-    row: &(u32, &str),
-) -> Result<(), Fail> {
-    let name = name_text(alloc, symbols, row.0)?;
+fn assert_name(rt: &impl Abort, alloc: Global, symbols: &SymbolTable, row: &(u32, &str)) {
+    let name = name_text(alloc, symbols, row.0).expect(rt, "memory");
     assert_is(rt, name.as_slice(), row.1.as_bytes(), "the name");
-    Ok(())
 }
 
-fn assert_digits(
-    rt: &impl Abort,
-    alloc: Global,
-    symbols: &SymbolTable,
-    row: &(u32, &str),
-) -> Result<(), Fail> {
-    let text = address_text(alloc, symbols, row.0)?;
+fn assert_digits(rt: &impl Abort, alloc: Global, symbols: &SymbolTable, row: &(u32, &str)) {
+    let text = address_text(alloc, symbols, row.0).expect(rt, "memory");
     assert_is(rt, text.as_slice(), row.1.as_bytes(), "with its digits");
-    Ok(())
 }
 
 /// Addresses with their digits, and one without a name.
 const DIGITS: &[(u32, &str)] = &[(0x20008, "00020008 first+0x4/0x8"), (0x10050, "00010050")];
 
-fn assert_names(rt: &impl Abort, alloc: Global, symbols: &SymbolTable) -> Result<(), Fail> {
+fn assert_names(rt: &impl Abort, alloc: Global, symbols: &SymbolTable) {
     for row in &NAMES {
-        assert_name(rt, alloc, symbols, row)?;
+        assert_name(rt, alloc, symbols, row);
     }
     for row in DIGITS {
-        assert_digits(rt, alloc, symbols, row)?;
+        assert_digits(rt, alloc, symbols, row);
     }
-    Ok(())
 }
 
 #[test]
-fn an_address_by_its_symbol(rt: HostRuntime) -> Result<(), Fail> {
-    let image = image(rt.alloc(), &SYMBOLS)?;
-    let symbols = SymbolTable::new(rt.alloc(), &image)?;
-    assert_names(&rt, rt.alloc(), &symbols)
+fn an_address_by_its_symbol(rt: HostRuntime) {
+    let image = image(&rt, rt.alloc(), &SYMBOLS);
+    let symbols = SymbolTable::new(rt.alloc(), &image).expect(&rt, "memory");
+    assert_names(&rt, rt.alloc(), &symbols);
 }
 
 /// At each address a table of these symbols finds what a walk over them finds.
-fn assert_same(rt: &impl Abort, alloc: Global, rows: &[Row4]) -> Result<(), Fail> {
-    let image = image(alloc, rows)?;
-    let symbols = SymbolTable::new(alloc, &image)?;
+fn assert_same(rt: &impl Abort, alloc: Global, rows: &[Row4]) {
+    let image = image(rt, alloc, rows);
+    let symbols = SymbolTable::new(alloc, &image).expect(rt, "memory");
     for (first, end) in &ADDRESSES {
         for address in *first..*end {
             assert_same_at(rt, &image, &symbols, address);
         }
     }
-    Ok(())
 }
 
 fn assert_same_at(rt: &impl Abort, image: &Image, symbols: &SymbolTable, address: u32) {
@@ -126,8 +112,8 @@ const NESTED: [Row4; 12] = [
 ];
 
 #[test]
-fn a_table_finds_what_a_walk_finds(rt: HostRuntime) -> Result<(), Fail> {
-    assert_same(&rt, rt.alloc(), &[])?;
-    assert_same(&rt, rt.alloc(), &SYMBOLS)?;
-    assert_same(&rt, rt.alloc(), &NESTED)
+fn a_table_finds_what_a_walk_finds(rt: HostRuntime) {
+    assert_same(&rt, rt.alloc(), &[]);
+    assert_same(&rt, rt.alloc(), &SYMBOLS);
+    assert_same(&rt, rt.alloc(), &NESTED);
 }

@@ -25,25 +25,22 @@ const TOLD: Row = Row {
     bytes: 2,
 };
 
-fn program(alloc: Global) -> Result<Image, Fail> {
+fn program(rt: &impl Abort, alloc: Global) -> Image {
     let mut code = zeros(alloc, 0x10000, 4, true);
-    code.bytes.extend_from_slice(&SW)?;
-    Ok(Image::new(0x10000, vec![in alloc; code]?, Vec::new(alloc)).ok_or("an image")?)
+    code.bytes.extend_from_slice(&SW).expect(rt, "memory");
+    let segments = vec![in alloc; code].expect(rt, "memory");
+    Image::new(0x10000, segments, Vec::new(alloc)).expect(rt, "an image")
 }
 
 #[test]
-fn a_step_that_stores(rt: HostRuntime) -> Result<(), Fail> {
-    let plan = Plan::new(2, 100, 1, 10, 4).ok_or("a plan")?;
+fn a_step_that_stores(rt: HostRuntime) {
+    let plan = Plan::new(2, 100, 1, 10, 4).expect(&rt, "a plan");
     let mut entries = Vec::new(rt.alloc());
-    entries.push(Entry::Stepped(0))?;
-    let image = program(rt.alloc())?;
-    match Session::new(rt.alloc(), &image, plan, entries) {
-        Ok(mut session) => {
-            let row = row_here(&mut session, Entry::Stepped(0), &STORES);
-            assert_is(&rt, row, Ok(TOLD), "the row");
-            assert_is(&rt, session.place(), 1, "the place");
-            Ok(())
-        }
-        Err(_) => Err(Fail::from("a schedule")),
-    }
+    entries.push(Entry::Stepped(0)).expect(&rt, "memory");
+    let image = program(&rt, rt.alloc());
+    let mut session = Session::new(rt.alloc(), &image, plan, entries).expect(&rt, "a session");
+    let row = row_here(&mut session, Entry::Stepped(0), &STORES);
+    assert_is(&rt, row, Ok(TOLD), "the row");
+    assert_is(&rt, session.place(), 1, "the place");
+    drop(session);
 }

@@ -16,7 +16,6 @@ use rv_tally::plans::{Lengths, Plans};
 use std::alloc::Global;
 use std::process::Abort;
 use std::sync::Wait;
-use std::test::Fail;
 use std::thread::Threads;
 
 /// The words of `examples/ring.elf`.
@@ -87,33 +86,35 @@ impl Watch for Seen {
     }
 }
 
-fn bytes_of(alloc: Global, words: &[u32]) -> Result<Vec<u8>, Fail> {
+fn bytes_of(rt: &impl Abort, alloc: Global, words: &[u32]) -> Vec<u8> {
     let mut bytes = Vec::new(alloc);
     for word in words {
-        bytes.extend_from_slice(&word.to_le_bytes())?;
+        bytes
+            .extend_from_slice(&word.to_le_bytes())
+            .expect(rt, "memory");
     }
-    Ok(bytes)
+    bytes
 }
 
-fn code(rt: &impl Abort, alloc: Global, words: &[u32]) -> Result<Region, Fail> {
-    let bytes = bytes_of(alloc, words)?;
+fn code(rt: &impl Abort, alloc: Global, words: &[u32]) -> Region {
+    let bytes = bytes_of(rt, alloc, words);
     let len = bytes.len();
     assert!(rt; 1 <= len && len <= 65_536);
-    Ok(Region {
+    Region {
         start: 0x10000,
         bytes,
         len: len as u32,
         r: true,
         w: false,
         x: true,
-    })
+    }
 }
 
 /// An image of words at 00010000, and 4,096 zero bytes at 00020000.
-fn image(rt: &impl Abort, alloc: Global, words: &[u32]) -> Result<Image, Fail> {
-    let code = code(rt, alloc, words)?;
-    let segments = vec![in alloc; code, zeros(alloc, 0x20000, 4096, false)]?;
-    Ok(Image::new(0x10000, segments, Vec::new(alloc)).ok_or("an image")?)
+fn image(rt: &impl Abort, alloc: Global, words: &[u32]) -> Image {
+    let code = code(rt, alloc, words);
+    let segments = vec![in alloc; code, zeros(alloc, 0x20000, 4096, false)].expect(rt, "memory");
+    Image::new(0x10000, segments, Vec::new(alloc)).expect(rt, "an image")
 }
 
 /// A hunt that is tried: the image's words, its harts and lengths where they are given, the first run, and the limit.
@@ -128,10 +129,10 @@ type Tried = (
 /// Three runs of the ring by the plan of its example.
 const RING_HUNT: Tried = (&RING, None, Some((2000, 64, 100)), 0, Runs(3));
 
-fn plans_of(tried: &Tried) -> Result<Plans, Fail> {
+fn plans_of(rt: &impl Abort, tried: &Tried) -> Plans {
     let (_, harts, lengths, _, _) = tried;
     let lengths = lengths.map(|(steps, arms, pause)| Lengths { steps, arms, pause });
-    Ok(Plans::new(*harts, 4, lengths).ok_or("plans")?)
+    Plans::new(*harts, 4, lengths).expect(rt, "plans")
 }
 
 fn hunted<R: Threads + Wait + Abort>(
@@ -140,11 +141,11 @@ fn hunted<R: Threads + Wait + Abort>(
     tried: &Tried,
     workers: u8,
     seen: &mut Seen,
-) -> Result<Hunted, Fail> {
+) -> Hunted {
     let (words, _, _, first, limit) = tried;
-    let plans = plans_of(tried)?;
-    let image = image(rt, alloc, words)?;
-    let sampler = Sampler::sites(alloc, &image, &[])?;
+    let plans = plans_of(rt, tried);
+    let image = image(rt, alloc, words);
+    let sampler = Sampler::sites(alloc, &image, &[]).expect(rt, "memory");
     let hunt = Hunt {
         image: &image,
         seed: 1,
@@ -163,9 +164,9 @@ fn hunted_by<R: Threads + Wait + Abort>(
     hunt: &Hunt<'_>,
     workers: u8,
     seen: &mut Seen,
-) -> Result<Hunted, Fail> {
+) -> Hunted {
     assert!(rt; hunt.is_legal() && workers <= 16);
-    Ok(hunt.hunted(rt, alloc, workers, seen)?)
+    hunt.hunted(rt, alloc, workers, seen).expect(rt, "a hunt")
 }
 
 /// How many runs there were, how many harts had no steps left, and the numbers.
@@ -182,16 +183,18 @@ fn told<R: Threads + Wait + Abort>(
     alloc: Global,
     tried: &Tried,
     workers: u8,
-) -> Result<(Vec<u8>, Numbers), Fail> {
+) -> (Vec<u8>, Numbers) {
     let mut seen = Seen { runs: 0 };
-    let hunted = hunted(rt, alloc, tried, workers, &mut seen)?;
+    let hunted = hunted(rt, alloc, tried, workers, &mut seen);
     assert_is(rt, seen.runs, hunted.tally.runs(), "runs told");
-    told_of(alloc, &hunted)
+    let told = told_of(rt, alloc, &hunted);
+    drop(hunted);
+    told
 }
 
-fn told_of(alloc: Global, hunted: &Hunted) -> Result<(Vec<u8>, Numbers), Fail> {
+fn told_of(rt: &impl Abort, alloc: Global, hunted: &Hunted) -> (Vec<u8>, Numbers) {
     let numbers = numbers(hunted);
-    Ok((text(alloc, &hunted.table)?, numbers))
+    (text(rt, alloc, &hunted.table), numbers)
 }
 
 const RING_ROWS: &[u8] = b"races 1\n\
@@ -207,11 +210,10 @@ const RING_COUNTS: Counts = Counts {
 };
 
 #[test]
-fn the_rings_races(rt: HostRuntime) -> Result<(), Fail> {
-    let (rows, numbers) = told(&rt, rt.alloc(), &RING_HUNT, 2)?;
+fn the_rings_races(rt: HostRuntime) {
+    let (rows, numbers) = told(&rt, rt.alloc(), &RING_HUNT, 2);
     assert_is(&rt, rows.as_slice(), RING_ROWS, "rows");
     assert_is(&rt, numbers, (3, 14, RING_COUNTS), "numbers");
-    Ok(())
 }
 
 /// The race of the ring's hunt.
@@ -233,16 +235,11 @@ fn row_of(run: u32, entry: u32) -> RaceRow {
 }
 
 /// The number and the count of what is found again of a row of the ring's hunt, whose pause began at the entry.
-fn found_again(
-    rt: &impl Abort,
-    alloc: Global,
-    run: u32,
-    entry: u32,
-) -> Result<Option<(u32, u64)>, Fail> {
+fn found_again(rt: &impl Abort, alloc: Global, run: u32, entry: u32) -> Option<(u32, u64)> {
     let row = row_of(run, entry);
-    let plans = plans_of(&RING_HUNT)?;
-    let image = image(rt, alloc, &RING)?;
-    let sampler = Sampler::sites(alloc, &image, &[])?;
+    let plans = plans_of(rt, &RING_HUNT);
+    let image = image(rt, alloc, &RING);
+    let sampler = Sampler::sites(alloc, &image, &[]).expect(rt, "memory");
     let hunt = Hunt {
         image: &image,
         seed: 1,
@@ -252,17 +249,21 @@ fn found_again(
         first: 0,
         limit: Runs(3),
     };
-    let again = hunt.remade(alloc, &[], &KEY, &row)?;
-    Ok(again.race.map(|race| (race.told.number, race.reports)))
+    let again = hunt.remade(alloc, &[], &KEY, &row).expect(rt, "memory");
+    let found = match &again.race {
+        Some(race) => Some((race.told.number, race.reports)),
+        None => None,
+    };
+    drop(again);
+    found
 }
 
 #[test]
-fn the_run_of_a_row_is_made_again(rt: HostRuntime) -> Result<(), Fail> {
-    let found = found_again(&rt, rt.alloc(), 0, 63)?;
+fn the_run_of_a_row_is_made_again(rt: HostRuntime) {
+    let found = found_again(&rt, rt.alloc(), 0, 63);
     assert_is(&rt, found, Some((1, 13)), "the row's");
-    let none = found_again(&rt, rt.alloc(), 0, 64)?;
+    let none = found_again(&rt, rt.alloc(), 0, 64);
     assert_is(&rt, none, None, "no row's");
-    Ok(())
 }
 
 /// Hunts, and how many runs they make.
@@ -281,12 +282,11 @@ static HUNTS: [(Tried, u64); 8] = [
 ];
 
 #[test]
-fn how_many_runs_are_made(rt: HostRuntime) -> Result<(), Fail> {
+fn how_many_runs_are_made(rt: HostRuntime) {
     for (tried, runs) in &HUNTS {
-        let (_, (made, _, _)) = told(&rt, rt.alloc(), tried, 2)?;
+        let (_, (made, _, _)) = told(&rt, rt.alloc(), tried, 2);
         assert_is(&rt, made, *runs, "runs");
     }
-    Ok(())
 }
 
 /// Hunts that many workers make: of few runs and of many, some of which arm most.
@@ -303,27 +303,25 @@ fn assert_same<R: Threads + Wait + Abort>(
     tried: &Tried,
     workers: u8,
     one: &(Vec<u8>, Numbers),
-) -> Result<(), Fail> {
-    let other = told(rt, alloc, tried, workers)?;
+) {
+    let other = told(rt, alloc, tried, workers);
     assert_is(rt, other.0.as_slice(), one.0.as_slice(), "rows");
     assert_is(rt, other.1, one.1, "numbers");
-    Ok(())
 }
 
 fn assert_any_number_sees_the_same<R: Threads + Wait + Abort>(
     rt: &R,
     alloc: Global,
     tried: &Tried,
-) -> Result<(), Fail> {
-    let one = told(rt, alloc, tried, 1)?;
-    assert_same(rt, alloc, tried, 2, &one)?;
-    assert_same(rt, alloc, tried, 16, &one)
+) {
+    let one = told(rt, alloc, tried, 1);
+    assert_same(rt, alloc, tried, 2, &one);
+    assert_same(rt, alloc, tried, 16, &one);
 }
 
 #[test]
-fn any_number_of_workers_sees_the_same(rt: HostRuntime) -> Result<(), Fail> {
+fn any_number_of_workers_sees_the_same(rt: HostRuntime) {
     for tried in &SHARED {
-        assert_any_number_sees_the_same(&rt, rt.alloc(), tried)?;
+        assert_any_number_sees_the_same(&rt, rt.alloc(), tried);
     }
-    Ok(())
 }

@@ -7,7 +7,6 @@ use rv_hunt::format::TableFormat;
 use rv_hunt::reading::{read_either, read_table};
 use std::alloc::Global;
 use std::process::Abort;
-use std::test::Fail;
 
 /// What is wrong with a text as a hunt table.
 fn fault_of(alloc: Global, text: &[u8]) -> Option<TableFault> {
@@ -18,20 +17,17 @@ fn fault_of(alloc: Global, text: &[u8]) -> Option<TableFault> {
 }
 
 /// The text of the table that a text is read as.
-fn again(alloc: Global, said: &[u8]) -> Result<Vec<u8>, Fail> {
-    match read_table(alloc, TableFormat::Hunt, said) {
-        Ok(table) => text(alloc, &table),
-        Err(_) => Err(Fail::from("read")),
-    }
+fn again(rt: &impl Abort, alloc: Global, said: &[u8]) -> Vec<u8> {
+    let table = read_table(alloc, TableFormat::Hunt, said).expect(rt, "a table");
+    text(rt, alloc, &table)
 }
 
 #[test]
-fn a_table_is_read_back(rt: HostRuntime) -> Result<(), Fail> {
+fn a_table_is_read_back(rt: HostRuntime) {
     for said in [WHOLE, b"races 0\n".as_slice()] {
-        let text = again(rt.alloc(), said)?;
+        let text = again(&rt, rt.alloc(), said);
         assert_is(&rt, text.as_slice(), said, "read back");
     }
-    Ok(())
 }
 
 /// Counts the LFs of a text.
@@ -233,40 +229,36 @@ static AS_KEPT: &[u8] = b"races 2\n\
     0001000c - count 1 run 0 entry 64 changed old 00000000 new 00000040 kept\n";
 
 /// The text of the table that a text is as either, or what is wrong with it.
-fn either(alloc: Global, said: &[u8]) -> Result<Result<Vec<u8>, TableFault>, Fail> {
+fn either(rt: &impl Abort, alloc: Global, said: &[u8]) -> Result<Vec<u8>, TableFault> {
     match read_either(alloc, said) {
-        Ok(table) => Ok(Ok(text(alloc, &table)?)),
-        Err(ReadFault::Malformed(fault)) => Ok(Err(fault)),
-        Err(ReadFault::NoMemory) => Err(Fail::from("memory")),
+        Ok(table) => Ok(text(rt, alloc, &table)),
+        Err(ReadFault::Malformed(fault)) => Err(fault),
+        Err(ReadFault::NoMemory) => panic!(rt; "memory"),
     }
 }
 
-fn reads(rt: &impl Abort, alloc: Global, said: &[u8], wanted: &[u8]) -> Result<(), Fail> {
-    match either(alloc, said)? {
-        Ok(text) => assert_is(rt, text.as_slice(), wanted, "either"),
-        Err(_) => return Err(Fail::from("refused")),
-    }
-    Ok(())
+fn reads(rt: &impl Abort, alloc: Global, said: &[u8], wanted: &[u8]) {
+    let text = either(rt, alloc, said).expect(rt, "a table");
+    assert_is(rt, text.as_slice(), wanted, "either");
 }
 
 #[test]
-fn a_table_of_run_is_taken(rt: HostRuntime) -> Result<(), Fail> {
-    reads(&rt, rt.alloc(), OF_RUN, AS_KEPT)?;
-    reads(&rt, rt.alloc(), AS_KEPT, AS_KEPT)?;
-    reads(&rt, rt.alloc(), WHOLE, WHOLE)?;
+fn a_table_of_run_is_taken(rt: HostRuntime) {
+    reads(&rt, rt.alloc(), OF_RUN, AS_KEPT);
+    reads(&rt, rt.alloc(), AS_KEPT, AS_KEPT);
+    reads(&rt, rt.alloc(), WHOLE, WHOLE);
     reads(
         &rt,
         rt.alloc(),
         b"races 0\npruned named 0 flag 0 counter 0\n",
         b"races 0\n",
-    )
+    );
 }
 
 #[test]
-fn a_table_of_run_cut_at_every_byte(rt: HostRuntime) -> Result<(), Fail> {
+fn a_table_of_run_cut_at_every_byte(rt: HostRuntime) {
     for place in 0..OF_RUN.len() {
-        let is_read = either(rt.alloc(), &OF_RUN[..place])?.is_ok();
+        let is_read = either(&rt, rt.alloc(), &OF_RUN[..place]).is_ok();
         assert_is(&rt, is_read, false, "cut");
     }
-    Ok(())
 }

@@ -15,23 +15,23 @@ use rv_tally::summary::Summary;
 use rv_tally::tally::Tally;
 use std::alloc::Global;
 use std::process::Abort;
-use std::test::Fail;
 
 /// What a run of these ends and numbers is counted as.
 fn summary(
+    rt: &impl Abort,
     alloc: Global,
     ends: &[End],
     armed: &[u32],
     paused: &[u32],
     counts: Counts,
-) -> Result<Summary, Fail> {
-    Ok(Summary {
+) -> Summary {
+    Summary {
         most_steps: 2000,
-        ends: Vec::from_slice(alloc, ends)?,
-        armed: Vec::from_slice(alloc, armed)?,
-        paused: Vec::from_slice(alloc, paused)?,
+        ends: Vec::from_slice(alloc, ends).expect(rt, "memory"),
+        armed: Vec::from_slice(alloc, armed).expect(rt, "memory"),
+        paused: Vec::from_slice(alloc, paused).expect(rt, "memory"),
         counts,
-    })
+    }
 }
 
 const NONE: Counts = Counts {
@@ -47,10 +47,10 @@ const NONE: Counts = Counts {
 const SITES: &[u32] = &[0x10054, 0x10074];
 
 /// Adds a run of the ring: its harts, all of which are out of steps, and how many pauses were quiet and hit.
-fn add_ring(alloc: Global, saw: &mut Tally, row: &(usize, u64, u64)) -> Result<(), Fail> {
+fn add_ring(rt: &impl Abort, alloc: Global, saw: &mut Tally, row: &(usize, u64, u64)) {
     let (harts, quiet, hit) = *row;
     let ends = [End::OutOfSteps; 8];
-    let ends = ends.get(..harts).ok_or("harts")?;
+    let ends = ends.get(..harts).expect(rt, "harts");
     let counts = Counts {
         steps: 2000,
         quiet,
@@ -59,34 +59,33 @@ fn add_ring(alloc: Global, saw: &mut Tally, row: &(usize, u64, u64)) -> Result<(
         unwatched: 0,
         passed: quiet,
     };
-    add(alloc, saw, ends, SITES, counts)
+    add(rt, alloc, saw, ends, SITES, counts);
 }
 
 /// Adds a run, whose sites were all armed and paused at.
 fn add(
+    rt: &impl Abort,
     alloc: Global,
     saw: &mut Tally,
     ends: &[End],
     sites: &[u32],
     counts: Counts,
-) -> Result<(), Fail> {
-    let run = summary(alloc, ends, sites, sites, counts)?;
-    saw.add(alloc, &run)?;
-    Ok(())
+) {
+    let run = summary(rt, alloc, ends, sites, sites, counts);
+    saw.add(alloc, &run).expect(rt, "memory");
 }
 
-fn add_rings(alloc: Global, saw: &mut Tally) -> Result<(), Fail> {
+fn add_rings(rt: &impl Abort, alloc: Global, saw: &mut Tally) {
     for row in &[(2, 31, 1), (4, 20, 5), (8, 20, 7)] {
-        add_ring(alloc, saw, row)?;
+        add_ring(rt, alloc, saw, row);
     }
-    Ok(())
 }
 
 /// Three runs of the ring: 2, 4 and 8 harts that are out of steps.
-fn ring(alloc: Global) -> Result<Tally, Fail> {
+fn ring(rt: &impl Abort, alloc: Global) -> Tally {
     let mut saw = Tally::new(alloc);
-    add_rings(alloc, &mut saw)?;
-    Ok(saw)
+    add_rings(rt, alloc, &mut saw);
+    saw
 }
 
 fn assert_summary(
@@ -134,30 +133,38 @@ fn assert_warned(rt: &impl Abort, alloc: Global, sites: u32, saw: &Tally, wanted
 }
 
 /// The rows of a table of these.
-fn rows_of(alloc: Global, said: &[Said]) -> Result<Vec<(Key, RaceRow)>, Fail> {
-    let table = table_of(alloc, said)?;
-    Ok(table.rows(alloc)?)
+fn rows_of(rt: &impl Abort, alloc: Global, said: &[Said]) -> Vec<(Key, RaceRow)> {
+    let table = table_of(rt, alloc, said);
+    let rows = table.rows(alloc).expect(rt, "memory");
+    drop(table);
+    rows
 }
 
 /// The ring's numbers, in the shape that FORMATS.md has.
 #[test]
-fn says_what_the_ring_came_to(rt: HostRuntime) -> Result<(), Fail> {
+fn says_what_the_ring_came_to(rt: HostRuntime) {
     let wanted = b"ended out of steps: 14\n\
         seen sites 2, armed 2, paused at 2; pauses 84: quiet 71, hit 13, changed 0; unwatched 0; steps 6000\n";
-    assert_saw(&rt, rt.alloc(), 2, &ring(rt.alloc())?, wanted);
-    Ok(())
+    let saw = ring(&rt, rt.alloc());
+    assert_saw(&rt, rt.alloc(), 2, &saw, wanted);
+    drop(saw);
 }
 
 #[test]
-fn says_what_races_the_ring_has(rt: HostRuntime) -> Result<(), Fail> {
-    let rows = rows_of(rt.alloc(), &[(0x10054, Some(0x10074), 13, Kept, 0, 63)])?;
+fn says_what_races_the_ring_has(rt: HostRuntime) {
+    let rows = rows_of(
+        &rt,
+        rt.alloc(),
+        &[(0x10054, Some(0x10074), 13, Kept, 0, 63)],
+    );
     let wanted = b"races 1, likely benign 0, reports 13 of 84 endings in 3 runs\n";
-    assert_summary(&rt, rt.alloc(), &ring(rt.alloc())?, &rows, wanted);
-    Ok(())
+    let saw = ring(&rt, rt.alloc());
+    assert_summary(&rt, rt.alloc(), &saw, &rows, wanted);
+    drop(saw);
 }
 
 /// Adds a run of four harts: they exit with a code and with 0, and are stopped where no instruction is and by a load.
-fn add_ended(alloc: Global, saw: &mut Tally, code: u32) -> Result<(), Fail> {
+fn add_ended(rt: &impl Abort, alloc: Global, saw: &mut Tally, code: u32) {
     let ends = [
         End::Exited(code),
         End::Exited(0),
@@ -167,14 +174,13 @@ fn add_ended(alloc: Global, saw: &mut Tally, code: u32) -> Result<(), Fail> {
             0x10004u32.wrapping_add(code.wrapping_mul(4)),
         ),
     ];
-    add(alloc, saw, &ends, &[], NONE)
+    add(rt, alloc, saw, &ends, &[], NONE);
 }
 
-fn add_nine(alloc: Global, saw: &mut Tally) -> Result<(), Fail> {
+fn add_nine(rt: &impl Abort, alloc: Global, saw: &mut Tally) {
     for code in 0..9 {
-        add_ended(alloc, saw, code)?;
+        add_ended(rt, alloc, saw, code);
     }
-    Ok(())
 }
 
 const ENDED: &[u8] = b"ended exited 00000000: 10\n\
@@ -199,11 +205,11 @@ const ENDED: &[u8] = b"ended exited 00000000: 10\n\
 
 /// Nine codes, of which the last is counted with the others; traps by cause and address; and none out of steps.
 #[test]
-fn says_how_harts_ended(rt: HostRuntime) -> Result<(), Fail> {
+fn says_how_harts_ended(rt: HostRuntime) {
     let mut saw = Tally::new(rt.alloc());
-    add_nine(rt.alloc(), &mut saw)?;
+    add_nine(&rt, rt.alloc(), &mut saw);
     assert_saw(&rt, rt.alloc(), 3, &saw, ENDED);
-    Ok(())
+    drop(saw);
 }
 
 const SAID: &[Said] = &[
@@ -233,92 +239,86 @@ fn assert_order(rt: &impl Abort, told: &[(Key, RaceRow)]) {
 
 /// Those kept first, then counters, flags and ordered ones, each in the order of the table; those named in none.
 #[test]
-fn tells_races_in_their_order(rt: HostRuntime) -> Result<(), Fail> {
-    let rows = rows_of(rt.alloc(), SAID)?;
-    assert_order(&rt, &told_rows(rt.alloc(), &rows)?);
-    Ok(())
+fn tells_races_in_their_order(rt: HostRuntime) {
+    let rows = rows_of(&rt, rt.alloc(), SAID);
+    let told = told_rows(rt.alloc(), &rows).expect(&rt, "memory");
+    assert_order(&rt, &told);
 }
 
-fn assert_class(
-    rt: &impl Abort,
-    alloc: Global,
-    class: RaceClass,
-    word: &[u8],
-    wanted: &[u8],
-) -> Result<(), Fail> {
-    let rows = rows_of(alloc, SAID)?;
-    assert_apart(rt, alloc, word, &of_class(alloc, &rows, class)?, wanted);
-    Ok(())
+fn assert_class(rt: &impl Abort, alloc: Global, class: RaceClass, word: &[u8], wanted: &[u8]) {
+    let rows = rows_of(rt, alloc, SAID);
+    let apart = of_class(alloc, &rows, class).expect(rt, "memory");
+    assert_apart(rt, alloc, word, &apart, wanted);
 }
 
 #[test]
-fn tells_classes_apart(rt: HostRuntime) -> Result<(), Fail> {
+fn tells_classes_apart(rt: HostRuntime) {
     let alloc = rt.alloc();
-    assert_class(&rt, alloc, Named, b"named", b"named 3 reports of 2 races\n")?;
+    assert_class(&rt, alloc, Named, b"named", b"named 3 reports of 2 races\n");
     assert_class(
         &rt,
         alloc,
         Counter,
         b"ignored",
         b"ignored 1 report of 1 race\n",
-    )?;
+    );
     assert_apart(&rt, alloc, b"ignored", &[], b"");
-    Ok(())
 }
 
 #[test]
-fn tells_how_many_are_likely_benign(rt: HostRuntime) -> Result<(), Fail> {
-    let rows = rows_of(rt.alloc(), SAID)?;
+fn tells_how_many_are_likely_benign(rt: HostRuntime) {
+    let rows = rows_of(&rt, rt.alloc(), SAID);
     let wanted = b"races 3, likely benign 3, reports 0 of 0 endings in 0 runs\n";
-    assert_summary(&rt, rt.alloc(), &Tally::new(rt.alloc()), &rows, wanted);
-    Ok(())
+    let saw = Tally::new(rt.alloc());
+    assert_summary(&rt, rt.alloc(), &saw, &rows, wanted);
+    drop(saw);
 }
 
 /// What a run of these ends alone is counted as.
-fn one_run(alloc: Global, ends: &[End], sites: &[u32], counts: Counts) -> Result<Tally, Fail> {
+fn one_run(rt: &impl Abort, alloc: Global, ends: &[End], sites: &[u32], counts: Counts) -> Tally {
     let mut saw = Tally::new(alloc);
-    add(alloc, &mut saw, ends, sites, counts)?;
-    Ok(saw)
+    add(rt, alloc, &mut saw, ends, sites, counts);
+    saw
 }
 
 /// An image that traps at once.
 #[test]
-fn warns_of_traps(rt: HostRuntime) -> Result<(), Fail> {
+fn warns_of_traps(rt: HostRuntime) {
     let ends = &[End::Stopped(Cause::Illegal, 0x10000); 2];
     let wanted =
         b"rvcollide: warning: no pause was made, so that no race could be seen: do the harts reach a load or a store?\n\
         rvcollide: warning: in every run a trap stopped a hart, the first stopped by illegal instruction at 00010000: is the program built for RV32IMA without an operating system?\n\
         rvcollide: warning: fewer than half of the sites were ever armed: take a greater --budget\n\
         rvcollide: warning: in the longest runs no hart exited: if the program ends, take more steps by --plan\n";
-    let saw = one_run(rt.alloc(), ends, &[], NONE)?;
+    let saw = one_run(&rt, rt.alloc(), ends, &[], NONE);
     assert_warned(&rt, rt.alloc(), 3, &saw, wanted);
-    Ok(())
+    drop(saw);
 }
 
 #[test]
-fn warns_of_no_site(rt: HostRuntime) -> Result<(), Fail> {
+fn warns_of_no_site(rt: HostRuntime) {
     let wanted =
         b"rvcollide: warning: the image has no load or store to pause at: is it the right file, and what does --skip leave out?\n\
         rvcollide: warning: no pause was made, so that no race could be seen: do the harts reach a load or a store?\n";
-    let saw = one_run(rt.alloc(), &[End::Exited(0)], &[], NONE)?;
+    let saw = one_run(&rt, rt.alloc(), &[End::Exited(0)], &[], NONE);
     assert_warned(&rt, rt.alloc(), 0, &saw, wanted);
-    Ok(())
+    drop(saw);
 }
 
 /// A hunt of which there is nothing to warn but that no hart exited.
 #[test]
-fn warns_that_no_hart_exited(rt: HostRuntime) -> Result<(), Fail> {
-    let saw = ring(rt.alloc())?;
+fn warns_that_no_hart_exited(rt: HostRuntime) {
+    let saw = ring(&rt, rt.alloc());
     let wanted =
         b"rvcollide: warning: in the longest runs no hart exited: if the program ends, take more steps by --plan\n";
     assert_warned(&rt, rt.alloc(), 4, &saw, wanted);
     assert_is(&rt, holds(Warning::FewArmed, 5, &saw), true, "two of five");
-    Ok(())
+    drop(saw);
 }
 
 /// One hart: it is paused, and no other one makes a step.
 #[test]
-fn warns_of_one_hart(rt: HostRuntime) -> Result<(), Fail> {
+fn warns_of_one_hart(rt: HostRuntime) {
     let counts = Counts {
         steps: 9,
         quiet: 2,
@@ -329,7 +329,7 @@ fn warns_of_one_hart(rt: HostRuntime) -> Result<(), Fail> {
     };
     let wanted =
         b"rvcollide: warning: in no pause did another hart make a step: take more --harts, or a longer pause by --plan\n";
-    let saw = one_run(rt.alloc(), &[End::Exited(0)], &[0x10004], counts)?;
+    let saw = one_run(&rt, rt.alloc(), &[End::Exited(0)], &[0x10004], counts);
     assert_warned(&rt, rt.alloc(), 1, &saw, wanted);
-    Ok(())
+    drop(saw);
 }

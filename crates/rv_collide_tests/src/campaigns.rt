@@ -1,0 +1,6 @@
+//! Drivers, runs by threads, and campaigns.
+mod campaign;
+mod driver;
+mod entries;
+mod images;
+mod locked;

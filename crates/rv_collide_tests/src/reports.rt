@@ -1,0 +1,5 @@
+//! Classes, race tables, exhibits, and what a hunt has seen.
+mod images;
+mod prune;
+mod report;
+mod tally;

@@ -1,0 +1,123 @@
+//! Each part that an access has in an order, just met and just missed. The words are the manual's own encodings.
+use super::*;
+use rv_prune::ordered::{is_ordered, role_at};
+use rv_prune::role::Role;
+
+const SW: u32 = 0x0063_a023;
+
+const LW: u32 = 0x0003_a303;
+
+/// `lui x5,1`
+const LUI: u32 = 0x0000_12b7;
+
+/// `amoswap.w.rl x0,x6,(x7)`
+const SWAP: u32 = 0x0a63_a02f;
+
+/// `lr.w.aq x5,(x7)`
+const LR: u32 = 0x1403_a2af;
+
+/// `beq x0,x0,8`
+const BRANCH: u32 = 0x0000_0463;
+
+const ECALL: u32 = 0x0000_0073;
+
+/// FENCE.I has no row.
+const NONE: u32 = 0x0000_100f;
+
+const FENCE_RW_W: u32 = 0x0310_000f;
+
+const FENCE_R_RW: u32 = 0x0230_000f;
+
+const FENCE_RW_RW: u32 = 0x0330_000f;
+
+const FENCE_W_W: u32 = 0x0110_000f;
+
+const FENCE_R_R: u32 = 0x0220_000f;
+
+const FENCE_TSO: u32 = 0x8330_000f;
+
+/// FENCE with an fm that is reserved.
+const FENCE_ODD: u32 = 0x4330_000f;
+
+/// Six words from 00010000 on, the address of the one that is asked for, and its part.
+static PARTS: [([u32; 6], u32, Role); 24] = [
+    ([FENCE_RW_W, SW, 0, 0, 0, 0], 0x10004, Role::Release),
+    ([FENCE_RW_RW, SW, 0, 0, 0, 0], 0x10004, Role::Release),
+    ([FENCE_TSO, SW, 0, 0, 0, 0], 0x10004, Role::Release),
+    ([FENCE_ODD, SW, 0, 0, 0, 0], 0x10004, Role::Plain),
+    ([FENCE_W_W, SW, 0, 0, 0, 0], 0x10004, Role::Plain),
+    ([FENCE_R_RW, SW, 0, 0, 0, 0], 0x10004, Role::Plain),
+    ([FENCE_RW_W, LUI, LUI, LUI, SW, 0], 0x10010, Role::Release),
+    ([FENCE_RW_W, LUI, LUI, LUI, LUI, SW], 0x10014, Role::Plain),
+    ([FENCE_RW_W, FENCE_W_W, SW, 0, 0, 0], 0x10008, Role::Plain),
+    ([FENCE_W_W, FENCE_RW_W, SW, 0, 0, 0], 0x10008, Role::Release),
+    ([FENCE_RW_W, BRANCH, SW, 0, 0, 0], 0x10008, Role::Plain),
+    ([FENCE_RW_W, ECALL, SW, 0, 0, 0], 0x10008, Role::Plain),
+    ([FENCE_RW_W, NONE, SW, 0, 0, 0], 0x10008, Role::Plain),
+    ([SW, FENCE_RW_RW, 0, 0, 0, 0], 0x10000, Role::Plain),
+    ([LW, FENCE_R_RW, 0, 0, 0, 0], 0x10000, Role::Acquire),
+    ([LW, FENCE_RW_RW, 0, 0, 0, 0], 0x10000, Role::Acquire),
+    ([LW, FENCE_TSO, 0, 0, 0, 0], 0x10000, Role::Acquire),
+    ([LW, FENCE_R_R, 0, 0, 0, 0], 0x10000, Role::Load),
+    ([LW, LUI, LUI, LUI, FENCE_R_RW, 0], 0x10000, Role::Acquire),
+    ([LW, LUI, LUI, LUI, LUI, FENCE_R_RW], 0x10000, Role::Load),
+    ([LW, BRANCH, FENCE_R_RW, 0, 0, 0], 0x10000, Role::Load),
+    ([SWAP, 0, 0, 0, 0, 0], 0x10000, Role::Atomic),
+    ([LR, 0, 0, 0, 0, 0], 0x10000, Role::Atomic),
+    ([LUI, 0, 0, 0, 0, 0], 0x10000, Role::Plain),
+];
+
+fn role_in(rt: &impl Abort, alloc: Global, words: &[u32], address: u32) -> Role {
+    let image = image(rt, alloc, words);
+    role_at(&image, address)
+}
+
+#[test]
+fn the_part_of_an_access(rt: HostRuntime) {
+    for (words, address, wanted) in &PARTS {
+        let role = role_in(&rt, rt.alloc(), words, *address);
+        assert_is(
+            &rt,
+            (words, address, role),
+            (words, address, *wanted),
+            "words",
+        );
+    }
+    let role = role_in(&rt, rt.alloc(), &[SW], 0x2_0000);
+    assert_is(&rt, role, Role::Plain, "no file byte");
+}
+
+/// A release at 00010004, an acquire at 00010008, an AMO at 00010010, plain accesses at 00010014 and 00010018.
+const PROGRAM: [u32; 7] = [FENCE_RW_W, SW, LW, FENCE_R_RW, SWAP, SW, LW];
+
+/// The two instructions whose accesses met, and whether they are ordered.
+static PAIRS: [(u32, u32, bool); 9] = [
+    (0x10004, 0x10008, true),
+    (0x10008, 0x10004, true),
+    (0x10004, 0x10010, true),
+    (0x10010, 0x10018, true),
+    (0x10018, 0x10010, true),
+    (0x10010, 0x10014, false),
+    (0x10004, 0x10018, false),
+    (0x10014, 0x10008, false),
+    (0x10014, 0x10018, false),
+];
+
+fn assert_pairs(rt: &impl Abort, image: &Image) {
+    for (paused, met, wanted) in &PAIRS {
+        let ending = hit(loads(*paused, 4), *met, 0, 1);
+        let found = (paused, met, is_ordered(image, &ending));
+        assert_is(rt, found, (paused, met, *wanted), "the pair");
+    }
+    let changed = Ending {
+        verdict: Verdict::Changed,
+        ..hit(loads(0x10008, 4), 0x10004, 0, 1)
+    };
+    assert_is(rt, is_ordered(image, &changed), false, "no hit");
+}
+
+#[test]
+fn two_that_order(rt: HostRuntime) {
+    let image = image(&rt, rt.alloc(), &PROGRAM);
+    assert_pairs(&rt, &image);
+}

@@ -1,0 +1,3 @@
+//! The engines of `hunt` and `merge`.
+mod hunting;
+mod merge;
