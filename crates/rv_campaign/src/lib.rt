@@ -13,4 +13,4 @@ mod workers;
 
 pub use kept::{Keep, Series, SeriesFault, kept_runs};
 pub use run::run_one;
-pub use runs::{CampaignFault, MOST_RUNS, MOST_WORKERS, NumberFault, campaign};
+pub use runs::{CampaignFault, MOST_RUNS, MOST_WORKERS, NumberFault, campaign, fault_of_numbers};

@@ -104,7 +104,7 @@ pub fn campaign<R: Threads + Wait, G: Gate>(
     ensures accepted { OnOk result (fault_of (numbers plan) runs workers ≡ None) }
     ensures err { IfErr result (λ fault. (fault_of (numbers plan) runs workers ≡ number_fault fault) × IsToldBy G.shuts fault) }
 {
-    if let Some(fault) = fault_of(plan, runs, workers) {
+    if let Some(fault) = fault_of_numbers(plan, runs, workers) {
         return Err(fault.into());
     }
     let sampler = Sampler::sites(alloc, image, excluded)?;
@@ -122,8 +122,8 @@ pub fn campaign<R: Threads + Wait, G: Gate>(
     pieces(rt, &work, 0)
 }
 
-/// The first test that the numbers of a campaign fail.
-fn fault_of(plan: Plan, runs: u32, workers: u32) -> Option<NumberFault>
+/// The first test that the numbers of a campaign fail, if there is one.
+pub fn fault_of_numbers(plan: Plan, runs: u32, workers: u32) -> Option<NumberFault>
     ensures { result ≡ fault_of (numbers plan) runs workers }
 {
     if !(1 <= runs && runs <= MOST_RUNS) {

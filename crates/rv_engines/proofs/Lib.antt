@@ -3,6 +3,7 @@ pub mod ExhibitLemmas
 pub mod ExplainLemmas
 pub mod ReplayLemmas
 pub mod RunHunts
+pub mod RunKept
 pub mod RunLists
 pub mod RunTables
 pub mod SourceLemmas

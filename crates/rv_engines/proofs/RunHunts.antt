@@ -1,10 +1,9 @@
 -- The campaign that an image and the options ask for, and why it is refused.
-use Rattle.std.proofs.Common.{◌≡◌, ℕ, List, [], get_or, Option, Some, None, Result, Ok, Err, refl, sym, ap, subst, ◌∙◌}
-use Rattle.std.specs.Prelude.{Bool, true, false, ◌||◌, All, IfSome, IsOkAnd, ◌⊎◌}
+use Rattle.std.proofs.Common.{◌≡◌, ℕ, zero, suc, ◌<◌, List, [], ◌∷◌, length, arith, Option, Some, None, Result, Ok, Err, refl, sym, ap, subst, ◌∙◌}
+use Rattle.std.specs.Prelude.{Bool, true, false, ◌||◌, IfSome, IsSomeAnd, IsOkAnd, slice_get, ◌⊎◌}
 use Rattle.std.proofs.Common.{inl, inr}
 use Rattle.std.specs.Result.{IsOk, is_ok}
-use Rattle.std.proofs.lemmas.Option.{slice_get-get_or}
-use Rattle.rv_campaign.specs.Campaign.{AreRuns, fault_of, number_fault}
+use Rattle.rv_campaign.specs.Campaign.{fault_of, number_fault}
 use Rattle.rv_campaign.specs.Run.{Hunt, IsRun, sampling_of}
 use Rattle.rv_campaign.specs.declared.runs.CampaignFault.{CampaignFault}
 use Rattle.rv_campaign.specs.declared.runs.CampaignFault.TheVariants as campaign
@@ -12,7 +11,7 @@ use Rattle.rv_campaign.specs.declared.runs.NumberFault.{NumberFault}
 use Rattle.rv_campaign.specs.declared.runs.NumberFault.TheVariants as number
 use Rattle.std.specs.declared.convert.Infallible.{Infallible}
 use Rattle.rv_drive.specs.DriverLaws.{DrawnIsLegal}
-use Rattle.rv_collide.specs.Grammar.{IsWritable}
+use Rattle.rv_collide.specs.Grammar.{IsWritable, schedule_text}
 use Rattle.rv_collide.specs.GrammarLaws.{LegalIsWritable}
 use Rattle.rv_collide.specs.Numbers.{numbers}
 use Rattle.rv_collide.specs.Plan.{IsPlan, Numbers}
@@ -21,13 +20,16 @@ use Rattle.rv_collide.specs.declared.collider.Finished.{Finished}
 use Rattle.rv_elf.specs.Contents.{Contents}
 use Rattle.rv_memory.specs.Chain.{◌>>=◌}
 use Rattle.rv_sample.specs.Sites.{sites}
+use Rattle.rv_report.specs.TableText.{table_text}
 use Rattle.rv_engines.specs.Request.{Request}
-use Rattle.rv_engines.specs.Campaigns.{Campaign, campaign_of, elements, listed, skipped, unless_some}
+use Rattle.rv_engines.specs.Campaigns.{Campaign, IsHunted, campaign_of, elements, listed, skipped, unless_some}
 use Rattle.rv_engines.specs.Fault.{IsToldFault}
 use Rattle.rv_engines.specs.Images.{image_of}
 use Rattle.rv_engines.specs.CommandFault.{Refusal, Plain, Campaign as Numbered, NoThread, IsTold, is_thread, plainly, refusal_of_campaign}
 use Rattle.rv_engines.specs.declared.fault.Fault.{Fault}
 use Rattle.rv_engines.specs.declared.fault.Fault.TheVariants.{Read, Write, NoMemory}
+use Rattle.rv_engines.specs.declared.run.hunting.Hunted.{Hunted}
+use Rattle.rv_engines.specs.internal.Hunted.{IsReady, hunt_of}
 
 -- ---- a refusal, where more steps would follow
 
@@ -118,18 +120,40 @@ campaign_known (Some bytes) r image excluded named Fact is skips names accepted 
     of_names r bytes image excluded named is skips names ∙ ap (λ o. unless_some o Numbered >>= λ _. Ok (record { hunt = record { image = image; plan = r.plan; seed = r.seed; excluded = excluded }; listed = named })) accepted in
     rw whole fact
 
--- ---- the runs may be written
+-- ---- a run may be written
 
-run_is_writable : DrawnIsLegal → LegalIsWritable → (hunt : Hunt) (run : ℕ) (one : Finished) → IsRun hunt run one → IsWritable (numbers one.plan) one.entries.items
+pub run_is_writable : DrawnIsLegal → LegalIsWritable → (hunt : Hunt) (run : ℕ) (one : Finished) → IsRun hunt run one → IsWritable (numbers one.plan) one.entries.items
 run_is_writable legal writable hunt run one is =
     let own : IsPlan hunt.plan = subst IsPlan is.plan_is one.plan.in_range in
     let setting = setting_of (stored hunt.image hunt.plan []) in
     subst (λ (n : Numbers). IsWritable n one.entries.items) (sym is.plan_is)
     (writable setting one.entries.items own (legal setting (sampling_of (sites hunt.image hunt.excluded) hunt.seed run) one.entries.items is.drawn))
 
-pub runs_are_writable : DrawnIsLegal → LegalIsWritable → (hunt : Hunt) (runs : ℕ) (told : List Finished) → AreRuns hunt runs told → All (λ (run : Finished). IsWritable (numbers run.plan) run.entries.items) told
-runs_are_writable legal writable hunt runs told are k d below =
-    run_is_writable legal writable hunt k (get_or told k d) (are.each k (get_or told k d) (slice_get-get_or told k d below))
+-- ---- what is written and saved
+
+saved_at : (runs : List Finished) (k : ℕ) (Saved : Finished → Type 0) → k < length runs → ((one : Finished) → slice_get runs k ≡ Some one → Saved one) → IsSomeAnd (slice_get runs k) Saved
+saved_at [] k Saved below each = (let no : k < 0 = below in absurd (omega arith))
+saved_at (one ∷ runs) zero Saved below each = each one refl
+saved_at (one ∷ runs) (suc k) Saved below each = saved_at runs k Saved (omega (arith, below)) each
+
+hunted_of : (r : Request) (hunted : Hunted) (c : Campaign) (Writes Saves : List ℕ → Type 0) → r.keep < r.runs → IsReady r hunted c → Writes (table_text hunted.table) → ((run : Finished) → IsRun (hunt_of hunted) r.keep run → Saves (schedule_text (numbers run.plan) run.entries.items)) → IsHunted r c Writes Saves
+hunted_of r hunted c Writes Saves kept ready written saved = record {
+  runs = ready.runs;
+  are_runs = ready.are_runs;
+  written = subst (λ rows. Writes (table_text rows)) ready.table_is written;
+  saved = saved_at ready.runs r.keep _ (let count = ready.are_runs.count in omega (arith, kept, count))
+      (λ one there. saved one (subst (λ (hunt : Hunt). IsRun hunt r.keep one) (sym ready.hunt_is) (ready.are_runs.each r.keep one there)));
+}
+
+in_campaign : (o : Result Campaign Refusal) (Ready Fact : Campaign → Type 0) → ((c : Campaign) → Ready c → Fact c) → IsOkAnd o Ready → IsOkAnd o Fact
+in_campaign (Ok c) Ready Fact then ready = then c ready
+in_campaign (Err told) Ready Fact then ready = ready
+
+pub all_hunted : (known : Option (List ℕ)) (r : Request) (hunted : Hunted) (Writes Saves : List ℕ → Type 0) → r.keep < r.runs → IfSome known (λ bytes. IsOkAnd (campaign_of r bytes) (IsReady r hunted)) → Writes (table_text hunted.table)
+    → ((run : Finished) → IsRun (hunt_of hunted) r.keep run → Saves (schedule_text (numbers run.plan) run.entries.items)) → IfSome known (λ bytes. IsOkAnd (campaign_of r bytes) (λ c. IsHunted r c Writes Saves))
+all_hunted None r hunted Writes Saves kept ready written saved = tt
+all_hunted (Some bytes) r hunted Writes Saves kept ready written saved =
+    in_campaign (campaign_of r bytes) (IsReady r hunted) (λ c. IsHunted r c Writes Saves) (λ c is. hunted_of r hunted c Writes Saves kept is written saved) ready
 
 -- ---- a device that failed, or want of memory
 

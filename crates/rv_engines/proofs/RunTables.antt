@@ -1,6 +1,7 @@
 -- What is added to a race table, ending by ending and run by run.
-use Rattle.std.proofs.Common.{◌≡◌, ℕ, ◌+◌, ◌<◌, List, [], ◌∷◌, ◌++◌, length, get_or, take, map, Some, refl, sym, ap, ◌∙◌, arith, append_assoc, add-zero}
-use Rattle.std.specs.Prelude.{slice_get, option_map}
+use Rattle.std.proofs.Common.{◌≡◌, ℕ, zero, suc, ◌+◌, ◌<◌, List, [], ◌∷◌, ◌++◌, length, get_or, take, map, Some, refl, sym, ap, ◌∙◌, arith, append_assoc, add-zero}
+use Rattle.std.specs.Prelude.{slice_get, option_map, Vec}
+use Rattle.std.specs.declared.alloc.Global.{Global}
 use Rattle.std.proofs.lemmas.List.{append-nil, length-map, length-take, take_more}
 use Rattle.std.proofs.lemmas.Option.{get_or_from_slice_get, slice_get_read}
 use Rattle.rv_collide.specs.declared.collider.Finished.{Finished}
@@ -49,6 +50,22 @@ run_more image bytes runs i one below there =
     ap (told_from image bytes 0) next ∙ told_more image bytes 0 (take i runs) one
     ∙ ap (λ n. told_from image bytes 0 (take i runs) ++ map (with_class image bytes n) one.endings.items) size
     )
+
+there_is : {X : Type 0} (xs : List X) (i : ℕ) → i < length xs → (x : X) × (slice_get xs i ≡ Some x)
+there_is [] i below = (let no : i < 0 = below in absurd (omega arith))
+there_is (x ∷ xs) zero below = (x, refl)
+there_is (x ∷ xs) (suc i) below = there_is xs i (omega (arith, below))
+
+-- the same, where the endings of the runs are known
+pub endings_more : (image : Contents) (bytes : List (ℕ × ℕ)) (runs : List Finished) (ended : List (Vec Ending Global)) (i : ℕ) (kept : Vec Ending Global) → map (λ one. one.endings) runs ≡ ended → i < length ended → kept ≡ get_or ended i kept → told_from image bytes 0 (take i runs) ++ map (with_class image bytes i) kept.items ≡ told_from image bytes 0 (take (i + 1) runs)
+endings_more image bytes runs ended i kept are within is =
+    let size : length runs ≡ length ended = sym (length-map runs (λ (one : Finished). one.endings)) ∙ ap length are in
+    let below : i < length runs = omega (arith, within, size) in
+    let one = there_is runs i below in
+    let there : slice_get ended i ≡ Some one.0.endings =
+    ap (λ es. slice_get es i) (sym are) ∙ get-mapped (λ (run : Finished). run.endings) runs i ∙ ap (option_map (λ (run : Finished). run.endings)) one.1 in
+    ap (λ (es : Vec Ending Global). told_from image bytes 0 (take i runs) ++ map (with_class image bytes i) es.items) (is ∙ get_or_from_slice_get ended i one.0.endings kept there)
+    ∙ run_more image bytes runs i one.0 below (sym (get_or_from_slice_get runs i one.0 one.0 one.1))
 
 pub none_told : (image : Contents) (bytes : List (ℕ × ℕ)) → told_from image bytes 0 [] ≡ []
 unfolding told_from

@@ -5,5 +5,6 @@ pub mod fault;
 mod hunting;
 pub mod lists;
 pub mod options;
+mod runs;
 pub mod saving;
 mod table;

@@ -1,7 +1,8 @@
 //! The engine of `run`: an image in, a race table and a schedule out.
-ghost use Rattle.std.specs.Prelude.{◌≡◌, ◌<◌, ◌||◌, ◌⊎◌, true, false, All, IfErr, IfSome, IsSomeAnd, OnOk, IsOkAnd, is_some, length, slice_get};
+ghost use Rattle.std.specs.Prelude.{◌≡◌, ◌||◌, ◌⊎◌, true, false, IfErr, IfSome, OnOk, IsOkAnd, is_some};
 ghost use Rattle.std.specs.Io.KnownBytes.{Appends, Keeps};
-ghost use Rattle.rv_collide.specs.Grammar.{IsWritable, schedule_text};
+ghost use Rattle.rv_campaign.specs.Run.{IsRun};
+ghost use Rattle.rv_collide.specs.Grammar.{schedule_text};
 ghost use Rattle.rv_collide.specs.Numbers.{numbers};
 ghost use Rattle.rv_collide.specs.declared.collider.Finished.{Finished};
 ghost use Rattle.rv_memory.specs.Buffered as buffer;
@@ -11,6 +12,7 @@ ghost use Rattle.rv_engines.specs.Campaigns as spec;
 ghost use Rattle.rv_engines.specs.Fault as plain;
 ghost use Rattle.rv_engines.specs.Request.{request};
 ghost use Rattle.rv_engines.specs.CommandFault.{IsTold, refusal, fails_by, is_read, is_write};
+ghost use Rattle.rv_engines.specs.internal.Hunted.{hunt_of};
 
 use crate::fault::Fault;
 use crate::new_file::NewFile;
@@ -34,10 +36,8 @@ fn publish<F: NewFile, W: Write>(
     save: &mut Option<F>,
     writer: &mut Buffered<W>,
 ) -> Result<(), Fault>
-    requires writable { All (λ (run : Finished). IsWritable (numbers run.plan) run.entries.items) hunted.now.runs.items }
-    requires run { keep < length hunted.now.runs.items }
-    ensures saved { OnOk result (IsSomeAnd (slice_get hunted.now.runs.items keep) (λ run.
-        spec.IfWanted F.Holds save.new (schedule_text (numbers run.plan) run.entries.items))) }
+    ensures saved { OnOk result ((run : Finished) → IsRun (hunt_of hunted.now) keep run
+        → spec.IfWanted F.Holds save.new (schedule_text (numbers run.plan) run.entries.items)) }
     ensures wanted { is_some save.new ≡ is_some save.old }
     ensures table { OnOk result (Appends (buffer.written W.contents writer.old) (buffer.sent W.contents writer.new)
         (table_text hunted.now.table)) }
@@ -52,7 +52,7 @@ fn publish<F: NewFile, W: Write>(
     ensures writers { (spec.passes F.has_failed save.new || buffer.has_failed writer.new)
         ≡ (spec.passes F.has_failed save.old || buffer.has_failed writer.old || plain.fails_by plain.is_write result) }
 {
-    save_run(alloc, &hunted.runs, keep, save)?;
+    save_run(alloc, hunted, keep, save)?;
     hunted.table.write_table(writer)?;
     writer.finish()?;
     Ok(())

@@ -1,11 +1,11 @@
 //! The race table of a campaign's runs.
 ghost use Rattle.std.specs.Prelude.{◌≡◌, ◌++◌, List, IfOk, OnOk, length, map};
+ghost use Rattle.rv_collide.specs.declared.collider.Finished.{Finished};
 ghost use Rattle.rv_prune.specs.Class.{class};
 ghost use Rattle.rv_report.specs.Races.{Told, races};
 ghost use Rattle.rv_engines.specs.Campaigns as spec;
 
 use rayon::prelude::*;
-use rv_collide::collider::Finished;
 use rv_collide::ending::Ending;
 use rv_elf::Image;
 use rv_memory::store::NoMemory;
@@ -55,21 +55,22 @@ fn add_run(
     Ok(())
 }
 
-/// The race table of the runs, which are so many.
+/// The race table of the runs, which are so many, of their endings, run by run.
 pub fn table_of(
     rt: &(impl Threads + Sync),
     alloc: Global,
     image: &Image,
     ranges: &[(u32, u32)],
     count: u32,
-    runs: &[Finished],
+    ended: &[Vec<Ending>],
 ) -> Result<RaceTable, NoMemory>
-    requires { length runs.now ≡ count }
-    ensures { IfOk result (λ table. table ≡ races (spec.told_from image.now ranges.now 0 runs.now)) }
+    requires { length ended.now ≡ count }
+    ensures { IfOk result (λ table. (runs : List Finished) → map (λ one. one.endings) runs ≡ ended.now
+        → table ≡ races (spec.told_from image.now ranges.now 0 runs)) }
 {
     let mut table = RaceTable::new(alloc);
     for run in 0..count {
-        let endings = &runs[run as usize].endings;
+        let endings = &ended[run as usize];
         add_run(rt, alloc, image, ranges, run, endings, &mut table)?;
     }
     Ok(table)

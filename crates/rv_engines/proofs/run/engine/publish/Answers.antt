@@ -2,9 +2,6 @@ use Rattle.std.proofs.lemmas.Result.{err_from_is_err_and}
 use Rattle.rv_engines.proofs.RunHunts.{file_failed}
 use Rattle.rv_engines.proofs.run.engine.publish.Goals as goal
 
-pub save_run-requires : goal.save_run-requires
-save_run-requires g c = rw c.deref.ensures.value c.requires
-
 pub returns-in_err-save_run-clause-writers : goal.returns-in_err-save_run-clause-writers
 returns-in_err-save_run-clause-writers g c =
     let p = err_from_is_err_and c.from_residual.result c.from_residual.ensures.1 in
