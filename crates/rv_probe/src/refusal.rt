@@ -22,6 +22,15 @@ pub enum Refusal {
 }
 
 impl Refusal {
+    /// Want of memory, or anything else.
+    fn by_memory(is_no_memory: bool) -> Refusal {
+        if is_no_memory {
+            Refusal::NoMemory
+        } else {
+            Refusal::Other
+        }
+    }
+
     pub(crate) fn text(self) -> &'static [u8] {
         match self {
             Refusal::NoMemory => b"NoMemory",
@@ -51,28 +60,19 @@ impl<T: Drop> From<AllocFailed<T>> for Refusal {
 
 impl From<MemFault> for Refusal {
     fn from(fault: MemFault) -> Refusal {
-        match fault {
-            MemFault::NoMemory => Refusal::NoMemory,
-            _ => Refusal::Other,
-        }
+        Refusal::by_memory(fault == MemFault::NoMemory)
     }
 }
 
 impl From<LoadFault> for Refusal {
     fn from(fault: LoadFault) -> Refusal {
-        match fault {
-            LoadFault::NoMemory => Refusal::NoMemory,
-            _ => Refusal::Other,
-        }
+        Refusal::by_memory(fault == LoadFault::NoMemory)
     }
 }
 
 impl From<AsmFault> for Refusal {
     fn from(fault: AsmFault) -> Refusal {
-        match fault.kind {
-            AsmKind::NoMemory => Refusal::NoMemory,
-            _ => Refusal::Other,
-        }
+        Refusal::by_memory(fault.kind == AsmKind::NoMemory)
     }
 }
 
@@ -96,19 +96,13 @@ impl From<NamesFault> for Refusal {
 
 impl From<StepFault> for Refusal {
     fn from(fault: StepFault) -> Refusal {
-        match fault {
-            StepFault::NoMemory => Refusal::NoMemory,
-            _ => Refusal::Other,
-        }
+        Refusal::by_memory(fault == StepFault::NoMemory)
     }
 }
 
 impl From<Refused> for Refusal {
     fn from(refused: Refused) -> Refusal {
-        match refused {
-            Refused::NoMemory => Refusal::NoMemory,
-            _ => Refusal::Other,
-        }
+        Refusal::by_memory(refused == Refused::NoMemory)
     }
 }
 
@@ -123,19 +117,13 @@ impl From<ReplayFault> for Refusal {
 
 impl From<ScheduleFault> for Refusal {
     fn from(fault: ScheduleFault) -> Refusal {
-        match fault.kind {
-            ScheduleKind::NoMemory => Refusal::NoMemory,
-            _ => Refusal::Other,
-        }
+        Refusal::by_memory(fault.kind == ScheduleKind::NoMemory)
     }
 }
 
 impl From<SessionFault> for Refusal {
     fn from(fault: SessionFault) -> Refusal {
-        match fault {
-            SessionFault::NoMemory => Refusal::NoMemory,
-            _ => Refusal::Other,
-        }
+        Refusal::by_memory(fault == SessionFault::NoMemory)
     }
 }
 
