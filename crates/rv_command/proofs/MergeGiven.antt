@@ -1,15 +1,17 @@
 -- The tables of a line of `merge` that gives a job stand in its words, and the option does.
-use Rattle.std.proofs.Common.{◌≡◌, ◌∙◌, ◌+◌, ◌&&◌, ◌==◌, ◌<◌, ◌≤◌, ℕ, zero, suc, refl, ap, sym, cond, true, false, List, Option, Some, None, [], ◌∷◌, arith, length, take, drop, codes, nat_lt}
-use Rattle.std.specs.Prelude.{Bool, IfSome, option_map, slice_get}
+use Rattle.std.proofs.Common.{◌≡◌, ◌∙◌, ◌+◌, ◌++◌, ◌==◌, ◌<◌, ◌≤◌, ℕ, suc, refl, ap, sym, subst, cond, true, false, List, Option, Some, None, [], ◌∷◌, arith, length, take, drop, codes, nat_lt}
+use Rattle.std.specs.Prelude.{Bool, IfSome, nat_eq, option_and_then, option_map, slice_get}
+use Rattle.std.specs.List.{starts_with}
 use Rattle.std.specs.Str.{bytes_eq}
 use Rattle.std.proofs.lemmas.Bool.{and_parts}
-use Rattle.std.proofs.lemmas.Bool.Decides.{nat_tests}
+use Rattle.std.proofs.lemmas.Bool.Decides.{Decides-eqb, nat_tests}
 use Rattle.std.proofs.lemmas.List.{append-nil, length-take-le, take-append-drop}
-use Rattle.std.proofs.lemmas.Slice.Eq.{bytes_eq-Decides}
+use Rattle.std.proofs.lemmas.List.Elements.{Contains-append_right}
+use Rattle.std.proofs.lemmas.Slice.Eq.{bytes_eq-Decides, starts_is}
 use Rattle.clap.specs.Walk.{Text}
 use Rattle.rv_command.specs.Command.{Merge, IsGiven, merge_of, option_first}
-use Rattle.rv_command.specs.MergeLine.{IsMergeGiven, are_tables, is_dashed, is_expect, option_last, tables_before}
-use Rattle.rv_command.specs.RunLine.{Gives, apart}
+use Rattle.rv_command.specs.MergeLine.{IsMergeGiven, are_tables, expected_first, is_dashed, joined_value, option_last, tables_before, value_first}
+use Rattle.rv_command.specs.RunLine.{Gives, apart, joined}
 
 within : (words : List Text) → tables_before words ≤ length words
 within [] = omega arith
@@ -19,35 +21,78 @@ within (word ∷ rest) = go (is_dashed word) (within rest)
     go true less = omega arith
     go false less = omega arith
 
-is_named : (option value : Text) → is_expect option value ≡ true → option ≡ codes "--expect"
-is_named option value is = (bytes_eq-Decides option (codes "--expect")).0 (and_parts (bytes_eq option (codes "--expect")) _ is).0
+-- ---- the option at the front of words
 
--- what stands in the words from a place on
-from_place : (words : List Text) (n i : ℕ) → slice_get (drop n words) i ≡ slice_get words (n + i)
-from_place words zero i = ap (slice_get words) (omega arith)
-from_place [] (suc n) i = grind (arith, nat_tests)
-from_place (word ∷ rest) (suc n) i = let next : suc (n + i) ≡ suc n + i = omega arith in from_place rest n i ∙ ap (slice_get (word ∷ rest)) next
+-- the value is the option's, and the other words end the words
+record Found (words : List Text) (found : Text × List Text) : Type 0 where
+  gives : Gives words (codes "expect") found.0
+  front : List Text
+  whole : words ≡ front ++ found.1
+
+apart_found : (option : Text) (rest : List Text) → option ≡ codes "--expect" → IfSome (value_first rest) (Found (option ∷ rest))
+apart_found option [] is = tt
+apart_found option (value ∷ rest) is = go (is_dashed value)
+  where
+    go : (b : Bool) → IfSome {T = Text × List Text} (cond b None (Some (value, rest))) (Found (option ∷ value ∷ rest))
+    go true = tt
+    go false = record { gives = apart 0 (ap (λ (w : Text). Some w) is) refl; front = option ∷ value ∷ []; whole = refl }
+
+joined_found : (option : Text) (rest : List Text) → IfSome {T = Text × List Text} (option_map (λ value. (value, rest)) (joined_value option)) (Found (option ∷ rest))
+joined_found option rest = go (starts_with nat_eq option (codes "--expect=")) refl
+  where
+    value : Text
+    value = drop (length (codes "--expect=")) option
+
+    go : (b : Bool) → starts_with nat_eq option (codes "--expect=") ≡ b
+        → IfSome {T = Text × List Text} (option_map (λ value. (value, rest)) (cond b (Some value) None)) (Found (option ∷ rest))
+    go true is =
+        let spells : option ≡ codes "--expect=" ++ value = (starts_is Decides-eqb option (codes "--expect=") _ refl).0 is in
+        record { gives = joined (0, omega arith, spells); front = option ∷ []; whole = refl }
+    go false is = tt
+
+found_first : (words : List Text) → IfSome (expected_first words) (Found words)
+found_first [] = tt
+found_first (option ∷ rest) = go (bytes_eq option (codes "--expect")) refl
+  where
+    go : (b : Bool) → bytes_eq option (codes "--expect") ≡ b
+        → IfSome (cond b (value_first rest) (option_map (λ value. (value, rest)) (joined_value option))) (Found (option ∷ rest))
+    go true is = apart_found option rest ((bytes_eq-Decides option (codes "--expect")).0 is)
+    go false is = joined_found option rest
+
+-- ---- the option behind other words
+
+one_more : (word : Text) (words : List Text) (name value : Text) → Gives words name value → Gives (word ∷ words) name value
+one_more word words name value (apart place option next) =
+    let behind : suc place + 1 ≡ suc (place + 1) = omega arith in
+    apart (suc place) option (ap (slice_get (word ∷ words)) behind ∙ next)
+one_more word words name value (joined contains) = joined (Contains-append_right (word ∷ []) words _ contains)
+
+behind : (front words : List Text) (name value : Text) → Gives words name value → Gives (front ++ words) name value
+behind [] words name value gives = gives
+behind (word ∷ front) words name value gives = one_more word (front ++ words) name value (behind front words name value gives)
+
+-- ---- the line
 
 first_given : (n : Text) (words : List Text) → IfSome (option_first words) (IsGiven (n ∷ codes "merge" ∷ words))
-first_given n [] = tt
-first_given n (option ∷ []) = tt
-first_given n (option ∷ value ∷ tables) = go (is_expect option value) (are_tables tables) refl refl
+first_given n words = go (expected_first words) (found_first words)
   where
-    words : List Text
-    words = option ∷ value ∷ tables
-
-    go : (a b : Bool) → is_expect option value ≡ a → are_tables tables ≡ b → IfSome (cond (a && b) (Some (Merge tables (Some value))) None) (IsGiven (n ∷ codes "merge" ∷ words))
-    go true true expect are =
-        let some : nat_lt 0 (length tables) ≡ true = (and_parts (nat_lt 0 (length tables)) _ are).0 in (
+    tables : (value : Text) (rest : List Text) → Found words (value, rest) → (b : Bool) → are_tables rest ≡ b
+        → IfSome (cond b (Some (Merge rest (Some value))) None) (IsGiven (n ∷ codes "merge" ∷ words))
+    tables value rest found true are =
+        let some : nat_lt 0 (length rest) ≡ true = (and_parts (nat_lt 0 (length rest)) _ are).0 in (
           refl,
           record {
             some = grind (arith, nat_tests);
-            together = (option ∷ value ∷ [], [], ap (λ (xs : List Text). option ∷ value ∷ xs) (sym (append-nil tables)));
-            expected = apart 0 (ap (λ (w : Text). Some w) (is_named option value expect)) refl;
+            together = (found.front, [], found.whole ∙ sym (append-nil (found.front ++ rest)));
+            expected = found.gives;
           },
         )
-    go true false expect are = tt
-    go false b expect are = tt
+    tables value rest found false are = tt
+
+    go : (o : Option (Text × List Text)) → IfSome o (Found words)
+        → IfSome (option_and_then (λ found. cond (are_tables found.1) (Some (Merge found.1 (Some found.0))) None) o) (IsGiven (n ∷ codes "merge" ∷ words))
+    go None none = tt
+    go (Some found) stands = tables found.0 found.1 stands (are_tables found.1) refl
 
 module _ (n : Text) (words : List Text) where
   abbrev count : ℕ
@@ -63,25 +108,27 @@ module _ (n : Text) (words : List Text) where
         expected = gives;
       }
 
-  -- the option stands where the tables end
-  option_given : (option value : Text) → drop count words ≡ option ∷ value ∷ [] → is_expect option value ≡ true → Gives words (codes "expect") value
-  option_given option value is expect =
-      let first : slice_get words (count + 0) ≡ Some option = sym (from_place words count 0) ∙ ap (λ (xs : List Text). slice_get xs 0) is in
-      let second : slice_get words (count + 1) ≡ Some value = sym (from_place words count 1) ∙ ap (λ (xs : List Text). slice_get xs 1) is in
-      let here : count ≡ count + 0 = omega arith in
-      apart count (ap (slice_get words) here ∙ first ∙ ap (λ (w : Text). Some w) (is_named option value expect)) second
+  -- what the words behind the tables give, all words give
+  last_gives : (rest : List Text) → drop count words ≡ rest → (value : Text) → Gives rest (codes "expect") value → Gives words (codes "expect") value
+  last_gives rest is value gives =
+      let whole : take count words ++ rest ≡ words = ap (λ (xs : List Text). take count words ++ xs) (sym is) ∙ take-append-drop count words in
+      subst (λ (xs : List Text). Gives xs (codes "expect") value) whole (behind (take count words) rest (codes "expect") value gives)
 
   last_given : 0 < count → (rest : List Text) → drop count words ≡ rest
       → IfSome (option_map (λ expected. Merge (take count words) expected) (option_last rest)) (IsGiven (n ∷ codes "merge" ∷ words))
   last_given some [] is = (refl, tables_given some None tt)
-  last_given some (option ∷ []) is = tt
-  last_given some (option ∷ value ∷ []) is = go (is_expect option value) refl
+  last_given some (option ∷ rest) is = go (expected_first (option ∷ rest)) (found_first (option ∷ rest))
     where
-      go : (b : Bool) → is_expect option value ≡ b
+      alone : (value : Text) → Gives (option ∷ rest) (codes "expect") value → (b : Bool)
           → IfSome (option_map (λ expected. Merge (take count words) expected) (cond b (Some (Some value)) None)) (IsGiven (n ∷ codes "merge" ∷ words))
-      go true expect = (refl, tables_given some (Some value) (option_given option value is expect))
-      go false expect = tt
-  last_given some (option ∷ value ∷ more ∷ others) is = tt
+      alone value gives true = (refl, tables_given some (Some value) (last_gives (option ∷ rest) is value gives))
+      alone value gives false = tt
+
+      go : (o : Option (Text × List Text)) → IfSome o (Found (option ∷ rest))
+          → IfSome (option_map (λ expected. Merge (take count words) expected) (option_and_then (λ found. cond (length found.1 == 0) (Some (Some found.0)) None) o))
+          (IsGiven (n ∷ codes "merge" ∷ words))
+      go None none = tt
+      go (Some found) stands = alone found.0 stands.gives (length found.1 == 0)
 
 pub merge_given : (n : Text) (words : List Text) → IfSome (merge_of words) (IsGiven (n ∷ codes "merge" ∷ words))
 merge_given n words = go (tables_before words == 0) refl

@@ -10,7 +10,7 @@ use Rattle.rv_engines.specs.Asking.{Asking, asking}
 use Rattle.rv_command.specs.ClapProgram.{is_accepted, program}
 use Rattle.rv_command.specs.ExplainLine.{IsExplainGiven, asking_at}
 use Rattle.rv_command.specs.HuntLine.{Hunting, IsHuntGiven, hunting, hunting_at}
-use Rattle.rv_command.specs.MergeLine.{IsMergeGiven, are_tables, is_expect, option_last, tables_before}
+use Rattle.rv_command.specs.MergeLine.{IsMergeGiven, are_tables, expected_first, option_last, tables_before}
 use Rattle.rv_engines.specs.Request.{Request, request}
 use Rattle.rv_command.specs.RunLine.{IsRunGiven, IsThreadsGiven, number_at, plan_at, request_at}
 use Rattle.rv_command.specs.declared.command.Job.{Job}
@@ -153,8 +153,7 @@ clap_job_of _ = None
 
 -- `merge` with the option before the tables
 abbrev pub option_first : List (List ℕ) → Option Asked
-option_first (option ∷ value ∷ tables) = if is_expect option value && are_tables tables then Some (Merge tables (Some value)) else None
-option_first _ = None
+option_first words = option_and_then (λ found. if are_tables found.1 then Some (Merge found.1 (Some found.0)) else None) (expected_first words)
 
 -- `merge` with its words: where tables come first, only the option may follow
 abbrev pub merge_of : List (List ℕ) → Option Asked

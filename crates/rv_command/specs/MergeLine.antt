@@ -1,5 +1,6 @@
--- The words of `merge TABLE..`, with `--expect TABLE` before the tables or behind them.
-use Rattle.std.specs.Prelude.{ℕ, ◌+◌, ◌<◌, ◌≡◌, ◌++◌, ◌==◌, ◌&&◌, Bool, false, not, nat_lt, if◌then◌else◌, List, [], ◌∷◌, length, Option, Some, None, IfSome, codes}
+-- The words of `merge TABLE..`, with `--expect TABLE` or `--expect=TABLE` before the tables or behind them.
+use Rattle.std.specs.Prelude.{ℕ, ◌+◌, ◌<◌, ◌≡◌, ◌++◌, ◌==◌, ◌&&◌, Bool, false, nat_eq, nat_lt, if◌then◌else◌, List, [], ◌∷◌, drop, length, Option, Some, None, IfSome, option_and_then, option_map, codes}
+use Rattle.std.specs.List.{starts_with}
 use Rattle.std.specs.Str.{bytes_eq}
 use Rattle.clap.specs.Words.{Text}
 use Rattle.rv_command.specs.RunLine.{Gives}
@@ -18,17 +19,27 @@ tables_before (word ∷ rest) = if is_dashed word then 0 else 1 + tables_before 
 abbrev pub are_tables : List Text → Bool
 are_tables words = nat_lt 0 (length words) && (tables_before words == length words)
 
--- the option and its value
-abbrev pub is_expect : Text → Text → Bool
-is_expect option value = bytes_eq option (codes "--expect") && not (is_dashed value)
+-- the value in a word `--expect=TABLE`
+abbrev pub joined_value : Text → Option Text
+joined_value word = if starts_with nat_eq word (codes "--expect=") then Some (drop (length (codes "--expect=")) word) else None
 
--- what is expected, by the words behind the tables
+-- the value behind the word `--expect`, and the words after it
+abbrev pub value_first : List Text → Option (Text × List Text)
+value_first [] = None
+value_first (value ∷ rest) = if is_dashed value then None else Some (value, rest)
+
+-- the value of the option that begins the words, in either form, and the words behind it
+abbrev pub expected_first : List Text → Option (Text × List Text)
+expected_first [] = None
+expected_first (option ∷ rest) = if bytes_eq option (codes "--expect") then value_first rest
+    else option_map (λ value. (value, rest)) (joined_value option)
+
+-- what is expected, by the words behind the tables: none, or the option alone
 abbrev pub option_last : List Text → Option (Option Text)
 option_last [] = Some None
-option_last (option ∷ value ∷ []) = if is_expect option value then Some (Some value) else None
-option_last _ = None
+option_last (option ∷ rest) = option_and_then (λ found. if length found.1 == 0 then Some (Some found.0) else None) (expected_first (option ∷ rest))
 
--- the tables stand together in the words, and the option stands there with its value
+-- the tables stand together in the words, and the option stands there with its value, in either form
 pub record IsMergeGiven (words tables : List Text) (known : Option Text) : Type 0 where
   pub some : 0 < length tables
   pub together : (front : List Text) × (back : List Text) × (words ≡ front ++ tables ++ back)

@@ -7,7 +7,7 @@ ghost use Rattle.rv_command.specs.MergeLine as line;
 use super::Job;
 use crate::arguments::{TablePath, TablePaths};
 
-/// `merge` with the words after its name: one table or more, and `--expect TABLE` before them or behind.
+/// `merge` with the words after its name: one table or more, and `--expect TABLE` or `--expect=TABLE` before them or behind.
 #[tactic(auto, using(crate::proofs::TextLists::take_texts, crate::proofs::TextLists::drop_texts))]
 pub fn merge_of<'a>(words: &'a [&'a str]) -> Option<Job<'a>>
     ensures { option_map spec.asked result ≡ spec.merge_of (spec.texts words.entry.now) }
@@ -26,33 +26,55 @@ pub fn merge_of<'a>(words: &'a [&'a str]) -> Option<Job<'a>>
 fn option_first<'a>(words: &'a [&'a str]) -> Option<Job<'a>>
     ensures { option_map spec.asked result ≡ spec.option_first (spec.texts words.entry.now) }
 {
-    match words {
-        [option, value, tables @ ..] if is_expect(*option, *value) && are_tables(tables) => {
-            Some(Job::Merge {
-                tables: TablePaths(tables),
-                expected: Some(TablePath(*value)),
-            })
-        }
-        _ => None,
+    let (expected, tables) = expected_first(words)?;
+    if !are_tables(tables) {
+        return None;
     }
+    Some(Job::Merge {
+        tables: TablePaths(tables),
+        expected: Some(expected),
+    })
 }
 
 /// What is expected, by the words behind the tables.
 fn option_last<'a>(words: &'a [&'a str]) -> Option<Option<TablePath<'a>>>
     ensures { option_map (λ expected. option_map (λ path. path.0.now) expected) result ≡ line.option_last (spec.texts words.entry.now) }
 {
-    match words {
-        [] => Some(None),
-        [option, value] if is_expect(*option, *value) => Some(Some(TablePath(*value))),
+    if words.is_empty() {
+        return Some(None);
+    }
+    match expected_first(words)? {
+        (expected, []) => Some(Some(expected)),
         _ => None,
     }
 }
 
-/// Whether the words are the option `--expect` and its value.
-fn is_expect(option: &str, value: &str) -> bool
-    ensures { result ≡ line.is_expect option.now value.now }
+/// The value of the option that begins the words, in either form, and the words behind it.
+fn expected_first<'a>(words: &'a [&'a str]) -> Option<(TablePath<'a>, &'a [&'a str])>
+    ensures { option_map (λ found. (found.0.0.now, spec.texts found.1.now)) result ≡ line.expected_first (spec.texts words.entry.now) }
 {
-    option == "--expect" && !is_dashed(value)
+    match words {
+        [option, rest @ ..] if *option == "--expect" => value_first(rest),
+        [option, rest @ ..] => Some((TablePath(joined_value(*option)?), rest)),
+        [] => None,
+    }
+}
+
+/// The value behind the word `--expect`, and the words after it.
+fn value_first<'a>(words: &'a [&'a str]) -> Option<(TablePath<'a>, &'a [&'a str])>
+    ensures { option_map (λ found. (found.0.0.now, spec.texts found.1.now)) result ≡ line.value_first (spec.texts words.entry.now) }
+{
+    match words {
+        [value, rest @ ..] if !is_dashed(*value) => Some((TablePath(*value), rest)),
+        _ => None,
+    }
+}
+
+/// The value in a word `--expect=TABLE`.
+fn joined_value(word: &str) -> Option<&str>
+    ensures { option_map (λ value. value.now) result ≡ line.joined_value word.now }
+{
+    word.strip_prefix("--expect=")
 }
 
 /// Whether the words are tables, one at least.

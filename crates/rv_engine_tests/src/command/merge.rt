@@ -20,8 +20,19 @@ const EXPECTS: Job<'static> = Job::Merge {
     expected: Some(TablePath("t")),
 };
 
-/// One table or more, and the option before them or behind.
-const ASKS: [(&[&str], Job<'static>); 4] = [
+/// What follows `=` is the value, also where it is empty or begins with a hyphen.
+const EMPTY: Job<'static> = Job::Merge {
+    tables: TablePaths(&["-"]),
+    expected: Some(TablePath("")),
+};
+
+const DASHED: Job<'static> = Job::Merge {
+    tables: TablePaths(&["-"]),
+    expected: Some(TablePath("-t=u")),
+};
+
+/// One table or more, and the option before them or behind, in either form.
+const ASKS: [(&[&str], Job<'static>); 9] = [
     (&["rvcollide", "merge", "-"], ONE),
     (&["", "merge", "a.table", "b.table"], PLAIN),
     (
@@ -32,6 +43,11 @@ const ASKS: [(&[&str], Job<'static>); 4] = [
         &["", "merge", "--expect", "t", "a.table", "b.table"],
         EXPECTS,
     ),
+    (&["", "merge", "a.table", "b.table", "--expect=t"], EXPECTS),
+    (&["", "merge", "--expect=t", "a.table", "b.table"], EXPECTS),
+    (&["", "merge", "-", "--expect="], EMPTY),
+    (&["", "merge", "--expect", "", "-"], EMPTY),
+    (&["", "merge", "--expect=-t=u", "-"], DASHED),
 ];
 
 #[test]
@@ -47,12 +63,16 @@ const APART: &str = "merge takes its tables together";
 const REFUSED: &[(&str, &str)] = &[
     ("rvcollide merge", "<TABLE>"),
     ("rvcollide merge --expect t", "<TABLE>"),
+    ("rvcollide merge --expect=t", "<TABLE>"),
     ("rvcollide merge a --expect", "--expect <TABLE>"),
+    ("rvcollide merge a --expect -t=u", "'-t'"),
+    ("rvcollide merge a --expects=t", "'--expects'"),
     ("rvcollide merge a --check", "'--check'"),
     ("rvcollide merge a --expect t b", APART),
+    ("rvcollide merge a --expect=t b", APART),
     ("rvcollide merge -- a", APART),
     (
-        "rvcollide merge --expect t a --expect t",
+        "rvcollide merge --expect t a --expect=t",
         "cannot be used multiple times",
     ),
 ];
