@@ -1,5 +1,6 @@
--- A campaign: its runs, and what it refuses.
+-- A campaign: its runs, what is kept of them, and what it refuses.
 use Rattle.std.specs.Prelude.{◌≡◌, ⊤, ℕ, ◌*◌, ◌&&◌, nat_le, Option, Some, None, if◌then◌else◌, not, List, length, slice_get}
+use Rattle.rv_campaign.specs.Kept.{IsKept, Source}
 use Rattle.rv_campaign.specs.Run.{Hunt, IsRun}
 use Rattle.rv_campaign.specs.declared.runs.CampaignFault.{CampaignFault}
 use Rattle.rv_campaign.specs.declared.runs.CampaignFault.TheVariants as campaign
@@ -7,7 +8,9 @@ use Rattle.rv_campaign.specs.declared.runs.NumberFault.{NumberFault}
 use Rattle.rv_campaign.specs.declared.runs.NumberFault.TheVariants.{Runs, Workers, TooLarge}
 use Rattle.rv_campaign.specs.declared.runs.TheConstants.{MOST_ENTRIES, MOST_RUNS, MOST_WORKERS}
 use Rattle.rv_collide.specs.Plan.{Numbers, most_entries}
+use Rattle.rv_collide.specs.Stored.{Stored}
 use Rattle.rv_collide.specs.declared.collider.Finished.{Finished}
+use Rattle.rv_sample.specs.Sites.{sites}
 
 -- the first test that the numbers of a campaign fail
 abbrev pub fault_of : Numbers → ℕ → ℕ → Option NumberFault
@@ -38,3 +41,12 @@ IsToldBy shuts campaign.NoThread = ⊤
 pub record AreRuns (hunt : Hunt) (runs : ℕ) (told : List Finished) : Type 0 where
   pub count : length told ≡ runs
   pub each : (run : ℕ) (one : Finished) → slice_get told run ≡ Some one → IsRun hunt run one
+
+-- what the runs of a hunt are made of: its image, the sites that it leaves, and its seed
+abbrev pub source_of : Hunt → Source
+source_of hunt = record { image = hunt.image; sites = sites hunt.image hunt.excluded; seed = hunt.seed }
+
+-- for each run's number, in order, what is kept of its one run
+pub record AreKeptOf {K : Type 0} (keeps : Stored → K → Type 0) (hunt : Hunt) (runs : ℕ) (kept : List K) : Type 0 where
+  pub count : length kept ≡ runs
+  pub each : (run : ℕ) (one : K) → slice_get kept run ≡ Some one → IsKept keeps (source_of hunt) hunt.plan run one

@@ -15,7 +15,7 @@ use std::sync::Wait;
 use std::sync::atomic::AtomicU64;
 use std::thread::Threads;
 
-/// What a caller keeps of each run. The worker that has made a run keeps it, so that the run itself, which is far
+/// What a caller keeps of each run. The worker that has made a run keeps it, so that what else the run has, which is far
 /// larger, is let go before the worker makes another. For contracts alone it names what may be kept of a core.
 pub trait Keep: Sync {
     ghost use Rattle.rv_collide.specs.Stored.{Stored};
@@ -25,8 +25,8 @@ pub trait Keep: Sync {
     ghost keeps: { Self → Stored → Self.Kept → Type 0 };
 
     /// What is kept of a run, whose core this is at its end.
-    fn keep(&self, alloc: Global, core: &Collider<Flat>) -> Result<Self::Kept, NoMemory>
-        ensures { IfOk result (λ kept. keeps self.now core.now kept) };
+    fn keep(&self, alloc: Global, core: Collider<Flat>) -> Result<Self::Kept, NoMemory>
+        ensures { IfOk result (λ kept. keeps self.now core kept) };
 }
 
 /// Why runs are not made: growth was refused, or a worker could not be started.

@@ -1,8 +1,9 @@
 //! Whole runs from a seed.
 //!
 //! To the layer above, a run's schedule is the one list that its seed, its number, the plan and the image's
-//! sites drive (`specs/Run.antt`), a campaign is the list of its runs, in order, and of a series of runs, each with a
-//! plan of its own, a caller has what it keeps of each, in order (`specs/Kept.antt`).
+//! sites drive (`specs/Run.antt`), and a campaign is the list of its runs, in order, or of what the caller keeps of each
+//! (`specs/Campaign.antt`). Of a series of runs, each with a plan of its own, a caller has what it keeps of each, in
+//! order (`specs/Kept.antt`).
 #![tactic(auto)]
 
 mod kept;
@@ -13,4 +14,6 @@ mod workers;
 
 pub use kept::{Keep, Series, SeriesFault, kept_runs};
 pub use run::run_one;
-pub use runs::{CampaignFault, MOST_RUNS, MOST_WORKERS, NumberFault, campaign, fault_of_numbers};
+pub use runs::{
+    CampaignFault, Hunt, MOST_RUNS, MOST_WORKERS, NumberFault, campaign, kept_campaign,
+};

@@ -39,7 +39,7 @@ pub fn run_one(
 }
 
 /// A run over the sites of a sampler.
-pub(crate) fn run_sampled(
+fn run_sampled(
     alloc: Global,
     image: &Image,
     plan: Plan,

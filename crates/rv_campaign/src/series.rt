@@ -74,7 +74,7 @@ impl<K: Keep> Series<'_, K> {
         let plan = self.plans[place as usize];
         let run = self.first + place;
         let core = core_sampled(alloc, self.image, plan, self.seed, run, self.sampler)?;
-        self.keep.keep(alloc, &core)
+        self.keep.keep(alloc, core)
     }
 
     /// The runs that a worker takes.

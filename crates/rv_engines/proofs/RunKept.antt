@@ -1,11 +1,11 @@
 -- The runs of a campaign, of which their endings are kept.
 use Rattle.std.proofs.Common.{◌≡◌, ℕ, zero, suc, ◌+◌, ◌<◌, ◌≤◌, ◌^◌, List, [], ◌∷◌, length, map, take, Option, None, Some, refl, sym, ap, subst, ◌∙◌, arith}
-use Rattle.std.specs.Prelude.{slice_get, replicate, Vec, ◌++◌}
+use Rattle.std.specs.Prelude.{slice_get, Vec, ◌++◌}
 use Rattle.std.specs.declared.alloc.Global.{Global}
-use Rattle.std.proofs.lemmas.List.{get_or-replicate, length-map, length-replicate, take_more}
-use Rattle.std.proofs.lemmas.Option.{get_or_from_slice_get, slice_get-get_or, slice_get_within}
-use Rattle.rv_campaign.specs.Campaign.{AreRuns}
-use Rattle.rv_campaign.specs.Kept.{AreKept, IsCoreOf, IsKept, Source}
+use Rattle.std.proofs.lemmas.List.{length-map, take_more}
+use Rattle.std.proofs.lemmas.Option.{get_or_from_slice_get, slice_get_within}
+use Rattle.rv_campaign.specs.Campaign.{AreKeptOf, AreRuns}
+use Rattle.rv_campaign.specs.Kept.{IsCoreOf, IsKept, Source}
 use Rattle.rv_campaign.specs.Run.{Hunt, IsRun, IsRunOver, sampling_of}
 use Rattle.rv_collide.specs.Answers.{IsOutput}
 use Rattle.rv_collide.specs.Numbers.{numbers}
@@ -103,19 +103,13 @@ runs_of source plan first (k ∷ ks) each =
           (λ place x there. subst (λ (n : ℕ). IsRunOver source.image (numbers plan) source.sites source.seed n x) (next_place first place) (rest.each place x there));
     }
 
-same_plan : (runs place : ℕ) (plan : Plan) → place < runs → slice_get (replicate runs plan) place ≡ Some plan
-same_plan runs place plan below =
-    let size = length-replicate runs plan in
-    slice_get-get_or (replicate runs plan) place plan (omega (arith, below, size)) ∙ ap Some (get_or-replicate runs place plan plan below)
-
-pub are_of_runs : (image : Contents) (plan : Plan) (seed : ℕ) (excluded : List ℕ) (runs : ℕ) (found : List ℕ) (plans : List Plan) (kept : List Endings) → found ≡ sites image excluded → plans ≡ replicate runs plan → AreKept (λ core one. IsKeptRun core one) (record { image = image; sites = found; seed = seed }) 0 plans kept
+pub are_of_runs : (image : Contents) (plan : Plan) (seed : ℕ) (excluded : List ℕ) (runs : ℕ) (kept : List Endings) → AreKeptOf IsKeptRun (record { image = image; plan = numbers plan; seed = seed; excluded = excluded }) runs kept
     → AreOfRuns (record { image = image; plan = numbers plan; seed = seed; excluded = excluded }) runs kept
-are_of_runs image plan seed excluded runs found plans kept at same are = record {
+are_of_runs image plan seed excluded runs kept are = record {
   told = all.told;
   are_runs = record {
-    count = sym (length-map all.told (λ (one : Finished). one.endings)) ∙ ap length all.endings_are ∙ size;
-    each = λ run one there. subst (λ (s : List ℕ). IsRunOver image (numbers plan) s seed run one) at
-        (subst (λ (n : ℕ). IsRunOver image (numbers plan) found seed n one) (from_zero run) (all.each run one there));
+    count = sym (length-map all.told (λ (one : Finished). one.endings)) ∙ ap length all.endings_are ∙ are.count;
+    each = λ run one there. subst (λ (n : ℕ). IsRunOver image (numbers plan) (sites image excluded) seed n one) (from_zero run) (all.each run one there);
   };
   endings_are = all.endings_are;
 }
@@ -124,18 +118,10 @@ are_of_runs image plan seed excluded runs found plans kept at same are = record 
     from_zero place = omega arith
 
     source : Source
-    source = record { image = image; sites = found; seed = seed }
-
-    size : length kept ≡ runs
-    size = are.count ∙ ap length same ∙ length-replicate runs plan
-
-    of_plan : (place : ℕ) (one : Endings) → slice_get kept place ≡ Some one → slice_get plans place ≡ Some plan
-    of_plan place one there =
-        let below = slice_get_within kept place one there in
-        ap (λ ps. slice_get ps place) same ∙ same_plan runs place plan (omega (arith, below, size))
+    source = record { image = image; sites = sites image excluded; seed = seed }
 
     all : Runs source plan 0 kept
-    all = runs_of source plan 0 kept (λ place one there. are.each place plan one (of_plan place one there) there)
+    all = runs_of source plan 0 kept (λ place one there. subst (λ (n : ℕ). IsKept IsKeptRun source (numbers plan) n one) (sym (from_zero place)) (are.each place one there))
 
 pub how_many : (hunt : Hunt) (runs : ℕ) (kept : List Endings) → AreOfRuns hunt runs kept → length kept ≡ runs
 how_many hunt runs kept are = sym (ap length are.endings_are) ∙ length-map are.told (λ (one : Finished). one.endings) ∙ are.are_runs.count

@@ -36,7 +36,17 @@ impl<'a> Keep for Keeper<'a> {
 
     ghost keeps = { λ k core kept. core.image ≡ k.image.now → spec.IsKeptRun k.ranges.now core kept };
 
-    fn keep(&self, alloc: Global, core: &Collider<Flat>) -> Result<KeptRun, NoMemory> {
+    fn keep(&self, alloc: Global, core: Collider<Flat>) -> Result<KeptRun, NoMemory> {
+        self.kept(alloc, &core)
+    }
+}
+
+impl<'a> Keeper<'a> {
+    /// What is kept of the run that is over with this core.
+    fn kept(&self, alloc: Global, core: &Collider<Flat>) -> Result<KeptRun, NoMemory>
+        ensures { IfOk result (λ kept. core.now.image ≡ self.now.image.now
+            → spec.IsKeptRun self.now.ranges.now core.now kept) }
+    {
         Ok(KeptRun {
             summary: summary_of(alloc, core)?,
             reports: reports_in(alloc, self.image, self.ranges, core)?,

@@ -1,5 +1,5 @@
 //! The runs of a campaign, of each of which its endings are kept.
-ghost use Rattle.std.specs.Prelude.{◌≡◌, ◌≤◌, None, IfOk, IfErr, OnOk};
+ghost use Rattle.std.specs.Prelude.{◌≡◌, None, IfOk, IfErr, OnOk};
 ghost use Rattle.rv_campaign.specs.Campaign.{fault_of, number_fault};
 ghost use Rattle.rv_collide.specs.Numbers.{numbers};
 ghost use Rattle.rv_collide.specs.Stored.{setting_of};
@@ -7,13 +7,13 @@ ghost use Rattle.rv_collide.specs.Verdict as verdict;
 ghost use Rattle.rv_engines.specs.internal.KeptRuns.{AreOfRuns, IsKeptRun, IsSmall};
 
 use crate::run::options::Options;
-use rv_campaign::{CampaignFault, Keep, Series, SeriesFault, fault_of_numbers, kept_runs};
+use rv_campaign::{CampaignFault, Hunt, Keep, kept_campaign};
 use rv_collide::collider::Collider;
 use rv_collide::ending::Ending;
+use rv_drive::gate::FreeGate;
 use rv_elf::Image;
 use rv_memory::flat::Flat;
 use rv_memory::store::NoMemory;
-use rv_sample::Sampler;
 use std::alloc::Global;
 use std::convert::Infallible;
 use std::sync::Wait;
@@ -27,9 +27,9 @@ impl Keep for KeepEndings {
 
     ghost keeps = { λ _ core kept. IsKeptRun core kept };
 
-    fn keep(&self, alloc: Global, core: &Collider<Flat>) -> Result<Vec<Ending>, NoMemory> {
-        small(core);
-        endings(alloc, core)
+    fn keep(&self, alloc: Global, core: Collider<Flat>) -> Result<Vec<Ending>, NoMemory> {
+        small(&core);
+        endings(alloc, &core)
     }
 }
 
@@ -52,35 +52,6 @@ fn endings(alloc: Global, core: &Collider<Flat>) -> Result<Vec<Ending>, NoMemory
     Ok(kept)
 }
 
-/// The endings of the runs, run by run.
-fn endings_of_runs(
-    rt: &(impl Threads + Wait),
-    alloc: Global,
-    options: &Options<'_>,
-    image: &Image,
-    excluded: &[u32],
-) -> Result<Vec<Vec<Ending>>, SeriesFault>
-    requires { options.now.workers ≤ 16 }
-    ensures { IfOk result (λ kept. AreOfRuns (record {
-      image = image.now;
-      plan = numbers options.now.plan;
-      seed = options.now.seed;
-      excluded = excluded.now;
-    }) options.now.runs kept.items) }
-{
-    let sampler = Sampler::sites(alloc, image, excluded)?;
-    let plans = vec![in alloc; options.plan; options.runs as usize]?;
-    let series = Series {
-        image,
-        seed: u64::from(options.seed),
-        sampler: &sampler,
-        first: 0,
-        plans: &plans,
-        keep: &KeepEndings,
-    };
-    kept_runs(rt, alloc, &series, options.workers as u8)
-}
-
 /// The endings of the runs of a campaign, run by run.
 pub fn endings_of_campaign(
     rt: &(impl Threads + Wait),
@@ -99,12 +70,19 @@ pub fn endings_of_campaign(
     ensures err { IfErr result (λ fault. fault_of (numbers options.now.plan) options.now.runs options.now.workers
         ≡ number_fault fault) }
 {
-    if let Some(fault) = fault_of_numbers(options.plan, options.runs, options.workers) {
-        return Err(CampaignFault::from(fault));
-    }
-    match endings_of_runs(rt, alloc, options, image, excluded) {
-        Ok(kept) => Ok(kept),
-        Err(SeriesFault::NoMemory) => Err(CampaignFault::NoMemory),
-        Err(SeriesFault::NoThread) => Err(CampaignFault::NoThread),
-    }
+    let hunt = Hunt {
+        image,
+        plan: options.plan,
+        seed: u64::from(options.seed),
+        excluded,
+    };
+    kept_campaign(
+        rt,
+        alloc,
+        &hunt,
+        options.runs,
+        options.workers,
+        &FreeGate,
+        &KeepEndings,
+    )
 }

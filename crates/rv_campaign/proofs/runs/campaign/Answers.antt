@@ -1,4 +1,3 @@
-use Rattle.std.proofs.Common.{arith}
 use Rattle.std.proofs.lemmas.Result.{IfOk-weaker}
 use Rattle.rv_campaign.specs.Run.{Hunt}
 use Rattle.rv_collide.specs.Numbers.{numbers}
@@ -8,4 +7,4 @@ use Rattle.rv_campaign.proofs.runs.campaign.Goals as goal
 pub returns-clause-ok : goal.returns-clause-ok
 returns-clause-ok g c =
     let hunt : Hunt = record { image = c.args.image.now; plan = numbers c.args.plan; seed = c.args.seed; excluded = c.args.excluded.now } in
-    IfOk-weaker c.pieces.result _ _ (λ told between. are_runs hunt c.args.runs told.items between c.in_ok-sampler.ensures (search arith) (omega arith)) c.pieces.ensures.ok
+    IfOk-weaker c.kept_campaign.result _ _ (λ told kept. are_runs hunt c.args.runs told.items kept) c.kept_campaign.ensures.ok

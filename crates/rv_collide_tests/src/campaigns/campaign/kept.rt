@@ -24,13 +24,18 @@ impl Keep for Entries {
 
     ghost keeps = { λ _ _ _. ⊤ };
 
-    fn keep(&self, alloc: Global, core: &Collider<Flat>) -> Result<Vec<Entry>, NoMemory> {
-        let mut entries = Vec::new(alloc);
-        for n in 0..core.entries() {
-            entries.push(core.entry(n))?;
-        }
-        Ok(entries)
+    fn keep(&self, alloc: Global, core: Collider<Flat>) -> Result<Vec<Entry>, NoMemory> {
+        entries_of(alloc, &core)
     }
+}
+
+/// The entries of a run.
+fn entries_of(alloc: Global, core: &Collider<Flat>) -> Result<Vec<Entry>, NoMemory> {
+    let mut entries = Vec::new(alloc);
+    for n in 0..core.entries() {
+        entries.push(core.entry(n))?;
+    }
+    Ok(entries)
 }
 
 /// Plans of one to three harts whose lengths differ much.

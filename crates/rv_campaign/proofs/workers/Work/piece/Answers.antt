@@ -1,25 +1,28 @@
-use Rattle.std.proofs.Common.{◌≡◌, ℕ, ◌+◌, [], ◌∷◌, subst, ◌∙◌, arith}
-use Rattle.rv_campaign.specs.internal.Pieces.{AreRunsBetween, first_of}
+use Rattle.std.proofs.Common.{◌≡◌, ℕ, ◌+◌, [], ◌∷◌, refl, subst, ◌∙◌, arith}
+use Rattle.rv_campaign.specs.Kept.{Source}
+use Rattle.rv_campaign.specs.internal.Pieces.{AreKeptBetween, first_of}
 use Rattle.rv_collide.specs.Numbers.{numbers}
-use Rattle.rv_campaign.proofs.PieceLemmas.{joined, one_run}
+use Rattle.rv_campaign.proofs.PieceLemmas.{joined, one_kept}
 use Rattle.rv_campaign.proofs.workers.Work.piece.Goals as goal
 
-pub loop-place-preserved : goal.loop-place-preserved
-loop-place-preserved g c =
+pub loop-run-preserved : goal.loop-run-preserved
+loop-run-preserved g c =
     let w = c.args.self.now in
-    let below = c.loop-place-test.true in
+    let source : Source = record { image = w.image.now; sites = w.sampler.now; seed = w.seed } in
+    let below = c.loop-run-test.true in
     record {
       within = omega (arith, below);
-      runs = joined w.image.now (numbers w.plan) w.sampler.now w.seed (w.first + c.first_of-begin.result) (w.first + c.loop-place.place) (w.first + (c.loop-place.place + 1)) c.loop-place.told.items (c.in_ok-one.one ∷ []) c.push.new.self.items c.loop-place.invariant.runs
-          (one_run w.image.now (numbers w.plan) w.sampler.now w.seed (w.first + c.loop-place.place) (w.first + (c.loop-place.place + 1)) c.in_ok-one.one (omega arith) c.in_ok-one.ensures.ok)
+      runs = joined (g.K.Keep.keeps w.keep.now) source (numbers w.plan) c.first_of-begin.result c.loop-run.run (c.loop-run.run + 1) c.loop-run.kept.items (c.in_ok-one.one ∷ []) c.push.new.self.items c.loop-run.invariant.runs
+          (one_kept (g.K.Keep.keeps w.keep.now) source (numbers w.plan) c.loop-run.run (c.loop-run.run + 1) c.in_ok-one.one refl c.in_ok-one.ensures.ok)
           c.in_ok-push.ensures.items;
     }
 
 pub returns-clause-ok : goal.returns-clause-ok
 returns-clause-ok g c =
     let w = c.args.self.now in
-    let over = c.loop-place-test.false in
-    let within = c.loop-place.invariant.within in
-    let here : c.loop-place.place ≡ c.first_of-end.result = omega (arith, over, within) in
-    subst (λ (b : ℕ). AreRunsBetween w.image.now (numbers w.plan) w.sampler.now w.seed (w.first + b) (w.first + first_of w.count w.workers (c.args.worker + 1)) c.loop-place.told.items) c.first_of-begin.ensures.is
-    (subst (λ (e : ℕ). AreRunsBetween w.image.now (numbers w.plan) w.sampler.now w.seed (w.first + c.first_of-begin.result) (w.first + e) c.loop-place.told.items) (here ∙ c.first_of-end.ensures.is) c.loop-place.invariant.runs)
+    let source : Source = record { image = w.image.now; sites = w.sampler.now; seed = w.seed } in
+    let over = c.loop-run-test.false in
+    let within = c.loop-run.invariant.within in
+    let here : c.loop-run.run ≡ c.first_of-end.result = omega (arith, over, within) in
+    subst (λ (b : ℕ). AreKeptBetween (g.K.Keep.keeps w.keep.now) source (numbers w.plan) b (first_of w.count w.workers (c.args.worker + 1)) c.loop-run.kept.items) c.first_of-begin.ensures.is
+    (subst (λ (e : ℕ). AreKeptBetween (g.K.Keep.keeps w.keep.now) source (numbers w.plan) c.first_of-begin.result e c.loop-run.kept.items) (here ∙ c.first_of-end.ensures.is) c.loop-run.invariant.runs)
