@@ -5,7 +5,7 @@ use Rattle.std.proofs.Math.Nat.{div-add-mod}
 use Rattle.std.proofs.lemmas.Bool.{cases_lt}
 use Rattle.std.proofs.lemmas.Option.{slice_get_within}
 use Rattle.rv_campaign.proofs.GoingLemmas.{finished}
-use Rattle.rv_campaign.specs.Campaign.{AreKeptOf, AreRuns, source_of}
+use Rattle.rv_campaign.specs.Campaign.{AreKeptOf, AreRuns}
 use Rattle.rv_campaign.specs.Kept.{IsCoreOf, IsKept, Source}
 use Rattle.rv_campaign.specs.Run.{Hunt}
 use Rattle.rv_campaign.specs.internal.Pieces.{AreKeptBetween, first_of}

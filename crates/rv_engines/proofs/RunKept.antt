@@ -1,10 +1,10 @@
 -- The runs of a campaign, of which their endings are kept.
-use Rattle.std.proofs.Common.{◌≡◌, ℕ, zero, suc, ◌+◌, ◌<◌, ◌≤◌, ◌^◌, List, [], ◌∷◌, length, map, take, Option, None, Some, refl, sym, ap, subst, ◌∙◌, arith}
+use Rattle.std.proofs.Common.{◌≡◌, ℕ, zero, suc, ◌+◌, ◌<◌, ◌^◌, List, [], ◌∷◌, length, map, take, None, Some, refl, sym, ap, subst, ◌∙◌, arith}
 use Rattle.std.specs.Prelude.{slice_get, Vec, ◌++◌}
 use Rattle.std.specs.declared.alloc.Global.{Global}
 use Rattle.std.proofs.lemmas.List.{length-map, take_more}
 use Rattle.std.proofs.lemmas.Option.{get_or_from_slice_get, slice_get_within}
-use Rattle.rv_campaign.specs.Campaign.{AreKeptOf, AreRuns}
+use Rattle.rv_campaign.specs.Campaign.{AreKeptOf}
 use Rattle.rv_campaign.specs.Kept.{IsCoreOf, IsKept, Source}
 use Rattle.rv_campaign.specs.Run.{Hunt, IsRun, IsRunOver, sampling_of}
 use Rattle.rv_collide.specs.Answers.{IsOutput}

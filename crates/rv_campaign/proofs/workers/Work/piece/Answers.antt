@@ -24,5 +24,5 @@ returns-clause-ok g c =
     let over = c.loop-run-test.false in
     let within = c.loop-run.invariant.within in
     let here : c.loop-run.run ≡ c.first_of-end.result = omega (arith, over, within) in
-    subst (λ (b : ℕ). AreKeptBetween (g.K.Keep.keeps w.keep.now) source (numbers w.plan) b (first_of w.count w.workers (c.args.worker + 1)) c.loop-run.kept.items) c.first_of-begin.ensures.is
-    (subst (λ (e : ℕ). AreKeptBetween (g.K.Keep.keeps w.keep.now) source (numbers w.plan) c.first_of-begin.result e c.loop-run.kept.items) (here ∙ c.first_of-end.ensures.is) c.loop-run.invariant.runs)
+    subst (λ (b : ℕ). AreKeptBetween (g.K.Keep.keeps w.keep.now) source (numbers w.plan) b (first_of w.count w.workers (c.args.worker + 1)) c.loop-run.kept.items) {y = first_of w.count w.workers c.args.worker} c.first_of-begin.ensures.is
+    (subst (λ (e : ℕ). AreKeptBetween (g.K.Keep.keeps w.keep.now) source (numbers w.plan) c.first_of-begin.result e c.loop-run.kept.items) {y = first_of w.count w.workers (c.args.worker + 1)} (here ∙ c.first_of-end.ensures.is) c.loop-run.invariant.runs)
