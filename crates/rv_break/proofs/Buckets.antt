@@ -1,7 +1,12 @@
 -- Addresses without a repeat, and how many of them stand in a bucket.
 use Rattle.std.proofs.Common.{◌≡◌, ℕ, subst, zero-le, inl, inr, add-zero, add-one, add_assoc, add_comm, zero-add, ◌-◌, ◌+◌, ◌≤◌, ◌<◌, Bool, true, false, cond, List, [], ◌∷◌, ◌++◌, length, refl, sym, ap, ◌∙◌, arith}
-use Rattle.std.specs.Prelude.{nat_lt, ◌==◌, ◌&&◌, ◌||◌, not, filter}
-use Rattle.std.specs.List.{list_any}
+use Rattle.std.proofs.Common.{nat_eq, suc, take, Some, Option, is_some}
+use Rattle.std.specs.Prelude.{nat_lt, ◌==◌, ◌&&◌, ◌||◌, not, sum_by, position, swap_remove, IsPermutation}
+use Rattle.std.specs.List.{list_any, position_from}
+use Rattle.std.proofs.lemmas.Iterator.Adapters.{position_from-zero}
+use Rattle.std.proofs.lemmas.List.Quantifiers.{position-Some}
+use Rattle.std.proofs.lemmas.List.Recursion.{is_sum_by}
+use Rattle.std.proofs.lemmas.List.Sorted.{IsPermutation-swap_remove, length_permutation, list_any-IsPermutation, sum_by_popped}
 use Rattle.std.specs.Cmp.{nat_cmp_total}
 use Rattle.std.specs.FinSet.{FinSet, contains, from_list, len, contains-from_list_nat, len-insert, len-empty}
 use Rattle.std.specs.Ordering.{nat_cmp}
@@ -45,43 +50,10 @@ apart_push (x ∷ xs) a apart none =
     let h = or_false (x == a) (is_among a xs) none in
     (any_push (λ y. y == x) xs a apart.0 (eq_sym x a h.0), apart_push xs a apart.1 h.1)
 
-any_filter : (t p : ℕ → Bool) (xs : List ℕ) → list_any t xs ≡ false → list_any t (filter p xs) ≡ false
-any_filter t p [] none = refl
-any_filter t p (x ∷ xs) none =
-    let h = or_false (t x) (list_any t xs) none in
-    elim (p x) as (λ b. list_any t (cond b (x ∷ filter p xs) (filter p xs)) ≡ false) [
-      | true ↦ rw (h.0) (any_filter t p xs h.1)
-      | false ↦ any_filter t p xs h.1
-    ]
-
-pub apart_filter : (p : ℕ → Bool) (xs : List ℕ) → AreApart xs → AreApart (filter p xs)
-apart_filter p [] apart = tt
-apart_filter p (x ∷ xs) apart =
-    elim (p x) as (λ b. AreApart (cond b (x ∷ filter p xs) (filter p xs))) [
-      | true ↦ (any_filter (λ y. y == x) p xs apart.0, apart_filter p xs apart.1)
-      | false ↦ apart_filter p xs apart.1
-    ]
-
-abbrev pub without : ℕ → List ℕ → List ℕ
-without a xs = filter (λ x. not (x == a)) xs
-
-pub members_without : (xs : List ℕ) (a q : ℕ) → is_among q (without a xs) ≡ (not (q == a) && is_among q xs)
-members_without [] a q = grind (arith, nat_tests)
-members_without (x ∷ xs) a q =
-    let rest = members_without xs a q in
-    elim (x == a) as (λ b. (x == a) ≡ b → is_among q (cond (not b) (x ∷ without a xs) (without a xs)) ≡ (not (q == a) && ((x == q) || is_among q xs))) [
-      | true ↦ λ e. grind (arith, nat_tests, rest)
-      | false ↦ λ e. grind (arith, nat_tests, rest)
-    ] refl
-
 -- one number at most for each address
 count_le : (p : ℕ → Bool) (xs : List ℕ) → count_of p xs ≤ length xs
 count_le p [] = zero-le
 count_le p (x ∷ xs) = let rest = count_le p xs in elim (p x) as (λ b. cond b 1 0 + count_of p xs ≤ length (x ∷ xs)) [ true ↦ omega arith | false ↦ omega arith ]
-
-filter_le : (p : ℕ → Bool) (xs : List ℕ) → length (filter p xs) ≤ length xs
-filter_le p [] = zero-le
-filter_le p (x ∷ xs) = let rest = filter_le p xs in elim (p x) as (λ b. length (cond b (x ∷ filter p xs) (filter p xs)) ≤ length (x ∷ xs)) [ true ↦ omega arith | false ↦ omega arith ]
 
 pub count_push : (p : ℕ → Bool) (xs : List ℕ) (a : ℕ) → count_of p (xs ++ a ∷ []) ≡ count_of p xs + cond (p a) 1 0
 count_push p [] a = add_comm (cond (p a) 1 0) 0
@@ -104,32 +76,90 @@ count_none p (x ∷ xs) a passes none =
       | false ↦ λ e. count_none p xs a passes (zero_rest (cond (p x) 1 0) (count_of p xs) none)
     ] refl
 
-pub count_others : (p : ℕ → Bool) (xs : List ℕ) (a : ℕ) → p a ≡ false → count_of p (without a xs) ≡ count_of p xs
-count_others p [] a fails = refl
-count_others p (x ∷ xs) a fails =
-    let rest = count_others p xs a fails in
-    elim (x == a) as (λ b. (x == a) ≡ b → count_of p (cond (not b) (x ∷ without a xs) (without a xs)) ≡ count_of p (x ∷ xs)) [
-      | true ↦ λ e. rest ∙ sym (ap (λ b. cond b 1 0 + count_of p xs) (ap p (same_number x a e) ∙ fails) ∙ zero-add (count_of p xs))
-      | false ↦ λ e. ap (λ n. cond (p x) 1 0 + n) rest
+-- ---- an address taken out, wherever the others stand then
+
+count_is : (p : ℕ → Bool) (xs : List ℕ) → count_of p xs ≡ sum_by (λ x. cond (p x) 1 0) xs
+count_is p xs = is_sum_by (count_of p) (λ x. cond (p x) 1 0) refl (λ _ _. refl) xs
+
+count_taken : (p : ℕ → Bool) (a : ℕ) (xs ys : List ℕ) → IsPermutation xs (a ∷ ys) → count_of p ys + cond (p a) 1 0 ≡ count_of p xs
+count_taken p a xs ys taken =
+    ap (λ n. n + cond (p a) 1 0) (count_is p ys) ∙ sum_by_popped (λ x. cond (p x) 1 0) a xs ys taken ∙ sym (count_is p xs)
+
+count_absent : (xs : List ℕ) (a : ℕ) → is_among a xs ≡ false → count_of (λ x. x == a) xs ≡ 0
+count_absent [] a none = refl
+count_absent (x ∷ xs) a none =
+    let h = or_false (x == a) (is_among a xs) none in
+    ap (λ b. cond b 1 0 + count_of (λ y. y == a) xs) h.0 ∙ zero-add (count_of (λ y. y == a) xs) ∙ count_absent xs a h.1
+
+no_more : (n : ℕ) → n ≡ 0 → 1 + n ≤ 1
+no_more n h = omega arith
+
+no_more_than : (n : ℕ) → n ≤ 1 → 0 + n ≤ 1
+no_more_than n h = omega arith
+
+none_left : (n : ℕ) → 1 + n ≤ 1 → n ≡ 0
+none_left n h = omega arith
+
+part_of : (m n : ℕ) → m + n ≤ 1 → n ≤ 1
+part_of m n h = omega arith
+
+first_part_of : (m n k : ℕ) → m + n ≡ k → k ≤ 1 → m ≤ 1
+first_part_of m n k is h = omega arith
+
+-- each address stands once, as its count tells
+once : (xs : List ℕ) → AreApart xs → (a : ℕ) → count_of (λ x. x == a) xs ≤ 1
+once [] apart a = zero-le
+once (x ∷ xs) apart a =
+    elim (x == a) as (λ b. (x == a) ≡ b → cond b 1 0 + count_of (λ y. y == a) xs ≤ 1) [
+      | true ↦ λ e. no_more (count_of (λ y. y == a) xs) (count_absent xs a (ap (λ k. is_among k xs) (sym (same_number x a e)) ∙ apart.0))
+      | false ↦ λ e. no_more_than (count_of (λ y. y == a) xs) (once xs apart.1 a)
     ] refl
 
-without_none : (xs : List ℕ) (a : ℕ) → is_among a xs ≡ false → without a xs ≡ xs
-without_none [] a none = refl
-without_none (x ∷ xs) a none = let h = or_false (x == a) (is_among a xs) none in rw (h.0) (ap (λ ys. x ∷ ys) (without_none xs a h.1))
+apart_if_once : (xs : List ℕ) → ((a : ℕ) → count_of (λ x. x == a) xs ≤ 1) → AreApart xs
+apart_if_once [] each = tt
+apart_if_once (x ∷ xs) each = (
+  count_none (λ y. y == x) xs x (eq_itself x) (none_left (count_of (λ y. y == x) xs) (subst (λ (b : Bool). cond b 1 0 + count_of (λ y. y == x) xs ≤ 1) (eq_itself x) (each x))),
+  apart_if_once xs (λ a. part_of (cond (x == a) 1 0) (count_of (λ y. y == a) xs) (each a)),
+)
 
-one_more : (n : ℕ) → n + 1 ≡ 1 + n
-one_more n = omega arith
+apart_taken : (xs ys : List ℕ) (a : ℕ) → AreApart xs → IsPermutation xs (a ∷ ys) → AreApart ys
+apart_taken xs ys a apart taken =
+    apart_if_once ys (λ b. first_part_of (count_of (λ x. x == b) ys) (cond (a == b) 1 0) (count_of (λ x. x == b) xs) (count_taken (λ x. x == b) a xs ys taken) (once xs apart b))
 
-pub count_one_less : (p : ℕ → Bool) (xs : List ℕ) (a : ℕ) → p a ≡ true → AreApart xs → is_among a xs ≡ true → count_of p (without a xs) + 1 ≡ count_of p xs
-count_one_less p [] a passes apart there = cc
-count_one_less p (x ∷ xs) a passes apart there =
-    elim (x == a) as (λ b. (x == a) ≡ b → (b || is_among a xs) ≡ true → count_of p (cond (not b) (x ∷ without a xs) (without a xs)) + 1 ≡ count_of p (x ∷ xs)) [
-      | true ↦ λ e h.
-          let same : x ≡ a = same_number x a e in
-          let gone : without a xs ≡ xs = without_none xs a (ap (λ y. is_among y xs) (sym same) ∙ apart.0) in
-          ap (λ ys. count_of p ys + 1) gone ∙ one_more (count_of p xs) ∙ sym (ap (λ b. cond b 1 0 + count_of p xs) (ap p same ∙ passes))
-      | false ↦ λ e h. add_assoc (cond (p x) 1 0) (count_of p (without a xs)) 1 ∙ ap (λ n. cond (p x) 1 0 + n) (count_one_less p xs a passes apart.1 h)
-    ] refl there
+one_and : (m n : ℕ) → m + 1 ≡ n → n ≤ 1 → m ≡ 0
+one_and m n is h = omega arith
+
+gone_taken : (xs ys : List ℕ) (a : ℕ) → AreApart xs → IsPermutation xs (a ∷ ys) → is_among a ys ≡ false
+gone_taken xs ys a apart taken =
+    count_none (λ x. x == a) ys a (eq_itself a) (one_and (count_of (λ x. x == a) ys) (count_of (λ x. x == a) xs)
+    (ap (λ b. count_of (λ x. x == a) ys + cond b 1 0) (sym (eq_itself a)) ∙ count_taken (λ x. x == a) a xs ys taken) (once xs apart a))
+
+members_taken : (xs ys : List ℕ) (a q : ℕ) → AreApart xs → IsPermutation xs (a ∷ ys) → is_among q ys ≡ (not (q == a) && is_among q xs)
+members_taken xs ys a q apart taken =
+    elim (cases_eq q a) [
+      | inl same ↦ ap (λ k. is_among k ys) same ∙ gone_taken xs ys a apart taken ∙ sym (ap (λ b. not b && is_among q xs) (ap (λ k. k == a) same ∙ eq_itself a))
+      | inr other ↦ sym (ap (λ b. not b && is_among q xs) (eq_other q a other) ∙ list_any-IsPermutation (λ x. x == q) xs (a ∷ ys) taken ∙ ap (λ b. b || is_among q ys) (eq_other a q (λ e. other (sym e))))
+    ]
+
+any_from : (p : ℕ → Bool) (i : ℕ) (xs : List ℕ) → list_any p xs ≡ is_some (position_from p i xs)
+any_from p i [] = refl
+any_from p i (x ∷ xs) = elim (p x) as (λ b. (b || list_any p xs) ≡ is_some (cond b (Some i) (position_from p (i + 1) xs))) [ true ↦ refl | false ↦ any_from p (i + 1) xs ]
+
+among_if_placed : (xs : List ℕ) (a : ℕ) → is_among a xs ≡ is_some (position (λ x. x == a) xs)
+among_if_placed xs a = any_from (λ x. x == a) 0 xs ∙ ap is_some (sym (position_from-zero (λ x. x == a) xs))
+
+last_within : (i n : ℕ) → i < n → n - 1 < n
+last_within i n h = omega arith
+
+-- the last address takes the place of the one at a place
+swapped : (xs : List ℕ) (a i : ℕ) → position (λ x. x == a) xs ≡ Some i → IsPermutation xs (a ∷ swap_remove xs i 0)
+swapped xs a i placed =
+    let found = position-Some (λ x. x == a) xs i 0 placed in
+    let within : i < length xs = found.0 in
+    let here : a ≡ get_or xs i a = sym (get_or_default xs i a 0 within ∙ same_number (get_or xs i 0) a found.1) in
+    subst (λ (ys : List ℕ). IsPermutation xs (a ∷ ys))
+    (ap (λ y. take (length xs - 1) (set xs i y)) (get_or_default xs (length xs - 1) a 0 (last_within i (length xs) within)))
+    (IsPermutation-swap_remove xs i a within here)
 
 -- ---- the set of the addresses
 
@@ -188,38 +218,36 @@ inserted addresses counts f a n absent room within read = record {
       ∙ sym (count_push (λ x. bucket_of x == b) addresses a ∙ ap (λ c. count_in addresses b + cond c 1 0) (other_bucket a b other) ∙ add-zero (count_in addresses b)));
 }
 
-fewer : {m n k : ℕ} → m ≤ n → n ≤ k → m ≤ k
-fewer {m} {n} {k} a b = omega arith
-
 one_less : (n m : ℕ) → m + 1 ≡ n → n - 1 ≡ m
 one_less n m h = omega arith
 
-pub removed : (addresses counts : List ℕ) → IsFiltered addresses counts → (a n : ℕ) → is_among a addresses ≡ true → bucket_of a < BUCKETS → n ≡ get_or counts (bucket_of a) n → IsFiltered (without a addresses) (set counts (bucket_of a) (n - 1))
-removed addresses counts f a n there within read = record {
-  apart = apart_filter (λ x. not (x == a)) addresses f.apart;
-  few = fewer (filter_le (λ x. not (x == a)) addresses) f.few;
+fewer_taken : (m n : ℕ) → suc m ≡ n → n ≤ ARMED_LIMIT → m ≤ ARMED_LIMIT
+fewer_taken m n is few = omega arith
+
+removed : (addresses counts others : List ℕ) → IsFiltered addresses counts → (a n : ℕ) → IsPermutation addresses (a ∷ others) → bucket_of a < BUCKETS → n ≡ get_or counts (bucket_of a) n → IsFiltered others (set counts (bucket_of a) (n - 1))
+removed addresses counts others f a n taken within read = record {
+  apart = apart_taken addresses others a f.apart taken;
+  few = fewer_taken (length others) (length addresses) (length_permutation addresses (a ∷ others) taken) f.few;
   buckets = length-set counts (bucket_of a) (n - 1) ∙ f.buckets;
-  counted = set_counts counts (bucket_of a) (n - 1) (count_in (without a addresses)) f.buckets within
-      (one_less n (count_in (without a addresses) (bucket_of a))
-      (count_one_less (λ x. bucket_of x == bucket_of a) addresses a (own_bucket a) f.apart there ∙ sym (count_read addresses counts f (bucket_of a) n read within)))
-      (λ b below other. f.counted b below ∙ sym (count_others (λ x. bucket_of x == b) addresses a (other_bucket a b other)));
+  counted = set_counts counts (bucket_of a) (n - 1) (count_in others) f.buckets within
+      (one_less n (count_in others (bucket_of a))
+      (ap (λ b. count_in others (bucket_of a) + cond b 1 0) (sym (own_bucket a)) ∙ count_taken (λ x. bucket_of x == bucket_of a) a addresses others taken ∙ sym (count_read addresses counts f (bucket_of a) n read within)))
+      (λ b below other. f.counted b below
+      ∙ sym (count_taken (λ x. bucket_of x == b) a addresses others taken) ∙ ap (λ c. count_in others b + cond c 1 0) (other_bucket a b other) ∙ add-zero (count_in others b));
 }
 
 -- a member's bucket is not empty
-pub some_counted : (addresses counts : List ℕ) → IsFiltered addresses counts → (a n : ℕ) → is_among a addresses ≡ true → bucket_of a < BUCKETS → n ≡ get_or counts (bucket_of a) n → 1 ≤ n
-some_counted addresses counts f a n there within read =
-    let less = count_one_less (λ x. bucket_of x == bucket_of a) addresses a (own_bucket a) f.apart there in
+some_counted : (addresses counts others : List ℕ) → IsFiltered addresses counts → (a n : ℕ) → IsPermutation addresses (a ∷ others) → bucket_of a < BUCKETS → n ≡ get_or counts (bucket_of a) n → 1 ≤ n
+some_counted addresses counts others f a n taken within read =
+    let more : count_in others (bucket_of a) + 1 ≡ count_in addresses (bucket_of a) = ap (λ b. count_in others (bucket_of a) + cond b 1 0) (sym (own_bucket a)) ∙ count_taken (λ x. bucket_of x == bucket_of a) a addresses others taken in
     let is = count_read addresses counts f (bucket_of a) n read within in
     omega arith
 
-eq_sym_all : (x y : ℕ) → (x == y) ≡ (y == x)
-eq_sym_all x y = grind (arith, nat_tests)
-
-pub without_set : (addresses : List ℕ) (a : ℕ) → from_list {R = nat_cmp} (without a addresses) ≡ remove (from_list addresses) a
-without_set addresses a =
-    same_set nat_cmp_total nat_cmp-IsAntisymmetric (from_list (without a addresses)) (remove (from_list addresses) a)
-    (λ q. contains-from_list_nat (without a addresses) q ∙ members_without addresses a q
-    ∙ sym (contains-remove nat_cmp_total (from_list addresses) a q ∙ rw (unsigned_tied q a, contains-from_list_nat addresses q) refl))
+taken_set : (xs ys : List ℕ) (a : ℕ) → AreApart xs → IsPermutation xs (a ∷ ys) → from_list {R = nat_cmp} ys ≡ remove (from_list xs) a
+taken_set xs ys a apart taken =
+    same_set nat_cmp_total nat_cmp-IsAntisymmetric (from_list ys) (remove (from_list xs) a)
+    (λ q. contains-from_list_nat ys q ∙ members_taken xs ys a q apart taken
+    ∙ sym (contains-remove nat_cmp_total (from_list xs) a q ∙ rw (unsigned_tied q a, contains-from_list_nat xs q) refl))
 
 -- nothing is taken out where it is not
 pub remove_absent : (s : FinSet nat_cmp) (a : ℕ) → contains s a ≡ false → s ≡ remove s a
@@ -236,6 +264,9 @@ pub absent_at : (addresses counts : List ℕ) → IsFiltered addresses counts �
 absent_at addresses counts f a b n is read within none =
     sym (absent addresses counts f a n (read ∙ ap (λ k. get_or counts k n) is) (subst (λ k. k < BUCKETS) is within) none)
 
+pub empty_bucket : (n : ℕ) → not (nat_eq n 0) ≡ false → n ≡ 0
+empty_bucket n h = grind (arith, nat_tests)
+
 pub none_filtered_at : (addresses counts : List ℕ) → addresses ≡ [] → counts ≡ replicate BUCKETS 0 → IsFiltered addresses counts
 none_filtered_at addresses counts none zeros =
     subst (λ (xs : List ℕ). IsFiltered xs counts) (sym none) (subst (λ (ys : List ℕ). IsFiltered [] ys) (sym zeros) none_filtered)
@@ -250,15 +281,24 @@ insert_at addresses counts addresses' s f a b n is none room own within read pus
     subst (λ (xs : List ℕ). IsFiltered xs (set counts b (n + 1))) (sym pushed)
     (subst (λ (k : ℕ). IsFiltered (addresses ++ a ∷ []) (set counts k (n + 1))) (sym own) f')
 
-pub remove_at : (addresses counts addresses' : List ℕ) (s : FinSet nat_cmp) → IsFiltered addresses counts → (a b n : ℕ) → from_list addresses ≡ s → true ≡ contains s a → b ≡ bucket_of a → b < BUCKETS → n ≡ get_or counts b n → addresses' ≡ without a addresses → IsFiltered addresses' (set counts b (n - 1))
-remove_at addresses counts addresses' s f a b n is there own within read kept =
-    let f' = removed addresses counts f a n (not_among addresses s a true is there) (subst (λ k. k < BUCKETS) own within) (read ∙ ap (λ k. get_or counts k n) own) in
-    subst (λ (xs : List ℕ). IsFiltered xs (set counts b (n - 1))) (sym kept)
-    (subst (λ (k : ℕ). IsFiltered (without a addresses) (set counts k (n - 1))) (sym own) f')
+-- the address at a place that the search has found
+pub remove_at : (addresses counts addresses' : List ℕ) → IsFiltered addresses counts → (a b n i : ℕ) → position (λ x. x == a) addresses ≡ Some i → b ≡ bucket_of a → b < BUCKETS → n ≡ get_or counts b n → addresses' ≡ swap_remove addresses i 0 → IsFiltered addresses' (set counts b (n - 1))
+remove_at addresses counts addresses' f a b n i placed own within read taken =
+    let f' = removed addresses counts (swap_remove addresses i 0) f a n (swapped addresses a i placed) (subst (λ k. k < BUCKETS) own within) (read ∙ ap (λ k. get_or counts k n) own) in
+    subst (λ (xs : List ℕ). IsFiltered xs (set counts b (n - 1))) (sym taken)
+    (subst (λ (k : ℕ). IsFiltered (swap_remove addresses i 0) (set counts k (n - 1))) (sym own) f')
 
-pub some_at : (addresses counts : List ℕ) (s : FinSet nat_cmp) → IsFiltered addresses counts → (a b n : ℕ) → from_list addresses ≡ s → true ≡ contains s a → b ≡ bucket_of a → b < BUCKETS → n ≡ get_or counts b n → 1 ≤ n
-some_at addresses counts s f a b n is there own within read =
-    some_counted addresses counts f a n (not_among addresses s a true is there) (subst (λ k. k < BUCKETS) own within) (read ∙ ap (λ k. get_or counts k n) own)
+pub some_at : (addresses counts : List ℕ) → IsFiltered addresses counts → (a b n i : ℕ) → position (λ x. x == a) addresses ≡ Some i → b ≡ bucket_of a → b < BUCKETS → n ≡ get_or counts b n → 1 ≤ n
+some_at addresses counts f a b n i placed own within read =
+    some_counted addresses counts (swap_remove addresses i 0) f a n (swapped addresses a i placed) (subst (λ k. k < BUCKETS) own within) (read ∙ ap (λ k. get_or counts k n) own)
+
+pub placed_within : (addresses : List ℕ) (a i : ℕ) → position (λ x. x == a) addresses ≡ Some i → i < length addresses
+placed_within addresses a i placed = let found = position-Some (λ x. x == a) addresses i 0 placed in found.0
+
+-- the search finds what is in the set
+pub placed_if_in : (addresses : List ℕ) (s : FinSet nat_cmp) (a : ℕ) (o : Option ℕ) → from_list addresses ≡ s → position (λ x. x == a) addresses ≡ o → is_some o ≡ contains s a
+placed_if_in addresses s a o is found =
+    sym (ap is_some found) ∙ sym (among_if_placed addresses a) ∙ sym (contains-from_list_nat addresses a) ∙ ap (λ t. contains t a) is
 
 pub few_at : (addresses counts : List ℕ) → IsFiltered addresses counts → (b n : ℕ) → b < BUCKETS → n ≡ get_or counts b n → n ≤ ARMED_LIMIT
 few_at addresses counts f b n within read =
@@ -270,12 +310,23 @@ pub push_set : (addresses addresses' : List ℕ) (s : FinSet nat_cmp) (a : ℕ) 
 push_set addresses addresses' s a is pushed =
     ap (λ xs. from_list {R = nat_cmp} xs) pushed ∙ from_list_push nat_cmp_total nat_cmp-IsAntisymmetric addresses a ∙ ap (λ t. insert t a) is
 
-pub keep_set : (addresses addresses' : List ℕ) (s : FinSet nat_cmp) (a : ℕ) → from_list addresses ≡ s → addresses' ≡ without a addresses → from_list addresses' ≡ remove s a
-keep_set addresses addresses' s a is kept =
-    ap (λ xs. from_list {R = nat_cmp} xs) kept ∙ without_set addresses a ∙ ap (λ t. remove t a) is
+pub take_set : (addresses addresses' : List ℕ) (s : FinSet nat_cmp) (a i : ℕ) → AreApart addresses → from_list addresses ≡ s → position (λ x. x == a) addresses ≡ Some i → addresses' ≡ swap_remove addresses i 0 → from_list addresses' ≡ remove s a
+take_set addresses addresses' s a i apart is placed taken =
+    ap (λ xs. from_list {R = nat_cmp} xs) taken ∙ taken_set addresses (swap_remove addresses i 0) a apart (swapped addresses a i placed) ∙ ap (λ t. remove t a) is
 
 pub len_at : (addresses : List ℕ) (s : FinSet nat_cmp) → AreApart addresses → from_list addresses ≡ s → len s ≡ length addresses
 len_at addresses s apart is = ap len (sym is) ∙ len_apart addresses apart
+
+full_bucket : (n : ℕ) → not (nat_eq n 0) ≡ true → 1 ≤ n
+full_bucket n h = grind (arith, nat_tests)
+
+not_empty : (size n count len : ℕ) → size ≡ len → n ≡ count → count ≤ len → 1 ≤ n → (size == 0) ≡ false
+not_empty size n count len is read few some = grind (arith, nat_tests)
+
+-- an address stands in a bucket that is not empty
+pub some_in_all : (addresses counts : List ℕ) (s : FinSet nat_cmp) → IsFiltered addresses counts → (b n : ℕ) → from_list addresses ≡ s → b < BUCKETS → n ≡ get_or counts b n → not (nat_eq n 0) ≡ true → (len s == 0) ≡ false
+some_in_all addresses counts s f b n is within read full =
+    not_empty (len s) n (count_in addresses b) (length addresses) (len_at addresses s f.apart is) (count_read addresses counts f b n read within) (count_le (λ x. bucket_of x == b) addresses) (full_bucket n full)
 
 pub not_added_in : (b : Bool) (n : ℕ) → true ≡ b → false ≡ (not b && nat_lt n ARMED_LIMIT)
 not_added_in true n h = refl

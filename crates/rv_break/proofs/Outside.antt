@@ -1,9 +1,9 @@
 -- What lies outside of the claims' span is shown to none of them.
-use Rattle.std.proofs.Common.{◌≡◌, ℕ, ◌≤◌, ◌<◌, Bool, true, false, cond, [], ◌∷◌, length, get_or, take, drop, ◌++◌, Option, Some, None, refl, ap, ap₂, ◌∙◌, sym, subst, arith}
+use Rattle.std.proofs.Common.{◌≡◌, ℕ, zero, suc, ◌+◌, ◌≤◌, ◌<◌, Bool, true, false, cond, [], ◌∷◌, length, get_or, set, take, drop, ◌++◌, Option, Some, None, refl, ap, ap₂, ◌∙◌, sym, subst, arith}
 use Rattle.std.specs.Prelude.{◌==◌, ◌&&◌, ◌||◌, not, is_none, IfSome, option_map}
 use Rattle.std.proofs.Math.Seq.{take-append_seam}
 use Rattle.std.proofs.lemmas.Bool.Decides.{nat_tests}
-use Rattle.std.proofs.lemmas.List.{length-map}
+use Rattle.std.proofs.lemmas.List.{length-map, length-set, take_more}
 use Rattle.rv_break.specs.Slots.{Slots, claim_after, is_for, slots_after}
 use Rattle.rv_break.specs.declared.claim.Claim.{Claim}
 use Rattle.rv_break.specs.declared.claim.Seen.{Seen}
@@ -12,14 +12,6 @@ use Rattle.rv_break.specs.declared.span.Span.{Span}
 use Rattle.rv_break.specs.internal.Span.{AreIn, LiesIn, is_outside}
 use Rattle.rv_hart.specs.Conflict.{meets, end_of}
 use Rattle.rv_hart.specs.declared.access.Access.{Access}
-
-pub are_in_none : (s : Span) (slots : Slots) → length slots < 1 → AreIn s slots
-are_in_none s [] none = tt
-are_in_none s (held ∷ slots) none = absurd (omega arith)
-
-pub are_in_all : (s : Span) (slots : Slots) (d : Option Claim) → 1 ≤ length slots → IfSome (get_or slots 0 d) (λ claim. LiesIn s claim.access) → AreIn s (drop 1 slots) → AreIn s slots
-are_in_all s [] d some own others = absurd (omega arith)
-are_in_all s (held ∷ slots) d some own others = (own, others)
 
 lies_in_wider : (s wider : Span) (a : Access) → wider.first ≤ s.first → s.end ≤ wider.end → LiesIn s a → LiesIn wider a
 lies_in_wider s wider a from to inside =
@@ -31,6 +23,27 @@ pub are_in_wider : (s wider : Span) (slots : Slots) → wider.first ≤ s.first 
 are_in_wider s wider [] from to inside = tt
 are_in_wider s wider (None ∷ slots) from to inside = (tt, are_in_wider s wider slots from to inside.1)
 are_in_wider s wider (Some claim ∷ slots) from to inside = (lies_in_wider s wider claim.access from to inside.0, are_in_wider s wider slots from to inside.1)
+
+are_in_push : (s wider : Span) (slots : Slots) (held : Option Claim) → wider.first ≤ s.first → s.end ≤ wider.end → IfSome held (λ claim. LiesIn wider claim.access) → AreIn s slots → AreIn wider (slots ++ held ∷ [])
+are_in_push s wider [] held from to own inside = (own, tt)
+are_in_push s wider (None ∷ slots) held from to own inside = (tt, are_in_push s wider slots held from to own inside.1)
+are_in_push s wider (Some claim ∷ slots) held from to own inside = (lies_in_wider s wider claim.access from to inside.0, are_in_push s wider slots held from to own inside.1)
+
+-- the claims up to the next one
+pub are_in_more : (s wider : Span) (slots : Slots) (i : ℕ) (d : Option Claim) → i < length slots → wider.first ≤ s.first → s.end ≤ wider.end → IfSome (get_or slots i d) (λ claim. LiesIn wider claim.access) → AreIn s (take i slots) → AreIn wider (take (i + 1) slots)
+are_in_more s wider slots i d below from to own inside =
+    subst (AreIn wider) (sym (take_more slots i d below)) (are_in_push s wider (take i slots) (get_or slots i d) from to own inside)
+
+are_in_set : (s wider : Span) (slots : Slots) (slot : ℕ) (claim : Claim) → wider.first ≤ s.first → s.end ≤ wider.end → LiesIn wider claim.access → AreIn s slots → AreIn wider (set slots slot (Some claim))
+are_in_set s wider [] slot claim from to own inside = tt
+are_in_set s wider (held ∷ slots) zero claim from to own inside = (own, are_in_wider s wider slots from to inside.1)
+are_in_set s wider (None ∷ slots) (suc slot) claim from to own inside = (tt, are_in_set s wider slots slot claim from to own inside.1)
+are_in_set s wider (Some other ∷ slots) (suc slot) claim from to own inside = (lies_in_wider s wider other.access from to inside.0, are_in_set s wider slots slot claim from to own inside.1)
+
+-- claims, one of which is made, stay as many, and within a span with it
+pub claimed_within : (s wider : Span) (slots : Slots) (slot : ℕ) (claim : Claim) → wider.first ≤ s.first → s.end ≤ wider.end → LiesIn wider claim.access → (length slots ≤ MOST_SLOTS) × AreIn s slots → (length (set slots slot (Some claim)) ≤ MOST_SLOTS) × AreIn wider (set slots slot (Some claim))
+claimed_within s wider slots slot claim from to own inside =
+    (subst (λ (n : ℕ). n ≤ MOST_SLOTS) (sym (length-set slots slot (Some claim))) inside.0, are_in_set s wider slots slot claim from to own inside.1)
 
 -- a claim keeps what it watches
 pub are_in_after : (s : Span) (seen : Seen) (slots : Slots) → AreIn s slots → AreIn s (slots_after seen slots)

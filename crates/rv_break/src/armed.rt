@@ -1,5 +1,5 @@
 //! The armed addresses, with a filter that tells most other addresses at one look.
-ghost use Rattle.std.specs.Prelude.{◌≡◌, ◌<◌, ◌&&◌, not, nat_lt, IfOk, if◌then◌else◌, replicate, filter, ◌==◌, vec_capacity};
+ghost use Rattle.std.specs.Prelude.{◌≡◌, ◌<◌, ◌&&◌, not, nat_lt, false, true, IfOk, if◌then◌else◌, replicate, position, swap_remove, ◌==◌, vec_len, vec_capacity};
 ghost use Rattle.std.specs.FinSet as set;
 ghost use Rattle.rv_break.specs.internal.Buckets.{bucket_of};
 
@@ -51,12 +51,22 @@ impl Armed {
         self.addresses.is_empty()
     }
 
+    /// Whether the filter lets the address by: where it does not, the address is not in the set. It lets none by where
+    /// the set is empty.
+    #[inline(always)]
+    pub fn may_contain(&self, address: u32) -> bool
+        ensures absent { result ≡ false → set.contains self.now address ≡ false }
+        ensures some { result ≡ true → (set.len self.now == 0) ≡ false }
+    {
+        self.counts[bucket_of(address)] != 0
+    }
+
     /// Whether the address is in the set.
     #[inline(always)]
     pub fn contains(&self, address: u32) -> bool
         ensures { result ≡ set.contains self.now address }
     {
-        self.counts[bucket_of(address)] != 0 && self.is_among(address)
+        self.may_contain(address) && self.is_among(address)
     }
 
     /// The same, where each address is looked at.
@@ -90,13 +100,15 @@ impl Armed {
         ensures was { result ≡ set.contains self.old address }
         ensures after { self.new ≡ set.remove self.old address }
     {
-        if !self.contains(address) {
-            return false;
+        match place_of(&self.addresses, address) {
+            None => false,
+            Some(place) => {
+                take_out(&mut self.addresses, place);
+                let bucket = bucket_of(address);
+                self.counts[bucket] -= 1;
+                true
+            }
         }
-        keep_others(&mut self.addresses, address);
-        let bucket = bucket_of(address);
-        self.counts[bucket] -= 1;
-        true
     }
 }
 
@@ -107,11 +119,19 @@ fn bucket_of(address: u32) -> usize
     (address / 4 % BUCKETS) as usize
 }
 
-fn keep_others(addresses: &mut Vec<u32>, address: u32)
-    ensures items { addresses.new.items ≡ filter (λ other. not (other == address)) addresses.old.items }
+fn place_of(addresses: &[u32], address: u32) -> Option<usize>
+    ensures { result ≡ position (λ other. other == address) addresses.now }
+{
+    addresses.iter().position(|other| *other == address)
+}
+
+/// Takes out the address at a place, which the last one takes.
+fn take_out(addresses: &mut Vec<u32>, place: usize)
+    requires { place < vec_len addresses.old }
+    ensures items { addresses.new.items ≡ swap_remove addresses.old.items place 0 }
     ensures capacity { vec_capacity addresses.new ≡ vec_capacity addresses.old }
 {
-    addresses.retain(|other| *other != address);
+    let _address = addresses.swap_remove(place);
 }
 
 fn no_counts(alloc: Global) -> Result<Vec<u8>, NoMemory>

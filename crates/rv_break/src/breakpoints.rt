@@ -1,5 +1,5 @@
 //! Code breakpoints and data breakpoints.
-ghost use Rattle.std.specs.Prelude.{◌≡◌, ◌<◌, ◌≤◌, ◌&&◌, ◌==◌, not, nat_lt, IfOk, IfSome, IfNone, IsTrue, ◌↔◌, Some, None, slice_set, length, if◌then◌else◌};
+ghost use Rattle.std.specs.Prelude.{◌≡◌, ◌<◌, ◌≤◌, ◌&&◌, ◌==◌, not, nat_lt, false, true, IfOk, IfSome, IfNone, IsTrue, ◌↔◌, Some, None, slice_set, length, if◌then◌else◌};
 ghost use Rattle.std.specs.FinSet as set;
 ghost use Rattle.rv_break.specs.Breakpoints.{no_breaks};
 ghost use Rattle.rv_break.specs.Slots as spec;
@@ -65,6 +65,16 @@ impl Breakpoints {
         ensures { result ≡ set.contains self.now.armed pc }
     {
         self.armed.contains(pc)
+    }
+
+    /// Whether the address may be armed, which one look tells: where not, it is not armed, and none may be where none is.
+    /// It is mostly armed where it may be.
+    #[inline(always)]
+    pub fn may_be_armed(&self, pc: u32) -> bool
+        ensures absent { result ≡ false → set.contains self.now.armed pc ≡ false }
+        ensures some { result ≡ true → (set.len self.now.armed == 0) ≡ false }
+    {
+        self.armed.may_contain(pc)
     }
 
     /// Arms an address. False, and unchanged, where it is armed or `ARMED_LIMIT` addresses are.

@@ -54,7 +54,7 @@ impl Slots {
             access,
             seen: None,
         });
-        self.watched = span_of(&self.claims);
+        self.watched = self.watched.widened_by(access);
         Some(slot as u8)
     }
 

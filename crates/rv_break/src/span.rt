@@ -22,6 +22,19 @@ impl Span {
         first + u64::from(access.size) <= self.first || self.end <= first
     }
 
+    /// The least span that has these addresses and the access's bytes.
+    pub fn widened_by(self, access: Access) -> Span
+        ensures own { LiesIn result access }
+        ensures first { result.first ≤ self.first }
+        ensures end { self.end ≤ result.end }
+    {
+        let first = u64::from(access.first);
+        Span {
+            first: self.first.min(first),
+            end: self.end.max(first + u64::from(access.size)),
+        }
+    }
+
     /// The span with what a claim watches.
     fn widened(self, held: Option<Claim>) -> Span
         ensures held { IfSome held (λ claim. LiesIn result claim.access) }
@@ -30,13 +43,7 @@ impl Span {
     {
         match held {
             None => self,
-            Some(claim) => {
-                let first = u64::from(claim.access.first);
-                Span {
-                    first: self.first.min(first),
-                    end: self.end.max(first + u64::from(claim.access.size)),
-                }
-            }
+            Some(claim) => self.widened_by(claim.access),
         }
     }
 }
@@ -45,11 +52,12 @@ impl Span {
 pub fn span_of(claims: &[Option<Claim>]) -> Span
     ensures { AreIn result claims.now }
 {
-    match claims {
-        [] => Span {
-            first: u64::MAX,
-            end: 0,
-        },
-        [held, rest @ ..] => span_of(rest).widened(*held),
+    let mut span = Span {
+        first: u64::MAX,
+        end: 0,
+    };
+    for held in claims {
+        span = span.widened(*held);
     }
+    span
 }

@@ -1,7 +1,13 @@
 -- The bytes of an access, one by one.
-use Rattle.std.proofs.Common.{◌≡◌, ℕ, ◌+◌, ◌*◌, inl, inr, sym, ap, ◌∙◌, arith, add-zero, add_assoc}
+use Rattle.std.proofs.Common.{◌≡◌, ℕ, ◌+◌, ◌*◌, cond, true, false, Some, None, inl, inr, sym, ap, ◌∙◌, arith, add-zero, add_assoc}
 use Rattle.std.specs.Prelude.{unwrap_or}
-use Rattle.rv_memory.specs.Memory.{Memory, byte, load, IsSize}
+use Rattle.rv_memory.specs.Memory.{Memory, byte, load, load_permitted, permits, IsSize}
+use Rattle.rv_memory.specs.declared.store.Need.{Need}
+
+-- what one look gives
+pub load_at_once : (m : Memory) (a size r : ℕ) (need : Need) → Some r ≡ load_permitted m a size need → r ≡ load m a size
+load_at_once m a size r need is =
+    elim (permits m a size need) as (λ b. Some r ≡ cond b (Some (load m a size)) None → r ≡ load m a size) [ true ↦ λ e. cc | false ↦ λ e. cc ] is
 
 three_on : (a : ℕ) → a + 3 ≡ a + 1 + 1 + 1
 three_on a = omega arith

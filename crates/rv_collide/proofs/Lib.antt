@@ -39,6 +39,7 @@ pub mod ScheduleLemmas
 pub mod Slots
 pub mod SpellLemmas
 pub mod StepFaults
+pub mod Taken
 pub mod ToldLemmas
 pub mod Until
 pub mod Unwatched

@@ -1,6 +1,6 @@
 -- What a pause and its end find in the core.
 use Rattle.std.proofs.Common.{◌≡◌, ℕ, zero, suc, ◌+◌, ◌<◌, Bool, true, false, cond, List, [], ◌∷◌, length, Option, Some, None, map, refl, sym, ap, subst, ◌∙◌, arith, add-zero, zero-add}
-use Rattle.std.specs.Prelude.{◌==◌, not, find, slice_get, slice_set, is_none, is_some, option_and_then, option_map, IsSome, IsSomeAnd, IfSome, IfNone}
+use Rattle.std.specs.Prelude.{◌==◌, not, find, slice_get, slice_set, is_none, is_some, option_and_then, IsSome, IsSomeAnd, IfSome, IfNone}
 use Rattle.std.specs.List.{range_with_len}
 use Rattle.std.specs.Option.{option_map_or}
 use Rattle.rv_break.specs.Breakpoints.{Breaks}
@@ -23,7 +23,7 @@ use Rattle.rv_hart.specs.ReservationLaws.{SizesOfAccesses}
 use Rattle.rv_hart.specs.State.{State}
 use Rattle.rv_hart.specs.declared.access.Access.{Access}
 use Rattle.rv_memory.specs.Memory.{IsSize, load}
-use Rattle.rv_collide.proofs.Growth.{opening_kept, slots_claimed}
+use Rattle.rv_collide.proofs.Growth.{slots_claimed}
 use Rattle.rv_collide.proofs.Lists.{any_is_some, find_range, first_free}
 use Rattle.rv_collide.proofs.Resumptions.{claimed}
 
@@ -78,13 +78,6 @@ claim_made None h a b b' some none = record { armed = ap (λ (x : Breaks). x.arm
 claim_made (Some slot) h a b b' some none = record { armed = ap (λ (x : Breaks). x.armed) some; slots = ap (λ (x : Breaks). x.slots) some }
 
 -- ---- the end of a pause
-
-some_of : (o : Option OpenPause) → is_some (option_map opening o) ≡ true → IsSome o
-some_of None h = cc
-some_of (Some p) h = refl
-
-pub is_kept_open : (xs : List Entry) (opened : List OpenPause) (h : ℕ) → map opening opened ≡ openings xs → is_some (opening_of xs h) ≡ true → IsSome (find (λ (p : OpenPause). p.hart == h) opened)
-is_kept_open xs opened h are is = some_of (find (λ (p : OpenPause). p.hart == h) opened) (ap is_some (sym (opening_kept xs opened h are)) ∙ is)
 
 shift : (a n : ℕ) → a + 1 + n ≡ a + suc n
 shift a n = omega arith

@@ -1,8 +1,8 @@
 -- A turn that is accepted, and a step after which its hart runs on.
 use Rattle.std.proofs.Common.{◌≡◌, ℕ, ◌<◌, true, false, List, [], ◌∷◌, ◌++◌, length, Option, Some, None, Result, Ok, Err, refl, sym, ap, subst, ◌∙◌, arith}
-use Rattle.std.specs.Prelude.{nat_lt, is_ok, is_some, IfNone, IfSome}
+use Rattle.std.specs.Prelude.{nat_lt, is_ok, is_some, IfSome}
 use Rattle.std.proofs.lemmas.Bool.Decides.{nat_tests}
-use Rattle.rv_collide.specs.Answers.{IsEvent, StepsOn}
+use Rattle.rv_collide.specs.Answers.{IsEvent, IsWord, StepsOn}
 use Rattle.rv_collide.specs.Entries.{steps}
 use Rattle.rv_collide.specs.Forced.{Setting, Turn, forced}
 use Rattle.rv_collide.specs.Next.{runs_at}
@@ -11,8 +11,15 @@ use Rattle.rv_collide.specs.Stored.{Stored, added, setting_of}
 use Rattle.rv_collide.specs.declared.entry.Entry.{Entry}
 use Rattle.rv_collide.specs.declared.entry.Entry.TheVariants.{Stepped}
 use Rattle.rv_collide.specs.declared.refused.Refused.{Refused}
+use Rattle.rv_collide.specs.StateAt.{state_at}
+use Rattle.rv_hart.specs.Fetched.{IsWordOf}
+use Rattle.rv_hart.specs.State.{State}
+use Rattle.rv_hart.specs.Common.{event_of_common}
 use Rattle.rv_hart.specs.NextAccess.{accessed}
 use Rattle.rv_hart.specs.StepLaws.{MovesRunOn}
+use Rattle.rv_hart.specs.declared.access.Access.{Access}
+use Rattle.rv_hart.specs.declared.access.Common.{Common}
+use Rattle.rv_hart.specs.declared.access.Common.TheVariants.{Untaken, Silent, Accessed}
 use Rattle.rv_hart.specs.declared.access.Event.{Event}
 use Rattle.rv_hart.specs.declared.access.Event.TheVariants.{Moved}
 use Rattle.rv_collide.proofs.GoesOn.{runs_there}
@@ -60,14 +67,28 @@ runs_after law c h event is moved =
     let step = is.step ∙ ap (λ (e : Event). Some (e, is.after)) moved in
     runs_there (setting_of c).start is.after (c.entries ++ Stepped h ∷ []) (length (c.entries ++ Stepped h ∷ [])) h at (law is.state is.after h (accessed event) step)
 
-pub steps_on : MovesRunOn → (old new : Stored) (h : ℕ) (r : Option Event) → IfSome r (λ _. forced (setting_of old) old.entries (Turn h) ≡ Ok (Stepped h)) → IfSome r (λ event. IsEvent old h event) → IfSome r (λ _. new ≡ added old (Stepped h)) → IfSome r (λ event. true ≡ true → event ≡ Moved (accessed event)) → is_some r ≡ true → StepsOn old new h
-steps_on law old new h None is_forced is_event is_added moves some = cc
-steps_on law old new h (Some event) is_forced is_event is_added moves some = record {
+pub steps_on : MovesRunOn → (old new : Stored) (h : ℕ) (event : Event) → forced (setting_of old) old.entries (Turn h) ≡ Ok (Stepped h) → IsEvent old h event → new ≡ added old (Stepped h) → event ≡ Moved (accessed event) → StepsOn old new h
+steps_on law old new h event is_forced is_event is_added moved = record {
   event = event;
   turns = (record { is_forced = is_forced; is_added = is_added }, is_event);
-  runs = subst (λ (c : Stored). runs_at (setting_of c).start c.entries (length c.entries) h ≡ true) (sym is_added) (runs_after law old h event is_event (moves refl));
+  runs = subst (λ (c : Stored). runs_at (setting_of c).start c.entries (length c.entries) h ≡ true) (sym is_added) (runs_after law old h event is_event moved);
 }
 
-pub unchanged : (old new : Stored) (r : Option Event) → IfNone r (new ≡ old) → is_some r ≡ false → new ≡ old
-unchanged old new None same none = same
-unchanged old new (Some event) same none = cc
+-- the event of a common step that was made, which moves on
+pub record Made (common : Common) (noted : Access) : Type 0 where
+  pub event : Event
+  pub event_is : event_of_common common noted ≡ Some event
+  pub moved : event ≡ Moved (accessed event)
+
+pub made : (common : Common) (noted : Access) → (common ≡ Untaken → ⊥) → Made common noted
+made Untaken noted taken = absurd (taken refl)
+made Silent noted taken = record { event = Moved None; event_is = refl; moved = refl }
+made Accessed noted taken = record { event = Moved (Some noted); event_is = refl; moved = refl }
+
+pub same_state : {s t : State} → Some s ≡ Some t → s ≡ t
+same_state same = cc
+
+-- a word that the machine has found
+pub word_found : (c : Stored) (s : State) (h : ℕ) (found : Option ℕ) → state_at (setting_of c).start c.entries (length c.entries) ≡ Some s → IfSome found (IsWordOf s h) → IfSome found (IsWord c h)
+word_found c s h None at is = tt
+word_found c s h (Some word) at is = record { state = s; reached = at; word_is = is }

@@ -21,6 +21,7 @@ use Rattle.std.specs.FinSet.{contains}
 use Rattle.rv_collide.specs.Armed.{armed}
 use Rattle.rv_collide.specs.Next.{next, plain, runs_at}
 use Rattle.rv_break.specs.declared.claim.Seen.{Seen}
+use Rattle.rv_hart.specs.Fetched.{IsWordOf}
 use Rattle.rv_hart.specs.ReservationLaws.{reservation_at}
 use Rattle.rv_hart.specs.State.{State}
 use Rattle.rv_hart.specs.declared.access.Access.{Access}
@@ -52,6 +53,12 @@ pub record IsEvent (c : Stored) (h : ℕ) (event : Event) : Type 0 where
   pub after : State
   pub reached : state_at (setting_of c).start c.entries (length c.entries) ≡ Some state
   pub step : step_of state h ≡ Some (event, after)
+
+-- this is the word at a hart's pc at the end of the schedule
+pub record IsWord (c : Stored) (h word : ℕ) : Type 0 where
+  pub state : State
+  pub reached : state_at (setting_of c).start c.entries (length c.entries) ≡ Some state
+  pub word_is : IsWordOf state h word
 
 abbrev pub Turns : Stored → Stored → ℕ → Turned → Type 0
 Turns old new h (turned.Stepped event) = Adds old new (Turn h) (Stepped h) × IsEvent old h event

@@ -1,5 +1,5 @@
 //! The core: one machine, its breakpoints, and the stored schedule of the calls that it accepted.
-ghost use Rattle.std.specs.Prelude.{◌≡◌, ℕ, ◌<◌, ◌+◌, ◌*◌, [], ◌==◌, not, nat_lt, Ok, Err, Some, None, IfOk, IfErr, OnErr, IfSome, IfNone, IsSome, if◌then◌else◌, count_by, ◌%◌, false, true, IsTrue, length, slice_get, option_and_then, option_map, is_some, find, filter, vec_capacity};
+ghost use Rattle.std.specs.Prelude.{◌≡◌, ℕ, ◌<◌, ◌+◌, ◌*◌, [], ◌==◌, nat_lt, Ok, Err, Some, None, IfOk, IfErr, OnErr, IfSome, IfNone, if◌then◌else◌, count_by, ◌%◌, false, true, IsTrue, length, slice_get, option_and_then, option_map, is_some, position};
 ghost use Rattle.std.specs.FinSet as set;
 ghost use Rattle.std.specs.List.{list_any};
 ghost use Rattle.rv_collide.specs.Armed.{armed, arms};
@@ -64,6 +64,8 @@ pub struct Collider<S: ByteStore> {
     arms: u32,
     /// Up to which step each turn is a step that no claim is shown, or 0 where that is not known.
     until: u32,
+    /// The access of the last common step, if it made one.
+    noted: Access,
 }
 
 /// What a run leaves.
@@ -114,6 +116,7 @@ impl<S: ByteStore> Collider<S> {
             steps: 0,
             arms: 0,
             until: plan.steps,
+            noted: Access::of_no_bytes(),
         })
     }
 
@@ -136,12 +139,12 @@ impl<S: ByteStore> Collider<S> {
         ensures refused { OnErr result (self.new ≡ self.old) }
     {
         // Apart from one another, since a step that is shown to no claim stays in registers.
-        if self.goes_on_unwatched(h) {
-            if let Some(event) = self.step::<0>(h, false, false) {
-                return Ok(Turned::Stepped(event));
-            }
-        } else if self.goes_on(h) {
-            if let Some(event) = self.step::<0>(h, true, false) {
+        if self.goes_on(h) {
+            if self.is_unwatched() {
+                if let Some(event) = self.step(h, false) {
+                    return Ok(Turned::Stepped(event));
+                }
+            } else if let Some(event) = self.step(h, true) {
                 return Ok(Turned::Stepped(event));
             }
         }
@@ -157,9 +160,9 @@ impl<S: ByteStore> Collider<S> {
         if h >= self.plan().harts {
             return Err(Refused::NoHart);
         }
-        match self.opening(h) {
+        match self.opening_place(h) {
             None => Err(Refused::NotPaused),
-            Some(_) => Ok(self.end(h)),
+            Some(place) => Ok(self.end(h, place)),
         }
     }
 
@@ -245,9 +248,9 @@ impl<S: ByteStore> Collider<S> {
     pub fn paused(&self, h: u8) -> Option<u32>
         ensures { result ≡ option_map (λ o. o.place) (opening_of self.now.entries h) }
     {
-        match self.opening(h) {
+        match place_among(&self.openings, h) {
             None => None,
-            Some(open) => Some(open.place),
+            Some(place) => Some(self.openings[place].place),
         }
     }
 
@@ -291,12 +294,11 @@ impl<S: ByteStore> Collider<S> {
         self.machine.status(h).is_running()
     }
 
-    /// The open pause of a hart.
-    fn opening(&self, h: u8) -> Option<OpenPause>
-        ensures some { is_some result ≡ is_some (opening_of self.now.entries h) }
-        ensures place { option_map (λ p. p.place) result ≡ option_map (λ o. o.place) (opening_of self.now.entries h) }
+    /// Where the open pause of a hart stands among the open ones.
+    fn opening_place(&self, h: u8) -> Option<usize>
+        ensures { result ≡ position (λ o. o.hart == h) (openings self.now.entries) }
     {
-        opening_among(&self.openings, h)
+        place_among(&self.openings, h)
     }
 
     fn has_steps_left(&self) -> bool
@@ -383,7 +385,7 @@ impl<S: ByteStore> Collider<S> {
         }
         match self.armed_access(h) {
             Some(access) => Ok(Turned::Paused(self.pause(h, access))),
-            None => match self.step::<0>(h, true, false) {
+            None => match self.step(h, true) {
                 Some(event) => Ok(Turned::Stepped(event)),
                 None => Err(Refused::NoMemory),
             },
@@ -408,33 +410,23 @@ impl<S: ByteStore> Collider<S> {
         0 < self.until
     }
 
-    /// Whether a turn of the hart is a step that no claim is shown, if there is such a hart and it runs. Mostly
-    /// one comparison tells.
-    #[inline(always)]
-    fn goes_on_unwatched(&self, h: u8) -> bool
-        ensures unwatched { result ≡ true → openings self.now.entries ≡ [] }
-        ensures goes_on { result ≡ true → GoesOn self.now h }
-    {
-        self.is_free() || self.is_unwatched() && self.goes_on(h)
-    }
-
-    /// Whether no pause is open.
+    /// Whether no pause is open, as none is where each turn is free.
     #[inline(always)]
     fn is_unwatched(&self) -> bool
         ensures { result ≡ true → openings self.now.entries ≡ [] }
     {
-        self.openings.is_empty()
+        self.is_free() || self.openings.is_empty()
     }
 
-    /// Whether a turn of the hart is a step, if there is such a hart and it runs.
+    /// Whether a turn of the hart is a step, if there is such a hart and it runs. Mostly one comparison tells.
     #[inline(always)]
     fn goes_on(&self, h: u8) -> bool
         ensures { result ≡ true → GoesOn self.now h }
     {
-        self.has_steps_left() && !self.is_paused(h) && self.passes(h)
+        self.is_free() || self.has_steps_left() && !self.is_paused(h) && self.passes(h)
     }
 
-    /// Whether no turn of the hart pauses it now.
+    /// Whether no turn of the hart pauses it now, as far as one look tells.
     #[inline(always)]
     fn passes(&self, h: u8) -> bool
         ensures { result ≡ true → turn_entry (setting_of self.now) self.now.entries h
@@ -443,39 +435,36 @@ impl<S: ByteStore> Collider<S> {
         if self.breaks.is_unarmed() {
             return true;
         }
-        h < self.plan.harts && !self.stands_armed(h)
+        h < self.plan.harts && !self.may_stand_armed(h)
     }
 
-    /// Whether a hart stands at an armed address.
+    /// Whether a hart may stand at an armed address, which one look tells. It mostly does where it may.
     #[inline(always)]
-    fn stands_armed(&self, h: u8) -> bool
+    fn may_stand_armed(&self, h: u8) -> bool
         requires { h < self.now.plan.harts }
         ensures { result ≡ false → turn_entry (setting_of self.now) self.now.entries h
             (plain (setting_of self.now).start self.now.entries (length self.now.entries) h) ≡ Entry.Stepped h }
     {
-        self.breaks.is_armed(self.machine.pc(h))
+        self.breaks.may_be_armed(self.machine.pc(h))
     }
 
-    /// Lets a hart make a step, if there is such a hart and it runs; or a common step alone, after which it runs on.
-    /// The claims are shown its access where there may be claims. `PLACE` is that of `Machine::step_quick`.
+    /// Lets a hart make a step, if there is such a hart and it runs. The claims are shown its access where there may be
+    /// claims.
     #[inline(always)]
-    fn step<const PLACE: u8>(&mut self, h: u8, is_watched: bool, is_common: bool) -> Option<Event>
+    fn step(&mut self, h: u8, is_watched: bool) -> Option<Event>
         requires goes_on { GoesOn self.old h }
         requires unwatched { is_watched ≡ false → openings self.old.entries ≡ [] }
-        requires running { is_common ≡ true
-            → runs_at (setting_of self.old).start self.old.entries (length self.old.entries) h ≡ true }
         ensures forced { IfSome result (λ _.
             forced (setting_of self.old) self.old.entries (Turn h) ≡ Ok (Entry.Stepped h)) }
         ensures event { IfSome result (λ event. answer.IsEvent self.old h event) }
         ensures after { IfSome result (λ _. self.new ≡ added self.old (Entry.Stepped h)) }
-        ensures moves { IfSome result (λ event. is_common ≡ true → event ≡ Event.Moved (accessed event)) }
         ensures none { IfNone result (self.new ≡ self.old) }
-        ensures memory { IfNone result (is_common ≡ false
-            → forced (setting_of self.old) self.old.entries (Turn h) ≡ Ok (Entry.Stepped h) → IsTrue S.can_refuse) }
+        ensures memory { IfNone result
+            (forced (setting_of self.old) self.old.entries (Turn h) ≡ Ok (Entry.Stepped h) → IsTrue S.can_refuse) }
     {
         reservations_and_accesses();
         what_no_step_does();
-        let event = match stepped::<PLACE, S>(&mut self.machine, h, is_common) {
+        let event = match stepped(&mut self.machine, h) {
             Some(event) => event,
             None => return None,
         };
@@ -513,14 +502,17 @@ impl<S: ByteStore> Collider<S> {
         self.until = until(self.plan, &self.breaks, &self.openings);
     }
 
-    /// Ends the open pause of a hart.
-    fn end(&mut self, h: u8) -> Ending
-        requires { forced (setting_of self.old) self.old.entries (Resume h) ≡ Ok (Entry.Resumed h) }
+    /// Ends the open pause of a hart, which stands at a place among the open ones.
+    #[cold]
+    #[inline(never)]
+    fn end(&mut self, h: u8, place: usize) -> Ending
+        requires forced { forced (setting_of self.old) self.old.entries (Resume h) ≡ Ok (Entry.Resumed h) }
+        requires placed { position (λ o. o.hart == h) (openings self.old.entries) ≡ Some place }
         ensures ending { ending_at (setting_of self.new).start self.new.entries (length self.old.entries) ≡ Some result }
         ensures after { self.new ≡ added self.old (Entry.Resumed h) }
     {
         reservations_and_accesses();
-        let open = taken(&mut self.openings, h);
+        let open = self.openings.remove(place);
         let seen = released(&mut self.breaks, open.slot);
         let new = number_at(&self.machine, open.access.first, open.access.size);
         let ending = ending_of(open, self.entries.len() as u32, seen, new);
@@ -547,27 +539,16 @@ fn machine_of<S: ByteStore>(
     }
 }
 
-/// A step of a hart, whatever it is; or, of one that runs, a common step alone, which moves on. `PLACE` is that of
-/// `Machine::step_quick`.
+/// A step of a hart.
 #[inline(always)]
-fn stepped<const PLACE: u8, S: ByteStore>(
-    machine: &mut Machine<S>,
-    h: u8,
-    is_common: bool,
-) -> Option<Event>
-    requires { is_common ≡ true → is_running_hart (slice_get machine.old.state.harts h) ≡ true }
+fn stepped<S: ByteStore>(machine: &mut Machine<S>, h: u8) -> Option<Event>
     ensures step { IfSome result (λ event. step_of machine.old.state h ≡ Some (event, machine.new.state)) }
-    ensures moves { IfSome result (λ event. is_common ≡ true → event ≡ Event.Moved (accessed event)) }
     ensures harts { length machine.new.state.harts ≡ length machine.old.state.harts }
     ensures limit { machine.new.limit ≡ machine.old.limit }
     ensures none { IfNone result (machine.new ≡ machine.old) }
-    ensures memory { IfNone result (is_common ≡ false
-        → is_running_hart (slice_get machine.old.state.harts h) ≡ true
+    ensures memory { IfNone result (is_running_hart (slice_get machine.old.state.harts h) ≡ true
         → length machine.old.state.output < machine.old.limit → IsTrue S.can_refuse) }
 {
-    if is_common {
-        return machine.step_quick::<PLACE>(h);
-    }
     match machine.step(h) {
         Ok(event) => Some(event),
         Err(_) => None,
@@ -624,43 +605,11 @@ fn is_one_of(openings: &[OpenPause], h: u8) -> bool
     }
 }
 
-/// The open pause of a hart among the open ones.
-fn opening_among(openings: &[OpenPause], h: u8) -> Option<OpenPause>
-    ensures { result ≡ find (λ p. p.hart == h) openings.now }
+/// Where the open pause of a hart stands.
+fn place_among(openings: &[OpenPause], h: u8) -> Option<usize>
+    ensures { result ≡ position (λ p. p.hart == h) openings.now }
 {
-    match openings {
-        [] => None,
-        [first, rest @ ..] => {
-            if first.hart == h {
-                Some(*first)
-            } else {
-                opening_among(rest, h)
-            }
-        }
-    }
-}
-
-/// Takes the open pause of a hart out.
-fn taken(openings: &mut Vec<OpenPause>, h: u8) -> OpenPause
-    requires { IsSome (find (λ p. p.hart == h) openings.old.items) }
-    ensures pause { find (λ p. p.hart == h) openings.old.items ≡ Some result }
-    ensures others { openings.new.items ≡ filter (λ p. not (p.hart == h)) openings.old.items }
-    ensures capacity { vec_capacity openings.new ≡ vec_capacity openings.old }
-{
-    match opening_among(openings, h) {
-        None => unreachable!(),
-        Some(open) => {
-            keep_others(openings, h);
-            open
-        }
-    }
-}
-
-fn keep_others(openings: &mut Vec<OpenPause>, h: u8)
-    ensures items { openings.new.items ≡ filter (λ p. not (p.hart == h)) openings.old.items }
-    ensures capacity { vec_capacity openings.new ≡ vec_capacity openings.old }
-{
-    openings.retain(|p| p.hart != h);
+    openings.iter().position(|p| p.hart == h)
 }
 
 /// Frees the data breakpoint of a pause, if one watched it; what it has seen.

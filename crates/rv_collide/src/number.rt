@@ -10,6 +10,19 @@ pub fn number_at<S: ByteStore>(machine: &Machine<S>, first: u32, size: u8) -> u3
     requires { IsSize size }
     ensures { result ≡ load machine.now.state.memory first size }
 {
+    match machine.number(first, size) {
+        Some(number) => number,
+        None => number_by_bytes(machine, first, size),
+    }
+}
+
+/// The same byte by byte, where the bytes do not lie in one region.
+#[cold]
+#[inline(never)]
+fn number_by_bytes<S: ByteStore>(machine: &Machine<S>, first: u32, size: u8) -> u32
+    requires { IsSize size }
+    ensures { result ≡ load machine.now.state.memory first size }
+{
     let one = byte_at(machine, first, 0);
     if size == 1 {
         return one;

@@ -123,7 +123,7 @@ and_before false b c h = cc
 lt_is : (a b : ℕ) → a < b → nat_lt a b ≡ true
 lt_is a b h = grind (arith, nat_tests)
 
-filter_same_test : (p q : ℕ → Bool) (a n : ℕ) → ((k : ℕ) → p k ≡ q k) → filter p (range_with_len a n) ≡ filter q (range_with_len a n)
+pub filter_same_test : (p q : ℕ → Bool) (a n : ℕ) → ((k : ℕ) → p k ≡ q k) → filter p (range_with_len a n) ≡ filter q (range_with_len a n)
 filter_same_test p q a zero same = refl
 filter_same_test p q a (suc n) same =
     ap (λ b. cond b (a ∷ filter p (range_with_len (a + 1) n)) (filter p (range_with_len (a + 1) n))) (same a)
@@ -168,7 +168,7 @@ clash : (b : Bool) → b ≡ true → b ≡ false → ⊥
 clash b h k = cc
 
 -- an able hart is not paused, so it is another one than a paused one
-other_able : (setting : Setting) (xs : List Entry) (hart m : ℕ) → is_some (opening_of xs hart) ≡ true → IsAmong (is_able setting xs) 0 setting.plan.harts m → another_is_able setting xs hart ≡ true
+pub other_able : (setting : Setting) (xs : List Entry) (hart m : ℕ) → is_some (opening_of xs hart) ≡ true → IsAmong (is_able setting xs) 0 setting.plan.harts m → another_is_able setting xs hart ≡ true
 unfolding another_is_able able
 other_able setting xs hart m is among =
     let ready = is_ready setting xs m among.passes in

@@ -5,6 +5,7 @@ pub mod FirstLemmas
 pub mod Fronts
 pub mod GoingOn
 pub mod KeptLemmas
+pub mod NotingLemmas
 pub mod OwedLemmas
 pub mod PickerLemmas
 pub mod RowLemmas

@@ -1,6 +1,6 @@
 -- A remainder by two products: with c * d ≡ W + e and e * n < W, where c * n ends within W, times d, has passed W as often
 -- as n's remainder by d says.
-use Rattle.std.proofs.Common.{◌≡◌, ℕ, zero, suc, ◌+◌, ◌-◌, ◌*◌, ◌/◌, ◌%◌, ◌^◌, ◌<◌, refl, sym, ap, ◌∙◌, arith}
+use Rattle.std.proofs.Common.{◌≡◌, ℕ, zero, suc, ◌+◌, ◌-◌, ◌*◌, ◌/◌, ◌%◌, ◌^◌, ◌<◌, sym, ap, ◌∙◌, arith}
 use Rattle.std.proofs.lemmas.Nat.{div-mul-add, mod-mul-add, mod_below, div-add-mod'}
 use Rattle.std.proofs.Math.Nat.{add-mul, lt_of_mul-lt-mul_right, mod-eq_of_lt, mul-add, mul_assoc, mul_comm, mul_left_comm, mul_right_comm}
 use Rattle.rv_drive.specs.internal.Picker.{part_of}

@@ -1,11 +1,11 @@
 //! What a driver does next: which harts are able, which pause is due, and a draw.
 //!
-//! Speed: a turn asks neither of all harts. Both are looked up anew where a pause begins or ends, a hart ends, or
-//! the steps are spent; no other turn changes them.
-ghost use Rattle.std.specs.Prelude.{◌≡◌, ◌+◌, ◌<◌, ◌≤◌, ◌^◌, [], length, slice_get, true, is_some, Ok, Some, IfOk, IfSome, vec_capacity};
+//! Speed: a turn asks neither of all harts. Both are looked up anew where a pause or a hart ends, or the steps are
+//! spent. Where a pause begins its hart alone is noted, and neither another turn nor a draw changes them.
+ghost use Rattle.std.specs.Prelude.{◌≡◌, ◌+◌, ◌<◌, ◌≤◌, ◌==◌, ◌^◌, [], ◌∷◌, ◌++◌, filter, length, nat_lt, not, set, slice_get, slice_index, true, is_some, if◌then◌else◌, Ok, Some, IfOk, IfSome, vec_capacity};
 ghost use Rattle.rv_drive.specs.Sampling.{drew, sampling_of};
-ghost use Rattle.rv_drive.specs.internal.Kept.{IsAhead, IsKept, NoneLasts};
-ghost use Rattle.rv_drive.specs.Able.{able, another_is_able, due, is_able, is_due};
+ghost use Rattle.rv_drive.specs.internal.Kept.{IsAhead, IsKept};
+ghost use Rattle.rv_drive.specs.Able.{able, due, is_able, is_due};
 ghost use Rattle.rv_collide.specs.Answers.{Resumes, Turns};
 ghost use Rattle.rv_collide.specs.Next.{runs_at};
 ghost use Rattle.rv_collide.specs.Pause.{opening_of};
@@ -14,6 +14,7 @@ ghost use Rattle.rv_collide.specs.Stored.{setting_of};
 use crate::driver_laws::{accepted_calls, open_pauses};
 use rv_collide::collider::{Collider, Turned};
 use rv_collide::ending::Ending;
+use rv_collide::list_laws::longer_lists;
 use rv_hart::laws::what_no_step_does;
 use rv_hart::machine::MOST_HARTS;
 use rv_memory::flat::Flat;
@@ -62,39 +63,64 @@ impl Ahead {
         ensures driver { IsAhead self.new }
         ensures collider { self.new.collider ≡ self.old.collider }
     {
-        self.earliest = self.first_end();
-        self.find_able();
-    }
-
-    /// The able harts, in ascending order.
-    fn find_able(&mut self)
-        requires kept { IsKept self.old.collider.entries self.old.made self.old.made_at }
-        requires room { MOST_HARTS ≤ vec_capacity self.old.able }
-        ensures able { self.new.able.items ≡ able (setting_of self.old.collider) self.old.collider.entries }
-        ensures room { MOST_HARTS ≤ vec_capacity self.new.able }
-        ensures others { self.new ≡ record self.old { able = self.new.able } }
-    {
+        let plan = self.collider.plan();
+        let are_left = self.made < plan.steps;
         self.able.clear();
-        for h in 0..self.collider.plan().harts {
-            if self.is_able(h) {
-                self.able.push_reserved(h);
-            }
+        self.earliest = u32::MAX;
+        for h in 0..plan.harts {
+            self.note(h, are_left);
         }
     }
 
-    /// Before how many steps no open pause has lasted as long as the plan wants.
-    fn first_end(&self) -> u32
-        requires { IsKept self.now.collider.entries self.now.made self.now.made_at }
-        ensures { NoneLasts (setting_of self.now.collider) self.now.collider.entries self.now.made_at result }
+    /// Notes of the next hart when its pause is due, or that it is able, where steps are left.
+    #[inline(always)]
+    fn note(&mut self, h: u8, are_left: bool)
+        requires kept { IsKept self.old.collider.entries self.old.made self.old.made_at }
+        requires hart { h < MOST_HARTS }
+        requires left { are_left ≡ nat_lt self.old.made self.old.collider.plan.steps }
+        requires room { length self.old.able.items < vec_capacity self.old.able }
+        ensures able { self.new.able.items ≡ self.old.able.items
+            ++ (if is_able (setting_of self.old.collider) self.old.collider.entries h then h ∷ [] else []) }
+        ensures room { vec_capacity self.new.able ≡ vec_capacity self.old.able }
+        ensures sooner { self.new.earliest ≤ self.old.earliest }
+        ensures end { is_some (opening_of self.old.collider.entries h) ≡ true
+            → self.new.earliest ≤ slice_index self.old.made_at h + self.old.collider.plan.pause }
+        ensures others { self.new ≡ record self.old { able = self.new.able; earliest = self.new.earliest } }
     {
-        let pause = self.collider.plan().pause;
-        let mut earliest = u32::MAX;
-        for h in 0..self.collider.plan().harts {
-            if self.is_open(h) {
-                earliest = earliest.min(self.made_at[usize::from(h)].saturating_add(pause));
-            }
+        if self.is_open(h) {
+            self.earliest = self.earliest.min(self.end(h));
+        } else if are_left && self.runs(h) {
+            self.able.push_reserved(h);
         }
-        earliest
+    }
+
+    /// Notes that the hart is paused from now on. No other hart changes, so none is asked.
+    fn hold(&mut self, h: u8)
+        requires hart { h < MOST_HARTS }
+        requires harts { length self.old.made_at ≡ MOST_HARTS }
+        ensures made_at { self.new.made_at ≡ set self.old.made_at h self.old.made }
+        ensures able { self.new.able.items ≡ filter (λ k. not (k == h)) self.old.able.items }
+        ensures room { vec_capacity self.new.able ≡ vec_capacity self.old.able }
+        ensures sooner { self.new.earliest ≤ self.old.earliest }
+        ensures end { self.new.earliest ≤ self.old.made + self.old.collider.plan.pause }
+        ensures others { self.new ≡ record self.old {
+          made_at = self.new.made_at;
+          able = self.new.able;
+          earliest = self.new.earliest;
+        } }
+    {
+        self.made_at[usize::from(h)] = self.made;
+        self.earliest = self.earliest.min(self.end(h));
+        self.able.retain(|other| *other != h);
+    }
+
+    /// Before how many steps a hart's pause has not lasted as long as the plan wants.
+    fn end(&self, h: u8) -> u32
+        requires hart { h < MOST_HARTS }
+        requires harts { length self.now.made_at ≡ MOST_HARTS }
+        ensures { result ≤ slice_index self.now.made_at h + self.now.collider.plan.pause }
+    {
+        self.made_at[usize::from(h)].saturating_add(self.collider.plan().pause)
     }
 
     /// Whether a hart runs.
@@ -145,22 +171,9 @@ impl Ahead {
         self.able.get(index as usize).copied()
     }
 
-    /// Whether a hart other than this one is able.
-    fn another_is_able(&self, h: u8) -> bool
-        requires { IsKept self.now.collider.entries self.now.made self.now.made_at }
-        ensures { result ≡ another_is_able (setting_of self.now.collider) self.now.collider.entries h }
-    {
-        for other in 0..self.collider.plan().harts {
-            if other != h && self.is_able(other) {
-                return true;
-            }
-        }
-        false
-    }
-
-    /// Whether the pause of a hart is due to end.
+    /// Whether the pause of a hart is due to end. A paused hart is not able, so each able one is another.
     pub fn is_due(&self, h: u8) -> bool
-        requires kept { IsKept self.now.collider.entries self.now.made self.now.made_at }
+        requires driver { IsAhead self.now }
         requires hart { h < MOST_HARTS }
         ensures { result ≡ is_due (setting_of self.now.collider) self.now.collider.entries h }
     {
@@ -168,7 +181,7 @@ impl Ahead {
             return false;
         }
         let since = self.made.saturating_sub(self.made_at[usize::from(h)]);
-        self.collider.plan().pause <= since || !self.another_is_able(h)
+        self.collider.plan().pause <= since || self.able.is_empty()
     }
 
     /// The lowest hart whose pause is due.
@@ -188,7 +201,7 @@ impl Ahead {
     #[cold]
     #[inline(never)]
     fn first_due(&self) -> Option<u8>
-        requires { IsKept self.now.collider.entries self.now.made self.now.made_at }
+        requires { IsAhead self.now }
         ensures value { result ≡ due (setting_of self.now.collider) self.now.collider.entries }
         ensures hart { IfSome result (λ h. h < self.now.collider.plan.harts) }
         ensures due { IfSome result (λ h. is_due (setting_of self.now.collider) self.now.collider.entries h ≡ true) }
@@ -211,10 +224,10 @@ impl Ahead {
             words.old.taken self.old.collider }
     {
         open_pauses();
+        longer_lists();
         let word = words.next();
         if let Some(site) = sampler.pick(word) {
             let _armed = self.collider.arm(site);
-            self.look();
         }
     }
 
@@ -227,6 +240,7 @@ impl Ahead {
         ensures turns { Turns self.old.collider self.new.collider h result }
     {
         open_pauses();
+        longer_lists();
         accepted_calls();
         what_no_step_does();
         let plan = self.collider.plan();
@@ -239,8 +253,7 @@ impl Ahead {
                 Turned::Stepped(event)
             }
             Ok(Turned::Paused(slot)) => {
-                self.made_at[usize::from(h)] = self.made;
-                self.look();
+                self.hold(h);
                 Turned::Paused(slot)
             }
             Err(_) => unreachable!(),

@@ -4,6 +4,7 @@ use Rattle.std.specs.Prelude.{◌==◌, ◌||◌, is_some, slice_get, IfSome, Is
 use Rattle.std.proofs.lemmas.List.{append-nil, get_or-set_same, length-set, map-set, set-get_or, set-set}
 use Rattle.std.proofs.lemmas.Option.{slice_get-get_or, slice_get_within}
 use Rattle.rv_hart.specs.Act.{action_of}
+use Rattle.rv_hart.specs.Fetched.{IsWordAt}
 use Rattle.rv_hart.specs.Refusals.{is_print, is_running_hart}
 use Rattle.rv_hart.specs.Step.{action_at_word, allowed, hart_after, kept, loaded_by, memory_after, reserves, seen_by, write, written_by}
 use Rattle.rv_hart.specs.Arithmetic.{combined}
@@ -316,3 +317,12 @@ none_taken old new before after h attempt.Set a t common none = t.held refl none
 none_taken old new before after h attempt.Accessed a t common none = t.held refl none
 none_taken old new before after h attempt.Exclusive a t common none = cc
 none_taken old new before after h attempt.Failed a t common none = cc
+
+-- the word of a hart that runs, at its place
+pub fetches_there : (harts : List Hart) (memory : Memory) (h word : ℕ) (default : Hart) → is_running_hart (slice_get harts h) ≡ true → IsWordAt harts memory h word → Fetches memory word (get_or harts h default)
+fetches_there harts memory h word default runs is =
+    let there = slice_get-get_or harts h default (running_within harts h runs) in
+    record {
+      running = subst (λ (o : Option Hart). is_running_hart o ≡ true) there runs;
+      word_is = subst (λ (o : Option Hart). IsSomeAnd o (λ hart. load_permitted memory hart.pc 4 need.Execute ≡ Some word)) there is;
+    }

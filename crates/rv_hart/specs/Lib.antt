@@ -1,8 +1,10 @@
 pub mod Act
 pub mod Arithmetic
 pub mod Cause
+pub mod Common
 pub mod Conflict
 pub mod FetchLaws
+pub mod Fetched
 pub mod NextAccess
 pub mod Refusals
 pub mod Registers

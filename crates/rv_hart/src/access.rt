@@ -1,4 +1,4 @@
-ghost use Rattle.std.specs.Prelude.{◌≡◌, ◌↔◌, IsTrue};
+ghost use Rattle.std.specs.Prelude.{◌≡◌, ◌↔◌, IsTrue, false};
 
 use crate::hart::Cause;
 
@@ -20,6 +20,14 @@ pub enum Event {
     Moved(Option<Access>),
     Exited(u32),
     Stopped(Cause),
+}
+
+/// What a common step was: none was made; it made no access; or it made the access that was noted.
+#[derive(Clone, Copy)]
+pub enum Common {
+    Untaken,
+    Silent,
+    Accessed,
 }
 
 /// Whether an access reads its bytes, writes them, or both.
@@ -56,6 +64,19 @@ impl AccessKind {
 
 impl Access {
     ghost use Rattle.rv_hart.specs.Conflict.{conflicts, Conflict};
+
+    /// An access of no bytes: a place to note one in.
+    pub fn of_no_bytes() -> Access
+        ensures { result ≡ record { pc = 0; first = 0; size = 0; read = false; write = false } }
+    {
+        Access {
+            pc: 0,
+            first: 0,
+            size: 0,
+            read: false,
+            write: false,
+        }
+    }
 
     /// Whether the two accesses conflict: some address is a byte of both, and at least one of them writes.
     /// (This project's own definition; accesses of LR, SC and AMO count as others do. An access of no bytes

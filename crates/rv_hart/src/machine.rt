@@ -2,6 +2,8 @@ ghost use Rattle.std.specs.Prelude.{◌≡◌, true, ◌^◌, ◌≢◌, ℕ, �
 ghost use Rattle.rv_hart.specs.internal.Able.{IsAble};
 ghost use Rattle.rv_hart.specs.internal.Machine as machine;
 ghost use Rattle.rv_hart.specs.internal.HartAccess as own;
+ghost use Rattle.rv_hart.specs.Common.{event_of_common};
+ghost use Rattle.rv_hart.specs.Fetched.{IsWordOf};
 ghost use Rattle.rv_hart.specs.NextAccess as next;
 ghost use Rattle.rv_hart.specs.Refusals as refusals;
 ghost use Rattle.rv_hart.specs.Registers.{get};
@@ -12,7 +14,7 @@ ghost use Rattle.rv_hart.specs.StepAnswer.{AnswersStep};
 ghost use Rattle.rv_memory.specs.Extent.{IsExtent};
 ghost use Rattle.rv_memory.specs.Memory as memory;
 
-use crate::access::{Access, Event};
+use crate::access::{Access, Common, Event};
 use crate::act::register;
 use crate::action::Action;
 use crate::effect::{
@@ -56,7 +58,7 @@ pub struct Machine<S: ByteStore> {
     limit: u32,
     /// Whether a hart may hold a reservation: where none does, a write ends none.
     reserved: bool,
-    /// The access that the last quick step made, if it made one: a place that stays, so that no step makes one.
+    /// The access that the last common step of `step` made, if it made one: a place that stays, so that no step makes one.
     noted: Access,
 }
 
@@ -110,13 +112,7 @@ impl<S: ByteStore> Machine<S> {
             output,
             limit: out_limit,
             reserved: false,
-            noted: Access {
-                pc: 0,
-                first: 0,
-                size: 0,
-                read: false,
-                write: false,
-            },
+            noted: Access::of_no_bytes(),
         })
     }
 
@@ -174,6 +170,16 @@ impl<S: ByteStore> Machine<S> {
         }
     }
 
+    /// The `size` bytes (1, 2 or 4) from an address on as a little-endian number, looked up once; or None where
+    /// they do not lie wholly in one region.
+    pub fn number(&self, address: u32, size: u8) -> Option<u32>
+        requires { memory.IsSize size }
+        ensures value { result ≡ memory.load_permitted self.now.state.memory address size Need.Nothing }
+        ensures below { IfSome result (λ value. value < 256 ^ size) }
+    {
+        self.store.load_permitted(address, size, Need::Nothing)
+    }
+
     /// No byte stands past the last address.
     pub fn no_byte_past_the_last(&self)
         ensures { (address : ℕ) → 2 ^ 32 ≤ address → memory.byte self.now.state.memory address ≡ None }
@@ -218,21 +224,66 @@ impl<S: ByteStore> Machine<S> {
         ensures { AnswersStep S.can_refuse self.old self.new h result }
     {
         if self.runs(h) {
-            if let Some(event) = self.step_quick::<0>(h) {
+            if let Some(event) = self.step_noted(h) {
                 return Ok(event);
             }
         }
         self.step_apart(h)
     }
 
-    /// One step of a hart that runs, where it is a common one, which moves on; else nothing has changed. `PLACE` tells
-    /// the places that call it apart: it is compiled once for each but 0, and into it.
+    /// The word at a hart's pc, where the store finds it at once; None says nothing.
     #[inline(always)]
-    pub fn step_quick<const PLACE: u8>(&mut self, h: u8) -> Option<Event>
+    pub fn fetched(&self, h: u8) -> Option<u32>
+        requires { h < length self.now.state.harts }
+        ensures { IfSome result (IsWordOf self.now.state h) }
+    {
+        self.store.fetch_at_once(self.harts[h as usize].pc)
+    }
+
+    /// One step of a hart that runs, whose word was fetched, where it is a common one, which moves on, and notes its
+    /// access; else nothing has changed. `PLACE` tells the places that call it apart: it is compiled once for each but 0, and into it. What was
+    /// noted stays in the caller's place, since an event that is handed on is copied at each step.
+    #[inline(always)]
+    pub fn step_quick<const PLACE: u8>(&mut self, h: u8, word: u32, noted: &mut Access) -> Common
+        requires running { refusals.is_running_hart (slice_get self.old.state.harts h) ≡ true }
+        requires word { IsWordOf self.old.state h word }
+        ensures step { IfSome (event_of_common result noted.new) (λ event.
+            step_of self.old.state h ≡ Some (event, self.new.state)) }
+        ensures silent { IsSome (event_of_common result noted.new)
+            → refusals.prints self.old.state.memory (slice_get self.old.state.harts h) ≡ false }
+        ensures harts { length self.new.state.harts ≡ length self.old.state.harts }
+        ensures limit { self.new.limit ≡ self.old.limit }
+        ensures same { (result ≡ Common.Untaken) → self.new ≡ self.old }
+    {
+        let attempt = tried::<PLACE, S>(
+            &mut self.store,
+            &mut self.harts,
+            &mut self.reserved,
+            h,
+            word,
+            noted,
+        );
+        // These by themselves, since most steps come to them: five cases would be a jump over a table.
+        if let Attempt::Set = attempt {
+            return Common::Silent;
+        }
+        if let Attempt::Accessed = attempt {
+            return Common::Accessed;
+        }
+        match attempt {
+            Attempt::Nothing => Common::Untaken,
+            Attempt::Set | Attempt::Failed => Common::Silent,
+            Attempt::Accessed | Attempt::Exclusive => Common::Accessed,
+        }
+    }
+
+    /// The same for `step`, as an event.
+    #[inline(always)]
+    #[tactic(auto, using(crate::proofs::QuickLemmas::running_within))]
+    fn step_noted(&mut self, h: u8) -> Option<Event>
         requires { refusals.is_running_hart (slice_get self.old.state.harts h) ≡ true }
         ensures step { IfSome result (λ event.
             step_of self.old.state h ≡ Some (event, self.new.state)) }
-        ensures moves { IfSome result (λ event. event ≡ Event.Moved (next.accessed event)) }
         ensures running { IsSome result
             → IsTrue (refusals.is_running_hart (slice_get self.old.state.harts h)) }
         ensures silent { IsSome result
@@ -241,14 +292,15 @@ impl<S: ByteStore> Machine<S> {
         ensures limit { self.new.limit ≡ self.old.limit }
         ensures same { (result ≡ None) → self.new ≡ self.old }
     {
-        let attempt = tried::<PLACE, S>(
+        let word = self.fetched(h)?;
+        let attempt = tried::<0, S>(
             &mut self.store,
             &mut self.harts,
             &mut self.reserved,
             h,
+            word,
             &mut self.noted,
         );
-        // These by themselves, since most steps come to them: five cases would be a jump over a table.
         if let Attempt::Set = attempt {
             return Some(Event::Moved(None));
         }

@@ -1,12 +1,12 @@
 //! Speed: the common steps, each executed at one place with one look-up an access. `effect` is the meaning's
 //! twin; what is not taken here has changed nothing, and is for the functions there.
 ghost use Rattle.std.specs.Prelude.{◌≡◌, ◌<◌, true, false, length, slice_get, vec_len, IfSome};
+ghost use Rattle.rv_hart.specs.Fetched.{IsWordAt};
 ghost use Rattle.rv_hart.specs.Refusals.{is_running_hart};
-ghost use Rattle.rv_hart.specs.State.{is_running};
 ghost use Rattle.rv_hart.specs.internal.Able.{HasSize};
 ghost use Rattle.rv_hart.specs.internal.AccessKind.{access_of_kind};
 ghost use Rattle.rv_hart.specs.internal.Harts.{Sees, any_holds};
-ghost use Rattle.rv_hart.specs.internal.Quick.{Begins, Fetches, Tried, TriedAt, event_of_attempt, is_exclusive, write_of_attempt};
+ghost use Rattle.rv_hart.specs.internal.Quick.{Begins, Fetches, Tried, TriedAt, attempt_of_access, event_of_attempt, is_exclusive, write_of_attempt};
 
 use crate::access::{Access, AccessKind};
 use crate::act::{act, combined};
@@ -44,24 +44,26 @@ impl Attempt {
     }
 }
 
-/// Takes a step of hart h, which runs, where it is a common one, and notes its access; or changes nothing. `reserved`
-/// tells whether a hart may hold a reservation. A step that sets a register asks no more, and what is left for the others
-/// reads all anew, so that nothing is kept for it over the call of `moved`. `PLACE` is that of `Machine::step_quick`.
+/// Takes a step of hart h, which runs and has the word at its pc, where it is a common one, and notes its access; or
+/// changes nothing. `reserved` tells whether a hart may hold a reservation. A step that sets a register asks no more, and what is left for the others
+/// reads all anew, so that nothing is kept for it over the call of `moved_from`. `PLACE` is that of `Machine::step_quick`.
 #[inline(always)]
 pub fn tried<const PLACE: u8, S: ByteStore>(
     store: &mut S,
     harts: &mut Vec<Hart>,
     reserved: &mut bool,
     h: u8,
+    word: u32,
     access: &mut Access,
 ) -> Attempt
     requires running { is_running_hart (slice_get harts.old.items h) ≡ true }
+    requires fetches { IsWordAt harts.old.items (S.memory store.old) h word }
     requires held { reserved.old ≡ false → any_holds harts.old.items ≡ false }
     ensures tried { TriedAt harts.old.items harts.new.items (S.memory store.old) (S.memory store.new) h (event_of_attempt result access.new) (is_exclusive result) }
     ensures held { reserved.new ≡ false → any_holds harts.new.items ≡ false }
     ensures len { vec_len harts.new ≡ vec_len harts.old }
 {
-    let attempt = moved_from::<PLACE, S>(store, &mut harts[h as usize], access);
+    let attempt = moved_from::<PLACE, S>(store, &mut harts[h as usize], access, word);
     if let Attempt::Set = attempt {
         return Attempt::Set;
     }
@@ -71,16 +73,17 @@ pub fn tried<const PLACE: u8, S: ByteStore>(
     attempt
 }
 
-/// Ends the other harts' reservations that the write of an attempt meets, and looks whether one is left.
+/// Ends the other harts' reservations that the write of an attempt meets, and looks then whether one may be left. An LR
+/// leaves one, so it costs no look.
 #[inline(never)]
 fn settle(harts: &mut Vec<Hart>, reserved: &mut bool, h: u8, attempt: Attempt, access: &Access)
     requires { h < length harts.old.items }
     ensures sees { Sees harts.old.items harts.new.items h (write_of_attempt attempt access.now) }
-    ensures reserved { reserved.new ≡ any_holds harts.new.items }
+    ensures held { reserved.new ≡ false → any_holds harts.new.items ≡ false }
     ensures len { vec_len harts.new ≡ vec_len harts.old }
 {
     see_attempt(harts, h, attempt, access);
-    *reserved = any_holds(harts);
+    *reserved = !access.write || any_holds(harts);
 }
 
 /// Ends the other harts' reservations that the write of an attempt meets, if it made one.
@@ -96,51 +99,42 @@ fn see_attempt(harts: &mut [Hart], h: u8, attempt: Attempt, access: &Access)
     }
 }
 
-/// Takes the step of a hart itself, where it is a common one; no other hart has seen its write yet. It is compiled into
-/// each place but place 0.
+/// Takes the step of a hart itself, where its word is a common one's; no other hart has seen its write yet. It is compiled
+/// into each place but place 0.
 #[inline(always)]
 fn moved_from<const PLACE: u8, S: ByteStore>(
     store: &mut S,
     hart: &mut Hart,
     access: &mut Access,
+    word: u32,
 ) -> Attempt
-    requires { is_running hart.old.status ≡ true }
+    requires fetches { Fetches (S.memory store.old) word hart.old }
     ensures { Tried hart.old hart.new (S.memory store.old) (S.memory store.new) (event_of_attempt result access.new) (is_exclusive result) }
 {
     if PLACE == 0 {
-        moved_apart(store, hart, access)
+        moved_apart(store, hart, access, word)
     } else {
-        moved::<PLACE, S>(store, hart, access)
+        dispatched::<PLACE, S>(store, hart, access, word)
     }
 }
 
 /// The same as a function of its own, with no more arguments than the functions of accesses have, to which it jumps.
 #[inline(never)]
-fn moved_apart<S: ByteStore>(store: &mut S, hart: &mut Hart, access: &mut Access) -> Attempt
-    requires { is_running hart.old.status ≡ true }
-    ensures { Tried hart.old hart.new (S.memory store.old) (S.memory store.new) (event_of_attempt result access.new) (is_exclusive result) }
-{
-    moved::<0, S>(store, hart, access)
-}
-
-/// The same, compiled apart for each place, so that it is called once and compiled into its caller.
-#[inline(always)]
-fn moved<const PLACE: u8, S: ByteStore>(
+fn moved_apart<S: ByteStore>(
     store: &mut S,
     hart: &mut Hart,
     access: &mut Access,
+    word: u32,
 ) -> Attempt
-    requires { is_running hart.old.status ≡ true }
+    requires fetches { Fetches (S.memory store.old) word hart.old }
     ensures { Tried hart.old hart.new (S.memory store.old) (S.memory store.new) (event_of_attempt result access.new) (is_exclusive result) }
 {
-    let Some(word) = store.fetch_at_once(hart.pc) else {
-        return Attempt::Nothing;
-    };
-    dispatched::<PLACE, S>(store, hart, access, word)
+    dispatched::<0, S>(store, hart, access, word)
 }
 
 /// Takes the step of a word, by one jump over the opcode's five upper bits and funct3: each number stands for itself,
-/// since a range is compared with apart from the jump. No more is asked of
+/// since a range is compared with apart from the jump. It is compiled apart for each place, so that it is called once
+/// and compiled into its caller. No more is asked of
 /// the arms than that they try a likely operation, since each tests the word by that operation's row. Each
 /// names its operation as a constant, so that it is compiled to the operands and the action of that operation
 /// alone. What accesses memory is a function of its own for each operation, since the others need no more registers
@@ -158,11 +152,11 @@ fn dispatched<const PLACE: u8, S: ByteStore>(
     let is_plain = (word >> 25) % 128 == 0;
     let is_product = word & 0x0200_0000 != 0;
     match (word >> 2) % 32 * 8 + (word >> 12) % 8 {
-        0x00 => load_apart::<operations::Lb, S>(store, hart, access, word),
-        0x01 => load_apart::<operations::Lh, S>(store, hart, access, word),
-        0x02 => load_apart::<operations::Lw, S>(store, hart, access, word),
-        0x04 => load_apart::<operations::Lbu, S>(store, hart, access, word),
-        0x05 => load_apart::<operations::Lhu, S>(store, hart, access, word),
+        0x00 => of_access(load_apart::<operations::Lb, S>(store, hart, access, word)),
+        0x01 => of_access(load_apart::<operations::Lh, S>(store, hart, access, word)),
+        0x02 => of_access(load_apart::<operations::Lw, S>(store, hart, access, word)),
+        0x04 => of_access(load_apart::<operations::Lbu, S>(store, hart, access, word)),
+        0x05 => of_access(load_apart::<operations::Lhu, S>(store, hart, access, word)),
         0x18 | 0x19 | 0x1a | 0x1b | 0x1c | 0x1d | 0x1e | 0x1f => set_by(
             store,
             hart,
@@ -189,9 +183,9 @@ fn dispatched<const PLACE: u8, S: ByteStore>(
             access,
             word,
         ),
-        0x40 => store_apart::<operations::Sb, S>(store, hart, access, word),
-        0x41 => store_apart::<operations::Sh, S>(store, hart, access, word),
-        0x42 => store_apart::<operations::Sw, S>(store, hart, access, word),
+        0x40 => of_access(store_apart::<operations::Sb, S>(store, hart, access, word)),
+        0x41 => of_access(store_apart::<operations::Sh, S>(store, hart, access, word)),
+        0x42 => of_access(store_apart::<operations::Sw, S>(store, hart, access, word)),
         0x5a => exchanged(store, hart, access, word),
         0x60 => if is_plain {
             set_by(store, hart, Op::Add, access, word)
@@ -274,18 +268,30 @@ fn exchanged<S: ByteStore>(
     ensures { Tried hart.old hart.new (S.memory store.old) (S.memory store.new) (event_of_attempt result access.new) (is_exclusive result) }
 {
     match (word >> 27) % 32 {
-        0x00 => exchange_apart::<operations::AmoaddW, S>(store, hart, access, word),
-        0x01 => exchange_apart::<operations::AmoswapW, S>(store, hart, access, word),
+        0x00 => of_access(exchange_apart::<operations::AmoaddW, S>(store, hart, access, word)),
+        0x01 => of_access(exchange_apart::<operations::AmoswapW, S>(store, hart, access, word)),
         0x02 => reserve_apart(store, hart, access, word),
         0x03 => conditional_apart(store, hart, access, word),
-        0x04 => exchange_apart::<operations::AmoxorW, S>(store, hart, access, word),
-        0x08 => exchange_apart::<operations::AmoorW, S>(store, hart, access, word),
-        0x0c => exchange_apart::<operations::AmoandW, S>(store, hart, access, word),
-        0x10 => exchange_apart::<operations::AmominW, S>(store, hart, access, word),
-        0x14 => exchange_apart::<operations::AmomaxW, S>(store, hart, access, word),
-        0x18 => exchange_apart::<operations::AmominuW, S>(store, hart, access, word),
-        0x1c => exchange_apart::<operations::AmomaxuW, S>(store, hart, access, word),
+        0x04 => of_access(exchange_apart::<operations::AmoxorW, S>(store, hart, access, word)),
+        0x08 => of_access(exchange_apart::<operations::AmoorW, S>(store, hart, access, word)),
+        0x0c => of_access(exchange_apart::<operations::AmoandW, S>(store, hart, access, word)),
+        0x10 => of_access(exchange_apart::<operations::AmominW, S>(store, hart, access, word)),
+        0x14 => of_access(exchange_apart::<operations::AmomaxW, S>(store, hart, access, word)),
+        0x18 => of_access(exchange_apart::<operations::AmominuW, S>(store, hart, access, word)),
+        0x1c => of_access(exchange_apart::<operations::AmomaxuW, S>(store, hart, access, word)),
         _ => Attempt::Nothing,
+    }
+}
+
+/// The attempt that an access was, which was made or not.
+#[inline(always)]
+fn of_access(made: bool) -> Attempt
+    ensures { result ≡ attempt_of_access made }
+{
+    if made {
+        Attempt::Accessed
+    } else {
+        Attempt::Nothing
     }
 }
 
@@ -350,13 +356,13 @@ fn load_apart<O: Operation, S: ByteStore>(
     hart: &mut Hart,
     access: &mut Access,
     word: u32,
-) -> Attempt
+) -> bool
     requires fetches { Fetches (S.memory store.old) word hart.old }
-    ensures { Tried hart.old hart.new (S.memory store.old) (S.memory store.new) (event_of_attempt result access.new) (is_exclusive result) }
+    ensures { Tried hart.old hart.new (S.memory store.old) (S.memory store.new) (event_of_attempt (attempt_of_access result) access.new) (is_exclusive (attempt_of_access result)) }
 {
     match begun(store, hart, O::op(), word) {
         Some(action) => loaded(store, hart, action, access),
-        None => Attempt::Nothing,
+        None => false,
     }
 }
 
@@ -367,13 +373,13 @@ fn store_apart<O: Operation, S: ByteStore>(
     hart: &mut Hart,
     access: &mut Access,
     word: u32,
-) -> Attempt
+) -> bool
     requires fetches { Fetches (S.memory store.old) word hart.old }
-    ensures { Tried hart.old hart.new (S.memory store.old) (S.memory store.new) (event_of_attempt result access.new) (is_exclusive result) }
+    ensures { Tried hart.old hart.new (S.memory store.old) (S.memory store.new) (event_of_attempt (attempt_of_access result) access.new) (is_exclusive (attempt_of_access result)) }
 {
     match begun(store, hart, O::op(), word) {
         Some(action) => stored(store, hart, action, access),
-        None => Attempt::Nothing,
+        None => false,
     }
 }
 
@@ -384,13 +390,13 @@ fn exchange_apart<O: Operation, S: ByteStore>(
     hart: &mut Hart,
     access: &mut Access,
     word: u32,
-) -> Attempt
+) -> bool
     requires fetches { Fetches (S.memory store.old) word hart.old }
-    ensures { Tried hart.old hart.new (S.memory store.old) (S.memory store.new) (event_of_attempt result access.new) (is_exclusive result) }
+    ensures { Tried hart.old hart.new (S.memory store.old) (S.memory store.new) (event_of_attempt (attempt_of_access result) access.new) (is_exclusive (attempt_of_access result)) }
 {
     match begun(store, hart, O::op(), word) {
         Some(action) => replaced(store, hart, action, access),
-        None => Attempt::Nothing,
+        None => false,
     }
 }
 
@@ -448,41 +454,31 @@ fn set<S: ByteStore>(
 
 /// Takes a plain load that is permitted.
 #[inline(always)]
-fn loaded<S: ByteStore>(
-    store: &mut S,
-    hart: &mut Hart,
-    action: Action,
-    access: &mut Access,
-) -> Attempt
+fn loaded<S: ByteStore>(store: &mut S, hart: &mut Hart, action: Action, access: &mut Access) -> bool
     requires sized { HasSize action }
     requires begins { Begins (S.memory store.old) action hart.old }
-    ensures { Tried hart.old hart.new (S.memory store.old) (S.memory store.new) (event_of_attempt result access.new) (is_exclusive result) }
+    ensures { Tried hart.old hart.new (S.memory store.old) (S.memory store.new) (event_of_attempt (attempt_of_access result) access.new) (is_exclusive (attempt_of_access result)) }
 {
     let Action::Load { address, size, .. } = action else {
-        return Attempt::Nothing;
+        return false;
     };
     if !is_aligned(address, size) {
-        return Attempt::Nothing;
+        return false;
     }
     let Some(loaded) = store.load_permitted(address, size, Need::Read) else {
-        return Attempt::Nothing;
+        return false;
     };
     note(access, hart, address, size, AccessKind::Load);
     advance(hart, loaded, action);
-    Attempt::Accessed
+    true
 }
 
 /// Takes a plain store that is permitted.
 #[inline(always)]
-fn stored<S: ByteStore>(
-    store: &mut S,
-    hart: &mut Hart,
-    action: Action,
-    access: &mut Access,
-) -> Attempt
+fn stored<S: ByteStore>(store: &mut S, hart: &mut Hart, action: Action, access: &mut Access) -> bool
     requires sized { HasSize action }
     requires begins { Begins (S.memory store.old) action hart.old }
-    ensures { Tried hart.old hart.new (S.memory store.old) (S.memory store.new) (event_of_attempt result access.new) (is_exclusive result) }
+    ensures { Tried hart.old hart.new (S.memory store.old) (S.memory store.new) (event_of_attempt (attempt_of_access result) access.new) (is_exclusive (attempt_of_access result)) }
 {
     memory_is_sound();
     let Action::Store {
@@ -491,14 +487,14 @@ fn stored<S: ByteStore>(
         value,
     } = action
     else {
-        return Attempt::Nothing;
+        return false;
     };
     if !is_aligned(address, size) || !store.store_permitted(address, size, value, Need::Write) {
-        return Attempt::Nothing;
+        return false;
     }
     note(access, hart, address, size, AccessKind::Store);
     advance(hart, 0, action);
-    Attempt::Accessed
+    true
 }
 
 /// Takes an AMO that is permitted.
@@ -508,9 +504,9 @@ fn replaced<S: ByteStore>(
     hart: &mut Hart,
     action: Action,
     access: &mut Access,
-) -> Attempt
+) -> bool
     requires begins { Begins (S.memory store.old) action hart.old }
-    ensures { Tried hart.old hart.new (S.memory store.old) (S.memory store.new) (event_of_attempt result access.new) (is_exclusive result) }
+    ensures { Tried hart.old hart.new (S.memory store.old) (S.memory store.new) (event_of_attempt (attempt_of_access result) access.new) (is_exclusive (attempt_of_access result)) }
 {
     memory_is_sound();
     let Action::Replace {
@@ -520,21 +516,21 @@ fn replaced<S: ByteStore>(
         ..
     } = action
     else {
-        return Attempt::Nothing;
+        return false;
     };
     if !is_aligned(address, 4) {
-        return Attempt::Nothing;
+        return false;
     }
     let Some(loaded) = store.load_permitted(address, 4, Need::ReadWrite) else {
-        return Attempt::Nothing;
+        return false;
     };
     let stored = combined(combine, loaded, value);
     if !store.store_permitted(address, 4, stored, Need::Write) {
-        return Attempt::Nothing;
+        return false;
     }
     note(access, hart, address, 4, AccessKind::Both);
     advance(hart, loaded, action);
-    Attempt::Accessed
+    true
 }
 
 /// Takes an LR that is permitted.

@@ -52,11 +52,24 @@ fn assert_disarms(rt: &impl Abort, breaks: &mut Breakpoints) {
     assert_is(rt, found, wanted, "both are disarmed");
 }
 
+/// One look tells all but addresses that are 16 KiB apart.
+fn assert_may_be_armed(rt: &impl Abort, breaks: &Breakpoints, wanted: bool) {
+    let found = [
+        breaks.may_be_armed(0x10004),
+        breaks.may_be_armed(0x14004),
+        breaks.may_be_armed(0x10008),
+    ];
+    assert_is(rt, found, [wanted, wanted, false], "may be armed");
+}
+
 #[test]
 fn arms_and_disarms(rt: HostRuntime) {
     let mut breaks = Breakpoints::new(rt.alloc(), 4).expect(&rt, "memory");
+    assert_may_be_armed(&rt, &breaks, false);
     assert_arms(&rt, &mut breaks);
+    assert_may_be_armed(&rt, &breaks, true);
     assert_disarms(&rt, &mut breaks);
+    assert_may_be_armed(&rt, &breaks, false);
 }
 
 fn assert_arms_sixty_four(rt: &impl Abort, breaks: &mut Breakpoints) {

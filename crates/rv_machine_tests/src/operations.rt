@@ -175,6 +175,16 @@ fn assert_stored(rt: &impl Abort, machine: &Machine<Flat>) {
     assert_is(rt, machine.byte(0x21000), None, "past the page");
 }
 
+/// The same bytes by two and four, and none of a number that does not lie wholly in the page.
+fn assert_numbers(rt: &impl Abort, machine: &Machine<Flat>) {
+    assert_is(rt, machine.number(0x20008, 4), Some(0x8180_7f01), "a word");
+    assert_is(rt, machine.number(0x2000a, 2), Some(0x8180), "a half word");
+    assert_is(rt, machine.number(0x2000b, 1), Some(0x81), "a byte");
+    let apart = (machine.number(0x20ffe, 4), machine.number(0x20fff, 2));
+    assert_is(rt, apart, (None, None), "across the page's end");
+    assert_is(rt, machine.number(0x21000, 1), None, "behind the page");
+}
+
 /// `lui x8, 0x20`, `lw x5, 0(x8)`, `sw x5, 8(x8)`, `sh x5, 14(x8)`, `sb x5, 19(x8)`.
 const STORES: [u32; 5] = [
     0x0002_0437,
@@ -190,6 +200,7 @@ fn stores(rt: HostRuntime) {
     let mut machine = machine(&rt, rt.alloc(), &STORES, &[0x8180_7f01], 1);
     assert_stores(&rt, &mut machine);
     assert_stored(&rt, &machine);
+    assert_numbers(&rt, &machine);
 }
 
 fn assert_stores(rt: &impl Abort, machine: &mut Machine<Flat>) {

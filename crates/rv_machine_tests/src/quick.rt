@@ -2,7 +2,7 @@
 use crate::assertion::assert_is;
 use crate::machines::machine;
 use crate::parts::access;
-use rv_hart::access::Event;
+use rv_hart::access::{Access, Common, Event};
 use rv_hart::machine::Machine;
 use rv_memory::flat::Flat;
 use std::alloc::Global;
@@ -13,10 +13,15 @@ const STORES: [u32; 3] = [0x0002_0337, 0x00a3_2023, 0x0000_0073];
 
 /// A common step of a hart, at a place of its own, where there is such a hart and it runs.
 fn quick<const PLACE: u8>(machine: &mut Machine<Flat>, h: u8) -> Option<Event> {
-    if machine.runs(h) {
-        machine.step_quick::<PLACE>(h)
-    } else {
-        None
+    if h >= machine.harts() || !machine.runs(h) {
+        return None;
+    }
+    let word = machine.fetched(h)?;
+    let mut noted = Access::of_no_bytes();
+    match machine.step_quick::<PLACE>(h, word, &mut noted) {
+        Common::Untaken => None,
+        Common::Silent => Some(Event::Moved(None)),
+        Common::Accessed => Some(Event::Moved(Some(noted))),
     }
 }
 

@@ -1,4 +1,5 @@
 pub mod Both
+pub mod CodeLemmas
 pub mod Frame
 pub mod InPages
 pub mod Lie

@@ -2,8 +2,10 @@ ghost use Rattle.std.specs.Prelude.{◌≡◌, ◌+◌, ◌++◌, ◌-◌, ◌^�
 ghost use Rattle.rv_memory.specs.Extent.{IsExtent, span, filled};
 ghost use Rattle.rv_memory.specs.Memory as spec;
 ghost use Rattle.rv_memory.specs.internal.Flat.{number_at, put_at};
+ghost use Rattle.rv_memory.specs.internal.Code.{IsCode};
 ghost use Rattle.rv_memory.specs.internal.Index.{Skips};
 
+use crate::code::Code;
 use crate::fit::fault_of_both;
 use crate::index::{first_of, index_of};
 use crate::region::Region;
@@ -18,20 +20,19 @@ pub struct Flat {
     regions: Vec<Region>,
     /// Where an access looks for its region, from its block on.
     firsts: Vec<u16>,
-    /// The place of the first executable region, where a fetch looks before it asks for its block's. It is
-    /// no more than a place to try: what lies there is tested at each fetch.
-    code: usize,
+    code: Code,
 }
 
 impl Model for Flat {
     ghost use Rattle.rv_memory.specs.Memory.{Memory};
+    ghost use Rattle.rv_memory.specs.internal.Code.{IsCode};
     ghost use Rattle.rv_memory.specs.internal.Flat.{IsFlat};
 
     ghost Value = { Memory };
 
     ghost view = { λ a. a.regions.items };
 
-    ghost invariant = { λ a. IsFlat a.regions.items a.firsts.items };
+    ghost invariant = { λ a. IsFlat a.regions.items a.firsts.items × IsCode a.regions.items a.code };
 }
 
 impl ByteStore for Flat {
@@ -69,23 +70,15 @@ impl ByteStore for Flat {
     #[inline(always)]
     #[tactic(auto, using(crate::proofs::Places::load_found, crate::proofs::LookFrom::skips))]
     fn load_permitted(&self, address: u32, size: u8, need: Need) -> Option<u32> {
-        if need == Need::Execute && permits_at(&self.regions, self.code, address, size, need) {
-            let region = &self.regions[self.code];
-            return Some(number_at(&region.bytes, (address - region.start) as usize, size));
-        }
         let first = first_of(&self.firsts, address);
         let region = &self.regions[find_permitted(&self.regions, first, address, size, need)?];
         Some(number_at(&region.bytes, (address - region.start) as usize, size))
     }
 
     #[inline(always)]
-    #[tactic(auto, using(crate::proofs::Places::permitted_found))]
     fn fetch_at_once(&self, address: u32) -> Option<u32> {
-        if permits_at(&self.regions, self.code, address, 4, Need::Execute) {
-            let region = &self.regions[self.code];
-            return Some(number_at(&region.bytes, (address - region.start) as usize, 4));
-        }
-        None
+        let offset = self.code.offset(address)?;
+        Some(number_at(&self.regions[self.code.place].bytes, offset as usize, 4))
     }
 
     #[inline]
@@ -139,21 +132,6 @@ fn allows(region: &Region, need: Need) -> bool
         Need::ReadWrite => region.r && region.w,
         Need::Execute => region.x,
     }
-}
-
-/// Whether the region of the place, where there is one, has the bytes and the permissions.
-#[inline(always)]
-#[tactic(auto, using(crate::proofs::Permitted::permitted_at))]
-fn permits_at(regions: &[Region], place: usize, address: u32, size: u8, need: Need) -> bool
-    ensures permitted { IsTrue result → IsTrue (spec.permits regions.now address size need) }
-    ensures within { IsTrue result → place < length regions.now }
-    ensures holds { IsTrue result → HoldsAt (λ e. IsTrue (spec.holds e address size)) regions.now place }
-{
-    if place >= regions.len() {
-        return false;
-    }
-    let region = &regions[place];
-    holds(region, address, size) && allows(region, need)
 }
 
 /// The place of a region that the bytes lie in, where none before `first` has them.
@@ -258,12 +236,22 @@ fn keep(alloc: Global, first: &[Region], second: &[Region]) -> Result<Flat, NoMe
 {
     let regions = fill_both(alloc, first, second)?;
     let firsts = index_of(alloc, &regions)?;
-    let code = regions.iter().position(|region| region.x).unwrap_or(0);
+    let code = code_of(&regions);
     Ok(Flat {
         regions,
         firsts,
         code,
     })
+}
+
+/// The first executable region, where there is one.
+fn code_of(regions: &[Region]) -> Code
+    ensures { IsCode regions.now result }
+{
+    match regions.iter().position(|region| region.x) {
+        Some(place) => Code::at(place, &regions[place]),
+        None => Code::none(),
+    }
 }
 
 /// The region with its zeros written out. Each byte is written once.

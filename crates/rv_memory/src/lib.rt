@@ -10,6 +10,7 @@
 #![tactic(auto)]
 
 pub mod buffered;
+mod code;
 mod fit;
 pub mod flagged;
 pub mod flat;

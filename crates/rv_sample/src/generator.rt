@@ -5,29 +5,26 @@ use rand_core::utils::NextWord;
 use rand_pcg::Lcg64Xsh32;
 use std::marker::Model;
 
-/// The generator of a seed and a stream, whose words are each given once, in their order. It has made one more than it
-/// gave, so that the next one can be looked at.
+/// The generator of a seed and a stream, whose words are each given once, in their order.
 #[derive(Debug, Drop)]
 pub struct Generator {
     state: Lcg64Xsh32,
-    word: u32,
     seed: u64,
     stream: u64,
     taken: u64,
 }
 
 impl Model for Generator {
-    ghost use Rattle.std.specs.Prelude.{◌≡◌, ◌+◌};
+    ghost use Rattle.std.specs.Prelude.{◌≡◌};
     ghost use Rattle.rand_pcg.specs.Lcg.{advance};
     ghost use Rattle.rand_pcg.specs.Pcg.{multiplier_64};
-    ghost use Rattle.rv_sample.specs.Generator.{Given, seeded, word_at};
+    ghost use Rattle.rv_sample.specs.Generator.{Given, seeded};
 
     ghost Value = { Given };
 
     ghost view = { λ w. record { seed = w.seed; stream = w.stream; taken = w.taken } };
 
-    ghost invariant = { λ w. (w.state ≡ advance 64 multiplier_64 (w.taken + 1) (seeded w.seed w.stream))
-        × (w.word ≡ word_at w.seed w.stream w.taken) };
+    ghost invariant = { λ w. w.state ≡ advance 64 multiplier_64 w.taken (seeded w.seed w.stream) };
 }
 
 impl Generator {
@@ -36,11 +33,8 @@ impl Generator {
     pub fn new(seed: u64, stream: u64) -> Generator
         ensures { result ≡ record { seed = seed; stream = stream; taken = 0 } }
     {
-        let mut state = Lcg64Xsh32::new(seed, stream);
-        let word = state.next_word();
         Generator {
-            state,
-            word,
+            state: Lcg64Xsh32::new(seed, stream),
             seed,
             stream,
             taken: 0,
@@ -53,17 +47,16 @@ impl Generator {
         ensures word { result ≡ word_at self.old.seed self.old.stream self.old.taken }
         ensures after { self.new ≡ record self.old { taken = self.old.taken + 1 } }
     {
-        let word = self.word;
-        self.word = self.state.next_word();
         self.taken += 1;
-        word
+        self.state.next_word()
     }
 
-    /// The word that `next` gives next, which is not taken by this.
+    /// The word that `next` gives next, which is not taken by this. A word is made from the state alone, whatever the stream.
     #[inline(always)]
+    #[tactic(auto, unfolding(crate::specs::Generator::word_at))]
     pub fn peek(&self) -> u32
         ensures { result ≡ word_at self.now.seed self.now.stream self.now.taken }
     {
-        self.word
+        Lcg64Xsh32::from_state(self.state.state(), 0).next_word()
     }
 }

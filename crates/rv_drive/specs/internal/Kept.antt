@@ -1,9 +1,10 @@
 -- What a driver keeps beside its core: the steps made, for each hart how many were made when it was paused, the able
 -- harts, and before how many steps no pause has lasted.
-use Rattle.std.specs.Prelude.{◌≡◌, ℕ, ◌+◌, ◌-◌, ◌^◌, ◌<◌, ◌≤◌, Some, None, List, length, slice_index, vec_capacity}
+use Rattle.std.specs.Prelude.{◌≡◌, ℕ, ◌+◌, ◌-◌, ◌^◌, ◌<◌, ◌≤◌, Some, None, List, filter, length, slice_index, vec_capacity}
+use Rattle.std.specs.List.{range_with_len}
 use Rattle.rv_drive.specs.declared.ahead.Ahead.{Ahead}
 use Rattle.rv_hart.specs.declared.machine.TheConstants.{MOST_HARTS}
-use Rattle.rv_drive.specs.Able.{able, due, others_steps}
+use Rattle.rv_drive.specs.Able.{able, due, is_able, others_steps}
 use Rattle.rv_drive.specs.Drawn.{picked_hart}
 use Rattle.rv_drive.specs.Turns.{TakesTurns}
 use Rattle.rv_collide.specs.Answers.{Adds}
@@ -29,6 +30,13 @@ pub record IsAhead (d : Ahead) : Type 0 where
   pub kept : IsKept d.collider.entries d.made d.made_at
   pub able_are : d.able.items ≡ able (setting_of d.collider) d.collider.entries
   pub lasts : NoneLasts (setting_of d.collider) d.collider.entries d.made_at d.earliest
+  pub room : MOST_HARTS ≤ vec_capacity d.able
+
+-- of the harts below one it is noted which are able, and before how many steps none of their pauses has lasted
+pub record IsNoted (d : Ahead) (h : ℕ) : Type 0 where
+  pub kept : IsKept d.collider.entries d.made d.made_at
+  pub found : d.able.items ≡ filter (is_able (setting_of d.collider) d.collider.entries) (range_with_len 0 h)
+  pub lasts : (hart : ℕ) (o : Opening) → hart < h → opening_of d.collider.entries hart ≡ Some o → d.earliest ≤ slice_index d.made_at hart + d.collider.plan.pause
   pub room : MOST_HARTS ≤ vec_capacity d.able
 
 -- A row of turns so far: `before` it stood `old`. The last word has picked the next turn's hart, and after so many steps

@@ -1,6 +1,6 @@
 //! Speed: turns in a row. What is asked before each turn elsewhere is asked here once: before so many steps no pause
 //! is due, and the able harts stay as they are. `turn` is the plain form, one turn.
-ghost use Rattle.std.specs.Prelude.{◌≡◌, ◌+◌, ◌<◌, ◌≤◌, ◌^◌, true, false, length, None, Some};
+ghost use Rattle.std.specs.Prelude.{◌≡◌, ◌+◌, ◌<◌, ◌≤◌, ◌^◌, length, true, IfNone, IfSome, IsSome, None, Some};
 ghost use Rattle.rv_drive.specs.Able.{due, is_able};
 ghost use Rattle.rv_drive.specs.Drawn.{picked_hart};
 ghost use Rattle.rv_drive.specs.Turns.{TakesTurns};
@@ -31,8 +31,7 @@ impl Ahead {
         self.row(words, picker);
     }
 
-    /// A row of turns. The hart of each turn is picked before the turn ahead of it is made, whose
-    /// jump a processor can't foresee: what is picked is there when it has jumped.
+    /// A row of turns. The hart of each turn is picked within the turn ahead of it.
     fn row(&mut self, words: &mut Generator, picker: Picker)
         requires driver { IsAhead self.old }
         requires undue { due (setting_of self.old.collider) self.old.collider.entries ≡ None }
@@ -48,12 +47,10 @@ impl Ahead {
         let mut left = self.undue();
         let mut h = self.picked(words, &picker);
         let _taken = words.next();
-        let mut next = self.picked(words, &picker);
-        while self.turn_quick(h, left) {
+        while let Some(next) = self.turn_quick(h, left, words, &picker) {
             left -= 1;
             h = next;
             let _taken = words.next();
-            next = self.picked(words, &picker);
         }
         self.turn(h);
     }
@@ -82,28 +79,36 @@ impl Ahead {
     }
 
     /// A turn of an able hart that is a common step, after which no pause is due and steps are left: the same harts stay
-    /// able. Else nothing has changed.
+    /// able. Else nothing has changed. It answers the hart that the next word picks, which is picked after the hart's own
+    /// word was asked for and before its step is made: a processor can't foresee to which instruction a step jumps, and what
+    /// is picked is there when it has jumped.
     #[inline(always)]
-    fn turn_quick(&mut self, h: u8, left: u32) -> bool
+    fn turn_quick(&mut self, h: u8, left: u32, words: &Generator, picker: &Picker) -> Option<u8>
         requires driver { IsAhead self.old }
+        requires some { 0 < length self.old.able.items }
+        requires count { picker.now ≡ length self.old.able.items }
         requires hart { h < self.old.collider.plan.harts }
         requires able { is_able (setting_of self.old.collider) self.old.collider.entries h ≡ true }
         requires left { 0 < left → self.old.made + 1 < self.old.collider.plan.steps }
-        ensures more { result ≡ true → 0 < left }
-        ensures steps { result ≡ true → StaysAhead self.old self.new h }
-        ensures same { result ≡ false → self.new ≡ self.old }
+        ensures more { IsSome result → 0 < left }
+        ensures steps { IsSome result → StaysAhead self.old self.new h }
+        ensures next { IfSome result (λ next. picked_hart (setting_of self.old.collider) self.old.collider.entries
+            (word_at words.now.seed words.now.stream words.now.taken) ≡ Some next) }
+        ensures same { IfNone result (self.new ≡ self.old) }
     {
         open_pauses();
         accepted_calls();
         what_no_step_does();
         let _plan = self.collider.plan();
         if left == 0 {
-            return false;
+            return None;
         }
-        if !self.collider.turn_quick(h) {
-            return false;
+        let word = self.collider.fetched(h)?;
+        let next = self.picked(words, picker);
+        if !self.collider.turn_quick(h, word) {
+            return None;
         }
         self.made += 1;
-        true
+        Some(next)
     }
 }

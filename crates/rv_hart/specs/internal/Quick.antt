@@ -77,6 +77,11 @@ event_of_attempt attempt.Accessed access = Some (event.Moved (Some access))
 event_of_attempt attempt.Exclusive access = Some (event.Moved (Some access))
 event_of_attempt attempt.Failed access = Some (event.Moved None)
 
+-- the attempt that a plain access or an AMO was, which was made or not
+abbrev pub attempt_of_access : Bool → Attempt
+attempt_of_access true = attempt.Accessed
+attempt_of_access false = attempt.Nothing
+
 -- what other harts see of an attempt
 abbrev pub write_of_attempt : Attempt → Access → Option Write
 write_of_attempt attempt.Nothing access = None

@@ -3,8 +3,8 @@ use Rattle.std.specs.Prelude.{slice_set}
 use Rattle.std.proofs.lemmas.List.{length-set}
 use Rattle.rv_hart.specs.declared.hart.Hart.{Hart}
 use Rattle.rv_hart.specs.internal.Harts.{any_holds}
-use Rattle.rv_hart.specs.internal.Quick.{Tried, event_of_attempt, is_exclusive}
-use Rattle.rv_hart.proofs.QuickLemmas.{none_sees_attempt, none_taken, running_within, tried_alone, tried_seen, tried_set}
+use Rattle.rv_hart.specs.internal.Quick.{Fetches, Tried, event_of_attempt, is_exclusive}
+use Rattle.rv_hart.proofs.QuickLemmas.{fetches_there, none_sees_attempt, none_taken, running_within, tried_alone, tried_seen, tried_set}
 use Rattle.rv_hart.proofs.quick.tried.Goals.{then-reserved, else-reserved}
 use Rattle.rv_hart.proofs.quick.tried.Goals as goal
 
@@ -24,6 +24,13 @@ returns-in-Set-clause-held g c = λ free.
     (tried_set c.args.harts.now.items before after c.args.h c.index_mut.result.now c.moved_from-attempt.new.hart c.moved_from-attempt.result c.moved_from-attempt.new.access
     c.in-Set.is (running_within c.args.harts.now.items c.args.h c.requires.running) tried).held refl (c.requires.held free)
 
+pub moved_from-attempt-requires : goal.moved_from-attempt-requires
+moved_from-attempt-requires g c =
+    record {
+      fetches = subst (λ (x : Hart). Fetches (g.S.ByteStore.memory c.args.store.now) c.args.word x) (sym c.index_mut.ensures.value)
+          (fetches_there c.args.harts.now.items (g.S.ByteStore.memory c.args.store.now) c.args.h c.args.word c.index_mut.result.now c.requires.running c.requires.fetches);
+    }
+
 pub settle-requires : goal.settle-requires
 settle-requires g c = rw length-set (running_within c.args.harts.now.items c.args.h c.requires.running)
 
@@ -35,7 +42,7 @@ returns-then-is_exclusive g c =
     record {
       tried = tried_seen c.args.harts.now.items c.settle.new.harts.items before after c.args.h c.index_mut.result.now c.moved_from-attempt.new.hart c.moved_from-attempt.result c.moved_from-attempt.new.access
           (running_within c.args.harts.now.items c.args.h c.requires.running) tried c.settle.ensures.sees;
-      held = λ none. sym c.settle.ensures.reserved ∙ none;
+      held = c.settle.ensures.held;
       len = c.settle.ensures.len;
     }
 

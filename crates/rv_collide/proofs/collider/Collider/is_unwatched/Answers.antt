@@ -4,7 +4,7 @@ use Rattle.rv_collide.specs.Stored.{Stored}
 use Rattle.rv_collide.proofs.GoesOn.{none_open}
 use Rattle.rv_collide.proofs.collider.Collider.is_unwatched.Goals as goal
 
-pub returns : goal.returns
-returns g c = λ empty.
+pub returns-else-is_free : goal.returns-else-is_free
+returns-else-is_free g c = λ empty.
     subst (λ (v : Stored). openings v.entries ≡ []) c.self.view_is
     (none_open c.self.inside.entries.items c.self.inside.openings.items _ c.self.invariant.0.openings_are c.self.inside.openings.ok.0 (sym c.is_empty.ensures ∙ empty))

@@ -1,22 +1,26 @@
-use Rattle.std.proofs.Common.{sym, ap}
+use Rattle.std.proofs.Common.{None, Some, sym, ap, ◌∙◌}
 use Rattle.rv_collide.specs.Plan.{Numbers}
 use Rattle.rv_collide.specs.Stored.{setting_of}
 use Rattle.rv_collide.proofs.Calls.{resume_no_hart, resume_not_paused, resume_ok, not_below, is_below}
+use Rattle.rv_collide.proofs.Taken.{is_open}
 use Rattle.rv_collide.proofs.collider.Collider.resume.Goals as goal
 
 pub returns-then-h-plan-clause-err : goal.returns-then-h-plan-clause-err
 returns-then-h-plan-clause-err g c = resume_no_hart (setting_of c.args.self.now) c.args.self.now.entries c.args.h (not_below c.args.h c.plan.result.harts c.args.self.now.plan.harts (ap (λ (n : Numbers). n.harts) c.plan.ensures) c.if-h-plan.true)
 
-pub end-requires : goal.end-requires
-end-requires g c = resume_ok (setting_of c.args.self.now) c.args.self.now.entries c.args.h (is_below c.args.h c.plan.result.harts c.args.self.now.plan.harts (ap (λ (n : Numbers). n.harts) c.plan.ensures) c.if-h-plan.false) (sym c.in-Some.ensures.some)
+pub end-requires-clause-forced : goal.end-requires-clause-forced
+end-requires-clause-forced g c = resume_ok (setting_of c.args.self.now) c.args.self.now.entries c.args.h (is_below c.args.h c.plan.result.harts c.args.self.now.plan.harts (ap (λ (n : Numbers). n.harts) c.plan.ensures) c.if-h-plan.false) (is_open c.args.self.now.entries c.args.h c.opening_place.result (Some c.in-Some.place) c.opening_place.ensures c.in-Some.is)
+
+pub end-requires-clause-placed : goal.end-requires-clause-placed
+end-requires-clause-placed g c = sym c.opening_place.ensures ∙ c.in-Some.is
 
 pub returns-in-None-clause-err : goal.returns-in-None-clause-err
-returns-in-None-clause-err g c = resume_not_paused (setting_of c.args.self.now) c.args.self.now.entries c.args.h (is_below c.args.h c.plan.result.harts c.args.self.now.plan.harts (ap (λ (n : Numbers). n.harts) c.plan.ensures) c.if-h-plan.false) (sym c.in-None.ensures.some)
+returns-in-None-clause-err g c = resume_not_paused (setting_of c.args.self.now) c.args.self.now.entries c.args.h (is_below c.args.h c.plan.result.harts c.args.self.now.plan.harts (ap (λ (n : Numbers). n.harts) c.plan.ensures) c.if-h-plan.false) (is_open c.args.self.now.entries c.args.h c.opening_place.result None c.opening_place.ensures c.in-None.is)
 
 pub returns-in-Some-clause-ok : goal.returns-in-Some-clause-ok
 returns-in-Some-clause-ok g c = record {
   adds = record {
-    is_forced = resume_ok (setting_of c.args.self.now) c.args.self.now.entries c.args.h (is_below c.args.h c.plan.result.harts c.args.self.now.plan.harts (ap (λ (n : Numbers). n.harts) c.plan.ensures) c.if-h-plan.false) (sym c.in-Some.ensures.some);
+    is_forced = resume_ok (setting_of c.args.self.now) c.args.self.now.entries c.args.h (is_below c.args.h c.plan.result.harts c.args.self.now.plan.harts (ap (λ (n : Numbers). n.harts) c.plan.ensures) c.if-h-plan.false) (is_open c.args.self.now.entries c.args.h c.opening_place.result (Some c.in-Some.place) c.opening_place.ensures c.in-Some.is);
     is_added = c.end.ensures.after;
   };
   ending = c.end.ensures.ending;

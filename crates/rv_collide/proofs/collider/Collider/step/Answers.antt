@@ -1,10 +1,9 @@
-use Rattle.std.proofs.Common.{◌≡◌, ◌+◌, ◌*◌, ◌≤◌, ◌<◌, ℕ, List, [], true, length, Ok, sym, ap, subst, ◌∙◌, arith}
+use Rattle.std.proofs.Common.{◌≡◌, ◌+◌, ◌*◌, ◌≤◌, ◌<◌, ℕ, List, [], length, Ok, sym, ap, subst, ◌∙◌, arith}
 use Rattle.std.specs.Prelude.{option_map}
 use Rattle.std.specs.Vec.{vec_capacity}
 use Rattle.rv_hart.specs.NextAccess.{accessed}
 use Rattle.rv_break.specs.Breakpoints.{Breaks}
 use Rattle.rv_collide.specs.Forced.{Turn, forced}
-use Rattle.rv_collide.specs.Next.{runs_at}
 use Rattle.rv_collide.specs.Numbers.{numbers}
 use Rattle.rv_collide.specs.Stored.{Stored, setting_of, stored}
 use Rattle.rv_collide.specs.declared.entry.Entry.{Entry}
@@ -23,7 +22,7 @@ use Rattle.rv_collide.proofs.collider.Collider.step.Goals as goal
 pub returns-in-None-clause-memory : goal.returns-in-None-clause-memory
 returns-in-None-clause-memory g c =
     let s = setting_of (stored c.self.inside.image.value (numbers c.self.inside.plan) c.self.inside.entries.items) in
-    λ whole was.
+    λ was.
     let ok = subst (λ (v : Stored). forced (setting_of v) v.entries (Turn c.args.h) ≡ Ok (Stepped c.args.h)) (sym c.self.view_is) was in
     let parts = turn_parts s c.self.inside.entries.items c.args.h (Stepped c.args.h) ok in
     let runs = runs_in s.start c.self.inside.machine.state c.self.inside.entries.items (length c.self.inside.entries.items) c.args.h c.self.invariant.0.now parts.runs in
@@ -31,14 +30,7 @@ returns-in-None-clause-memory g c =
     let printed = c.self.invariant.0.output in
     let limit = c.self.invariant.0.limit in
     let room : length c.self.inside.machine.state.output < c.self.inside.machine.limit = omega arith in
-    c.in-None.ensures.memory whole runs room
-
-pub stepped-requires : goal.stepped-requires
-stepped-requires g c =
-    let s = setting_of (stored c.self.inside.image.value (numbers c.self.inside.plan) c.self.inside.entries.items) in
-    λ common.
-    let runs = subst (λ (v : Stored). runs_at (setting_of v).start v.entries (length v.entries) c.args.h ≡ true) (sym c.self.view_is) (c.requires.running common) in
-    runs_in s.start c.self.inside.machine.state c.self.inside.entries.items (length c.self.inside.entries.items) c.args.h c.self.invariant.0.now runs
+    c.in-None.ensures.memory runs room
 
 pub show-requires : goal.show-requires
 show-requires g c =

@@ -40,4 +40,4 @@ returns-in-Some-step-clause-ok g c = (record { is_forced = c.in-Some-step.ensure
 pub returns-in-None-step-clause-err : goal.returns-in-None-step-clause-err
 returns-in-None-step-clause-err g c =
     let ok = turn_ok (setting_of c.args.self.now) c.args.self.now.entries c.args.h (is_below c.args.h c.plan.result.harts c.args.self.now.plan.harts (ap (λ (n : Numbers). n.harts) c.plan.ensures) c.if-h-plan.false) (sym c.runs.ensures ∙ c.if-not-runs.false) (sym c.is_paused.ensures ∙ c.if-is_paused.false) (sym c.has_steps_left.ensures ∙ c.if-not-has_steps_left.false) ∙ ap Ok c.in-None.ensures.none in
-    inr (refl, c.in-None-step.ensures.memory refl ok, ok)
+    inr (refl, c.in-None-step.ensures.memory ok, ok)

@@ -4,6 +4,7 @@ use Rattle.rv_drive.specs.Able.{another_is_able}
 use Rattle.rv_collide.specs.Plan.{Numbers}
 use Rattle.rv_collide.specs.Stored.{setting_of}
 use Rattle.rv_drive.proofs.DueLemmas.{not_due, by_count, le_is, le_not}
+use Rattle.rv_drive.proofs.NotingLemmas.{no_other}
 use Rattle.rv_drive.proofs.ahead.Ahead.is_due.Goals as goal
 
 pub returns-then-not-is_open : goal.returns-then-not-is_open
@@ -17,7 +18,7 @@ returns-then-plan-since c =
     let long = c.if-plan-since.true in
     let enough : c.args.self.now.collider.plan.pause ≤ c.args.self.now.made - slice_index c.args.self.now.made_at c.args.h = omega arith in
     le_is c.plan.result.pause c.saturating_sub-since.result long
-    ∙ sym (by_count (setting_of c.args.self.now.collider) c.args.self.now.collider.entries c.args.self.now.made c.args.self.now.made_at c.args.h c.requires.kept (sym c.is_open.ensures ∙ c.if-not-is_open.false)
+    ∙ sym (by_count (setting_of c.args.self.now.collider) c.args.self.now.collider.entries c.args.self.now.made c.args.self.now.made_at c.args.h c.requires.driver.kept (sym c.is_open.ensures ∙ c.if-not-is_open.false)
     ∙ ap (λ b. b || not (another_is_able (setting_of c.args.self.now.collider) c.args.self.now.collider.entries c.args.h)) (le_is c.args.self.now.collider.plan.pause (c.args.self.now.made - slice_index c.args.self.now.made_at c.args.h) enough))
 
 pub returns-else-plan-since : goal.returns-else-plan-since
@@ -27,6 +28,6 @@ returns-else-plan-since c =
     let since = c.saturating_sub-since.ensures ∙ at in
     let short = c.if-plan-since.false in
     let few : c.args.self.now.made - slice_index c.args.self.now.made_at c.args.h < c.args.self.now.collider.plan.pause = omega arith in
-    ap not c.another_is_able.ensures
-    ∙ sym (by_count (setting_of c.args.self.now.collider) c.args.self.now.collider.entries c.args.self.now.made c.args.self.now.made_at c.args.h c.requires.kept (sym c.is_open.ensures ∙ c.if-not-is_open.false)
+    c.is_empty.ensures ∙ no_other (setting_of c.args.self.now.collider) c.args.self.now.collider.entries c.args.h _ c.args.self.now.able.items (sym c.is_open.ensures ∙ c.if-not-is_open.false) c.requires.driver.able_are c.args.self.now.able.ok.0
+    ∙ sym (by_count (setting_of c.args.self.now.collider) c.args.self.now.collider.entries c.args.self.now.made c.args.self.now.made_at c.args.h c.requires.driver.kept (sym c.is_open.ensures ∙ c.if-not-is_open.false)
     ∙ ap (λ b. b || not (another_is_able (setting_of c.args.self.now.collider) c.args.self.now.collider.entries c.args.h)) (le_not c.args.self.now.collider.plan.pause (c.args.self.now.made - slice_index c.args.self.now.made_at c.args.h) few))

@@ -1,15 +1,11 @@
-use Rattle.std.proofs.Common.{◌≡◌, ◌-◌, refl}
-use Rattle.rv_memory.proofs.Places.{permitted_found}
-use Rattle.rv_memory.specs.declared.store.Need.TheVariants.{Execute}
+use Rattle.std.proofs.Common.{◌≡◌}
 use Rattle.rv_memory.specs.internal.Flat.{number_at}
+use Rattle.rv_memory.proofs.CodeLemmas.{fetched}
 use Rattle.rv_memory.proofs.flat.FlatByteStore.fetch_at_once.Goals as goal
 
-pub returns-then-permits_at : goal.returns-then-permits_at
-returns-then-permits_at c =
-    let regions = c.self.inside.regions.items in
-    let region = c.index-region.result.now in
-    let below = rw c.deref.ensures.value at (c.if-permits_at.ensures.within refl) in
-    let holds = rw c.deref.ensures.value at (c.if-permits_at.ensures.holds refl) in
-    let permitted = rw c.deref.ensures.value at (c.if-permits_at.ensures.permitted refl) in
-    let read : c.number_at.result ≡ number_at region.bytes (c.args.address - region.start) 4 = rw (← c.region.view_is) (rw c.deref-then-permits_at.ensures.value at c.number_at.ensures.value) in
-    rw (← c.self.view_is) (permitted_found regions c.self.inside.code region c.args.address 4 c.number_at.result Execute c.self.invariant.sound below holds c.index-region.ensures permitted read)
+pub returns : goal.returns
+returns c =
+    let region = c.index.result.now in
+    let at = c.in_ok-offset.ensures in
+    let read : c.number_at.result ≡ number_at region.bytes c.in_ok-offset.offset 4 = rw (← c.behind-self.view_is) (rw c.deref.ensures.value at c.number_at.ensures.value) in
+    rw (← c.self.view_is) (fetched c.self.inside.regions.items c.self.inside.code region c.args.address c.in_ok-offset.offset c.number_at.result c.self.invariant.0.sound c.self.invariant.1 at.0 at.1 c.index.ensures read)

@@ -1,4 +1,5 @@
 use Rattle.std.proofs.Common.{sym}
+use Rattle.rv_memory.proofs.CodeLemmas.{same_code}
 use Rattle.rv_memory.proofs.LookFrom.{same_index}
 use Rattle.rv_memory.proofs.Sound.{sound_set, spans_set}
 use Rattle.rv_memory.proofs.flat.FlatByteStore.store_permitted.Goals as goal
@@ -11,7 +12,10 @@ invariant_of-self c =
     let old = c.index_mut.result.now in
     let new = c.put.new.region in
     let below = rw c.deref-2.ensures.value at c.in-Some.ensures.within in
-    record {
-      sound = sound_set regions place old new c.self.invariant.sound below c.index_mut.ensures.value c.put.ensures.span c.put.ensures.length;
-      index = same_index _ _ _ (sym (spans_set regions place old new below c.index_mut.ensures.value c.put.ensures.span)) c.self.invariant.index;
-    }
+    let spans = sym (spans_set regions place old new below c.index_mut.ensures.value c.put.ensures.span) in (
+      record {
+        sound = sound_set regions place old new c.self.invariant.0.sound below c.index_mut.ensures.value c.put.ensures.span c.put.ensures.length;
+        index = same_index _ _ _ spans c.self.invariant.0.index;
+      },
+      same_code _ _ _ spans c.self.invariant.1,
+    )

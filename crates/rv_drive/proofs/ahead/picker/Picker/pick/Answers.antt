@@ -1,5 +1,4 @@
-use Rattle.std.proofs.Common.{◌≡◌, ℕ, ◌*◌, ◌/◌, ◌%◌, ◌^◌, ap, ◌∙◌, arith}
-use Rattle.rv_drive.specs.internal.Picker.{part_of}
+use Rattle.std.proofs.Common.{arith}
 use Rattle.rv_drive.proofs.PickerLemmas.{picks}
 use Rattle.rv_drive.proofs.ahead.picker.Picker.pick.Goals as goal
 

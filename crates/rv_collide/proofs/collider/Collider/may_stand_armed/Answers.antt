@@ -7,10 +7,10 @@ use Rattle.rv_collide.specs.Numbers.{numbers}
 use Rattle.rv_collide.specs.Stored.{Stored, setting_of, stored}
 use Rattle.rv_collide.specs.declared.entry.Entry.TheVariants.{Stepped}
 use Rattle.rv_collide.proofs.ArmedAccesses.{not_armed}
-use Rattle.rv_collide.proofs.collider.Collider.stands_armed.Goals as goal
+use Rattle.rv_collide.proofs.collider.Collider.may_stand_armed.Goals as goal
 
 pub returns : goal.returns
 returns g c = λ absent.
     subst (λ (v : Stored). turn_entry (setting_of v) v.entries c.args.h (plain (setting_of v).start v.entries (length v.entries) c.args.h) ≡ Stepped c.args.h) c.self.view_is
     (not_armed (stored c.self.inside.image.value (numbers c.self.inside.plan) c.self.inside.entries.items) c.self.inside.machine.state c.args.h c.pc.result c.self.invariant.0.now c.pc.ensures
-    (ap (λ (s : FinSet nat_cmp). contains s c.pc.result) (sym c.self.invariant.0.armed_are) ∙ sym c.is_armed.ensures ∙ absent))
+    (ap (λ (s : FinSet nat_cmp). contains s c.pc.result) (sym c.self.invariant.0.armed_are) ∙ c.may_be_armed.ensures.absent absent))
