@@ -1,6 +1,6 @@
 -- The quick path takes the step that the definitions have.
 use Rattle.std.proofs.Common.{◌≡◌, ℕ, ◌%◌, ◌<◌, ◌⊎◌, inl, inr, zero, suc, map, set, get_or, Bool, true, false, cond, List, [], ◌∷◌, length, Option, Some, None, refl, sym, ap, subst, ◌∙◌}
-use Rattle.std.specs.Prelude.{◌==◌, ◌||◌, is_some, slice_get, IfSome, IsSomeAnd}
+use Rattle.std.specs.Prelude.{◌==◌, ◌||◌, ⊤, is_some, slice_get, IfSome, IsSomeAnd}
 use Rattle.std.proofs.lemmas.List.{append-nil, get_or-set_same, length-set, map-set, set-get_or, set-set}
 use Rattle.std.proofs.lemmas.Option.{slice_get-get_or, slice_get_within}
 use Rattle.rv_hart.specs.Act.{action_of}
@@ -22,9 +22,9 @@ use Rattle.rv_hart.specs.declared.write.Write.{Write}
 use Rattle.rv_hart.specs.internal.Able.{HasSize}
 use Rattle.rv_hart.specs.internal.Harts.{HartsAfter, Sees, any_holds, holds, write_of_access}
 use Rattle.rv_hart.specs.internal.Machine.{RunsTo}
-use Rattle.rv_hart.specs.internal.Quick.{Begins, Fetches, IsQuick, Moves, Tried, TriedAt, event_of_attempt, is_exclusive, over, write_of, write_of_attempt}
+use Rattle.rv_hart.specs.internal.Quick.{Begins, Fetches, IsQuick, Moves, Tried, TriedAt, event_of_attempt, is_reserving, over, write_of}
 use Rattle.rv_hart.proofs.AbleLemmas.{fetched_word, sized_fetched}
-use Rattle.rv_hart.proofs.HartsLemmas.{none_seen, sees_nothing}
+use Rattle.rv_hart.proofs.HartsLemmas.{none_seen}
 use Rattle.rv_hart.proofs.StepLemmas.{harts_count, step_made}
 use Rattle.rv_isa.specs.Decoded.{decoded}
 use Rattle.rv_isa.specs.declared.instr.Instr.{Instr}
@@ -110,6 +110,7 @@ moves_set m old new rd value next b is =
       none = refl;
       quiet = refl;
       held = λ _ none. ap holds is ∙ none;
+      reads = λ reserving. cc;
       seen = λ other. refl;
       sound = λ sound. sound;
     }
@@ -131,6 +132,7 @@ moves_load m old new rd address size loaded signed a b aligned read e is =
       none = refl;
       quiet = refl;
       held = λ _ none. ap holds is ∙ none;
+      reads = λ reserving. cc;
       seen = λ other. seen_in a (record { pc = old.pc; first = address; size = size; read = true; write = false }) other e;
       sound = λ sound. sound;
     }
@@ -147,6 +149,7 @@ moves_store before after old new address size value a b aligned permitted e is m
       none = refl;
       quiet = refl;
       held = λ _ none. ap holds is ∙ none;
+      reads = λ reserving. cc;
       seen = λ other. seen_alike address size value 0 other ∙ seen_in a (record { pc = old.pc; first = address; size = size; read = false; write = true }) other e;
       sound = sound;
     }
@@ -165,6 +168,7 @@ moves_replace before after old new rd address value loaded stored combine a b al
       none = refl;
       quiet = refl;
       held = λ _ none. ap holds is ∙ none;
+      reads = λ reserving. cc;
       seen = λ other. seen_alike address 4 (combined combine (load before address 4) value) 0 other ∙ seen_in a (record { pc = old.pc; first = address; size = 4; read = true; write = true }) other e;
       sound = sound;
     }
@@ -182,14 +186,15 @@ moves_reserve m old new rd address loaded a b aligned read e is =
       event_is = ap (λ (x : Access). Moved (Some x)) e;
       none = refl;
       quiet = refl;
-      held = λ exclusive _. cc;
+      held = λ reserving _. cc;
+      reads = λ _. ap (λ (x : Access). write_of_access x) e;
       seen = λ other. seen_in a (record { pc = old.pc; first = address; size = 4; read = true; write = false }) other e;
       sound = λ sound. sound;
     }
 
 -- an SC of the word that the hart has reserved
 pub moves_conditional : (before after : Memory) (old new : Hart) (rd address value : ℕ) (a : Access) → Begins before (Conditional rd address value) old → (address % 4 == 0) ≡ true → permits before address 4 need.Write ≡ true → reserves old.reservation address ≡ true →
-    a ≡ record { pc = old.pc; first = address; size = 4; read = false; write = true } → new ≡ hart_after 0 old (Conditional rd address value) → after ≡ store before address 4 value → (IsSound before → IsSound after) → Moves old new before after (Moved (Some a)) true
+    a ≡ record { pc = old.pc; first = address; size = 4; read = false; write = true } → new ≡ hart_after 0 old (Conditional rd address value) → after ≡ store before address 4 value → (IsSound before → IsSound after) → Moves old new before after (Moved (Some a)) false
 moves_conditional before after old new rd address value a b aligned permitted reserved e is memory sound =
     let action : Action = Conditional rd address value in
     let written : written_by 0 old action ≡ Some (write address 4 value) = rw reserved refl in
@@ -201,7 +206,8 @@ moves_conditional before after old new rd address value a b aligned permitted re
       event_is = rw reserved (ap (λ (x : Access). Moved (Some x)) e);
       none = refl;
       quiet = refl;
-      held = λ exclusive _. cc;
+      held = λ _ _. ap holds is;
+      reads = λ reserving. cc;
       seen = λ other. ap (λ (w : Option Write). seen_by w other) written ∙ seen_alike address 4 value 0 other ∙ seen_in a (record { pc = old.pc; first = address; size = 4; read = false; write = true }) other e;
       sound = sound;
     }
@@ -248,8 +254,8 @@ none_holds_set (x ∷ xs) (suc h) hart moved found same none =
 abbrev pub none_hart : Hart
 none_hart = record { registers = []; pc = 0; status = Running; reservation = None }
 
-pub quick_made : (old new : List Hart) (before after : Memory) (h : ℕ) (hart moved : Hart) (event : Event) (exclusive : Bool) → slice_get old h ≡ Some hart → Moves hart moved before after event exclusive → new ≡ set (map (seen_by (write_of event)) old) h moved → IsQuick old new before after h event exclusive
-quick_made old new before after h hart moved event exclusive found m is =
+pub quick_made : (old new : List Hart) (before after : Memory) (h : ℕ) (hart moved : Hart) (event : Event) (reserving : Bool) → slice_get old h ≡ Some hart → Moves hart moved before after event reserving → new ≡ set (map (seen_by (write_of event)) old) h moved → IsQuick old new before after h event reserving
+quick_made old new before after h hart moved event reserving found m is =
     let loaded : ℕ = loaded_by before m.action in
     let w : Option Write = written_by loaded hart m.action in
     let seen : map (seen_by (write_of event)) old ≡ map (seen_by w) old = sym (map_seen w (write_of event) old m.seen) in
@@ -264,10 +270,10 @@ quick_made old new before after h hart moved event exclusive found m is =
     }
 
 -- where no hart has to see the write, the hart's own part is the step
-pub tried_alone : (old : List Hart) (before after : Memory) (h : ℕ) (default moved : Hart) (event : Option Event) (exclusive : Bool) → h < length old → Tried (get_or old h default) moved before after event exclusive → IfSome event (λ e. map (seen_by (write_of e)) old ≡ old) → TriedAt old (set old h moved) before after h event exclusive
-tried_alone old before after h default moved None exclusive within m unseen = (ap (λ (x : Hart). set old h x) m.0 ∙ set-get_or old h default, m.1)
-tried_alone old before after h default moved (Some event) exclusive within m unseen =
-    quick_made old (set old h moved) before after h (get_or old h default) moved event exclusive (slice_get-get_or old h default within) m (ap (λ (xs : List Hart). set xs h moved) (sym unseen))
+pub tried_alone : (old : List Hart) (before after : Memory) (h : ℕ) (default moved : Hart) (event : Option Event) (reserving : Bool) → h < length old → Tried (get_or old h default) moved before after event reserving → IfSome event (λ e. map (seen_by (write_of e)) old ≡ old) → TriedAt old (set old h moved) before after h event reserving
+tried_alone old before after h default moved None reserving within m unseen = (ap (λ (x : Hart). set old h x) m.0 ∙ set-get_or old h default, m.1)
+tried_alone old before after h default moved (Some event) reserving within m unseen =
+    quick_made old (set old h moved) before after h (get_or old h default) moved event reserving (slice_get-get_or old h default within) m (ap (λ (xs : List Hart). set xs h moved) (sym unseen))
 
 -- and else they see it after that part
 seen_after : (old new : List Hart) (h : ℕ) (default moved : Hart) (w : Option Write) → h < length old → Sees (set old h moved) new h w → new ≡ set (map (seen_by w) old) h moved
@@ -276,22 +282,10 @@ seen_after old new h default moved w within sees =
     let seen : new ≡ set (map (seen_by w) (set old h moved)) h moved = subst (λ (o : Option Hart). IsSomeAnd o (λ x. new ≡ set (map (seen_by w) (set old h moved)) h x)) there sees in
     seen ∙ ap (λ (xs : List Hart). set xs h moved) (map-set (seen_by w) old h moved) ∙ set-set (map (seen_by w) old) h (seen_by w moved) moved
 
-pub tried_seen : (old new : List Hart) (before after : Memory) (h : ℕ) (default moved : Hart) (attempt : Attempt) (a : Access) → h < length old → Tried (get_or old h default) moved before after (event_of_attempt attempt a) (is_exclusive attempt) → Sees (set old h moved) new h (write_of_attempt attempt a) → TriedAt old new before after h (event_of_attempt attempt a) (is_exclusive attempt)
-tried_seen old new before after h default moved attempt.Nothing a within m sees =
-    (seen_after old new h default moved None within sees ∙ ap (λ (xs : List Hart). set xs h moved) (none_seen old) ∙ ap (λ (x : Hart). set old h x) m.0 ∙ set-get_or old h default, m.1)
-tried_seen old new before after h default moved attempt.Set a within m sees =
-    quick_made old new before after h (get_or old h default) moved (Moved None) false (slice_get-get_or old h default within) m (seen_after old new h default moved None within sees)
-tried_seen old new before after h default moved attempt.Accessed a within m sees =
-    quick_made old new before after h (get_or old h default) moved (Moved (Some a)) false (slice_get-get_or old h default within) m (seen_after old new h default moved (write_of_access a) within sees)
-tried_seen old new before after h default moved attempt.Exclusive a within m sees =
-    quick_made old new before after h (get_or old h default) moved (Moved (Some a)) true (slice_get-get_or old h default within) m (seen_after old new h default moved (write_of_access a) within sees)
-tried_seen old new before after h default moved attempt.Failed a within m sees =
-    quick_made old new before after h (get_or old h default) moved (Moved None) true (slice_get-get_or old h default within) m (seen_after old new h default moved None within sees)
-
--- where a register was set there is nothing to see
-pub tried_set : (old : List Hart) (before after : Memory) (h : ℕ) (default moved : Hart) (tried : Attempt) (a : Access) → tried ≡ attempt.Set → h < length old → Tried (get_or old h default) moved before after (event_of_attempt tried a) (is_exclusive tried) → TriedAt old (set old h moved) before after h (event_of_attempt attempt.Set a) (is_exclusive attempt.Set)
-tried_set old before after h default moved tried a is within m =
-    tried_seen old (set old h moved) before after h default moved attempt.Set a within (rw is at m) (sees_nothing (set old h moved) h (rw length-set within))
+pub tried_seen : (old new : List Hart) (before after : Memory) (h : ℕ) (default moved : Hart) (tried : Attempt) (a : Access) → tried ≡ attempt.Accessed → h < length old → Tried (get_or old h default) moved before after (event_of_attempt tried a) (is_reserving tried) → Sees (set old h moved) new h (write_of_access a) → TriedAt old new before after h (event_of_attempt attempt.Accessed a) false
+tried_seen old new before after h default moved tried a is within m sees =
+    let made : Moves (get_or old h default) moved before after (Moved (Some a)) false = subst (λ (t : Attempt). Tried (get_or old h default) moved before after (event_of_attempt t a) (is_reserving t)) is m in
+    quick_made old new before after h (get_or old h default) moved (Moved (Some a)) false (slice_get-get_or old h default within) made (seen_after old new h default moved (write_of_access a) within sees)
 
 -- what runs is there
 running_at : (xs : List Hart) (h : ℕ) (o : Option Hart) → slice_get xs h ≡ o → is_running_hart o ≡ true → h < length xs
@@ -301,22 +295,33 @@ running_at xs h (Some hart) is runs = slice_get_within xs h hart is
 pub running_within : (xs : List Hart) (h : ℕ) → is_running_hart (slice_get xs h) ≡ true → h < length xs
 running_within xs h runs = running_at xs h (slice_get xs h) refl runs
 
--- what no other hart sees
-pub none_sees_attempt : (tried : Attempt) (a : Access) (old : List Hart) → is_exclusive tried ≡ false → (any_holds old ≡ false) ⊎ (a.write ≡ false) → IfSome (event_of_attempt tried a) (λ e. map (seen_by (write_of e)) old ≡ old)
-none_sees_attempt attempt.Nothing a old common how = tt
-none_sees_attempt attempt.Set a old common how = none_seen old
-none_sees_attempt attempt.Accessed a old common (inl none) = none_held (write_of_access a) old none
-none_sees_attempt attempt.Accessed a old common (inr load) =
-    ap (λ (b : Bool). map (seen_by (cond b (Some (record { address = a.first; size = a.size; value = 0 })) None)) old) load ∙ none_seen old
-none_sees_attempt attempt.Exclusive a old common how = cc
-none_sees_attempt attempt.Failed a old common how = cc
+-- an attempt whose access no other hart has to see, unless it was an LR, which writes nothing
+abbrev pub IsUnseen : Attempt → Access → List Hart → Type 0
+IsUnseen attempt.Nothing a old = ⊤
+IsUnseen attempt.Silent a old = ⊤
+IsUnseen attempt.Accessed a old = (any_holds old ≡ false) ⊎ (a.write ≡ false)
+IsUnseen attempt.Reserved a old = ⊤
 
-pub none_taken : (old new : List Hart) (before after : Memory) (h : ℕ) (tried : Attempt) (a : Access) → TriedAt old new before after h (event_of_attempt tried a) (is_exclusive tried) → is_exclusive tried ≡ false → any_holds old ≡ false → any_holds new ≡ false
+none_sees_attempt : (tried : Attempt) (a : Access) (old new : Hart) (before after : Memory) (harts : List Hart) → Tried old new before after (event_of_attempt tried a) (is_reserving tried) → IsUnseen tried a harts → IfSome (event_of_attempt tried a) (λ e. map (seen_by (write_of e)) harts ≡ harts)
+none_sees_attempt attempt.Nothing a old new before after harts m how = tt
+none_sees_attempt attempt.Silent a old new before after harts m how = none_seen harts
+none_sees_attempt attempt.Accessed a old new before after harts m (inl none) = none_held (write_of_access a) harts none
+none_sees_attempt attempt.Accessed a old new before after harts m (inr reads) =
+    ap (λ (b : Bool). map (seen_by (cond b (Some (record { address = a.first; size = a.size; value = 0 })) None)) harts) reads ∙ none_seen harts
+none_sees_attempt attempt.Reserved a old new before after harts m how =
+    ap (λ (w : Option Write). map (seen_by w) harts) (m.reads refl) ∙ none_seen harts
+
+-- then the hart's own part is the step
+pub tried_unseen : (old : List Hart) (before after : Memory) (h : ℕ) (default moved : Hart) (tried known : Attempt) (a : Access) → tried ≡ known → h < length old → Tried (get_or old h default) moved before after (event_of_attempt tried a) (is_reserving tried) → IsUnseen known a old → TriedAt old (set old h moved) before after h (event_of_attempt known a) (is_reserving known)
+tried_unseen old before after h default moved tried known a is within tries how =
+    let m : Tried (get_or old h default) moved before after (event_of_attempt known a) (is_reserving known) = subst (λ (t : Attempt). Tried (get_or old h default) moved before after (event_of_attempt t a) (is_reserving t)) is tries in
+    tried_alone old before after h default moved (event_of_attempt known a) (is_reserving known) within m (none_sees_attempt known a (get_or old h default) moved before after old m how)
+
+pub none_taken : (old new : List Hart) (before after : Memory) (h : ℕ) (tried : Attempt) (a : Access) → TriedAt old new before after h (event_of_attempt tried a) (is_reserving tried) → is_reserving tried ≡ false → any_holds old ≡ false → any_holds new ≡ false
 none_taken old new before after h attempt.Nothing a t common none = ap any_holds t.0 ∙ none
-none_taken old new before after h attempt.Set a t common none = t.held refl none
+none_taken old new before after h attempt.Silent a t common none = t.held refl none
 none_taken old new before after h attempt.Accessed a t common none = t.held refl none
-none_taken old new before after h attempt.Exclusive a t common none = cc
-none_taken old new before after h attempt.Failed a t common none = cc
+none_taken old new before after h attempt.Reserved a t common none = cc
 
 -- the word of a hart that runs, at its place
 pub fetches_there : (harts : List Hart) (memory : Memory) (h word : ℕ) (default : Hart) → is_running_hart (slice_get harts h) ≡ true → IsWordAt harts memory h word → Fetches memory word (get_or harts h default)

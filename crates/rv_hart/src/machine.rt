@@ -263,8 +263,8 @@ impl<S: ByteStore> Machine<S> {
             word,
             noted,
         );
-        // These by themselves, since most steps come to them: five cases would be a jump over a table.
-        if let Attempt::Set = attempt {
+        // These by themselves, since most steps come to them: four cases would be a jump over a table.
+        if let Attempt::Silent = attempt {
             return Common::Silent;
         }
         if let Attempt::Accessed = attempt {
@@ -272,8 +272,8 @@ impl<S: ByteStore> Machine<S> {
         }
         match attempt {
             Attempt::Nothing => Common::Untaken,
-            Attempt::Set | Attempt::Failed => Common::Silent,
-            Attempt::Accessed | Attempt::Exclusive => Common::Accessed,
+            Attempt::Silent => Common::Silent,
+            Attempt::Accessed | Attempt::Reserved => Common::Accessed,
         }
     }
 
@@ -301,7 +301,7 @@ impl<S: ByteStore> Machine<S> {
             word,
             &mut self.noted,
         );
-        if let Attempt::Set = attempt {
+        if let Attempt::Silent = attempt {
             return Some(Event::Moved(None));
         }
         if let Attempt::Accessed = attempt {
@@ -309,8 +309,8 @@ impl<S: ByteStore> Machine<S> {
         }
         match attempt {
             Attempt::Nothing => None,
-            Attempt::Set | Attempt::Failed => Some(Event::Moved(None)),
-            Attempt::Accessed | Attempt::Exclusive => Some(Event::Moved(Some(self.noted))),
+            Attempt::Silent => Some(Event::Moved(None)),
+            Attempt::Accessed | Attempt::Reserved => Some(Event::Moved(Some(self.noted))),
         }
     }
 

@@ -5,8 +5,8 @@ ghost use Rattle.rv_hart.specs.Fetched.{IsWordAt};
 ghost use Rattle.rv_hart.specs.Refusals.{is_running_hart};
 ghost use Rattle.rv_hart.specs.internal.Able.{HasSize};
 ghost use Rattle.rv_hart.specs.internal.AccessKind.{access_of_kind};
-ghost use Rattle.rv_hart.specs.internal.Harts.{Sees, any_holds};
-ghost use Rattle.rv_hart.specs.internal.Quick.{Begins, Fetches, Tried, TriedAt, attempt_of_access, event_of_attempt, is_exclusive, write_of_attempt};
+ghost use Rattle.rv_hart.specs.internal.Harts.{Sees, any_holds, write_of_access};
+ghost use Rattle.rv_hart.specs.internal.Quick.{Begins, Fetches, Tried, TriedAt, attempt_of_access, event_of_attempt, is_reserving};
 
 use crate::access::{Access, AccessKind};
 use crate::act::{act, combined};
@@ -19,33 +19,20 @@ use rv_isa::op::Op;
 use rv_memory::laws::memory_is_sound;
 use rv_memory::store::{ByteStore, Need};
 
-/// What trying a step came to: nothing, and nothing has changed; a register was set; the noted access was made; an
-/// LR or an SC made the noted access, and what is reserved has changed; or an SC failed. The access is noted apart
-/// and not carried here, so that both stay in registers.
+/// What trying a step came to: nothing, and nothing has changed; a step without an access; the noted access was made; or
+/// an LR made the noted access, and its hart holds a reservation. The access is noted apart and not carried here, so that
+/// both stay in registers.
 #[derive(Clone, Copy)]
 pub enum Attempt {
     Nothing,
-    Set,
+    Silent,
     Accessed,
-    Exclusive,
-    Failed,
-}
-
-impl Attempt {
-    /// Whether it was an LR or an SC.
-    #[inline(always)]
-    pub fn is_exclusive(self) -> bool
-        ensures { result ≡ is_exclusive self }
-    {
-        match self {
-            Attempt::Exclusive | Attempt::Failed => true,
-            Attempt::Nothing | Attempt::Set | Attempt::Accessed => false,
-        }
-    }
+    Reserved,
 }
 
 /// Takes a step of hart h, which runs and has the word at its pc, where it is a common one, and notes its access; or
-/// changes nothing. `reserved` tells whether a hart may hold a reservation. A step that sets a register asks no more, and what is left for the others
+/// changes nothing. `reserved` tells whether a hart may hold a reservation: after an LR one does, and only after a write is it
+/// asked again. A step without an access asks no more, and what is left for the others
 /// reads all anew, so that nothing is kept for it over the call of `moved_from`. `PLACE` is that of `Machine::step_quick`.
 #[inline(always)]
 pub fn tried<const PLACE: u8, S: ByteStore>(
@@ -59,44 +46,36 @@ pub fn tried<const PLACE: u8, S: ByteStore>(
     requires running { is_running_hart (slice_get harts.old.items h) ≡ true }
     requires fetches { IsWordAt harts.old.items (S.memory store.old) h word }
     requires held { reserved.old ≡ false → any_holds harts.old.items ≡ false }
-    ensures tried { TriedAt harts.old.items harts.new.items (S.memory store.old) (S.memory store.new) h (event_of_attempt result access.new) (is_exclusive result) }
+    ensures tried { TriedAt harts.old.items harts.new.items (S.memory store.old) (S.memory store.new) h (event_of_attempt result access.new) (is_reserving result) }
     ensures held { reserved.new ≡ false → any_holds harts.new.items ≡ false }
     ensures len { vec_len harts.new ≡ vec_len harts.old }
 {
     let attempt = moved_from::<PLACE, S>(store, &mut harts[h as usize], access, word);
-    if let Attempt::Set = attempt {
-        return Attempt::Set;
+    if let Attempt::Silent = attempt {
+        return Attempt::Silent;
     }
-    if attempt.is_exclusive() || *reserved && access.write {
-        settle(harts, reserved, h, attempt, access);
+    if let Attempt::Accessed = attempt {
+        if *reserved && access.write {
+            settle(harts, reserved, h, access);
+        }
+        return Attempt::Accessed;
+    }
+    if let Attempt::Reserved = attempt {
+        *reserved = true;
     }
     attempt
 }
 
-/// Ends the other harts' reservations that the write of an attempt meets, and looks then whether one may be left. An LR
-/// leaves one, so it costs no look.
+/// Ends the other harts' reservations that a write meets, and looks then whether one is left.
 #[inline(never)]
-fn settle(harts: &mut Vec<Hart>, reserved: &mut bool, h: u8, attempt: Attempt, access: &Access)
+fn settle(harts: &mut Vec<Hart>, reserved: &mut bool, h: u8, access: &Access)
     requires { h < length harts.old.items }
-    ensures sees { Sees harts.old.items harts.new.items h (write_of_attempt attempt access.now) }
+    ensures sees { Sees harts.old.items harts.new.items h (write_of_access access.now) }
     ensures held { reserved.new ≡ false → any_holds harts.new.items ≡ false }
     ensures len { vec_len harts.new ≡ vec_len harts.old }
 {
-    see_attempt(harts, h, attempt, access);
-    *reserved = !access.write || any_holds(harts);
-}
-
-/// Ends the other harts' reservations that the write of an attempt meets, if it made one.
-#[inline(always)]
-#[tactic(auto, using(crate::proofs::HartsLemmas::sees_nothing))]
-fn see_attempt(harts: &mut [Hart], h: u8, attempt: Attempt, access: &Access)
-    requires { h < length harts.old }
-    ensures { Sees harts.old harts.new h (write_of_attempt attempt access.now) }
-{
-    match attempt {
-        Attempt::Nothing | Attempt::Set | Attempt::Failed => {}
-        Attempt::Accessed | Attempt::Exclusive => see_access(harts, h, access),
-    }
+    see_access(harts, h, access);
+    *reserved = any_holds(harts);
 }
 
 /// Takes the step of a hart itself, where its word is a common one's; no other hart has seen its write yet. It is compiled
@@ -109,7 +88,7 @@ fn moved_from<const PLACE: u8, S: ByteStore>(
     word: u32,
 ) -> Attempt
     requires fetches { Fetches (S.memory store.old) word hart.old }
-    ensures { Tried hart.old hart.new (S.memory store.old) (S.memory store.new) (event_of_attempt result access.new) (is_exclusive result) }
+    ensures { Tried hart.old hart.new (S.memory store.old) (S.memory store.new) (event_of_attempt result access.new) (is_reserving result) }
 {
     if PLACE == 0 {
         moved_apart(store, hart, access, word)
@@ -127,7 +106,7 @@ fn moved_apart<S: ByteStore>(
     word: u32,
 ) -> Attempt
     requires fetches { Fetches (S.memory store.old) word hart.old }
-    ensures { Tried hart.old hart.new (S.memory store.old) (S.memory store.new) (event_of_attempt result access.new) (is_exclusive result) }
+    ensures { Tried hart.old hart.new (S.memory store.old) (S.memory store.new) (event_of_attempt result access.new) (is_reserving result) }
 {
     dispatched::<0, S>(store, hart, access, word)
 }
@@ -147,7 +126,7 @@ fn dispatched<const PLACE: u8, S: ByteStore>(
     word: u32,
 ) -> Attempt
     requires fetches { Fetches (S.memory store.old) word hart.old }
-    ensures { Tried hart.old hart.new (S.memory store.old) (S.memory store.new) (event_of_attempt result access.new) (is_exclusive result) }
+    ensures { Tried hart.old hart.new (S.memory store.old) (S.memory store.new) (event_of_attempt result access.new) (is_reserving result) }
 {
     let is_plain = (word >> 25) % 128 == 0;
     let is_product = word & 0x0200_0000 != 0;
@@ -265,7 +244,7 @@ fn exchanged<S: ByteStore>(
     word: u32,
 ) -> Attempt
     requires fetches { Fetches (S.memory store.old) word hart.old }
-    ensures { Tried hart.old hart.new (S.memory store.old) (S.memory store.new) (event_of_attempt result access.new) (is_exclusive result) }
+    ensures { Tried hart.old hart.new (S.memory store.old) (S.memory store.new) (event_of_attempt result access.new) (is_reserving result) }
 {
     match (word >> 27) % 32 {
         0x00 => of_access(exchange_apart::<operations::AmoaddW, S>(store, hart, access, word)),
@@ -318,7 +297,7 @@ fn set_by<S: ByteStore>(
     word: u32,
 ) -> Attempt
     requires fetches { Fetches (S.memory store.old) word hart.old }
-    ensures { Tried hart.old hart.new (S.memory store.old) (S.memory store.new) (event_of_attempt result access.new) (is_exclusive result) }
+    ensures { Tried hart.old hart.new (S.memory store.old) (S.memory store.new) (event_of_attempt result access.new) (is_reserving result) }
 {
     match begun(store, hart, op, word) {
         Some(action) => set(store, hart, action, access),
@@ -335,7 +314,7 @@ fn multiplied<S: ByteStore>(
     word: u32,
 ) -> Attempt
     requires fetches { Fetches (S.memory store.old) word hart.old }
-    ensures { Tried hart.old hart.new (S.memory store.old) (S.memory store.new) (event_of_attempt result access.new) (is_exclusive result) }
+    ensures { Tried hart.old hart.new (S.memory store.old) (S.memory store.new) (event_of_attempt result access.new) (is_reserving result) }
 {
     match (word >> 12) % 8 {
         0 => set_by(store, hart, Op::Mul, access, word),
@@ -358,7 +337,7 @@ fn load_apart<O: Operation, S: ByteStore>(
     word: u32,
 ) -> bool
     requires fetches { Fetches (S.memory store.old) word hart.old }
-    ensures { Tried hart.old hart.new (S.memory store.old) (S.memory store.new) (event_of_attempt (attempt_of_access result) access.new) (is_exclusive (attempt_of_access result)) }
+    ensures { Tried hart.old hart.new (S.memory store.old) (S.memory store.new) (event_of_attempt (attempt_of_access result) access.new) (is_reserving (attempt_of_access result)) }
 {
     match begun(store, hart, O::op(), word) {
         Some(action) => loaded(store, hart, action, access),
@@ -375,7 +354,7 @@ fn store_apart<O: Operation, S: ByteStore>(
     word: u32,
 ) -> bool
     requires fetches { Fetches (S.memory store.old) word hart.old }
-    ensures { Tried hart.old hart.new (S.memory store.old) (S.memory store.new) (event_of_attempt (attempt_of_access result) access.new) (is_exclusive (attempt_of_access result)) }
+    ensures { Tried hart.old hart.new (S.memory store.old) (S.memory store.new) (event_of_attempt (attempt_of_access result) access.new) (is_reserving (attempt_of_access result)) }
 {
     match begun(store, hart, O::op(), word) {
         Some(action) => stored(store, hart, action, access),
@@ -392,7 +371,7 @@ fn exchange_apart<O: Operation, S: ByteStore>(
     word: u32,
 ) -> bool
     requires fetches { Fetches (S.memory store.old) word hart.old }
-    ensures { Tried hart.old hart.new (S.memory store.old) (S.memory store.new) (event_of_attempt (attempt_of_access result) access.new) (is_exclusive (attempt_of_access result)) }
+    ensures { Tried hart.old hart.new (S.memory store.old) (S.memory store.new) (event_of_attempt (attempt_of_access result) access.new) (is_reserving (attempt_of_access result)) }
 {
     match begun(store, hart, O::op(), word) {
         Some(action) => replaced(store, hart, action, access),
@@ -409,7 +388,7 @@ fn reserve_apart<S: ByteStore>(
     word: u32,
 ) -> Attempt
     requires fetches { Fetches (S.memory store.old) word hart.old }
-    ensures { Tried hart.old hart.new (S.memory store.old) (S.memory store.new) (event_of_attempt result access.new) (is_exclusive result) }
+    ensures { Tried hart.old hart.new (S.memory store.old) (S.memory store.new) (event_of_attempt result access.new) (is_reserving result) }
 {
     match begun(store, hart, Op::LrW, word) {
         Some(action) => reserved(store, hart, action, access),
@@ -426,7 +405,7 @@ fn conditional_apart<S: ByteStore>(
     word: u32,
 ) -> Attempt
     requires fetches { Fetches (S.memory store.old) word hart.old }
-    ensures { Tried hart.old hart.new (S.memory store.old) (S.memory store.new) (event_of_attempt result access.new) (is_exclusive result) }
+    ensures { Tried hart.old hart.new (S.memory store.old) (S.memory store.new) (event_of_attempt result access.new) (is_reserving result) }
 {
     match begun(store, hart, Op::ScW, word) {
         Some(action) => stored_if_reserved(store, hart, action, access),
@@ -443,13 +422,13 @@ fn set<S: ByteStore>(
     _access: &mut Access,
 ) -> Attempt
     requires begins { Begins (S.memory _store.old) action hart.old }
-    ensures { Tried hart.old hart.new (S.memory _store.old) (S.memory _store.new) (event_of_attempt result _access.new) (is_exclusive result) }
+    ensures { Tried hart.old hart.new (S.memory _store.old) (S.memory _store.new) (event_of_attempt result _access.new) (is_reserving result) }
 {
     let Action::Set { .. } = action else {
         return Attempt::Nothing;
     };
     advance(hart, 0, action);
-    Attempt::Set
+    Attempt::Silent
 }
 
 /// Takes a plain load that is permitted.
@@ -457,7 +436,7 @@ fn set<S: ByteStore>(
 fn loaded<S: ByteStore>(store: &mut S, hart: &mut Hart, action: Action, access: &mut Access) -> bool
     requires sized { HasSize action }
     requires begins { Begins (S.memory store.old) action hart.old }
-    ensures { Tried hart.old hart.new (S.memory store.old) (S.memory store.new) (event_of_attempt (attempt_of_access result) access.new) (is_exclusive (attempt_of_access result)) }
+    ensures { Tried hart.old hart.new (S.memory store.old) (S.memory store.new) (event_of_attempt (attempt_of_access result) access.new) (is_reserving (attempt_of_access result)) }
 {
     let Action::Load { address, size, .. } = action else {
         return false;
@@ -478,7 +457,7 @@ fn loaded<S: ByteStore>(store: &mut S, hart: &mut Hart, action: Action, access: 
 fn stored<S: ByteStore>(store: &mut S, hart: &mut Hart, action: Action, access: &mut Access) -> bool
     requires sized { HasSize action }
     requires begins { Begins (S.memory store.old) action hart.old }
-    ensures { Tried hart.old hart.new (S.memory store.old) (S.memory store.new) (event_of_attempt (attempt_of_access result) access.new) (is_exclusive (attempt_of_access result)) }
+    ensures { Tried hart.old hart.new (S.memory store.old) (S.memory store.new) (event_of_attempt (attempt_of_access result) access.new) (is_reserving (attempt_of_access result)) }
 {
     memory_is_sound();
     let Action::Store {
@@ -506,7 +485,7 @@ fn replaced<S: ByteStore>(
     access: &mut Access,
 ) -> bool
     requires begins { Begins (S.memory store.old) action hart.old }
-    ensures { Tried hart.old hart.new (S.memory store.old) (S.memory store.new) (event_of_attempt (attempt_of_access result) access.new) (is_exclusive (attempt_of_access result)) }
+    ensures { Tried hart.old hart.new (S.memory store.old) (S.memory store.new) (event_of_attempt (attempt_of_access result) access.new) (is_reserving (attempt_of_access result)) }
 {
     memory_is_sound();
     let Action::Replace {
@@ -542,7 +521,7 @@ fn reserved<S: ByteStore>(
     access: &mut Access,
 ) -> Attempt
     requires begins { Begins (S.memory store.old) action hart.old }
-    ensures { Tried hart.old hart.new (S.memory store.old) (S.memory store.new) (event_of_attempt result access.new) (is_exclusive result) }
+    ensures { Tried hart.old hart.new (S.memory store.old) (S.memory store.new) (event_of_attempt result access.new) (is_reserving result) }
 {
     let Action::Reserve { address, .. } = action else {
         return Attempt::Nothing;
@@ -555,7 +534,7 @@ fn reserved<S: ByteStore>(
     };
     note(access, hart, address, 4, AccessKind::Load);
     advance(hart, loaded, action);
-    Attempt::Exclusive
+    Attempt::Reserved
 }
 
 /// Takes an SC that is permitted: it writes where the hart holds the word's reservation, and else it fails.
@@ -567,7 +546,7 @@ fn stored_if_reserved<S: ByteStore>(
     access: &mut Access,
 ) -> Attempt
     requires begins { Begins (S.memory store.old) action hart.old }
-    ensures { Tried hart.old hart.new (S.memory store.old) (S.memory store.new) (event_of_attempt result access.new) (is_exclusive result) }
+    ensures { Tried hart.old hart.new (S.memory store.old) (S.memory store.new) (event_of_attempt result access.new) (is_reserving result) }
 {
     memory_is_sound();
     let Action::Conditional { address, value, .. } = action else {
@@ -581,14 +560,14 @@ fn stored_if_reserved<S: ByteStore>(
             return Attempt::Nothing;
         }
         advance(hart, 0, action);
-        return Attempt::Failed;
+        return Attempt::Silent;
     }
     if !store.store_permitted(address, 4, value, Need::Write) {
         return Attempt::Nothing;
     }
     note(access, hart, address, 4, AccessKind::Store);
     advance(hart, 0, action);
-    Attempt::Exclusive
+    Attempt::Accessed
 }
 
 /// Notes an access that the hart makes.

@@ -37,8 +37,8 @@ write_of (event.Exited code) = None
 write_of (event.Stopped cause) = None
 
 -- A hart's own part of a step, `old` before it and `new` after it. It prints nothing, and what others see of
--- it stands in its event. Only one that is exclusive (an LR or an SC) may leave a reservation where there was none.
-pub record Moves (old new : Hart) (before after : Memory) (event : Event) (exclusive : Bool) : Type 0 where
+-- it stands in its event. Only one that reserves (an LR) may leave a reservation where there was none.
+pub record Moves (old new : Hart) (before after : Memory) (event : Event) (reserving : Bool) : Type 0 where
   pub action : Action
   pub runs : RunsTo before old action
   pub hart_is : new ≡ hart_after (loaded_by before action) old action
@@ -46,54 +46,45 @@ pub record Moves (old new : Hart) (before after : Memory) (event : Event) (exclu
   pub event_is : event ≡ event_of old action
   pub none : printed action ≡ []
   pub quiet : is_print action ≡ false
-  pub held : exclusive ≡ false → holds old ≡ false → holds new ≡ false
+  pub held : reserving ≡ false → holds old ≡ false → holds new ≡ false
+  pub reads : reserving ≡ true → write_of event ≡ None
   pub seen : (other : Hart) → seen_by (written_by (loaded_by before action) old action) other ≡ seen_by (write_of event) other
   pub sound : IsSound before → IsSound after
 
 -- what trying a hart's own part comes to: that part, or nothing at all
 abbrev pub Tried : Hart → Hart → Memory → Memory → Option Event → Bool → Type 0
-Tried old new before after None exclusive = (new ≡ old) × (after ≡ before)
-Tried old new before after (Some event) exclusive = Moves old new before after event exclusive
+Tried old new before after None reserving = (new ≡ old) × (after ≡ before)
+Tried old new before after (Some event) reserving = Moves old new before after event reserving
 
 -- a step of hart h that prints nothing, whatever was printed before
-pub record IsQuick (old new : List Hart) (before after : Memory) (h : ℕ) (event : Event) (exclusive : Bool) : Type 0 where
+pub record IsQuick (old new : List Hart) (before after : Memory) (h : ℕ) (event : Event) (reserving : Bool) : Type 0 where
   pub step : (output : List ℕ) → step_of (over old before output) h ≡ Some (event, over new after output)
   pub running : IsTrue (is_running_hart (slice_get old h))
   pub silent : prints before (slice_get old h) ≡ false
   pub count : length new ≡ length old
   pub sound : IsSound before → IsSound after
-  pub held : exclusive ≡ false → any_holds old ≡ false → any_holds new ≡ false
+  pub held : reserving ≡ false → any_holds old ≡ false → any_holds new ≡ false
 
 -- what trying a step by the quick path comes to: the step, or nothing at all
 abbrev pub TriedAt : List Hart → List Hart → Memory → Memory → ℕ → Option Event → Bool → Type 0
-TriedAt old new before after h None exclusive = (new ≡ old) × (after ≡ before)
-TriedAt old new before after h (Some event) exclusive = IsQuick old new before after h event exclusive
+TriedAt old new before after h None reserving = (new ≡ old) × (after ≡ before)
+TriedAt old new before after h (Some event) reserving = IsQuick old new before after h event reserving
 
 -- the event that an attempt comes to, with the access that was noted
 abbrev pub event_of_attempt : Attempt → Access → Option Event
 event_of_attempt attempt.Nothing access = None
-event_of_attempt attempt.Set access = Some (event.Moved None)
+event_of_attempt attempt.Silent access = Some (event.Moved None)
 event_of_attempt attempt.Accessed access = Some (event.Moved (Some access))
-event_of_attempt attempt.Exclusive access = Some (event.Moved (Some access))
-event_of_attempt attempt.Failed access = Some (event.Moved None)
+event_of_attempt attempt.Reserved access = Some (event.Moved (Some access))
 
 -- the attempt that a plain access or an AMO was, which was made or not
 abbrev pub attempt_of_access : Bool → Attempt
 attempt_of_access true = attempt.Accessed
 attempt_of_access false = attempt.Nothing
 
--- what other harts see of an attempt
-abbrev pub write_of_attempt : Attempt → Access → Option Write
-write_of_attempt attempt.Nothing access = None
-write_of_attempt attempt.Set access = None
-write_of_attempt attempt.Accessed access = write_of_access access
-write_of_attempt attempt.Exclusive access = write_of_access access
-write_of_attempt attempt.Failed access = None
-
--- it was an LR or an SC
-abbrev pub is_exclusive : Attempt → Bool
-is_exclusive attempt.Nothing = false
-is_exclusive attempt.Set = false
-is_exclusive attempt.Accessed = false
-is_exclusive attempt.Exclusive = true
-is_exclusive attempt.Failed = true
+-- it was an LR
+abbrev pub is_reserving : Attempt → Bool
+is_reserving attempt.Nothing = false
+is_reserving attempt.Silent = false
+is_reserving attempt.Accessed = false
+is_reserving attempt.Reserved = true
