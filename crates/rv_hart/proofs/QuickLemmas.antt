@@ -99,8 +99,8 @@ seen_alike : (address size a b : ℕ) (other : Hart) → seen_by (Some (record {
 seen_alike address size a b other =
     ap (λ (r : Option ℕ). record other { reservation = r }) (kept_alike address size a b other.reservation)
 
-pub moves_set : (m : Memory) (old new : Hart) (rd value next : ℕ) → Begins m (Set rd value next) old → new ≡ hart_after 0 old (Set rd value next) → Moves old new m m (Moved None) false
-moves_set m old new rd value next b is =
+pub moves_set : (passes : ℕ → Type 0) (m : Memory) (old new : Hart) (rd value next : ℕ) → Begins m (Set rd value next) old → new ≡ hart_after 0 old (Set rd value next) → Moves passes old new m m (Moved None) false
+moves_set passes m old new rd value next b is =
     record {
       action = Set rd value next;
       runs = set_runs m old rd value next b;
@@ -110,6 +110,7 @@ moves_set m old new rd value next b is =
       none = refl;
       quiet = refl;
       held = λ _ none. ap holds is ∙ none;
+      passed = tt;
       reads = λ reserving. cc;
       seen = λ other. refl;
       sound = λ sound. sound;
@@ -118,9 +119,9 @@ moves_set m old new rd value next b is =
 seen_in : (a b : Access) (other : Hart) → a ≡ b → seen_by (write_of_access b) other ≡ seen_by (write_of (Moved (Some a))) other
 seen_in a b other e = ap (λ (x : Access). seen_by (write_of_access x) other) (sym e)
 
-pub moves_load : (m : Memory) (old new : Hart) (rd address size loaded : ℕ) (signed : Bool) (a : Access) → Begins m (Load rd address size signed) old → (address % size == 0) ≡ true → load_permitted m address size need.Read ≡ Some loaded →
-    a ≡ record { pc = old.pc; first = address; size = size; read = true; write = false } → new ≡ hart_after loaded old (Load rd address size signed) → Moves old new m m (Moved (Some a)) false
-moves_load m old new rd address size loaded signed a b aligned read e is =
+pub moves_load : (passes : ℕ → Type 0) (m : Memory) (old new : Hart) (rd address size loaded : ℕ) (signed : Bool) (a : Access) → Begins m (Load rd address size signed) old → (address % size == 0) ≡ true → load_permitted m address size need.Read ≡ Some loaded →
+    passes old.pc → a ≡ record { pc = old.pc; first = address; size = size; read = true; write = false } → new ≡ hart_after loaded old (Load rd address size signed) → Moves passes old new m m (Moved (Some a)) false
+moves_load passes m old new rd address size loaded signed a b aligned read pass e is =
     let action : Action = Load rd address size signed in
     let parts = permitted_parts (permits m address size need.Read) (load m address size) loaded read in
     record {
@@ -132,14 +133,15 @@ moves_load m old new rd address size loaded signed a b aligned read e is =
       none = refl;
       quiet = refl;
       held = λ _ none. ap holds is ∙ none;
+      passed = subst (λ (x : Access). passes x.pc) (sym e) pass;
       reads = λ reserving. cc;
       seen = λ other. seen_in a (record { pc = old.pc; first = address; size = size; read = true; write = false }) other e;
       sound = λ sound. sound;
     }
 
-pub moves_store : (before after : Memory) (old new : Hart) (address size value : ℕ) (a : Access) → Begins before (Store address size value) old → (address % size == 0) ≡ true → permits before address size need.Write ≡ true →
-    a ≡ record { pc = old.pc; first = address; size = size; read = false; write = true } → new ≡ hart_after 0 old (Store address size value) → after ≡ store before address size value → (IsSound before → IsSound after) → Moves old new before after (Moved (Some a)) false
-moves_store before after old new address size value a b aligned permitted e is memory sound =
+pub moves_store : (passes : ℕ → Type 0) (before after : Memory) (old new : Hart) (address size value : ℕ) (a : Access) → Begins before (Store address size value) old → (address % size == 0) ≡ true → permits before address size need.Write ≡ true →
+    passes old.pc → a ≡ record { pc = old.pc; first = address; size = size; read = false; write = true } → new ≡ hart_after 0 old (Store address size value) → after ≡ store before address size value → (IsSound before → IsSound after) → Moves passes old new before after (Moved (Some a)) false
+moves_store passes before after old new address size value a b aligned permitted pass e is memory sound =
     record {
       action = Store address size value;
       runs = store_runs before old address size value b aligned permitted;
@@ -149,14 +151,15 @@ moves_store before after old new address size value a b aligned permitted e is m
       none = refl;
       quiet = refl;
       held = λ _ none. ap holds is ∙ none;
+      passed = subst (λ (x : Access). passes x.pc) (sym e) pass;
       reads = λ reserving. cc;
       seen = λ other. seen_alike address size value 0 other ∙ seen_in a (record { pc = old.pc; first = address; size = size; read = false; write = true }) other e;
       sound = sound;
     }
 
-pub moves_replace : (before after : Memory) (old new : Hart) (rd address value loaded stored : ℕ) (combine : Combine) (a : Access) → Begins before (Replace rd address combine value) old → (address % 4 == 0) ≡ true → load_permitted before address 4 need.ReadWrite ≡ Some loaded → stored ≡ combined combine loaded value →
-    a ≡ record { pc = old.pc; first = address; size = 4; read = true; write = true } → new ≡ hart_after loaded old (Replace rd address combine value) → after ≡ store before address 4 stored → (IsSound before → IsSound after) → Moves old new before after (Moved (Some a)) false
-moves_replace before after old new rd address value loaded stored combine a b aligned read s e is memory sound =
+pub moves_replace : (passes : ℕ → Type 0) (before after : Memory) (old new : Hart) (rd address value loaded stored : ℕ) (combine : Combine) (a : Access) → Begins before (Replace rd address combine value) old → (address % 4 == 0) ≡ true → load_permitted before address 4 need.ReadWrite ≡ Some loaded → stored ≡ combined combine loaded value →
+    passes old.pc → a ≡ record { pc = old.pc; first = address; size = 4; read = true; write = true } → new ≡ hart_after loaded old (Replace rd address combine value) → after ≡ store before address 4 stored → (IsSound before → IsSound after) → Moves passes old new before after (Moved (Some a)) false
+moves_replace passes before after old new rd address value loaded stored combine a b aligned read s pass e is memory sound =
     let action : Action = Replace rd address combine value in
     let parts = permitted_parts (permits before address 4 need.ReadWrite) (load before address 4) loaded read in
     record {
@@ -168,14 +171,15 @@ moves_replace before after old new rd address value loaded stored combine a b al
       none = refl;
       quiet = refl;
       held = λ _ none. ap holds is ∙ none;
+      passed = subst (λ (x : Access). passes x.pc) (sym e) pass;
       reads = λ reserving. cc;
       seen = λ other. seen_alike address 4 (combined combine (load before address 4) value) 0 other ∙ seen_in a (record { pc = old.pc; first = address; size = 4; read = true; write = true }) other e;
       sound = sound;
     }
 
-pub moves_reserve : (m : Memory) (old new : Hart) (rd address loaded : ℕ) (a : Access) → Begins m (Reserve rd address) old → (address % 4 == 0) ≡ true → load_permitted m address 4 need.Read ≡ Some loaded →
-    a ≡ record { pc = old.pc; first = address; size = 4; read = true; write = false } → new ≡ hart_after loaded old (Reserve rd address) → Moves old new m m (Moved (Some a)) true
-moves_reserve m old new rd address loaded a b aligned read e is =
+pub moves_reserve : (passes : ℕ → Type 0) (m : Memory) (old new : Hart) (rd address loaded : ℕ) (a : Access) → Begins m (Reserve rd address) old → (address % 4 == 0) ≡ true → load_permitted m address 4 need.Read ≡ Some loaded →
+    passes old.pc → a ≡ record { pc = old.pc; first = address; size = 4; read = true; write = false } → new ≡ hart_after loaded old (Reserve rd address) → Moves passes old new m m (Moved (Some a)) true
+moves_reserve passes m old new rd address loaded a b aligned read pass e is =
     let action : Action = Reserve rd address in
     let parts = permitted_parts (permits m address 4 need.Read) (load m address 4) loaded read in
     record {
@@ -187,15 +191,16 @@ moves_reserve m old new rd address loaded a b aligned read e is =
       none = refl;
       quiet = refl;
       held = λ reserving _. cc;
+      passed = subst (λ (x : Access). passes x.pc) (sym e) pass;
       reads = λ _. ap (λ (x : Access). write_of_access x) e;
       seen = λ other. seen_in a (record { pc = old.pc; first = address; size = 4; read = true; write = false }) other e;
       sound = λ sound. sound;
     }
 
 -- an SC of the word that the hart has reserved
-pub moves_conditional : (before after : Memory) (old new : Hart) (rd address value : ℕ) (a : Access) → Begins before (Conditional rd address value) old → (address % 4 == 0) ≡ true → permits before address 4 need.Write ≡ true → reserves old.reservation address ≡ true →
-    a ≡ record { pc = old.pc; first = address; size = 4; read = false; write = true } → new ≡ hart_after 0 old (Conditional rd address value) → after ≡ store before address 4 value → (IsSound before → IsSound after) → Moves old new before after (Moved (Some a)) false
-moves_conditional before after old new rd address value a b aligned permitted reserved e is memory sound =
+pub moves_conditional : (passes : ℕ → Type 0) (before after : Memory) (old new : Hart) (rd address value : ℕ) (a : Access) → Begins before (Conditional rd address value) old → (address % 4 == 0) ≡ true → permits before address 4 need.Write ≡ true → reserves old.reservation address ≡ true →
+    passes old.pc → a ≡ record { pc = old.pc; first = address; size = 4; read = false; write = true } → new ≡ hart_after 0 old (Conditional rd address value) → after ≡ store before address 4 value → (IsSound before → IsSound after) → Moves passes old new before after (Moved (Some a)) false
+moves_conditional passes before after old new rd address value a b aligned permitted reserved pass e is memory sound =
     let action : Action = Conditional rd address value in
     let written : written_by 0 old action ≡ Some (write address 4 value) = rw reserved refl in
     record {
@@ -207,6 +212,7 @@ moves_conditional before after old new rd address value a b aligned permitted re
       none = refl;
       quiet = refl;
       held = λ _ _. ap holds is;
+      passed = subst (λ (x : Access). passes x.pc) (sym e) pass;
       reads = λ reserving. cc;
       seen = λ other. ap (λ (w : Option Write). seen_by w other) written ∙ seen_alike address 4 value 0 other ∙ seen_in a (record { pc = old.pc; first = address; size = 4; read = false; write = true }) other e;
       sound = sound;
@@ -254,8 +260,8 @@ none_holds_set (x ∷ xs) (suc h) hart moved found same none =
 abbrev pub none_hart : Hart
 none_hart = record { registers = []; pc = 0; status = Running; reservation = None }
 
-pub quick_made : (old new : List Hart) (before after : Memory) (h : ℕ) (hart moved : Hart) (event : Event) (reserving : Bool) → slice_get old h ≡ Some hart → Moves hart moved before after event reserving → new ≡ set (map (seen_by (write_of event)) old) h moved → IsQuick old new before after h event reserving
-quick_made old new before after h hart moved event reserving found m is =
+pub quick_made : (passes : ℕ → Type 0) (old new : List Hart) (before after : Memory) (h : ℕ) (hart moved : Hart) (event : Event) (reserving : Bool) → slice_get old h ≡ Some hart → Moves passes hart moved before after event reserving → new ≡ set (map (seen_by (write_of event)) old) h moved → IsQuick passes old new before after h event reserving
+quick_made passes old new before after h hart moved event reserving found m is =
     let loaded : ℕ = loaded_by before m.action in
     let w : Option Write = written_by loaded hart m.action in
     let seen : map (seen_by (write_of event)) old ≡ map (seen_by w) old = sym (map_seen w (write_of event) old m.seen) in
@@ -263,6 +269,7 @@ quick_made old new before after h hart moved event reserving found m is =
     record {
       step = λ output. step_made (over old before output) (over new after output) h loaded hart m.action w event found (rw found m.runs) refl refl m.event_is harts m.memory_is (rw m.none (sym (append-nil output)));
       running = rw found m.runs.running;
+      passed = m.passed;
       silent = rw (found, m.runs.running) (ap is_print (sym m.runs.next) ∙ m.quiet);
       count = harts_count old new h loaded m.action w hart found harts;
       sound = m.sound;
@@ -270,10 +277,10 @@ quick_made old new before after h hart moved event reserving found m is =
     }
 
 -- where no hart has to see the write, the hart's own part is the step
-pub tried_alone : (old : List Hart) (before after : Memory) (h : ℕ) (default moved : Hart) (event : Option Event) (reserving : Bool) → h < length old → Tried (get_or old h default) moved before after event reserving → IfSome event (λ e. map (seen_by (write_of e)) old ≡ old) → TriedAt old (set old h moved) before after h event reserving
-tried_alone old before after h default moved None reserving within m unseen = (ap (λ (x : Hart). set old h x) m.0 ∙ set-get_or old h default, m.1)
-tried_alone old before after h default moved (Some event) reserving within m unseen =
-    quick_made old (set old h moved) before after h (get_or old h default) moved event reserving (slice_get-get_or old h default within) m (ap (λ (xs : List Hart). set xs h moved) (sym unseen))
+pub tried_alone : (passes : ℕ → Type 0) (old : List Hart) (before after : Memory) (h : ℕ) (default moved : Hart) (event : Option Event) (reserving : Bool) → h < length old → Tried passes (get_or old h default) moved before after event reserving → IfSome event (λ e. map (seen_by (write_of e)) old ≡ old) → TriedAt passes old (set old h moved) before after h event reserving
+tried_alone passes old before after h default moved None reserving within m unseen = (ap (λ (x : Hart). set old h x) m.0 ∙ set-get_or old h default, m.1)
+tried_alone passes old before after h default moved (Some event) reserving within m unseen =
+    quick_made passes old (set old h moved) before after h (get_or old h default) moved event reserving (slice_get-get_or old h default within) m (ap (λ (xs : List Hart). set xs h moved) (sym unseen))
 
 -- and else they see it after that part
 seen_after : (old new : List Hart) (h : ℕ) (default moved : Hart) (w : Option Write) → h < length old → Sees (set old h moved) new h w → new ≡ set (map (seen_by w) old) h moved
@@ -282,10 +289,10 @@ seen_after old new h default moved w within sees =
     let seen : new ≡ set (map (seen_by w) (set old h moved)) h moved = subst (λ (o : Option Hart). IsSomeAnd o (λ x. new ≡ set (map (seen_by w) (set old h moved)) h x)) there sees in
     seen ∙ ap (λ (xs : List Hart). set xs h moved) (map-set (seen_by w) old h moved) ∙ set-set (map (seen_by w) old) h (seen_by w moved) moved
 
-pub tried_seen : (old new : List Hart) (before after : Memory) (h : ℕ) (default moved : Hart) (tried : Attempt) (a : Access) → tried ≡ attempt.Accessed → h < length old → Tried (get_or old h default) moved before after (event_of_attempt tried a) (is_reserving tried) → Sees (set old h moved) new h (write_of_access a) → TriedAt old new before after h (event_of_attempt attempt.Accessed a) false
-tried_seen old new before after h default moved tried a is within m sees =
-    let made : Moves (get_or old h default) moved before after (Moved (Some a)) false = subst (λ (t : Attempt). Tried (get_or old h default) moved before after (event_of_attempt t a) (is_reserving t)) is m in
-    quick_made old new before after h (get_or old h default) moved (Moved (Some a)) false (slice_get-get_or old h default within) made (seen_after old new h default moved (write_of_access a) within sees)
+pub tried_seen : (passes : ℕ → Type 0) (old new : List Hart) (before after : Memory) (h : ℕ) (default moved : Hart) (tried : Attempt) (a : Access) → tried ≡ attempt.Accessed → h < length old → Tried passes (get_or old h default) moved before after (event_of_attempt tried a) (is_reserving tried) → Sees (set old h moved) new h (write_of_access a) → TriedAt passes old new before after h (event_of_attempt attempt.Accessed a) false
+tried_seen passes old new before after h default moved tried a is within m sees =
+    let made : Moves passes (get_or old h default) moved before after (Moved (Some a)) false = subst (λ (t : Attempt). Tried passes (get_or old h default) moved before after (event_of_attempt t a) (is_reserving t)) is m in
+    quick_made passes old new before after h (get_or old h default) moved (Moved (Some a)) false (slice_get-get_or old h default within) made (seen_after old new h default moved (write_of_access a) within sees)
 
 -- what runs is there
 running_at : (xs : List Hart) (h : ℕ) (o : Option Hart) → slice_get xs h ≡ o → is_running_hart o ≡ true → h < length xs
@@ -302,26 +309,26 @@ IsUnseen attempt.Silent a old = ⊤
 IsUnseen attempt.Accessed a old = (any_holds old ≡ false) ⊎ (a.write ≡ false)
 IsUnseen attempt.Reserved a old = ⊤
 
-none_sees_attempt : (tried : Attempt) (a : Access) (old new : Hart) (before after : Memory) (harts : List Hart) → Tried old new before after (event_of_attempt tried a) (is_reserving tried) → IsUnseen tried a harts → IfSome (event_of_attempt tried a) (λ e. map (seen_by (write_of e)) harts ≡ harts)
-none_sees_attempt attempt.Nothing a old new before after harts m how = tt
-none_sees_attempt attempt.Silent a old new before after harts m how = none_seen harts
-none_sees_attempt attempt.Accessed a old new before after harts m (inl none) = none_held (write_of_access a) harts none
-none_sees_attempt attempt.Accessed a old new before after harts m (inr reads) =
+none_sees_attempt : (passes : ℕ → Type 0) (tried : Attempt) (a : Access) (old new : Hart) (before after : Memory) (harts : List Hart) → Tried passes old new before after (event_of_attempt tried a) (is_reserving tried) → IsUnseen tried a harts → IfSome (event_of_attempt tried a) (λ e. map (seen_by (write_of e)) harts ≡ harts)
+none_sees_attempt passes attempt.Nothing a old new before after harts m how = tt
+none_sees_attempt passes attempt.Silent a old new before after harts m how = none_seen harts
+none_sees_attempt passes attempt.Accessed a old new before after harts m (inl none) = none_held (write_of_access a) harts none
+none_sees_attempt passes attempt.Accessed a old new before after harts m (inr reads) =
     ap (λ (b : Bool). map (seen_by (cond b (Some (record { address = a.first; size = a.size; value = 0 })) None)) harts) reads ∙ none_seen harts
-none_sees_attempt attempt.Reserved a old new before after harts m how =
+none_sees_attempt passes attempt.Reserved a old new before after harts m how =
     ap (λ (w : Option Write). map (seen_by w) harts) (m.reads refl) ∙ none_seen harts
 
 -- then the hart's own part is the step
-pub tried_unseen : (old : List Hart) (before after : Memory) (h : ℕ) (default moved : Hart) (tried known : Attempt) (a : Access) → tried ≡ known → h < length old → Tried (get_or old h default) moved before after (event_of_attempt tried a) (is_reserving tried) → IsUnseen known a old → TriedAt old (set old h moved) before after h (event_of_attempt known a) (is_reserving known)
-tried_unseen old before after h default moved tried known a is within tries how =
-    let m : Tried (get_or old h default) moved before after (event_of_attempt known a) (is_reserving known) = subst (λ (t : Attempt). Tried (get_or old h default) moved before after (event_of_attempt t a) (is_reserving t)) is tries in
-    tried_alone old before after h default moved (event_of_attempt known a) (is_reserving known) within m (none_sees_attempt known a (get_or old h default) moved before after old m how)
+pub tried_unseen : (passes : ℕ → Type 0) (old : List Hart) (before after : Memory) (h : ℕ) (default moved : Hart) (tried known : Attempt) (a : Access) → tried ≡ known → h < length old → Tried passes (get_or old h default) moved before after (event_of_attempt tried a) (is_reserving tried) → IsUnseen known a old → TriedAt passes old (set old h moved) before after h (event_of_attempt known a) (is_reserving known)
+tried_unseen passes old before after h default moved tried known a is within tries how =
+    let m : Tried passes (get_or old h default) moved before after (event_of_attempt known a) (is_reserving known) = subst (λ (t : Attempt). Tried passes (get_or old h default) moved before after (event_of_attempt t a) (is_reserving t)) is tries in
+    tried_alone passes old before after h default moved (event_of_attempt known a) (is_reserving known) within m (none_sees_attempt passes known a (get_or old h default) moved before after old m how)
 
-pub none_taken : (old new : List Hart) (before after : Memory) (h : ℕ) (tried : Attempt) (a : Access) → TriedAt old new before after h (event_of_attempt tried a) (is_reserving tried) → is_reserving tried ≡ false → any_holds old ≡ false → any_holds new ≡ false
-none_taken old new before after h attempt.Nothing a t common none = ap any_holds t.0 ∙ none
-none_taken old new before after h attempt.Silent a t common none = t.held refl none
-none_taken old new before after h attempt.Accessed a t common none = t.held refl none
-none_taken old new before after h attempt.Reserved a t common none = cc
+pub none_taken : (passes : ℕ → Type 0) (old new : List Hart) (before after : Memory) (h : ℕ) (tried : Attempt) (a : Access) → TriedAt passes old new before after h (event_of_attempt tried a) (is_reserving tried) → is_reserving tried ≡ false → any_holds old ≡ false → any_holds new ≡ false
+none_taken passes old new before after h attempt.Nothing a t common none = ap any_holds t.0 ∙ none
+none_taken passes old new before after h attempt.Silent a t common none = t.held refl none
+none_taken passes old new before after h attempt.Accessed a t common none = t.held refl none
+none_taken passes old new before after h attempt.Reserved a t common none = cc
 
 -- the word of a hart that runs, at its place
 pub fetches_there : (harts : List Hart) (memory : Memory) (h word : ℕ) (default : Hart) → is_running_hart (slice_get harts h) ≡ true → IsWordAt harts memory h word → Fetches memory word (get_or harts h default)

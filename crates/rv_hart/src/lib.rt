@@ -18,5 +18,6 @@ mod operations;
 mod quick;
 pub mod registers;
 mod start;
+pub mod stops;
 pub mod texts;
 pub mod write;

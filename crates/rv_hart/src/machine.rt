@@ -24,6 +24,7 @@ use crate::effect::{
 use crate::hart::{Hart, Status};
 use crate::quick::{Attempt, tried};
 use crate::start::{first_harts, store_with_stacks};
+use crate::stops::{NoStops, Stops};
 use rv_memory::laws::{bytes_stand_where_covered, memory_is_sound};
 use rv_memory::region::Region;
 use rv_memory::store::{ByteStore, MemFault, Need};
@@ -241,27 +242,36 @@ impl<S: ByteStore> Machine<S> {
     }
 
     /// One step of a hart that runs, whose word was fetched, where it is a common one, which moves on, and notes its
-    /// access; else nothing has changed. `PLACE` tells the places that call it apart: it is compiled once for each but 0, and into it. What was
+    /// access, unless `stops` keeps it back; else nothing has changed. `PLACE` tells the places that call it apart: it is compiled once for each but 0, and into it. What was
     /// noted stays in the caller's place, since an event that is handed on is copied at each step.
     #[inline(always)]
-    pub fn step_quick<const PLACE: u8>(&mut self, h: u8, word: u32, noted: &mut Access) -> Common
+    pub fn step_quick<const PLACE: u8, P: Stops>(
+        &mut self,
+        h: u8,
+        word: u32,
+        noted: &mut Access,
+        stops: &P,
+    ) -> Common
         requires running { refusals.is_running_hart (slice_get self.old.state.harts h) ≡ true }
         requires word { IsWordOf self.old.state h word }
         ensures step { IfSome (event_of_common result noted.new) (λ event.
             step_of self.old.state h ≡ Some (event, self.new.state)) }
+        ensures passed { IfSome (event_of_common result noted.new) (λ event.
+            IfSome (next.accessed event) (λ access. P.passes stops.now access.pc)) }
         ensures silent { IsSome (event_of_common result noted.new)
             → refusals.prints self.old.state.memory (slice_get self.old.state.harts h) ≡ false }
         ensures harts { length self.new.state.harts ≡ length self.old.state.harts }
         ensures limit { self.new.limit ≡ self.old.limit }
         ensures same { (result ≡ Common.Untaken) → self.new ≡ self.old }
     {
-        let attempt = tried::<PLACE, S>(
+        let attempt = tried::<PLACE, S, P>(
             &mut self.store,
             &mut self.harts,
             &mut self.reserved,
             h,
             word,
             noted,
+            stops,
         );
         // These by themselves, since most steps come to them: four cases would be a jump over a table.
         if let Attempt::Silent = attempt {
@@ -293,13 +303,14 @@ impl<S: ByteStore> Machine<S> {
         ensures same { (result ≡ None) → self.new ≡ self.old }
     {
         let word = self.fetched(h)?;
-        let attempt = tried::<0, S>(
+        let attempt = tried::<0, S, NoStops>(
             &mut self.store,
             &mut self.harts,
             &mut self.reserved,
             h,
             word,
             &mut self.noted,
+            &NoStops,
         );
         if let Attempt::Silent = attempt {
             return Some(Event::Moved(None));

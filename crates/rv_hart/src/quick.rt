@@ -14,6 +14,7 @@ use crate::action::Action;
 use crate::effect::{advance, any_holds, is_aligned, reserves, see_access};
 use crate::hart::Hart;
 use crate::operations::{self, Operation};
+use crate::stops::Stops;
 use rv_isa::codec::decode_as;
 use rv_isa::op::Op;
 use rv_memory::laws::memory_is_sound;
@@ -35,22 +36,23 @@ pub enum Attempt {
 /// asked again. A step without an access asks no more, and what is left for the others
 /// reads all anew, so that nothing is kept for it over the call of `moved_from`. `PLACE` is that of `Machine::step_quick`.
 #[inline(always)]
-pub fn tried<const PLACE: u8, S: ByteStore>(
+pub fn tried<const PLACE: u8, S: ByteStore, P: Stops>(
     store: &mut S,
     harts: &mut Vec<Hart>,
     reserved: &mut bool,
     h: u8,
     word: u32,
     access: &mut Access,
+    stops: &P,
 ) -> Attempt
     requires running { is_running_hart (slice_get harts.old.items h) ≡ true }
     requires fetches { IsWordAt harts.old.items (S.memory store.old) h word }
     requires held { reserved.old ≡ false → any_holds harts.old.items ≡ false }
-    ensures tried { TriedAt harts.old.items harts.new.items (S.memory store.old) (S.memory store.new) h (event_of_attempt result access.new) (is_reserving result) }
+    ensures tried { TriedAt (P.passes stops.now) harts.old.items harts.new.items (S.memory store.old) (S.memory store.new) h (event_of_attempt result access.new) (is_reserving result) }
     ensures held { reserved.new ≡ false → any_holds harts.new.items ≡ false }
     ensures len { vec_len harts.new ≡ vec_len harts.old }
 {
-    let attempt = moved_from::<PLACE, S>(store, &mut harts[h as usize], access, word);
+    let attempt = moved_from::<PLACE, S, P>(store, &mut harts[h as usize], access, word, stops);
     if let Attempt::Silent = attempt {
         return Attempt::Silent;
     }
@@ -81,34 +83,36 @@ fn settle(harts: &mut Vec<Hart>, reserved: &mut bool, h: u8, access: &Access)
 /// Takes the step of a hart itself, where its word is a common one's; no other hart has seen its write yet. It is compiled
 /// into each place but place 0.
 #[inline(always)]
-fn moved_from<const PLACE: u8, S: ByteStore>(
+fn moved_from<const PLACE: u8, S: ByteStore, P: Stops>(
     store: &mut S,
     hart: &mut Hart,
     access: &mut Access,
     word: u32,
+    stops: &P,
 ) -> Attempt
     requires fetches { Fetches (S.memory store.old) word hart.old }
-    ensures { Tried hart.old hart.new (S.memory store.old) (S.memory store.new) (event_of_attempt result access.new) (is_reserving result) }
+    ensures { Tried (P.passes stops.now) hart.old hart.new (S.memory store.old) (S.memory store.new) (event_of_attempt result access.new) (is_reserving result) }
 {
     if PLACE == 0 {
-        moved_apart(store, hart, access, word)
+        moved_apart(store, hart, access, word, stops)
     } else {
-        dispatched::<PLACE, S>(store, hart, access, word)
+        dispatched::<PLACE, S, P>(store, hart, access, word, stops)
     }
 }
 
 /// The same as a function of its own, with no more arguments than the functions of accesses have, to which it jumps.
 #[inline(never)]
-fn moved_apart<S: ByteStore>(
+fn moved_apart<S: ByteStore, P: Stops>(
     store: &mut S,
     hart: &mut Hart,
     access: &mut Access,
     word: u32,
+    stops: &P,
 ) -> Attempt
     requires fetches { Fetches (S.memory store.old) word hart.old }
-    ensures { Tried hart.old hart.new (S.memory store.old) (S.memory store.new) (event_of_attempt result access.new) (is_reserving result) }
+    ensures { Tried (P.passes stops.now) hart.old hart.new (S.memory store.old) (S.memory store.new) (event_of_attempt result access.new) (is_reserving result) }
 {
-    dispatched::<0, S>(store, hart, access, word)
+    dispatched::<0, S, P>(store, hart, access, word, stops)
 }
 
 /// Takes the step of a word, by one jump over the opcode's five upper bits and funct3: each number stands for itself,
@@ -119,96 +123,99 @@ fn moved_apart<S: ByteStore>(
 /// alone. What accesses memory is a function of its own for each operation, since the others need no more registers
 /// than a call may use.
 #[inline(always)]
-fn dispatched<const PLACE: u8, S: ByteStore>(
+fn dispatched<const PLACE: u8, S: ByteStore, P: Stops>(
     store: &mut S,
     hart: &mut Hart,
     access: &mut Access,
     word: u32,
+    stops: &P,
 ) -> Attempt
     requires fetches { Fetches (S.memory store.old) word hart.old }
-    ensures { Tried hart.old hart.new (S.memory store.old) (S.memory store.new) (event_of_attempt result access.new) (is_reserving result) }
+    ensures { Tried (P.passes stops.now) hart.old hart.new (S.memory store.old) (S.memory store.new) (event_of_attempt result access.new) (is_reserving result) }
 {
     let is_plain = (word >> 25) % 128 == 0;
     let is_product = word & 0x0200_0000 != 0;
     match (word >> 2) % 32 * 8 + (word >> 12) % 8 {
-        0x00 => of_access(load_apart::<operations::Lb, S>(store, hart, access, word)),
-        0x01 => of_access(load_apart::<operations::Lh, S>(store, hart, access, word)),
-        0x02 => of_access(load_apart::<operations::Lw, S>(store, hart, access, word)),
-        0x04 => of_access(load_apart::<operations::Lbu, S>(store, hart, access, word)),
-        0x05 => of_access(load_apart::<operations::Lhu, S>(store, hart, access, word)),
+        0x00 => of_access(load_apart::<operations::Lb, S, P>(store, hart, access, word, stops)),
+        0x01 => of_access(load_apart::<operations::Lh, S, P>(store, hart, access, word, stops)),
+        0x02 => of_access(load_apart::<operations::Lw, S, P>(store, hart, access, word, stops)),
+        0x04 => of_access(load_apart::<operations::Lbu, S, P>(store, hart, access, word, stops)),
+        0x05 => of_access(load_apart::<operations::Lhu, S, P>(store, hart, access, word, stops)),
         0x18 | 0x19 | 0x1a | 0x1b | 0x1c | 0x1d | 0x1e | 0x1f => set_by(
             store,
             hart,
             Op::Fence,
             access,
             word,
+            stops,
         ),
-        0x20 => set_by(store, hart, Op::Addi, access, word),
-        0x21 => set_by(store, hart, Op::Slli, access, word),
-        0x22 => set_by(store, hart, Op::Slti, access, word),
-        0x23 => set_by(store, hart, Op::Sltiu, access, word),
-        0x24 => set_by(store, hart, Op::Xori, access, word),
+        0x20 => set_by(store, hart, Op::Addi, access, word, stops),
+        0x21 => set_by(store, hart, Op::Slli, access, word, stops),
+        0x22 => set_by(store, hart, Op::Slti, access, word, stops),
+        0x23 => set_by(store, hart, Op::Sltiu, access, word, stops),
+        0x24 => set_by(store, hart, Op::Xori, access, word, stops),
         0x25 => if is_plain {
-            set_by(store, hart, Op::Srli, access, word)
+            set_by(store, hart, Op::Srli, access, word, stops)
         } else {
-            set_by(store, hart, Op::Srai, access, word)
+            set_by(store, hart, Op::Srai, access, word, stops)
         },
-        0x26 => set_by(store, hart, Op::Ori, access, word),
-        0x27 => set_by(store, hart, Op::Andi, access, word),
+        0x26 => set_by(store, hart, Op::Ori, access, word, stops),
+        0x27 => set_by(store, hart, Op::Andi, access, word, stops),
         0x28 | 0x29 | 0x2a | 0x2b | 0x2c | 0x2d | 0x2e | 0x2f => set_by(
             store,
             hart,
             Op::Auipc,
             access,
             word,
+            stops,
         ),
-        0x40 => of_access(store_apart::<operations::Sb, S>(store, hart, access, word)),
-        0x41 => of_access(store_apart::<operations::Sh, S>(store, hart, access, word)),
-        0x42 => of_access(store_apart::<operations::Sw, S>(store, hart, access, word)),
-        0x5a => exchanged(store, hart, access, word),
+        0x40 => of_access(store_apart::<operations::Sb, S, P>(store, hart, access, word, stops)),
+        0x41 => of_access(store_apart::<operations::Sh, S, P>(store, hart, access, word, stops)),
+        0x42 => of_access(store_apart::<operations::Sw, S, P>(store, hart, access, word, stops)),
+        0x5a => exchanged(store, hart, access, word, stops),
         0x60 => if is_plain {
-            set_by(store, hart, Op::Add, access, word)
+            set_by(store, hart, Op::Add, access, word, stops)
         } else if is_product {
-            multiplied(store, hart, access, word)
+            multiplied(store, hart, access, word, stops)
         } else {
-            set_by(store, hart, Op::Sub, access, word)
+            set_by(store, hart, Op::Sub, access, word, stops)
         },
         0x61 => if is_product {
-            multiplied(store, hart, access, word)
+            multiplied(store, hart, access, word, stops)
         } else {
-            set_by(store, hart, Op::Sll, access, word)
+            set_by(store, hart, Op::Sll, access, word, stops)
         },
         0x62 => if is_product {
-            multiplied(store, hart, access, word)
+            multiplied(store, hart, access, word, stops)
         } else {
-            set_by(store, hart, Op::Slt, access, word)
+            set_by(store, hart, Op::Slt, access, word, stops)
         },
         0x63 => if is_product {
-            multiplied(store, hart, access, word)
+            multiplied(store, hart, access, word, stops)
         } else {
-            set_by(store, hart, Op::Sltu, access, word)
+            set_by(store, hart, Op::Sltu, access, word, stops)
         },
         0x64 => if is_product {
-            multiplied(store, hart, access, word)
+            multiplied(store, hart, access, word, stops)
         } else {
-            set_by(store, hart, Op::Xor, access, word)
+            set_by(store, hart, Op::Xor, access, word, stops)
         },
         0x65 => if is_plain {
-            set_by(store, hart, Op::Srl, access, word)
+            set_by(store, hart, Op::Srl, access, word, stops)
         } else if is_product {
-            multiplied(store, hart, access, word)
+            multiplied(store, hart, access, word, stops)
         } else {
-            set_by(store, hart, Op::Sra, access, word)
+            set_by(store, hart, Op::Sra, access, word, stops)
         },
         0x66 => if is_product {
-            multiplied(store, hart, access, word)
+            multiplied(store, hart, access, word, stops)
         } else {
-            set_by(store, hart, Op::Or, access, word)
+            set_by(store, hart, Op::Or, access, word, stops)
         },
         0x67 => if is_product {
-            multiplied(store, hart, access, word)
+            multiplied(store, hart, access, word, stops)
         } else {
-            set_by(store, hart, Op::And, access, word)
+            set_by(store, hart, Op::And, access, word, stops)
         },
         0x68 | 0x69 | 0x6a | 0x6b | 0x6c | 0x6d | 0x6e | 0x6f => set_by(
             store,
@@ -216,20 +223,22 @@ fn dispatched<const PLACE: u8, S: ByteStore>(
             Op::Lui,
             access,
             word,
+            stops,
         ),
-        0xc0 => set_by(store, hart, Op::Beq, access, word),
-        0xc1 => set_by(store, hart, Op::Bne, access, word),
-        0xc4 => set_by(store, hart, Op::Blt, access, word),
-        0xc5 => set_by(store, hart, Op::Bge, access, word),
-        0xc6 => set_by(store, hart, Op::Bltu, access, word),
-        0xc7 => set_by(store, hart, Op::Bgeu, access, word),
-        0xc8 => set_by(store, hart, Op::Jalr, access, word),
+        0xc0 => set_by(store, hart, Op::Beq, access, word, stops),
+        0xc1 => set_by(store, hart, Op::Bne, access, word, stops),
+        0xc4 => set_by(store, hart, Op::Blt, access, word, stops),
+        0xc5 => set_by(store, hart, Op::Bge, access, word, stops),
+        0xc6 => set_by(store, hart, Op::Bltu, access, word, stops),
+        0xc7 => set_by(store, hart, Op::Bgeu, access, word, stops),
+        0xc8 => set_by(store, hart, Op::Jalr, access, word, stops),
         0xd8 | 0xd9 | 0xda | 0xdb | 0xdc | 0xdd | 0xde | 0xdf => set_by(
             store,
             hart,
             Op::Jal,
             access,
             word,
+            stops,
         ),
         _ => Attempt::Nothing,
     }
@@ -237,27 +246,46 @@ fn dispatched<const PLACE: u8, S: ByteStore>(
 
 /// Takes the step of a word that may be an LR's, an SC's or an AMO's, which funct5 tells apart.
 #[inline(always)]
-fn exchanged<S: ByteStore>(
+fn exchanged<S: ByteStore, P: Stops>(
     store: &mut S,
     hart: &mut Hart,
     access: &mut Access,
     word: u32,
+    stops: &P,
 ) -> Attempt
     requires fetches { Fetches (S.memory store.old) word hart.old }
-    ensures { Tried hart.old hart.new (S.memory store.old) (S.memory store.new) (event_of_attempt result access.new) (is_reserving result) }
+    ensures { Tried (P.passes stops.now) hart.old hart.new (S.memory store.old) (S.memory store.new) (event_of_attempt result access.new) (is_reserving result) }
 {
     match (word >> 27) % 32 {
-        0x00 => of_access(exchange_apart::<operations::AmoaddW, S>(store, hart, access, word)),
-        0x01 => of_access(exchange_apart::<operations::AmoswapW, S>(store, hart, access, word)),
-        0x02 => reserve_apart(store, hart, access, word),
-        0x03 => conditional_apart(store, hart, access, word),
-        0x04 => of_access(exchange_apart::<operations::AmoxorW, S>(store, hart, access, word)),
-        0x08 => of_access(exchange_apart::<operations::AmoorW, S>(store, hart, access, word)),
-        0x0c => of_access(exchange_apart::<operations::AmoandW, S>(store, hart, access, word)),
-        0x10 => of_access(exchange_apart::<operations::AmominW, S>(store, hart, access, word)),
-        0x14 => of_access(exchange_apart::<operations::AmomaxW, S>(store, hart, access, word)),
-        0x18 => of_access(exchange_apart::<operations::AmominuW, S>(store, hart, access, word)),
-        0x1c => of_access(exchange_apart::<operations::AmomaxuW, S>(store, hart, access, word)),
+        0x00 => of_access(exchange_apart::<operations::AmoaddW, S, P>(
+            store, hart, access, word, stops,
+        )),
+        0x01 => of_access(exchange_apart::<operations::AmoswapW, S, P>(
+            store, hart, access, word, stops,
+        )),
+        0x02 => reserve_apart(store, hart, access, word, stops),
+        0x03 => conditional_apart(store, hart, access, word, stops),
+        0x04 => of_access(exchange_apart::<operations::AmoxorW, S, P>(
+            store, hart, access, word, stops,
+        )),
+        0x08 => of_access(exchange_apart::<operations::AmoorW, S, P>(
+            store, hart, access, word, stops,
+        )),
+        0x0c => of_access(exchange_apart::<operations::AmoandW, S, P>(
+            store, hart, access, word, stops,
+        )),
+        0x10 => of_access(exchange_apart::<operations::AmominW, S, P>(
+            store, hart, access, word, stops,
+        )),
+        0x14 => of_access(exchange_apart::<operations::AmomaxW, S, P>(
+            store, hart, access, word, stops,
+        )),
+        0x18 => of_access(exchange_apart::<operations::AmominuW, S, P>(
+            store, hart, access, word, stops,
+        )),
+        0x1c => of_access(exchange_apart::<operations::AmomaxuW, S, P>(
+            store, hart, access, word, stops,
+        )),
         _ => Attempt::Nothing,
     }
 }
@@ -289,140 +317,148 @@ fn begun<S: ByteStore>(_store: &S, hart: &Hart, op: Op, word: u32) -> Option<Act
 
 /// Takes the step of a word of this operation, which sets a register.
 #[inline(always)]
-fn set_by<S: ByteStore>(
+fn set_by<S: ByteStore, P: Stops>(
     store: &mut S,
     hart: &mut Hart,
     op: Op,
     access: &mut Access,
     word: u32,
+    stops: &P,
 ) -> Attempt
     requires fetches { Fetches (S.memory store.old) word hart.old }
-    ensures { Tried hart.old hart.new (S.memory store.old) (S.memory store.new) (event_of_attempt result access.new) (is_reserving result) }
+    ensures { Tried (P.passes stops.now) hart.old hart.new (S.memory store.old) (S.memory store.new) (event_of_attempt result access.new) (is_reserving result) }
 {
     match begun(store, hart, op, word) {
-        Some(action) => set(store, hart, action, access),
+        Some(action) => set(store, hart, action, access, stops),
         None => Attempt::Nothing,
     }
 }
 
 /// Takes the step of a word that may be a product or a quotient, which funct3 tells apart, apart from the jump.
 #[inline(never)]
-fn multiplied<S: ByteStore>(
+fn multiplied<S: ByteStore, P: Stops>(
     store: &mut S,
     hart: &mut Hart,
     access: &mut Access,
     word: u32,
+    stops: &P,
 ) -> Attempt
     requires fetches { Fetches (S.memory store.old) word hart.old }
-    ensures { Tried hart.old hart.new (S.memory store.old) (S.memory store.new) (event_of_attempt result access.new) (is_reserving result) }
+    ensures { Tried (P.passes stops.now) hart.old hart.new (S.memory store.old) (S.memory store.new) (event_of_attempt result access.new) (is_reserving result) }
 {
     match (word >> 12) % 8 {
-        0 => set_by(store, hart, Op::Mul, access, word),
-        1 => set_by(store, hart, Op::Mulh, access, word),
-        2 => set_by(store, hart, Op::Mulhsu, access, word),
-        3 => set_by(store, hart, Op::Mulhu, access, word),
-        4 => set_by(store, hart, Op::Div, access, word),
-        5 => set_by(store, hart, Op::Divu, access, word),
-        6 => set_by(store, hart, Op::Rem, access, word),
-        _ => set_by(store, hart, Op::Remu, access, word),
+        0 => set_by(store, hart, Op::Mul, access, word, stops),
+        1 => set_by(store, hart, Op::Mulh, access, word, stops),
+        2 => set_by(store, hart, Op::Mulhsu, access, word, stops),
+        3 => set_by(store, hart, Op::Mulhu, access, word, stops),
+        4 => set_by(store, hart, Op::Div, access, word, stops),
+        5 => set_by(store, hart, Op::Divu, access, word, stops),
+        6 => set_by(store, hart, Op::Rem, access, word, stops),
+        _ => set_by(store, hart, Op::Remu, access, word, stops),
     }
 }
 
 /// Takes the step of a word of this operation, a plain load, apart from the jump.
 #[inline(never)]
-fn load_apart<O: Operation, S: ByteStore>(
+fn load_apart<O: Operation, S: ByteStore, P: Stops>(
     store: &mut S,
     hart: &mut Hart,
     access: &mut Access,
     word: u32,
+    stops: &P,
 ) -> bool
     requires fetches { Fetches (S.memory store.old) word hart.old }
-    ensures { Tried hart.old hart.new (S.memory store.old) (S.memory store.new) (event_of_attempt (attempt_of_access result) access.new) (is_reserving (attempt_of_access result)) }
+    ensures { Tried (P.passes stops.now) hart.old hart.new (S.memory store.old) (S.memory store.new) (event_of_attempt (attempt_of_access result) access.new) (is_reserving (attempt_of_access result)) }
 {
     match begun(store, hart, O::op(), word) {
-        Some(action) => loaded(store, hart, action, access),
+        Some(action) => loaded(store, hart, action, access, stops),
         None => false,
     }
 }
 
 /// Takes the step of a word of this operation, a plain store, apart from the jump.
 #[inline(never)]
-fn store_apart<O: Operation, S: ByteStore>(
+fn store_apart<O: Operation, S: ByteStore, P: Stops>(
     store: &mut S,
     hart: &mut Hart,
     access: &mut Access,
     word: u32,
+    stops: &P,
 ) -> bool
     requires fetches { Fetches (S.memory store.old) word hart.old }
-    ensures { Tried hart.old hart.new (S.memory store.old) (S.memory store.new) (event_of_attempt (attempt_of_access result) access.new) (is_reserving (attempt_of_access result)) }
+    ensures { Tried (P.passes stops.now) hart.old hart.new (S.memory store.old) (S.memory store.new) (event_of_attempt (attempt_of_access result) access.new) (is_reserving (attempt_of_access result)) }
 {
     match begun(store, hart, O::op(), word) {
-        Some(action) => stored(store, hart, action, access),
+        Some(action) => stored(store, hart, action, access, stops),
         None => false,
     }
 }
 
 /// Takes the step of a word of this operation, an AMO, apart from the jump.
 #[inline(never)]
-fn exchange_apart<O: Operation, S: ByteStore>(
+fn exchange_apart<O: Operation, S: ByteStore, P: Stops>(
     store: &mut S,
     hart: &mut Hart,
     access: &mut Access,
     word: u32,
+    stops: &P,
 ) -> bool
     requires fetches { Fetches (S.memory store.old) word hart.old }
-    ensures { Tried hart.old hart.new (S.memory store.old) (S.memory store.new) (event_of_attempt (attempt_of_access result) access.new) (is_reserving (attempt_of_access result)) }
+    ensures { Tried (P.passes stops.now) hart.old hart.new (S.memory store.old) (S.memory store.new) (event_of_attempt (attempt_of_access result) access.new) (is_reserving (attempt_of_access result)) }
 {
     match begun(store, hart, O::op(), word) {
-        Some(action) => replaced(store, hart, action, access),
+        Some(action) => replaced(store, hart, action, access, stops),
         None => false,
     }
 }
 
 /// Takes the step of a word that may be an LR's, apart from the jump.
 #[inline(never)]
-fn reserve_apart<S: ByteStore>(
+fn reserve_apart<S: ByteStore, P: Stops>(
     store: &mut S,
     hart: &mut Hart,
     access: &mut Access,
     word: u32,
+    stops: &P,
 ) -> Attempt
     requires fetches { Fetches (S.memory store.old) word hart.old }
-    ensures { Tried hart.old hart.new (S.memory store.old) (S.memory store.new) (event_of_attempt result access.new) (is_reserving result) }
+    ensures { Tried (P.passes stops.now) hart.old hart.new (S.memory store.old) (S.memory store.new) (event_of_attempt result access.new) (is_reserving result) }
 {
     match begun(store, hart, Op::LrW, word) {
-        Some(action) => reserved(store, hart, action, access),
+        Some(action) => reserved(store, hart, action, access, stops),
         None => Attempt::Nothing,
     }
 }
 
 /// Takes the step of a word that may be an SC's, apart from the jump.
 #[inline(never)]
-fn conditional_apart<S: ByteStore>(
+fn conditional_apart<S: ByteStore, P: Stops>(
     store: &mut S,
     hart: &mut Hart,
     access: &mut Access,
     word: u32,
+    stops: &P,
 ) -> Attempt
     requires fetches { Fetches (S.memory store.old) word hart.old }
-    ensures { Tried hart.old hart.new (S.memory store.old) (S.memory store.new) (event_of_attempt result access.new) (is_reserving result) }
+    ensures { Tried (P.passes stops.now) hart.old hart.new (S.memory store.old) (S.memory store.new) (event_of_attempt result access.new) (is_reserving result) }
 {
     match begun(store, hart, Op::ScW, word) {
-        Some(action) => stored_if_reserved(store, hart, action, access),
+        Some(action) => stored_if_reserved(store, hart, action, access, stops),
         None => Attempt::Nothing,
     }
 }
 
 /// Takes an action that sets a register.
 #[inline(always)]
-fn set<S: ByteStore>(
+fn set<S: ByteStore, P: Stops>(
     _store: &mut S,
     hart: &mut Hart,
     action: Action,
     _access: &mut Access,
+    _stops: &P,
 ) -> Attempt
     requires begins { Begins (S.memory _store.old) action hart.old }
-    ensures { Tried hart.old hart.new (S.memory _store.old) (S.memory _store.new) (event_of_attempt result _access.new) (is_reserving result) }
+    ensures { Tried (P.passes _stops.now) hart.old hart.new (S.memory _store.old) (S.memory _store.new) (event_of_attempt result _access.new) (is_reserving result) }
 {
     let Action::Set { .. } = action else {
         return Attempt::Nothing;
@@ -433,15 +469,21 @@ fn set<S: ByteStore>(
 
 /// Takes a plain load that is permitted.
 #[inline(always)]
-fn loaded<S: ByteStore>(store: &mut S, hart: &mut Hart, action: Action, access: &mut Access) -> bool
+fn loaded<S: ByteStore, P: Stops>(
+    store: &mut S,
+    hart: &mut Hart,
+    action: Action,
+    access: &mut Access,
+    stops: &P,
+) -> bool
     requires sized { HasSize action }
     requires begins { Begins (S.memory store.old) action hart.old }
-    ensures { Tried hart.old hart.new (S.memory store.old) (S.memory store.new) (event_of_attempt (attempt_of_access result) access.new) (is_reserving (attempt_of_access result)) }
+    ensures { Tried (P.passes stops.now) hart.old hart.new (S.memory store.old) (S.memory store.new) (event_of_attempt (attempt_of_access result) access.new) (is_reserving (attempt_of_access result)) }
 {
     let Action::Load { address, size, .. } = action else {
         return false;
     };
-    if !is_aligned(address, size) {
+    if !is_aligned(address, size) || !stops.lets_by(hart.pc) {
         return false;
     }
     let Some(loaded) = store.load_permitted(address, size, Need::Read) else {
@@ -454,10 +496,16 @@ fn loaded<S: ByteStore>(store: &mut S, hart: &mut Hart, action: Action, access: 
 
 /// Takes a plain store that is permitted.
 #[inline(always)]
-fn stored<S: ByteStore>(store: &mut S, hart: &mut Hart, action: Action, access: &mut Access) -> bool
+fn stored<S: ByteStore, P: Stops>(
+    store: &mut S,
+    hart: &mut Hart,
+    action: Action,
+    access: &mut Access,
+    stops: &P,
+) -> bool
     requires sized { HasSize action }
     requires begins { Begins (S.memory store.old) action hart.old }
-    ensures { Tried hart.old hart.new (S.memory store.old) (S.memory store.new) (event_of_attempt (attempt_of_access result) access.new) (is_reserving (attempt_of_access result)) }
+    ensures { Tried (P.passes stops.now) hart.old hart.new (S.memory store.old) (S.memory store.new) (event_of_attempt (attempt_of_access result) access.new) (is_reserving (attempt_of_access result)) }
 {
     memory_is_sound();
     let Action::Store {
@@ -468,7 +516,10 @@ fn stored<S: ByteStore>(store: &mut S, hart: &mut Hart, action: Action, access: 
     else {
         return false;
     };
-    if !is_aligned(address, size) || !store.store_permitted(address, size, value, Need::Write) {
+    if !is_aligned(address, size) || !stops.lets_by(hart.pc) {
+        return false;
+    }
+    if !store.store_permitted(address, size, value, Need::Write) {
         return false;
     }
     note(access, hart, address, size, AccessKind::Store);
@@ -478,14 +529,15 @@ fn stored<S: ByteStore>(store: &mut S, hart: &mut Hart, action: Action, access: 
 
 /// Takes an AMO that is permitted.
 #[inline(always)]
-fn replaced<S: ByteStore>(
+fn replaced<S: ByteStore, P: Stops>(
     store: &mut S,
     hart: &mut Hart,
     action: Action,
     access: &mut Access,
+    stops: &P,
 ) -> bool
     requires begins { Begins (S.memory store.old) action hart.old }
-    ensures { Tried hart.old hart.new (S.memory store.old) (S.memory store.new) (event_of_attempt (attempt_of_access result) access.new) (is_reserving (attempt_of_access result)) }
+    ensures { Tried (P.passes stops.now) hart.old hart.new (S.memory store.old) (S.memory store.new) (event_of_attempt (attempt_of_access result) access.new) (is_reserving (attempt_of_access result)) }
 {
     memory_is_sound();
     let Action::Replace {
@@ -497,7 +549,7 @@ fn replaced<S: ByteStore>(
     else {
         return false;
     };
-    if !is_aligned(address, 4) {
+    if !is_aligned(address, 4) || !stops.lets_by(hart.pc) {
         return false;
     }
     let Some(loaded) = store.load_permitted(address, 4, Need::ReadWrite) else {
@@ -514,19 +566,20 @@ fn replaced<S: ByteStore>(
 
 /// Takes an LR that is permitted.
 #[inline(always)]
-fn reserved<S: ByteStore>(
+fn reserved<S: ByteStore, P: Stops>(
     store: &mut S,
     hart: &mut Hart,
     action: Action,
     access: &mut Access,
+    stops: &P,
 ) -> Attempt
     requires begins { Begins (S.memory store.old) action hart.old }
-    ensures { Tried hart.old hart.new (S.memory store.old) (S.memory store.new) (event_of_attempt result access.new) (is_reserving result) }
+    ensures { Tried (P.passes stops.now) hart.old hart.new (S.memory store.old) (S.memory store.new) (event_of_attempt result access.new) (is_reserving result) }
 {
     let Action::Reserve { address, .. } = action else {
         return Attempt::Nothing;
     };
-    if !is_aligned(address, 4) {
+    if !is_aligned(address, 4) || !stops.lets_by(hart.pc) {
         return Attempt::Nothing;
     }
     let Some(loaded) = store.load_permitted(address, 4, Need::Read) else {
@@ -539,14 +592,15 @@ fn reserved<S: ByteStore>(
 
 /// Takes an SC that is permitted: it writes where the hart holds the word's reservation, and else it fails.
 #[inline(always)]
-fn stored_if_reserved<S: ByteStore>(
+fn stored_if_reserved<S: ByteStore, P: Stops>(
     store: &mut S,
     hart: &mut Hart,
     action: Action,
     access: &mut Access,
+    stops: &P,
 ) -> Attempt
     requires begins { Begins (S.memory store.old) action hart.old }
-    ensures { Tried hart.old hart.new (S.memory store.old) (S.memory store.new) (event_of_attempt result access.new) (is_reserving result) }
+    ensures { Tried (P.passes stops.now) hart.old hart.new (S.memory store.old) (S.memory store.new) (event_of_attempt result access.new) (is_reserving result) }
 {
     memory_is_sound();
     let Action::Conditional { address, value, .. } = action else {
@@ -562,7 +616,7 @@ fn stored_if_reserved<S: ByteStore>(
         advance(hart, 0, action);
         return Attempt::Silent;
     }
-    if !store.store_permitted(address, 4, value, Need::Write) {
+    if !stops.lets_by(hart.pc) || !store.store_permitted(address, 4, value, Need::Write) {
         return Attempt::Nothing;
     }
     note(access, hart, address, 4, AccessKind::Store);

@@ -1,4 +1,5 @@
-use Rattle.std.specs.Prelude.{◌≡◌, ℕ, Bool, true, false, IsTrue, Option, Some, None, List, [], length, slice_get}
+use Rattle.std.specs.Prelude.{◌≡◌, ℕ, Bool, true, false, IsTrue, Option, Some, None, List, [], length, slice_get, IfSome}
+use Rattle.rv_hart.specs.NextAccess.{accessed}
 use Rattle.rv_hart.specs.Refusals.{is_print, is_running_hart, prints}
 use Rattle.rv_hart.specs.State.{State, is_running}
 use Rattle.rv_hart.specs.Step.{event_of, fetched, hart_after, loaded_by, memory_after, printed, seen_by, step_of, written_by}
@@ -38,7 +39,7 @@ write_of (event.Stopped cause) = None
 
 -- A hart's own part of a step, `old` before it and `new` after it. It prints nothing, and what others see of
 -- it stands in its event. Only one that reserves (an LR) may leave a reservation where there was none.
-pub record Moves (old new : Hart) (before after : Memory) (event : Event) (reserving : Bool) : Type 0 where
+pub record Moves (passes : ℕ → Type 0) (old new : Hart) (before after : Memory) (event : Event) (reserving : Bool) : Type 0 where
   pub action : Action
   pub runs : RunsTo before old action
   pub hart_is : new ≡ hart_after (loaded_by before action) old action
@@ -47,28 +48,30 @@ pub record Moves (old new : Hart) (before after : Memory) (event : Event) (reser
   pub none : printed action ≡ []
   pub quiet : is_print action ≡ false
   pub held : reserving ≡ false → holds old ≡ false → holds new ≡ false
+  pub passed : IfSome (accessed event) (λ access. passes access.pc)
   pub reads : reserving ≡ true → write_of event ≡ None
   pub seen : (other : Hart) → seen_by (written_by (loaded_by before action) old action) other ≡ seen_by (write_of event) other
   pub sound : IsSound before → IsSound after
 
 -- what trying a hart's own part comes to: that part, or nothing at all
-abbrev pub Tried : Hart → Hart → Memory → Memory → Option Event → Bool → Type 0
-Tried old new before after None reserving = (new ≡ old) × (after ≡ before)
-Tried old new before after (Some event) reserving = Moves old new before after event reserving
+abbrev pub Tried : (ℕ → Type 0) → Hart → Hart → Memory → Memory → Option Event → Bool → Type 0
+Tried passes old new before after None reserving = (new ≡ old) × (after ≡ before)
+Tried passes old new before after (Some event) reserving = Moves passes old new before after event reserving
 
 -- a step of hart h that prints nothing, whatever was printed before
-pub record IsQuick (old new : List Hart) (before after : Memory) (h : ℕ) (event : Event) (reserving : Bool) : Type 0 where
+pub record IsQuick (passes : ℕ → Type 0) (old new : List Hart) (before after : Memory) (h : ℕ) (event : Event) (reserving : Bool) : Type 0 where
   pub step : (output : List ℕ) → step_of (over old before output) h ≡ Some (event, over new after output)
   pub running : IsTrue (is_running_hart (slice_get old h))
+  pub passed : IfSome (accessed event) (λ access. passes access.pc)
   pub silent : prints before (slice_get old h) ≡ false
   pub count : length new ≡ length old
   pub sound : IsSound before → IsSound after
   pub held : reserving ≡ false → any_holds old ≡ false → any_holds new ≡ false
 
 -- what trying a step by the quick path comes to: the step, or nothing at all
-abbrev pub TriedAt : List Hart → List Hart → Memory → Memory → ℕ → Option Event → Bool → Type 0
-TriedAt old new before after h None reserving = (new ≡ old) × (after ≡ before)
-TriedAt old new before after h (Some event) reserving = IsQuick old new before after h event reserving
+abbrev pub TriedAt : (ℕ → Type 0) → List Hart → List Hart → Memory → Memory → ℕ → Option Event → Bool → Type 0
+TriedAt passes old new before after h None reserving = (new ≡ old) × (after ≡ before)
+TriedAt passes old new before after h (Some event) reserving = IsQuick passes old new before after h event reserving
 
 -- the event that an attempt comes to, with the access that was noted
 abbrev pub event_of_attempt : Attempt → Access → Option Event

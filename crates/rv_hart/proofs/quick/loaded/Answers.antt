@@ -6,5 +6,6 @@ use Rattle.rv_hart.proofs.quick.loaded.Goals as goal
 pub returns : goal.returns
 returns g c =
     let aligned : (c.in-Load.address % c.in-Load.size == 0) ≡ true = grind arith in
-    moves_load (g.S.ByteStore.memory c.args.store.now) c.args.hart.now c.advance.new.hart c.in-Load.rd c.in-Load.address c.in-Load.size c.in-Some.loaded c.in-Load.signed c.note.new.access
-    (rw c.in-Load.is at c.requires.begins) aligned (sym c.in-Some.ensures.value) c.note.ensures c.advance.ensures
+    let passes : c.lets_by.result ≡ true = grind arith in
+    moves_load (g.P.Stops.passes c.args.stops.now) (g.S.ByteStore.memory c.args.store.now) c.args.hart.now c.advance.new.hart c.in-Load.rd c.in-Load.address c.in-Load.size c.in-Some.loaded c.in-Load.signed c.note.new.access
+    (rw c.in-Load.is at c.requires.begins) aligned (sym c.in-Some.ensures.value) (c.lets_by.ensures passes) c.note.ensures c.advance.ensures

@@ -10,6 +10,7 @@ returns g c =
     let kept : c.store_permitted.result ≡ true = grind arith in
     let aligned : (c.in-Replace.address % 4 == 0) ≡ true = grind arith in
     let after = c.store_permitted.ensures.stored kept in
-    moves_replace before (g.S.ByteStore.memory c.store_permitted.new.self) c.args.hart.now c.advance.new.hart c.in-Replace.rd c.in-Replace.address c.in-Replace.value c.in-Some.loaded c.combined-stored.result c.in-Replace.combine c.note.new.access
-    (rw c.in-Replace.is at c.requires.begins) aligned (sym c.in-Some.ensures.value) c.combined-stored.ensures c.note.ensures c.advance.ensures after
+    let passes : c.lets_by.result ≡ true = grind arith in
+    moves_replace (g.P.Stops.passes c.args.stops.now) before (g.S.ByteStore.memory c.store_permitted.new.self) c.args.hart.now c.advance.new.hart c.in-Replace.rd c.in-Replace.address c.in-Replace.value c.in-Some.loaded c.combined-stored.result c.in-Replace.combine c.note.new.access
+    (rw c.in-Replace.is at c.requires.begins) aligned (sym c.in-Some.ensures.value) c.combined-stored.ensures (c.lets_by.ensures passes) c.note.ensures c.advance.ensures after
     (λ sound. subst IsSound (sym after) (c.memory_is_sound.ensures.stored before c.in-Replace.address 4 c.combined-stored.result sound))

@@ -3,5 +3,5 @@ use Rattle.rv_hart.proofs.quick.set.Goals as goal
 
 pub returns : goal.returns
 returns g c =
-    moves_set (g.S.ByteStore.memory c.args._store.now) c.args.hart.now c.advance.new.hart c.in-Set.rd c.in-Set.value c.in-Set.next
+    moves_set (g.P.Stops.passes c.args._stops.now) (g.S.ByteStore.memory c.args._store.now) c.args.hart.now c.advance.new.hart c.in-Set.rd c.in-Set.value c.in-Set.next
     (rw c.in-Set.is at c.requires.begins) (rw c.in-Set.is at c.advance.ensures)

@@ -10,6 +10,7 @@ returns g c =
     let stored : c.store_permitted.result ≡ true = grind arith in
     let aligned : (c.in-Store.address % c.in-Store.size == 0) ≡ true = grind arith in
     let after = c.store_permitted.ensures.stored stored in
-    moves_store before (g.S.ByteStore.memory c.store_permitted.new.self) c.args.hart.now c.advance.new.hart c.in-Store.address c.in-Store.size c.in-Store.value c.note.new.access
-    (rw c.in-Store.is at c.requires.begins) aligned (c.store_permitted.ensures.permitted stored) c.note.ensures c.advance.ensures after
+    let passes : c.lets_by.result ≡ true = grind arith in
+    moves_store (g.P.Stops.passes c.args.stops.now) before (g.S.ByteStore.memory c.store_permitted.new.self) c.args.hart.now c.advance.new.hart c.in-Store.address c.in-Store.size c.in-Store.value c.note.new.access
+    (rw c.in-Store.is at c.requires.begins) aligned (c.store_permitted.ensures.permitted stored) (c.lets_by.ensures passes) c.note.ensures c.advance.ensures after
     (λ sound. subst IsSound (sym after) (c.memory_is_sound.ensures.stored before c.in-Store.address c.in-Store.size c.in-Store.value sound))

@@ -11,6 +11,7 @@ returns g c =
     let aligned : (c.in-Conditional.address % 4 == 0) ≡ true = grind arith in
     let reserved : c.reserves.result ≡ true = grind arith in
     let after = c.store_permitted.ensures.stored stored in
-    moves_conditional before (g.S.ByteStore.memory c.store_permitted.new.self) c.args.hart.now c.advance-2.new.hart c.in-Conditional.rd c.in-Conditional.address c.in-Conditional.value c.note.new.access
-    (rw c.in-Conditional.is at c.requires.begins) aligned (c.store_permitted.ensures.permitted stored) (sym c.reserves.ensures ∙ reserved) c.note.ensures c.advance-2.ensures after
+    let passes : c.lets_by.result ≡ true = grind arith in
+    moves_conditional (g.P.Stops.passes c.args.stops.now) before (g.S.ByteStore.memory c.store_permitted.new.self) c.args.hart.now c.advance-2.new.hart c.in-Conditional.rd c.in-Conditional.address c.in-Conditional.value c.note.new.access
+    (rw c.in-Conditional.is at c.requires.begins) aligned (c.store_permitted.ensures.permitted stored) (sym c.reserves.ensures ∙ reserved) (c.lets_by.ensures passes) c.note.ensures c.advance-2.ensures after
     (λ sound. subst IsSound (sym after) (c.memory_is_sound.ensures.stored before c.in-Conditional.address 4 c.in-Conditional.value sound))

@@ -19,16 +19,16 @@ pub returns-in-Silent-clause-tried : goal.returns-in-Silent-clause-tried
 returns-in-Silent-clause-tried g c =
     let before = g.S.ByteStore.memory c.args.store.now in
     let after = g.S.ByteStore.memory c.moved_from-attempt.new.store in
-    let tried = subst (λ (x : Hart). Tried x c.moved_from-attempt.new.hart before after (event_of_attempt c.moved_from-attempt.result c.moved_from-attempt.new.access) (is_reserving c.moved_from-attempt.result)) c.index_mut.ensures.value c.moved_from-attempt.ensures in
-    tried_unseen c.args.harts.now.items before after c.args.h c.index_mut.result.now c.moved_from-attempt.new.hart c.moved_from-attempt.result Silent c.moved_from-attempt.new.access
+    let tried = subst (λ (x : Hart). Tried (g.P.Stops.passes c.args.stops.now) x c.moved_from-attempt.new.hart before after (event_of_attempt c.moved_from-attempt.result c.moved_from-attempt.new.access) (is_reserving c.moved_from-attempt.result)) c.index_mut.ensures.value c.moved_from-attempt.ensures in
+    tried_unseen (g.P.Stops.passes c.args.stops.now) c.args.harts.now.items before after c.args.h c.index_mut.result.now c.moved_from-attempt.new.hart c.moved_from-attempt.result Silent c.moved_from-attempt.new.access
     c.in-Silent.is (running_within c.args.harts.now.items c.args.h c.requires.running) tried tt
 
 pub returns-in-Silent-clause-held : goal.returns-in-Silent-clause-held
 returns-in-Silent-clause-held g c = λ free.
     let before = g.S.ByteStore.memory c.args.store.now in
     let after = g.S.ByteStore.memory c.moved_from-attempt.new.store in
-    let tried = subst (λ (x : Hart). Tried x c.moved_from-attempt.new.hart before after (event_of_attempt c.moved_from-attempt.result c.moved_from-attempt.new.access) (is_reserving c.moved_from-attempt.result)) c.index_mut.ensures.value c.moved_from-attempt.ensures in
-    (tried_unseen c.args.harts.now.items before after c.args.h c.index_mut.result.now c.moved_from-attempt.new.hart c.moved_from-attempt.result Silent c.moved_from-attempt.new.access
+    let tried = subst (λ (x : Hart). Tried (g.P.Stops.passes c.args.stops.now) x c.moved_from-attempt.new.hart before after (event_of_attempt c.moved_from-attempt.result c.moved_from-attempt.new.access) (is_reserving c.moved_from-attempt.result)) c.index_mut.ensures.value c.moved_from-attempt.ensures in
+    (tried_unseen (g.P.Stops.passes c.args.stops.now) c.args.harts.now.items before after c.args.h c.index_mut.result.now c.moved_from-attempt.new.hart c.moved_from-attempt.result Silent c.moved_from-attempt.new.access
     c.in-Silent.is (running_within c.args.harts.now.items c.args.h c.requires.running) tried tt).held refl (c.requires.held free)
 
 pub settle-requires : goal.settle-requires
@@ -38,9 +38,9 @@ pub returns-then-access : goal.returns-then-access
 returns-then-access g c =
     let before = g.S.ByteStore.memory c.args.store.now in
     let after = g.S.ByteStore.memory c.moved_from-attempt.new.store in
-    let tried = subst (λ (x : Hart). Tried x c.moved_from-attempt.new.hart before after (event_of_attempt c.moved_from-attempt.result c.moved_from-attempt.new.access) (is_reserving c.moved_from-attempt.result)) c.index_mut.ensures.value c.moved_from-attempt.ensures in
+    let tried = subst (λ (x : Hart). Tried (g.P.Stops.passes c.args.stops.now) x c.moved_from-attempt.new.hart before after (event_of_attempt c.moved_from-attempt.result c.moved_from-attempt.new.access) (is_reserving c.moved_from-attempt.result)) c.index_mut.ensures.value c.moved_from-attempt.ensures in
     record {
-      tried = tried_seen c.args.harts.now.items c.settle.new.harts.items before after c.args.h c.index_mut.result.now c.moved_from-attempt.new.hart c.moved_from-attempt.result c.moved_from-attempt.new.access
+      tried = tried_seen (g.P.Stops.passes c.args.stops.now) c.args.harts.now.items c.settle.new.harts.items before after c.args.h c.index_mut.result.now c.moved_from-attempt.new.hart c.moved_from-attempt.result c.moved_from-attempt.new.access
           c.in-Accessed.is (running_within c.args.harts.now.items c.args.h c.requires.running) tried c.settle.ensures.sees;
       held = c.settle.ensures.held;
       len = c.settle.ensures.len;
@@ -55,8 +55,8 @@ returns-else-reserved g c =
       | else-reserved-via-then-reserved+else-access w ↦ inr w.if-access.false
       | else-reserved-via-else-reserved w ↦ inl (c.requires.held w.if-reserved.false)
     ] in
-    let tried = subst (λ (x : Hart). Tried x c.moved_from-attempt.new.hart before after (event_of_attempt c.moved_from-attempt.result c.moved_from-attempt.new.access) (is_reserving c.moved_from-attempt.result)) c.index_mut.ensures.value c.moved_from-attempt.ensures in
-    let at = tried_unseen harts before after c.args.h c.index_mut.result.now c.moved_from-attempt.new.hart c.moved_from-attempt.result Accessed c.moved_from-attempt.new.access
+    let tried = subst (λ (x : Hart). Tried (g.P.Stops.passes c.args.stops.now) x c.moved_from-attempt.new.hart before after (event_of_attempt c.moved_from-attempt.result c.moved_from-attempt.new.access) (is_reserving c.moved_from-attempt.result)) c.index_mut.ensures.value c.moved_from-attempt.ensures in
+    let at = tried_unseen (g.P.Stops.passes c.args.stops.now) harts before after c.args.h c.index_mut.result.now c.moved_from-attempt.new.hart c.moved_from-attempt.result Accessed c.moved_from-attempt.new.access
     c.in-Accessed.is (running_within harts c.args.h c.requires.running) tried how in
     record {
       tried = at;
@@ -69,9 +69,9 @@ returns-in-Reserved g c =
     let before = g.S.ByteStore.memory c.args.store.now in
     let after = g.S.ByteStore.memory c.moved_from-attempt.new.store in
     let harts = c.args.harts.now.items in
-    let tried = subst (λ (x : Hart). Tried x c.moved_from-attempt.new.hart before after (event_of_attempt c.moved_from-attempt.result c.moved_from-attempt.new.access) (is_reserving c.moved_from-attempt.result)) c.index_mut.ensures.value c.moved_from-attempt.ensures in
+    let tried = subst (λ (x : Hart). Tried (g.P.Stops.passes c.args.stops.now) x c.moved_from-attempt.new.hart before after (event_of_attempt c.moved_from-attempt.result c.moved_from-attempt.new.access) (is_reserving c.moved_from-attempt.result)) c.index_mut.ensures.value c.moved_from-attempt.ensures in
     record {
-      tried = rw c.in-Reserved.is (tried_unseen harts before after c.args.h c.index_mut.result.now c.moved_from-attempt.new.hart c.moved_from-attempt.result Reserved c.moved_from-attempt.new.access
+      tried = rw c.in-Reserved.is (tried_unseen (g.P.Stops.passes c.args.stops.now) harts before after c.args.h c.index_mut.result.now c.moved_from-attempt.new.hart c.moved_from-attempt.result Reserved c.moved_from-attempt.new.access
           c.in-Reserved.is (running_within harts c.args.h c.requires.running) tried tt);
       held = λ free. cc;
       len = refl;
