@@ -8,6 +8,7 @@ use crate::armed::Armed;
 use crate::claim::{ARMED_LIMIT, MOST_SLOTS, Seen};
 use crate::slots::Slots;
 use rv_hart::access::Access;
+use rv_hart::stops::Stops;
 use rv_memory::store::NoMemory;
 use std::alloc::Global;
 use std::marker::Model;
@@ -37,6 +38,15 @@ impl Model for Breakpoints {
         (λ b. (b.armed, b.slots)) (λ p. record { armed = p.0; slots = p.1 }) (λ _. refl) };
 
     ghost view = { λ b. record { armed = b.armed; slots = b.slots } };
+}
+
+impl Stops for Breakpoints {
+    ghost passes = { λ b pc. set.contains b.armed pc ≡ false };
+
+    #[inline(always)]
+    fn lets_by(&self, pc: u32) -> bool {
+        !self.may_be_armed(pc)
+    }
 }
 
 impl Breakpoints {

@@ -1,21 +1,25 @@
 -- A turn that is accepted, and a step after which its hart runs on.
-use Rattle.std.proofs.Common.{◌≡◌, ℕ, ◌<◌, true, false, List, [], ◌∷◌, ◌++◌, length, Option, Some, None, Result, Ok, Err, refl, sym, ap, subst, ◌∙◌, arith}
-use Rattle.std.specs.Prelude.{nat_lt, is_ok, is_some, IfSome}
+use Rattle.std.proofs.Common.{◌≡◌, ℕ, ◌<◌, Bool, true, false, cond, List, [], ◌∷◌, ◌++◌, length, Option, Some, None, Result, Ok, Err, refl, sym, ap, subst, ◌∙◌, arith}
+use Rattle.std.specs.Prelude.{nat_lt, is_ok, is_some, option_and_then, slice_get, IfSome}
+use Rattle.std.specs.FinSet.{contains}
 use Rattle.std.proofs.lemmas.Bool.Decides.{nat_tests}
 use Rattle.rv_collide.specs.Answers.{IsEvent, IsWord, StepsOn}
 use Rattle.rv_collide.specs.Entries.{steps}
-use Rattle.rv_collide.specs.Forced.{Setting, Turn, forced}
-use Rattle.rv_collide.specs.Next.{runs_at}
+use Rattle.rv_collide.specs.Armed.{armed}
+use Rattle.rv_collide.specs.Forced.{Setting, Turn, forced, least_free, turn_entry}
+use Rattle.rv_collide.specs.Next.{plain, runs_at}
 use Rattle.rv_collide.specs.Pause.{opening_of}
 use Rattle.rv_collide.specs.Stored.{Stored, added, setting_of}
 use Rattle.rv_collide.specs.declared.entry.Entry.{Entry}
-use Rattle.rv_collide.specs.declared.entry.Entry.TheVariants.{Stepped}
+use Rattle.rv_collide.specs.declared.entry.Entry.TheVariants.{Paused, Stepped}
 use Rattle.rv_collide.specs.declared.refused.Refused.{Refused}
 use Rattle.rv_collide.specs.StateAt.{state_at}
 use Rattle.rv_hart.specs.Fetched.{IsWordOf}
 use Rattle.rv_hart.specs.State.{State}
 use Rattle.rv_hart.specs.Common.{event_of_common}
-use Rattle.rv_hart.specs.NextAccess.{accessed}
+use Rattle.rv_collide.specs.internal.GoesOn.{GoesOn}
+use Rattle.rv_hart.specs.NextAccess.{access_of_step, accessed, at_plain, next_access, next_plain}
+use Rattle.rv_hart.specs.Step.{step_of}
 use Rattle.rv_hart.specs.StepLaws.{MovesRunOn}
 use Rattle.rv_hart.specs.declared.access.Access.{Access}
 use Rattle.rv_hart.specs.declared.access.Common.{Common}
@@ -58,6 +62,33 @@ by_answer setting xs h (Ok e) is ok =
 
 pub may_turn : (setting : Setting) (xs : List Entry) (h : ℕ) → is_ok (forced setting xs (Turn h)) ≡ true → MayTurn setting xs h
 may_turn setting xs h ok = by_answer setting xs h (forced setting xs (Turn h)) refl ok
+
+-- ---- a step whose access no code breakpoint keeps back
+
+passes_by : (c : Stored) (h : ℕ) (o : Option Access) → IfSome o (λ access. contains (armed (setting_of c).start c.entries) access.pc ≡ false) → turn_entry (setting_of c) c.entries h o ≡ Stepped h
+passes_by c h None passed = refl
+passes_by c h (Some access) passed = ap (λ b. cond b (Paused h (least_free c.plan.slots c.entries)) (Stepped h)) passed
+
+if_some : (b : Bool) (o : Option Access) (kept : ℕ → Bool) → IfSome o (λ access. kept access.pc ≡ false) → IfSome (cond b o None) (λ access. kept access.pc ≡ false)
+if_some true o kept passed = passed
+if_some false o kept passed = tt
+
+-- then the hart's turn is a step
+pub plain_passes : (c : Stored) (s t : State) (h : ℕ) (event : Event) → state_at (setting_of c).start c.entries (length c.entries) ≡ Some s → step_of s h ≡ Some (event, t) → IfSome (accessed event) (λ access. contains (armed (setting_of c).start c.entries) access.pc ≡ false) → turn_entry (setting_of c) c.entries h (plain (setting_of c).start c.entries (length c.entries) h) ≡ Stepped h
+unfolding plain next_plain next_access
+plain_passes c s t h event at step passed =
+    let is_armed : ℕ → Bool = contains (armed (setting_of c).start c.entries) in
+    let made : accessed event ≡ access_of_step (step_of s h) = sym (ap access_of_step step) in
+    let next : IfSome (access_of_step (step_of s h)) (λ access. is_armed access.pc ≡ false) = subst (λ (o : Option Access). IfSome o (λ access. is_armed access.pc ≡ false)) made passed in
+    let plain_is = ap (λ (o : Option State). option_and_then (λ s. next_plain s h) o) at in
+    ap (λ (o : Option Access). turn_entry (setting_of c) c.entries h o) plain_is ∙ passes_by c h (next_plain s h) (if_some (at_plain s.memory (slice_get s.harts h)) (access_of_step (step_of s h)) is_armed next)
+
+-- the turn goes on: it did before the step was made where nothing is watched, and else by the access that was made
+pub goes_on : (watched : Bool) (c : Stored) (s t : State) (h : ℕ) (event : Event) → is_ok (forced (setting_of c) c.entries (Turn h)) ≡ true → (watched ≡ false → GoesOn c h) → state_at (setting_of c).start c.entries (length c.entries) ≡ Some s → step_of s h ≡ Some (event, t) → (watched ≡ true → IfSome (accessed event) (λ access. contains (armed (setting_of c).start c.entries) access.pc ≡ false)) → GoesOn c h
+goes_on false c s t h event ok goes at step passed = goes refl
+goes_on true c s t h event ok goes at step passed =
+    let may = may_turn (setting_of c) c.entries h ok in
+    record { free = may.free; left = may.left; passes = plain_passes c s t h event at step (passed refl) }
 
 -- ---- a common step
 

@@ -1,16 +1,19 @@
 //! Speed: the turn that is nearly each turn, a common step of a hart that may take a turn. `turn` is its twin: where
 //! this makes a step `turn` would make the same, and where it makes none nothing has changed.
-ghost use Rattle.std.specs.Prelude.{◌≡◌, ◌<◌, [], IfSome, false, is_ok, length, option_and_then, option_map, true};
+ghost use Rattle.std.specs.Prelude.{◌≡◌, ◌<◌, [], IfSome, Some, false, is_ok, length, option_and_then, option_map, slice_get, true};
+ghost use Rattle.std.specs.FinSet as set;
 ghost use Rattle.rv_break.specs.Slots as slots;
 ghost use Rattle.rv_collide.specs.Answers as answer;
 ghost use Rattle.rv_collide.specs.Forced.{Turn, forced};
-ghost use Rattle.rv_collide.specs.Next.{runs_at};
 ghost use Rattle.rv_collide.specs.Pause.{openings};
 ghost use Rattle.rv_collide.specs.Stored.{setting_of};
 ghost use Rattle.rv_collide.specs.internal.Core.{slots_seen};
 ghost use Rattle.rv_collide.specs.internal.GoesOn.{GoesOn};
 ghost use Rattle.rv_hart.specs.Common.{event_of_common};
+ghost use Rattle.rv_hart.specs.Fetched.{IsWordOf};
 ghost use Rattle.rv_hart.specs.NextAccess.{accessed};
+ghost use Rattle.rv_hart.specs.Refusals.{is_running_hart};
+ghost use Rattle.rv_hart.specs.Step.{step_of};
 
 use super::Collider;
 use crate::entry::Entry;
@@ -18,6 +21,8 @@ use rv_break::breakpoints::Breakpoints;
 use rv_break::claim::Seen;
 use rv_hart::access::{Access, Common};
 use rv_hart::laws::{reservations_and_accesses, what_no_step_does};
+use rv_hart::machine::Machine;
+use rv_hart::stops::NoStops;
 use rv_memory::store::ByteStore;
 
 impl<S: ByteStore> Collider<S> {
@@ -31,8 +36,8 @@ impl<S: ByteStore> Collider<S> {
         self.machine.fetched(h)
     }
 
-    /// A step of a hart that may take a turn and whose word was fetched, where the step is a common one and the hart stands at no armed address,
-    /// as far as one look tells. The hart runs on. Else nothing has changed.
+    /// A step of a hart that may take a turn and whose word was fetched, where the step is a common one and makes no access at
+    /// an armed address, as far as one look tells. The hart runs on. Else nothing has changed.
     #[inline(always)]
     pub fn turn_quick(&mut self, h: u8, word: u32) -> bool
         requires accepted { is_ok (forced (setting_of self.old) self.old.entries (Turn h)) ≡ true }
@@ -40,32 +45,34 @@ impl<S: ByteStore> Collider<S> {
         ensures steps { result ≡ true → answer.StepsOn self.old self.new h }
         ensures same { result ≡ false → self.new ≡ self.old }
     {
-        what_no_step_does();
         // Two places, each with a step compiled into it: one that is shown to no claim stays in registers.
         if self.is_unhindered() {
             return self.step_on::<1>(h, word, false);
         }
-        if self.may_stand_armed(h) {
-            return false;
-        }
-        let is_watched = !self.is_unwatched();
-        self.step_on::<2>(h, word, is_watched)
+        self.step_on::<2>(h, word, true)
     }
 
-    /// Lets a hart that runs make a common step. The claims are shown its access where there may be claims. `PLACE` is that
-    /// of `Machine::step_quick`.
+    /// Lets a hart that may take a turn make a common step. Where addresses may be armed or pauses open, its access is kept
+    /// back at an armed address, and shown to the claims. `PLACE` is that of `Machine::step_quick`.
     #[inline(always)]
     fn step_on<const PLACE: u8>(&mut self, h: u8, word: u32, is_watched: bool) -> bool
-        requires goes_on { GoesOn self.old h }
+        requires accepted { is_ok (forced (setting_of self.old) self.old.entries (Turn h)) ≡ true }
+        requires goes_on { is_watched ≡ false → GoesOn self.old h }
         requires unwatched { is_watched ≡ false → openings self.old.entries ≡ [] }
-        requires running { runs_at (setting_of self.old).start self.old.entries (length self.old.entries) h ≡ true }
         requires word { answer.IsWord self.old h word }
         ensures steps { result ≡ true → answer.StepsOn self.old self.new h }
         ensures same { result ≡ false → self.new ≡ self.old }
     {
         reservations_and_accesses();
         what_no_step_does();
-        let common = self.machine.step_quick::<PLACE>(h, word, &mut self.noted);
+        let common = common_step::<PLACE, S>(
+            &mut self.machine,
+            &self.breaks,
+            is_watched,
+            h,
+            word,
+            &mut self.noted,
+        );
         if let Common::Untaken = common {
             return false;
         }
@@ -77,7 +84,35 @@ impl<S: ByteStore> Collider<S> {
     }
 }
 
-/// Shows the claims the access that a common step noted, where there may be claims. The access stays in its place: a step
+/// A common step of a hart that runs and whose word was fetched. Where it is watched it makes no access at an address that
+/// may be armed.
+#[inline(always)]
+fn common_step<const PLACE: u8, S: ByteStore>(
+    machine: &mut Machine<S>,
+    breaks: &Breakpoints,
+    is_watched: bool,
+    h: u8,
+    word: u32,
+    noted: &mut Access,
+) -> Common
+    requires running { is_running_hart (slice_get machine.old.state.harts h) ≡ true }
+    requires word { IsWordOf machine.old.state h word }
+    ensures step { IfSome (event_of_common result noted.new) (λ event.
+        step_of machine.old.state h ≡ Some (event, machine.new.state)) }
+    ensures passed { is_watched ≡ true → IfSome (event_of_common result noted.new) (λ event.
+        IfSome (accessed event) (λ access. set.contains breaks.now.armed access.pc ≡ false)) }
+    ensures harts { length machine.new.state.harts ≡ length machine.old.state.harts }
+    ensures limit { machine.new.limit ≡ machine.old.limit }
+    ensures same { (result ≡ Common.Untaken) → machine.new ≡ machine.old }
+{
+    if is_watched {
+        machine.step_quick::<PLACE, Breakpoints>(h, word, noted, breaks)
+    } else {
+        machine.step_quick::<PLACE, NoStops>(h, word, noted, &NoStops)
+    }
+}
+
+/// Shows the claims the access that a common step noted, where it is watched. The access stays in its place: a step
 /// that made none copies none.
 #[inline(always)]
 fn show_noted(

@@ -1,5 +1,9 @@
-use Rattle.std.proofs.Common.{◌≡◌, ◌+◌, ◌*◌, ◌≤◌, ℕ, List, [], true, length, sym, ap, subst, ◌∙◌, arith}
-use Rattle.std.specs.Prelude.{IfSome, Option, Some, option_and_then, option_map}
+use Rattle.std.proofs.Common.{◌≡◌, ◌+◌, ◌*◌, ◌≤◌, ℕ, List, [], true, false, length, sym, ap, subst, ◌∙◌, arith}
+use Rattle.std.specs.FinSet.{FinSet, contains}
+use Rattle.std.specs.Ordering.{nat_cmp}
+use Rattle.std.specs.Prelude.{IfSome, Option, Some, is_ok, option_and_then, option_map}
+use Rattle.rv_collide.specs.Armed.{armed}
+use Rattle.rv_collide.specs.Forced.{Turn, forced}
 use Rattle.std.specs.Vec.{vec_capacity}
 use Rattle.rv_hart.specs.Fetched.{IsWordOf}
 use Rattle.rv_hart.specs.NextAccess.{accessed}
@@ -18,17 +22,18 @@ use Rattle.rv_collide.specs.Pause.{openings}
 use Rattle.rv_collide.specs.internal.GoesOn.{GoesOn}
 use Rattle.rv_collide.proofs.GoesOn.{step_forced}
 use Rattle.rv_collide.proofs.Until.{until_kept}
-use Rattle.rv_collide.proofs.QuickTurns.{made, same_state, steps_on}
+use Rattle.rv_collide.proofs.QuickTurns.{goes_on, made, may_turn, same_state, steps_on}
 use Rattle.rv_collide.proofs.Growth.{core_step, turn_parts}
 use Rattle.rv_collide.proofs.LawLemmas.{runs_in}
 use Rattle.rv_collide.proofs.Rooms.{room_to_step}
 use Rattle.rv_collide.proofs.Unwatched.{unwatched}
 use Rattle.rv_collide.proofs.collider.Collider.step_on.Goals as goal
 
-pub step_quick-common-requires : goal.step_quick-common-requires
-step_quick-common-requires g c =
+pub common_step-common-requires : goal.common_step-common-requires
+common_step-common-requires g c =
     let s = setting_of (stored c.self.inside.image.value (numbers c.self.inside.plan) c.self.inside.entries.items) in
-    let runs = subst (λ (v : Stored). runs_at (setting_of v).start v.entries (length v.entries) c.args.h ≡ true) (sym c.self.view_is) c.requires.running in
+    let accepted = subst (λ (v : Stored). is_ok (forced (setting_of v) v.entries (Turn c.args.h)) ≡ true) (sym c.self.view_is) c.requires.accepted in
+    let runs = (may_turn s c.self.inside.entries.items c.args.h accepted).runs in
     let is = subst (λ (v : Stored). IsWord v c.args.h c.args.word) (sym c.self.view_is) c.requires.word in
     record {
       running = runs_in s.start c.self.inside.machine.state c.self.inside.entries.items (length c.self.inside.entries.items) c.args.h c.self.invariant.0.now runs;
@@ -44,11 +49,17 @@ show_noted-requires g c =
 pub push_reserved-requires : goal.push_reserved-requires
 push_reserved-requires g c =
     let s = setting_of (stored c.self.inside.image.value (numbers c.self.inside.plan) c.self.inside.entries.items) in
-    let event = made c.step_quick-common.result c.step_quick-common.new.noted c.in_default.not-Untaken in
-    let step : step_of c.self.inside.machine.state c.args.h ≡ Some (event.event, c.step_quick-common.new.self.state) =
-    subst (λ (o : Option Event). IfSome o (λ e. step_of c.self.inside.machine.state c.args.h ≡ Some (e, c.step_quick-common.new.self.state))) event.event_is c.step_quick-common.ensures.step in
-    let goes = subst (λ (v : Stored). GoesOn v c.args.h) (sym c.self.view_is) c.requires.goes_on in
-    let ok = step_forced (stored c.self.inside.image.value (numbers c.self.inside.plan) c.self.inside.entries.items) c.self.inside.machine.state c.args.h (event.event, c.step_quick-common.new.self.state) c.self.invariant.0.now c.self.invariant.0.harts goes step in
+    let event = made c.common_step-common.result c.common_step-common.new.noted c.in_default.not-Untaken in
+    let step : step_of c.self.inside.machine.state c.args.h ≡ Some (event.event, c.common_step-common.new.machine.state) =
+    subst (λ (o : Option Event). IfSome o (λ e. step_of c.self.inside.machine.state c.args.h ≡ Some (e, c.common_step-common.new.machine.state))) event.event_is c.common_step-common.ensures.step in
+    let armed_are = c.self.invariant.0.armed_are in
+    let passed : c.args.is_watched ≡ true → IfSome (accessed event.event) (λ access. contains (armed s.start c.self.inside.entries.items) access.pc ≡ false) = λ watched.
+    subst (λ (a : FinSet nat_cmp). IfSome (accessed event.event) (λ access. contains a access.pc ≡ false)) armed_are
+    (subst (λ (o : Option Event). IfSome o (λ e. IfSome (accessed e) (λ access. contains c.self.inside.breaks.armed access.pc ≡ false))) event.event_is (c.common_step-common.ensures.passed watched)) in
+    let goes = goes_on c.args.is_watched (stored c.self.inside.image.value (numbers c.self.inside.plan) c.self.inside.entries.items) c.self.inside.machine.state c.common_step-common.new.machine.state c.args.h event.event
+    (subst (λ (v : Stored). is_ok (forced (setting_of v) v.entries (Turn c.args.h)) ≡ true) (sym c.self.view_is) c.requires.accepted)
+    (λ unwatched. subst (λ (v : Stored). GoesOn v c.args.h) (sym c.self.view_is) (c.requires.goes_on unwatched)) c.self.invariant.0.now step passed in
+    let ok = step_forced (stored c.self.inside.image.value (numbers c.self.inside.plan) c.self.inside.entries.items) c.self.inside.machine.state c.args.h (event.event, c.common_step-common.new.machine.state) c.self.invariant.0.now c.self.invariant.0.harts goes step in
     let parts = turn_parts s c.self.inside.entries.items c.args.h (Stepped c.args.h) ok in
     let lt = room_to_step s c.self.inside.entries.items (length c.self.inside.endings.items) (vec_capacity c.self.inside.entries) c.self.invariant.0.room c.self.invariant.1.for_entries parts.left in
     omega (arith, c.self.inside.entries.ok.0)
@@ -56,15 +67,21 @@ push_reserved-requires g c =
 pub invariant_of-self-2 : goal.invariant_of-self-2
 invariant_of-self-2 g c =
     let s = setting_of (stored c.self.inside.image.value (numbers c.self.inside.plan) c.self.inside.entries.items) in
-    let event = made c.step_quick-common.result c.step_quick-common.new.noted c.in_default.not-Untaken in
-    let step : step_of c.self.inside.machine.state c.args.h ≡ Some (event.event, c.step_quick-common.new.self.state) =
-    subst (λ (o : Option Event). IfSome o (λ e. step_of c.self.inside.machine.state c.args.h ≡ Some (e, c.step_quick-common.new.self.state))) event.event_is c.step_quick-common.ensures.step in
-    let goes = subst (λ (v : Stored). GoesOn v c.args.h) (sym c.self.view_is) c.requires.goes_on in
-    let ok = step_forced (stored c.self.inside.image.value (numbers c.self.inside.plan) c.self.inside.entries.items) c.self.inside.machine.state c.args.h (event.event, c.step_quick-common.new.self.state) c.self.invariant.0.now c.self.invariant.0.harts goes step in
+    let event = made c.common_step-common.result c.common_step-common.new.noted c.in_default.not-Untaken in
+    let step : step_of c.self.inside.machine.state c.args.h ≡ Some (event.event, c.common_step-common.new.machine.state) =
+    subst (λ (o : Option Event). IfSome o (λ e. step_of c.self.inside.machine.state c.args.h ≡ Some (e, c.common_step-common.new.machine.state))) event.event_is c.common_step-common.ensures.step in
+    let armed_are = c.self.invariant.0.armed_are in
+    let passed : c.args.is_watched ≡ true → IfSome (accessed event.event) (λ access. contains (armed s.start c.self.inside.entries.items) access.pc ≡ false) = λ watched.
+    subst (λ (a : FinSet nat_cmp). IfSome (accessed event.event) (λ access. contains a access.pc ≡ false)) armed_are
+    (subst (λ (o : Option Event). IfSome o (λ e. IfSome (accessed e) (λ access. contains c.self.inside.breaks.armed access.pc ≡ false))) event.event_is (c.common_step-common.ensures.passed watched)) in
+    let goes = goes_on c.args.is_watched (stored c.self.inside.image.value (numbers c.self.inside.plan) c.self.inside.entries.items) c.self.inside.machine.state c.common_step-common.new.machine.state c.args.h event.event
+    (subst (λ (v : Stored). is_ok (forced (setting_of v) v.entries (Turn c.args.h)) ≡ true) (sym c.self.view_is) c.requires.accepted)
+    (λ unwatched. subst (λ (v : Stored). GoesOn v c.args.h) (sym c.self.view_is) (c.requires.goes_on unwatched)) c.self.invariant.0.now step passed in
+    let ok = step_forced (stored c.self.inside.image.value (numbers c.self.inside.plan) c.self.inside.entries.items) c.self.inside.machine.state c.args.h (event.event, c.common_step-common.new.machine.state) c.self.invariant.0.now c.self.invariant.0.harts goes step in
     let size = c.len-place.ensures ∙ c.self.inside.entries.ok.0 in
     let seen = λ (place : ℕ) (o : Option Event). slots_seen (option_map (λ access. record { place = place; hart = c.args.h; access = access }) (option_and_then accessed o)) c.self.inside.breaks.slots in (
-      subst (λ (ys : List Entry). IsCore s ys c.step_quick-common.new.self c.show_noted.new.breaks c.self.inside.openings.items c.self.inside.endings.items (c.self.inside.steps + 1) c.self.inside.arms) (sym c.push_reserved.ensures.items)
-          (core_step c.reservations_and_accesses.ensures.next c.what_no_step_does.ensures.output s c.self.inside.entries.items c.self.inside.machine c.step_quick-common.new.self c.self.inside.breaks c.show_noted.new.breaks c.self.inside.openings.items c.self.inside.endings.items c.self.inside.steps c.self.inside.arms c.args.h event.event c.self.invariant.0 ok step c.step_quick-common.ensures.harts c.step_quick-common.ensures.limit
+      subst (λ (ys : List Entry). IsCore s ys c.common_step-common.new.machine c.show_noted.new.breaks c.self.inside.openings.items c.self.inside.endings.items (c.self.inside.steps + 1) c.self.inside.arms) (sym c.push_reserved.ensures.items)
+          (core_step c.reservations_and_accesses.ensures.next c.what_no_step_does.ensures.output s c.self.inside.entries.items c.self.inside.machine c.common_step-common.new.machine c.self.inside.breaks c.show_noted.new.breaks c.self.inside.openings.items c.self.inside.endings.items c.self.inside.steps c.self.inside.arms c.args.h event.event c.self.invariant.0 ok step c.common_step-common.ensures.harts c.common_step-common.ensures.limit
           (ap (λ (b : Breaks). b.armed) c.show_noted.ensures)
           (ap (λ (b : Breaks). b.slots) c.show_noted.ensures ∙ ap (seen c.len-place.result) event.event_is ∙ ap (λ n. seen n (Some event.event)) size)),
       record {
@@ -77,13 +94,20 @@ invariant_of-self-2 g c =
 
 pub returns-clause-steps : goal.returns-clause-steps
 returns-clause-steps g c = λ _.
+    let s = setting_of (stored c.self.inside.image.value (numbers c.self.inside.plan) c.self.inside.entries.items) in
     let was = stored c.self.inside.image.value (numbers c.self.inside.plan) c.self.inside.entries.items in
-    let event = made c.step_quick-common.result c.step_quick-common.new.noted c.in_default.not-Untaken in
-    let step : step_of c.self.inside.machine.state c.args.h ≡ Some (event.event, c.step_quick-common.new.self.state) =
-    subst (λ (o : Option Event). IfSome o (λ e. step_of c.self.inside.machine.state c.args.h ≡ Some (e, c.step_quick-common.new.self.state))) event.event_is c.step_quick-common.ensures.step in
-    let goes = subst (λ (v : Stored). GoesOn v c.args.h) (sym c.self.view_is) c.requires.goes_on in
-    let ok = step_forced (stored c.self.inside.image.value (numbers c.self.inside.plan) c.self.inside.entries.items) c.self.inside.machine.state c.args.h (event.event, c.step_quick-common.new.self.state) c.self.invariant.0.now c.self.invariant.0.harts goes step in
-    let is : IsEvent was c.args.h event.event = record { state = c.self.inside.machine.state; after = c.step_quick-common.new.self.state; reached = c.self.invariant.0.now; step = step } in
+    let event = made c.common_step-common.result c.common_step-common.new.noted c.in_default.not-Untaken in
+    let step : step_of c.self.inside.machine.state c.args.h ≡ Some (event.event, c.common_step-common.new.machine.state) =
+    subst (λ (o : Option Event). IfSome o (λ e. step_of c.self.inside.machine.state c.args.h ≡ Some (e, c.common_step-common.new.machine.state))) event.event_is c.common_step-common.ensures.step in
+    let armed_are = c.self.invariant.0.armed_are in
+    let passed : c.args.is_watched ≡ true → IfSome (accessed event.event) (λ access. contains (armed s.start c.self.inside.entries.items) access.pc ≡ false) = λ watched.
+    subst (λ (a : FinSet nat_cmp). IfSome (accessed event.event) (λ access. contains a access.pc ≡ false)) armed_are
+    (subst (λ (o : Option Event). IfSome o (λ e. IfSome (accessed e) (λ access. contains c.self.inside.breaks.armed access.pc ≡ false))) event.event_is (c.common_step-common.ensures.passed watched)) in
+    let goes = goes_on c.args.is_watched (stored c.self.inside.image.value (numbers c.self.inside.plan) c.self.inside.entries.items) c.self.inside.machine.state c.common_step-common.new.machine.state c.args.h event.event
+    (subst (λ (v : Stored). is_ok (forced (setting_of v) v.entries (Turn c.args.h)) ≡ true) (sym c.self.view_is) c.requires.accepted)
+    (λ unwatched. subst (λ (v : Stored). GoesOn v c.args.h) (sym c.self.view_is) (c.requires.goes_on unwatched)) c.self.invariant.0.now step passed in
+    let ok = step_forced (stored c.self.inside.image.value (numbers c.self.inside.plan) c.self.inside.entries.items) c.self.inside.machine.state c.args.h (event.event, c.common_step-common.new.machine.state) c.self.invariant.0.now c.self.invariant.0.harts goes step in
+    let is : IsEvent was c.args.h event.event = record { state = c.self.inside.machine.state; after = c.common_step-common.new.machine.state; reached = c.self.invariant.0.now; step = step } in
     let more = ap (λ ys. stored c.self.inside.image.value (numbers c.self.inside.plan) ys) c.push_reserved.ensures.items in
     subst (λ (v : Stored). StepsOn v (stored c.self.inside.image.value (numbers c.self.inside.plan) c.push_reserved.new.self.items) c.args.h) c.self.view_is
     (steps_on c.what_no_step_does.ensures.moves was _ c.args.h event.event ok is more event.moved)
