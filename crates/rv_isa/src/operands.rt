@@ -1,5 +1,5 @@
 //! The fields of a word beside its fixed bits, in each operand format.
-ghost use Rattle.std.specs.Prelude.{◌≡◌, ◌%◌, ◌^◌, IsTrue};
+ghost use Rattle.std.specs.Prelude.{◌≡◌, ◌/◌, ◌%◌, ◌^◌, IsTrue};
 ghost use Rattle.rv_isa.specs.Fields as fields;
 ghost use Rattle.rv_isa.specs.Operands as spec;
 
@@ -116,37 +116,58 @@ fn field_5(bits: u32) -> u8
 fn immediate_i(word: u32) -> i32
     ensures { result ≡ fields.immediate_i word }
 {
-    word.cast_signed().wrapping_shr(20)
+    upper_12(word)
 }
+
+// The sign of the others stands in bit 31 first, from where one shift spreads it.
 
 #[inline(always)]
 fn immediate_s(word: u32) -> i32
     ensures { result ≡ fields.immediate_s word }
 {
-    let bits = ((word >> 25) * 32 + (word >> 7) % 32) as i32;
-    if bits < 0x800 { bits } else { bits - 0x1000 }
+    let high = (word >> 25) * 0x0200_0000;
+    let low = (word >> 7) % 32 * 0x0010_0000;
+    upper_12(high + low)
 }
 
 #[inline(always)]
 fn immediate_b(word: u32) -> i32
     ensures { result ≡ fields.immediate_b word }
 {
-    let high = (word >> 31) * 4096 + (word >> 7) % 2 * 2048;
-    let low = (word >> 25) % 64 * 32 + (word >> 8) % 16 * 2;
-    let bits = (high + low) as i32;
-    if bits < 0x1000 { bits } else { bits - 0x2000 }
+    let high = (word >> 31) * 0x8000_0000 + (word >> 7) % 2 * 0x4000_0000;
+    let low = (word >> 25) % 64 * 0x0100_0000 + (word >> 8) % 16 * 0x0010_0000;
+    upper_13(high + low)
 }
 
 #[inline(always)]
 fn immediate_j(word: u32) -> i32
     ensures { result ≡ fields.immediate_j word }
 {
-    let high = (word >> 31) * 0x10_0000 + (word >> 12) % 256 * 4096;
-    let low = (word >> 20) % 2 * 2048 + (word >> 21) % 1024 * 2;
-    let bits = (high + low) as i32;
-    if bits < 0x10_0000 {
-        bits
-    } else {
-        bits - 0x20_0000
-    }
+    let high = (word >> 31) * 0x8000_0000 + (word >> 12) % 256 * 0x0080_0000;
+    let low = (word >> 20) % 2 * 0x0040_0000 + (word >> 21) % 1024 * 0x1000;
+    upper_21(high + low)
+}
+
+/// The number that the upper 12 bits stand for in two's complement.
+#[inline(always)]
+fn upper_12(bits: u32) -> i32
+    ensures { result ≡ fields.signed 12 (bits / 2 ^ 20) }
+{
+    bits.cast_signed().wrapping_shr(20)
+}
+
+/// The same of the upper 13.
+#[inline(always)]
+fn upper_13(bits: u32) -> i32
+    ensures { result ≡ fields.signed 13 (bits / 2 ^ 19) }
+{
+    bits.cast_signed().wrapping_shr(19)
+}
+
+/// The same of the upper 21.
+#[inline(always)]
+fn upper_21(bits: u32) -> i32
+    ensures { result ≡ fields.signed 21 (bits / 2 ^ 11) }
+{
+    bits.cast_signed().wrapping_shr(11)
 }
