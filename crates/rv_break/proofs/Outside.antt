@@ -9,7 +9,7 @@ use Rattle.rv_break.specs.declared.claim.Claim.{Claim}
 use Rattle.rv_break.specs.declared.claim.Seen.{Seen}
 use Rattle.rv_break.specs.declared.claim.TheConstants.{MOST_SLOTS}
 use Rattle.rv_break.specs.declared.span.Span.{Span}
-use Rattle.rv_break.specs.internal.Span.{AreIn, LiesIn, is_outside}
+use Rattle.rv_break.specs.internal.Span.{AreIn, LiesIn, WaitsIn, is_outside}
 use Rattle.rv_hart.specs.Conflict.{meets, end_of}
 use Rattle.rv_hart.specs.declared.access.Access.{Access}
 
@@ -22,45 +22,39 @@ lies_in_wider s wider a from to inside =
 pub are_in_wider : (s wider : Span) (slots : Slots) → wider.first ≤ s.first → s.end ≤ wider.end → AreIn s slots → AreIn wider slots
 are_in_wider s wider [] from to inside = tt
 are_in_wider s wider (None ∷ slots) from to inside = (tt, are_in_wider s wider slots from to inside.1)
-are_in_wider s wider (Some claim ∷ slots) from to inside = (lies_in_wider s wider claim.access from to inside.0, are_in_wider s wider slots from to inside.1)
+are_in_wider s wider (Some claim ∷ slots) from to inside = (λ waits. lies_in_wider s wider claim.access from to (inside.0 waits), are_in_wider s wider slots from to inside.1)
 
-are_in_push : (s wider : Span) (slots : Slots) (held : Option Claim) → wider.first ≤ s.first → s.end ≤ wider.end → IfSome held (λ claim. LiesIn wider claim.access) → AreIn s slots → AreIn wider (slots ++ held ∷ [])
+are_in_push : (s wider : Span) (slots : Slots) (held : Option Claim) → wider.first ≤ s.first → s.end ≤ wider.end → IfSome held (WaitsIn wider) → AreIn s slots → AreIn wider (slots ++ held ∷ [])
 are_in_push s wider [] held from to own inside = (own, tt)
 are_in_push s wider (None ∷ slots) held from to own inside = (tt, are_in_push s wider slots held from to own inside.1)
-are_in_push s wider (Some claim ∷ slots) held from to own inside = (lies_in_wider s wider claim.access from to inside.0, are_in_push s wider slots held from to own inside.1)
+are_in_push s wider (Some claim ∷ slots) held from to own inside = (λ waits. lies_in_wider s wider claim.access from to (inside.0 waits), are_in_push s wider slots held from to own inside.1)
 
 -- the claims up to the next one
-pub are_in_more : (s wider : Span) (slots : Slots) (i : ℕ) (d : Option Claim) → i < length slots → wider.first ≤ s.first → s.end ≤ wider.end → IfSome (get_or slots i d) (λ claim. LiesIn wider claim.access) → AreIn s (take i slots) → AreIn wider (take (i + 1) slots)
+pub are_in_more : (s wider : Span) (slots : Slots) (i : ℕ) (d : Option Claim) → i < length slots → wider.first ≤ s.first → s.end ≤ wider.end → IfSome (get_or slots i d) (WaitsIn wider) → AreIn s (take i slots) → AreIn wider (take (i + 1) slots)
 are_in_more s wider slots i d below from to own inside =
     subst (AreIn wider) (sym (take_more slots i d below)) (are_in_push s wider (take i slots) (get_or slots i d) from to own inside)
 
 are_in_set : (s wider : Span) (slots : Slots) (slot : ℕ) (claim : Claim) → wider.first ≤ s.first → s.end ≤ wider.end → LiesIn wider claim.access → AreIn s slots → AreIn wider (set slots slot (Some claim))
 are_in_set s wider [] slot claim from to own inside = tt
-are_in_set s wider (held ∷ slots) zero claim from to own inside = (own, are_in_wider s wider slots from to inside.1)
+are_in_set s wider (held ∷ slots) zero claim from to own inside = (λ _. own, are_in_wider s wider slots from to inside.1)
 are_in_set s wider (None ∷ slots) (suc slot) claim from to own inside = (tt, are_in_set s wider slots slot claim from to own inside.1)
-are_in_set s wider (Some other ∷ slots) (suc slot) claim from to own inside = (lies_in_wider s wider other.access from to inside.0, are_in_set s wider slots slot claim from to own inside.1)
+are_in_set s wider (Some other ∷ slots) (suc slot) claim from to own inside = (λ waits. lies_in_wider s wider other.access from to (inside.0 waits), are_in_set s wider slots slot claim from to own inside.1)
 
 -- claims, one of which is made, stay as many, and within a span with it
 pub claimed_within : (s wider : Span) (slots : Slots) (slot : ℕ) (claim : Claim) → wider.first ≤ s.first → s.end ≤ wider.end → LiesIn wider claim.access → (length slots ≤ MOST_SLOTS) × AreIn s slots → (length (set slots slot (Some claim)) ≤ MOST_SLOTS) × AreIn wider (set slots slot (Some claim))
 claimed_within s wider slots slot claim from to own inside =
     (subst (λ (n : ℕ). n ≤ MOST_SLOTS) (sym (length-set slots slot (Some claim))) inside.0, are_in_set s wider slots slot claim from to own inside.1)
 
--- a claim keeps what it watches
-pub are_in_after : (s : Span) (seen : Seen) (slots : Slots) → AreIn s slots → AreIn s (slots_after seen slots)
-are_in_after s seen [] inside = tt
-are_in_after s seen (None ∷ slots) inside = (tt, are_in_after s seen slots inside.1)
-are_in_after s seen (Some claim ∷ slots) inside = (inside.0, are_in_after s seen slots inside.1)
-
--- claims that are shown an access stay as many, and within the span
-pub shown_within : (s : Span) (seen : Seen) (slots slots' : Slots) (len : ℕ) → len ≡ length slots → slots' ≡ slots_after seen slots → (length slots ≤ MOST_SLOTS) × AreIn s slots
-    → (let after : Slots = take len (slots' ++ drop (length slots') slots) in (length after ≤ MOST_SLOTS) × AreIn s after)
-shown_within s seen slots slots' len size is inside =
+-- claims that are shown an access stay as many
+pub shown_within : (s : Span) (seen : Seen) (slots slots' : Slots) (len : ℕ) → len ≡ length slots → slots' ≡ slots_after seen slots → length slots ≤ MOST_SLOTS
+    → (let after : Slots = take len (slots' ++ drop (length slots') slots) in AreIn s after → (length after ≤ MOST_SLOTS) × AreIn s after)
+shown_within s seen slots slots' len size is few =
     let same : length (slots_after seen slots) ≡ length slots = length-map slots (option_map (claim_after seen)) in
     let count : len ≡ length slots' = size ∙ sym same ∙ sym (ap length is) in
     let whole : take len (slots' ++ drop (length slots') slots) ≡ slots_after seen slots =
     ap (λ n. take n (slots' ++ drop (length slots') slots)) count ∙ take-append_seam slots' (drop (length slots') slots) ∙ is in
-    let few : length slots ≤ MOST_SLOTS = inside.0 in
-    subst (λ (after : Slots). (length after ≤ MOST_SLOTS) × AreIn s after) (sym whole) (omega (arith, same, few), are_in_after s seen slots inside.1)
+    let as_many : length (take len (slots' ++ drop (length slots') slots)) ≤ MOST_SLOTS = subst (λ (after : Slots). length after ≤ MOST_SLOTS) (sym whole) (omega (arith, same, few)) in
+    λ inside. (as_many, inside)
 
 outside_meets_none : (s : Span) (watched other : Access) → LiesIn s watched → is_outside s other ≡ true → meets watched other ≡ false
 outside_meets_none s watched other inside outside = let from = inside.0 in let to = inside.1 in grind (arith, nat_tests, from, to, outside)
@@ -80,8 +74,13 @@ claim_same : (claim : Claim) (seen : Seen) → meets claim.access seen.access �
 claim_same claim seen none =
     ap (λ (b : Bool). record claim { seen = cond b (Some seen) claim.seen }) (shows_nothing (is_none claim.seen) (is_for claim seen) (is_not_for claim seen none))
 
+same_by : (s : Span) (claim : Claim) (seen : Seen) (earlier : Option Seen) → claim.seen ≡ earlier → WaitsIn s claim → is_outside s seen.access ≡ true → claim_after seen claim ≡ claim
+same_by s claim seen None is waits outside = claim_same claim seen (outside_meets_none s claim.access seen.access (waits is) outside)
+same_by s claim seen (Some earlier) is waits outside =
+    ap (λ (b : Bool). record claim { seen = cond b (Some seen) claim.seen }) (ap (λ (o : Option Seen). is_none o && is_for claim seen) is)
+
 pub outside_shows_none : (s : Span) (seen : Seen) (slots : Slots) → AreIn s slots → is_outside s seen.access ≡ true → slots_after seen slots ≡ slots
 outside_shows_none s seen [] inside outside = refl
 outside_shows_none s seen (None ∷ slots) inside outside = ap (λ (rest : Slots). None ∷ rest) (outside_shows_none s seen slots inside.1 outside)
 outside_shows_none s seen (Some claim ∷ slots) inside outside =
-    ap₂ (λ (c : Claim) (rest : Slots). Some c ∷ rest) (claim_same claim seen (outside_meets_none s claim.access seen.access inside.0 outside)) (outside_shows_none s seen slots inside.1 outside)
+    ap₂ (λ (c : Claim) (rest : Slots). Some c ∷ rest) (same_by s claim seen claim.seen refl inside.0 outside) (outside_shows_none s seen slots inside.1 outside)

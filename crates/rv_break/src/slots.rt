@@ -68,12 +68,13 @@ impl Slots {
         }
     }
 
-    /// The same, where each claim is looked at.
+    /// The same, where each claim is looked at. One that sees the access waits for no more.
     #[inline(never)]
     fn see_apart(&mut self, seen: Seen)
         ensures { self.new ≡ spec.slots_after seen self.old }
     {
         show(&mut self.claims, seen);
+        self.watched = span_of(&self.claims);
     }
 
     /// Whether one is claimed.

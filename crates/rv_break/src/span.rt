@@ -1,6 +1,6 @@
-//! The span of addresses that the claims watch, which tells most accesses at one look.
+//! The span of addresses that the claims wait for, which tells most accesses at one look.
 ghost use Rattle.std.specs.Prelude.{◌≡◌, ◌≤◌, IfSome};
-ghost use Rattle.rv_break.specs.internal.Span.{AreIn, LiesIn, is_outside};
+ghost use Rattle.rv_break.specs.internal.Span.{AreIn, LiesIn, WaitsIn, is_outside};
 
 use crate::claim::Claim;
 use rv_hart::access::Access;
@@ -35,20 +35,20 @@ impl Span {
         }
     }
 
-    /// The span with what a claim watches.
+    /// The span with what a claim waits for.
     fn widened(self, held: Option<Claim>) -> Span
-        ensures held { IfSome held (λ claim. LiesIn result claim.access) }
+        ensures held { IfSome held (WaitsIn result) }
         ensures first { result.first ≤ self.first }
         ensures end { self.end ≤ result.end }
     {
         match held {
-            None => self,
-            Some(claim) => self.widened_by(claim.access),
+            Some(claim) if claim.seen.is_none() => self.widened_by(claim.access),
+            _ => self,
         }
     }
 }
 
-/// From the first byte that a claim watches to the last.
+/// From the first byte that a claim waits for to the last. One that has seen an access waits for none.
 pub fn span_of(claims: &[Option<Claim>]) -> Span
     ensures { AreIn result claims.now }
 {
