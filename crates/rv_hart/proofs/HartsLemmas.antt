@@ -1,10 +1,10 @@
-use Rattle.std.proofs.Common.{◌≡◌, ◌<◌, ℕ, length, List, [], ◌∷◌, Option, Some, None, map, set, get_or, refl, ap, ◌∙◌}
-use Rattle.std.specs.Prelude.{slice_get}
-use Rattle.std.proofs.lemmas.List.{set-get_or}
+use Rattle.std.proofs.Common.{◌≡◌, ◌<◌, ◌≤◌, ◌+◌, ℕ, Bool, true, false, length, List, [], ◌∷◌, ◌++◌, take, drop, Option, Some, None, map, set, get_or, refl, sym, ap, ◌∙◌, arith}
+use Rattle.std.specs.Prelude.{◌||◌, slice_get}
+use Rattle.std.proofs.lemmas.List.{append-nil, drop_all, drop_more, get_or_at, length-map, length-take, map_more, set-get_or}
 use Rattle.rv_hart.specs.declared.hart.Status.TheVariants.{Running}
 use Rattle.std.proofs.lemmas.Option.{slice_get-map, slice_get-get_or, get_or_from_slice_get}
 use Rattle.std.specs.Prelude.{option_map}
-use Rattle.rv_hart.specs.internal.Harts.{HartsAfter, Sees}
+use Rattle.rv_hart.specs.internal.Harts.{HartsAfter, Sees, any_holds, holds}
 use Rattle.rv_hart.specs.Step.{seen_by, hart_after}
 use Rattle.rv_hart.specs.declared.action.Action.{Action}
 use Rattle.rv_hart.specs.declared.hart.Hart.{Hart}
@@ -32,3 +32,30 @@ pub sees_nothing : (harts : List Hart) (h : ℕ) → h < length harts → Sees h
 sees_nothing harts h within =
     let default : Hart = record { registers = []; pc = 0; status = Running; reservation = None } in
     rw (slice_get-get_or harts h default within, none_seen harts, set-get_or harts h default) refl
+
+-- ---- whether one holds a reservation, hart by hart
+
+or_none : (b : Bool) → (b || false) ≡ b
+or_none true = refl
+or_none false = refl
+
+or_assoc : (a b c : Bool) → (a || (b || c)) ≡ ((a || b) || c)
+or_assoc true b c = refl
+or_assoc false b c = refl
+
+any_snoc : (xs : List Hart) (y : Hart) → any_holds (xs ++ y ∷ []) ≡ (any_holds xs || holds y)
+any_snoc [] y = or_none (holds y)
+any_snoc (x ∷ xs) y = ap (λ (b : Bool). holds x || b) (any_snoc xs y) ∙ or_assoc (holds x) (any_holds xs) (holds y)
+
+-- in a loop that replaces each hart by f of it
+pub held_more : (f : Hart → Hart) (xs ys : List Hart) (i : ℕ) (d : Hart) → i < length xs → ys ≡ map f (take i xs) ++ drop i xs → (any_holds (map f (take i xs)) || holds (f (get_or ys i d))) ≡ any_holds (map f (take (i + 1) xs))
+held_more f xs ys i d below so_far =
+    let front = map f (take i xs) in
+    let long : length front ≡ i = length-map (take i xs) f ∙ omega (arith, length-take i xs) in
+    let parts : ys ≡ front ++ get_or xs i d ∷ drop (i + 1) xs = so_far ∙ ap (λ l. front ++ l) (drop_more xs i d below) in
+    let read : get_or ys i d ≡ get_or xs i d = ap (λ l. get_or l i d) parts ∙ get_or_at front (get_or xs i d) (drop (i + 1) xs) d i long in
+    ap (λ (hart : Hart). any_holds front || holds (f hart)) read ∙ sym (ap any_holds (map_more f xs i d below) ∙ any_snoc front (f (get_or xs i d)))
+
+pub held_all : (f : Hart → Hart) (xs ys : List Hart) (i : ℕ) → length xs ≤ i → ys ≡ map f (take i xs) ++ drop i xs → any_holds (map f (take i xs)) ≡ any_holds ys
+held_all f xs ys i all so_far =
+    sym (ap any_holds (so_far ∙ ap (λ (l : List Hart). map f (take i xs) ++ l) (drop_all i xs all) ∙ append-nil (map f (take i xs))))

@@ -1,5 +1,5 @@
 //! What an action does, one function a component of `specs/Step.antt`.
-ghost use Rattle.std.specs.Prelude.{◌≡◌, ◌==◌, ◌%◌, ◌<◌, ◌+◌, ◌++◌, vec_len, vec_capacity, Some, IsTrue, OnOk, OnErr, length, map};
+ghost use Rattle.std.specs.Prelude.{◌≡◌, ◌==◌, ◌%◌, ◌<◌, ◌+◌, ◌++◌, true, false, vec_len, vec_capacity, Some, IsTrue, OnOk, OnErr, length, map};
 ghost use Rattle.rv_hart.specs.internal.Able.{HasSize, IsAble, IsAbleWrite, IsReady, Fits};
 ghost use Rattle.rv_hart.specs.internal.AccessKind.{access_of_kind};
 ghost use Rattle.rv_hart.specs.internal.Harts.{HartsAfter, Sees, any_holds, write_of_access};
@@ -279,15 +279,18 @@ fn kept(write: &Write, reservation: Option<u32>) -> Option<u32>
     }
 }
 
-/// Ends each reservation that a write meets.
+/// Ends each reservation that a write meets; answers whether one is left.
 #[inline(always)]
-#[tactic(auto, using(std::proofs::lemmas::List::Edits::map_over_more))]
-pub fn see_write(harts: &mut [Hart], write: &Write)
-    ensures { harts.new ≡ map (spec.seen_by (Some write.now)) harts.old }
+pub fn see_write(harts: &mut [Hart], write: &Write) -> bool
+    ensures harts { harts.new ≡ map (spec.seen_by (Some write.now)) harts.old }
+    ensures left { result ≡ any_holds harts.new }
 {
+    let mut is_held = false;
     for hart in harts.iter_mut() {
         see(hart, write);
+        is_held |= hart.reservation.is_some();
     }
+    is_held
 }
 
 #[inline(always)]
@@ -340,7 +343,7 @@ fn see_all(harts: &mut [Hart], write: Option<Write>)
     ensures { harts.new ≡ map (spec.seen_by write) harts.old }
 {
     if let Some(write) = write {
-        see_write(harts, &write);
+        let _is_held = see_write(harts, &write);
     }
 }
 
@@ -362,25 +365,29 @@ pub fn any_holds(harts: &[Hart]) -> bool
     harts.iter().any(|hart| hart.reservation.is_some())
 }
 
-/// Ends each reservation that the write of an access by hart h meets, but for its own.
-pub fn see_access(harts: &mut [Hart], h: u8, access: &Access)
-    requires { h < length harts.old }
-    ensures { Sees harts.old harts.new h (write_of_access access.now) }
+/// Ends each reservation that the write of an access by hart h meets, but for its own; answers whether one may be left.
+pub fn see_access(harts: &mut [Hart], h: u8, access: &Access) -> bool
+    requires hart { h < length harts.old }
+    requires writes { access.now.write ≡ true }
+    ensures sees { Sees harts.old harts.new h (write_of_access access.now) }
+    ensures held { result ≡ false → any_holds harts.new ≡ false }
 {
     let own = harts[h as usize].reservation;
-    see_all(harts, write_of_access(access));
+    let is_held = see_write(harts, &write_of_access(access));
     restore(&mut harts[h as usize], own);
+    is_held || own.is_some()
 }
 
 /// What an access writes, as far as another hart sees it: where, and not what.
-fn write_of_access(access: &Access) -> Option<Write>
-    ensures { result ≡ write_of_access access.now }
+fn write_of_access(access: &Access) -> Write
+    requires { access.now.write ≡ true }
+    ensures { Some result ≡ write_of_access access.now }
 {
-    access.write.then_some(Write {
+    Write {
         address: access.first,
         size: access.size,
         value: 0,
-    })
+    }
 }
 
 fn restore(hart: &mut Hart, own: Option<u32>)

@@ -11,7 +11,7 @@ ghost use Rattle.rv_hart.specs.internal.Quick.{Begins, Fetches, Tried, TriedAt, 
 use crate::access::{Access, AccessKind};
 use crate::act::{act, combined};
 use crate::action::Action;
-use crate::effect::{advance, any_holds, is_aligned, reserves, see_access};
+use crate::effect::{advance, is_aligned, reserves, see_access};
 use crate::hart::Hart;
 use crate::operations::{self, Operation};
 use crate::stops::Stops;
@@ -68,16 +68,16 @@ pub fn tried<const PLACE: u8, S: ByteStore, P: Stops>(
     attempt
 }
 
-/// Ends the other harts' reservations that a write meets, and looks then whether one is left.
+/// Ends the other harts' reservations that a write meets, and notes whether one may be left.
 #[inline(never)]
 fn settle(harts: &mut Vec<Hart>, reserved: &mut bool, h: u8, access: &Access)
-    requires { h < length harts.old.items }
+    requires hart { h < length harts.old.items }
+    requires writes { access.now.write ≡ true }
     ensures sees { Sees harts.old.items harts.new.items h (write_of_access access.now) }
     ensures held { reserved.new ≡ false → any_holds harts.new.items ≡ false }
     ensures len { vec_len harts.new ≡ vec_len harts.old }
 {
-    see_access(harts, h, access);
-    *reserved = any_holds(harts);
+    *reserved = see_access(harts, h, access);
 }
 
 /// Takes the step of a hart itself, where its word is a common one's; no other hart has seen its write yet. It is compiled

@@ -32,7 +32,8 @@ returns-in-Silent-clause-held g c = λ free.
     c.in-Silent.is (running_within c.args.harts.now.items c.args.h c.requires.running) tried tt).held refl (c.requires.held free)
 
 pub settle-requires : goal.settle-requires
-settle-requires g c = rw length-set (running_within c.args.harts.now.items c.args.h c.requires.running)
+settle-requires g c =
+    record { hart = rw length-set (running_within c.args.harts.now.items c.args.h c.requires.running); writes = c.if-access.true }
 
 pub returns-then-access : goal.returns-then-access
 returns-then-access g c =
