@@ -516,7 +516,7 @@ fn stored<S: ByteStore, P: Stops>(
     else {
         return false;
     };
-    if !is_aligned(address, size) || !stops.lets_by(hart.pc) {
+    if !stops.lets_by(hart.pc) || !is_aligned(address, size) {
         return false;
     }
     if !store.store_permitted(address, size, value, Need::Write) {
