@@ -11,7 +11,7 @@ use Rattle.rv_debug.specs.Placed.{Placed, placed, setting}
 use Rattle.rv_elf.specs.Contents.{Contents}
 use Rattle.rv_explain.specs.Explained.{explained}
 use Rattle.rv_explain.specs.Races.{AreTold, Found, Run, found, found_of, run_of as placed_run}
-use Rattle.rv_explain.specs.declared.races.Race.{Race}
+use Rattle.rv_races.specs.declared.races.Race.{Race}
 use Rattle.rv_memory.specs.Chain.{◌>>=◌}
 use Rattle.rv_prune.specs.Ranges.{is_unknown, ranges}
 use Rattle.rv_engines.proofs.ReplayLemmas.{entry_told}

@@ -4,7 +4,6 @@ use Rattle.std.specs.Prelude.{◌&&◌, IfOk, IfSome, IsSomeAnd, filter_map, opt
 use Rattle.std.specs.Io.KnownBytes.{Appends}
 use Rattle.std.proofs.KnownBytes.{Appends-trans}
 use Rattle.std.proofs.lemmas.List.{length-take-le, take_more}
-use Rattle.rv_memory.specs.declared.store.NoMemory.{NoMemory}
 use Rattle.std.specs.List.{fold, range_with_len}
 use Rattle.std.specs.Option.{option_map_or}
 use Rattle.std.proofs.lemmas.Bool.Decides.{nat_tests}
@@ -19,17 +18,19 @@ use Rattle.rv_collide.specs.declared.ending.Ending.{Ending}
 use Rattle.rv_collide.specs.declared.entry.Entry.{Entry}
 use Rattle.rv_debug.specs.Placed.{Placed, moved}
 use Rattle.rv_explain.proofs.Ranges.{fold_found_to, fold_to, map_to}
-use Rattle.rv_explain.specs.BlockOf.{Lines, last_store, lines, lines_from, meets_at, no_lines, places_about, race_shown, row_at, row_between, second, second_of, shown_with, side, store_or, with_place}
+use Rattle.rv_explain.specs.BlockOf.{Lines, last_store, lines, lines_from, meets_at, no_lines, places_about, race_shown, row_at, row_between, second, shown_with, side, store_or, with_place}
 use Rattle.rv_explain.specs.Explained.{blocks_text, race_text}
-use Rattle.rv_explain.specs.Races.{Run, run_of}
 use Rattle.rv_explain.specs.Rows.{is_within}
 use Rattle.rv_explain.specs.Told.{IsRow, row_of}
 use Rattle.rv_explain.specs.declared.block.Side.{Side}
-use Rattle.rv_explain.specs.declared.races.Race.{Race}
 use Rattle.rv_explain.specs.declared.row.Row.{Row}
 use Rattle.rv_explain.specs.declared.row.Shown.{Shown}
 use Rattle.rv_hart.specs.State.{State}
 use Rattle.rv_hart.specs.declared.access.Access.{Access}
+use Rattle.rv_memory.specs.declared.store.NoMemory.{NoMemory}
+use Rattle.rv_races.specs.Races.{Run, run_of}
+use Rattle.rv_races.specs.Second.{second_of}
+use Rattle.rv_races.specs.declared.races.Race.{Race}
 use Rattle.rv_report.specs.Exhibit.{writes_over}
 
 -- ---- rows

@@ -1,11 +1,6 @@
 pub mod Blanks
 pub mod BlockLemmas
-pub mod Choices
-pub mod Chosen
 pub mod Counted
 pub mod FlatMaps
-pub mod Merging
-pub mod RaceLemmas
 pub mod Ranges
-pub mod Tables
 pub mod Words

@@ -45,6 +45,3 @@ map_to f first place le =
     let count : place + 1 - first ≡ (place - first) + 1 = omega arith in
     let last : first + (place - first) ≡ place = omega arith in
     ap (λ (n : ℕ). map f (range_with_len first n)) count ∙ map-range_with_len_more f first (place - first) place last
-
-pub range_from_0 : (n : ℕ) → range_with_len 0 (n + 1) ≡ range_with_len 0 n ++ n ∷ []
-range_from_0 n = let same : 0 + n ≡ n = omega arith in range_more 0 n n same

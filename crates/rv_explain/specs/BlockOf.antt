@@ -1,5 +1,5 @@
 -- What is shown of a race of a run: both accesses, and the entries around them.
-use Rattle.std.specs.Prelude.{ℕ, ◌+◌, ◌-◌, Bool, ◌==◌, ◌&&◌, ◌||◌, nat_le, min, if◌then◌else◌, Option, Some, None, option_and_then, option_map, unwrap_or, List, [], ◌∷◌, ◌++◌, length, slice_get, filter_map}
+use Rattle.std.specs.Prelude.{ℕ, ◌+◌, ◌-◌, Bool, ◌==◌, ◌&&◌, min, if◌then◌else◌, Option, Some, None, option_and_then, option_map, List, [], ◌∷◌, ◌++◌, length, slice_get, filter_map}
 use Rattle.std.specs.List.{fold, list_any, range_with_len}
 use Rattle.std.specs.Option.{option_to_list}
 use Rattle.rv_break.specs.declared.claim.Seen.{Seen}
@@ -9,17 +9,12 @@ use Rattle.rv_collide.specs.Made.{made}
 use Rattle.rv_collide.specs.Pause.{within}
 use Rattle.rv_collide.specs.StateAt.{state_at}
 use Rattle.rv_collide.specs.declared.ending.Ending.{Ending}
-use Rattle.rv_collide.specs.declared.ending.Verdict.{Verdict}
-use Rattle.rv_collide.specs.declared.ending.Verdict.TheVariants.{Hit, Changed, Quiet}
 use Rattle.rv_debug.specs.Answers.{word_at}
 use Rattle.rv_elf.specs.Contents.{Contents}
 use Rattle.rv_explain.specs.Blocks.{RaceShown}
-use Rattle.rv_explain.specs.Races.{Run}
 use Rattle.rv_explain.specs.Rows.{is_within, met}
-use Rattle.rv_explain.specs.Symbols.{is_inside}
 use Rattle.rv_explain.specs.Told.{row_of}
 use Rattle.rv_explain.specs.declared.block.Side.{Side}
-use Rattle.rv_explain.specs.declared.races.Race.{Race}
 use Rattle.rv_explain.specs.declared.row.Row.{Row}
 use Rattle.rv_explain.specs.declared.row.Shown.{Shown}
 use Rattle.rv_explain.specs.declared.row.Shown.TheVariants as shown
@@ -27,7 +22,12 @@ use Rattle.rv_hart.specs.Registers.{get}
 use Rattle.rv_hart.specs.State.{State}
 use Rattle.rv_hart.specs.declared.access.Access.{Access}
 use Rattle.rv_hart.specs.declared.hart.Hart.{Hart}
+use Rattle.rv_races.specs.Races.{Run}
+use Rattle.rv_races.specs.Second.{second_of}
+use Rattle.rv_races.specs.Stretches.{is_shown}
+use Rattle.rv_races.specs.declared.races.Race.{Race}
 use Rattle.rv_report.specs.Exhibit.{writes_over}
+use Rattle.rv_symbols.specs.Symbols.{is_inside}
 
 -- ---- the other hart's accesses
 
@@ -43,16 +43,7 @@ store_or paused earlier seen = if writes_over paused seen.access then Some seen 
 unfoldable pub last_store : Run → Ending → Option Seen
 last_store run told = fold (store_or told.access) None (seen_within run told)
 
--- the paused access, as if it had been made
-abbrev pub own_access : Ending → Seen
-own_access told = record { place = told.paused_at; hart = told.hart; access = told.access }
-
--- The second access: the one that `exhibit` names too. A change has a last store, by a law of the endings.
-abbrev pub second_of : Ending → Option Seen → Verdict → Seen
-second_of told last (Hit seen) = seen
-second_of told last Changed = unwrap_or last (own_access told)
-second_of told last Quiet = own_access told
-
+-- the second access, by the last store
 unfoldable pub second : Run → Ending → Seen
 second run told = second_of told (last_store run told) told.verdict
 
@@ -82,24 +73,12 @@ side_in image h access s = record {
 abbrev pub side : Run → ℕ → ℕ → Access → Side
 side run place h access = side_in run.image h access (state_at run.start run.entries place)
 
--- ---- which entries are shown
+-- ---- what it is about
 
 -- what a block is about: the pause, the second access, the end, and the last store to the bytes
 abbrev pub places_about : Ending → Seen → Option Seen → List ℕ
 places_about told other last =
     told.paused_at ∷ other.place ∷ told.resumed_at ∷ option_to_list (option_map (λ (store : Seen). store.place) last)
-
--- no more than so many entries are from one place to the other
-abbrev pub is_close : ℕ → ℕ → ℕ → Bool
-is_close around at place = nat_le place (at + around) && nat_le at (place + around)
-
-abbrev pub is_near : ℕ → List ℕ → ℕ → Bool
-is_near around places at = list_any (is_close around at) places
-
--- it is near to one of the places, or alone between two that are
-abbrev pub is_shown : ℕ → List ℕ → ℕ → Bool
-is_shown around places at =
-    is_near around places at || (is_near around places (at - 1) && is_near around places (at + 1))
 
 -- ---- the lines
 

@@ -10,14 +10,14 @@ use Rattle.rv_explain.specs.Names.{address_text, name_text}
 use Rattle.rv_explain.specs.Pieces.{joined}
 use Rattle.rv_explain.specs.Rows.{instruction_text, shown_line}
 use Rattle.rv_explain.specs.declared.block.Block.{Block}
-use Rattle.rv_explain.specs.declared.block.RaceClass.{RaceClass}
-use Rattle.rv_explain.specs.declared.block.RaceClass.TheVariants.{Kept, Counter, Flag, Ordered, Named}
 use Rattle.rv_explain.specs.declared.block.Side.{Side}
 use Rattle.rv_explain.specs.declared.row.Shown.{Shown}
 use Rattle.rv_hart.specs.declared.access.Access.{Access}
 use Rattle.rv_prune.specs.Ordered.{role_at}
 use Rattle.rv_prune.specs.declared.role.Role.{Role}
 use Rattle.rv_prune.specs.declared.role.Role.TheVariants as role
+use Rattle.rv_races.specs.declared.classes.RaceClass.{RaceClass}
+use Rattle.rv_races.specs.declared.classes.RaceClass.TheVariants.{Kept, Counter, Flag, Ordered, Named}
 use Rattle.rv_text.specs.Hexadecimal.{word_digits}
 use Rattle.rv_text.specs.Lines.{text_of_lines}
 

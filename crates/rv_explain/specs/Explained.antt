@@ -2,8 +2,8 @@
 use Rattle.std.specs.Prelude.{ℕ, ◌+◌, ◌-◌, ◌==◌, if◌then◌else◌, Option, Some, None, option_map, List, [], ◌∷◌, ◌++◌, length, slice_get}
 use Rattle.rv_explain.specs.BlockOf.{race_shown}
 use Rattle.rv_explain.specs.Blocks.{block_text, totals_line}
-use Rattle.rv_explain.specs.Races.{Found, Run}
-use Rattle.rv_explain.specs.declared.races.Race.{Race}
+use Rattle.rv_races.specs.Races.{Found, Run}
+use Rattle.rv_races.specs.declared.races.Race.{Race}
 
 -- `races N, reports M of E endings`
 abbrev pub found_line : Found → List ℕ

@@ -3,9 +3,9 @@ use Rattle.std.specs.Prelude.{ℕ, ◌-◌, Bool, false, ◌==◌, ◌||◌, nat
 use Rattle.std.specs.Fmt.{radix_digits}
 use Rattle.std.specs.List.{flat_map}
 use Rattle.rv_elf.specs.Contents.{Contents, Named}
-use Rattle.rv_text.specs.Hexadecimal.{byte_digits, word_digits}
 use Rattle.rv_explain.specs.Pieces.{joined}
-use Rattle.rv_explain.specs.Symbols.{symbol_of}
+use Rattle.rv_symbols.specs.Symbols.{symbol_of}
+use Rattle.rv_text.specs.Hexadecimal.{byte_digits, word_digits}
 
 -- a blank, a control character, or a byte of a character that is not ASCII
 abbrev pub is_hidden : ℕ → Bool

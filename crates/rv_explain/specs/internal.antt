@@ -1,2 +1,1 @@
 pub mod Gathered
-pub mod Steps

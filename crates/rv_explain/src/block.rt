@@ -1,16 +1,7 @@
 use crate::row::Shown;
 use rv_collide::ending::Ending;
 use rv_hart::access::Access;
-
-/// What a race counts as: the first of these that one of its reports is.
-#[derive(Clone, Copy, Debug, PartialEq, Eq)]
-pub enum RaceClass {
-    Kept,
-    Counter,
-    Flag,
-    Ordered,
-    Named,
-}
+pub use rv_races::classes::RaceClass;
 
 /// One of the two accesses of a report: its hart, the access, the word that memory had at its instruction's
 /// address, and what the hart's x1 named where that lies in an executable segment.

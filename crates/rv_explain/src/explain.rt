@@ -5,16 +5,16 @@ ghost use Rattle.rv_collide.specs.Verdict.{endings};
 ghost use Rattle.rv_debug.specs.Placed.{moved};
 ghost use Rattle.rv_explain.specs.Explained as spec;
 ghost use Rattle.rv_explain.specs.Fault.{is_write_fault};
-ghost use Rattle.rv_explain.specs.Races.{AreTold, found_of, run_of};
+ghost use Rattle.rv_races.specs.Races.{AreTold, found_of, run_of};
 
 use crate::blocks::{write_block, write_totals};
 use crate::fault::ExplainFault;
 use crate::race_block::{race_block, race_of};
-use crate::races::{Race, RunRaces};
-use crate::symbol_table::SymbolTable;
 use rv_debug::session::Session;
 use rv_memory::flagged::WriteFault;
 use rv_memory::output::Output;
+use rv_races::races::{Race, RunRaces};
+use rv_symbols::symbol_table::SymbolTable;
 use std::alloc::Global;
 
 /// Writes the text of a session's run: how much it shows, and the blocks of its races, with so many entries around each

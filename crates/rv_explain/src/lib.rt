@@ -1,13 +1,14 @@
 //! Reports for people: the block of a race, told by names, instructions, values and what the harts did.
 //!
-//! To the layer above, what `write_block` writes of a `Block` is the text of `specs/Blocks.antt`, which knows no file;
-//! a `SymbolTable` finds the symbol that an address is told by, `class_of` what a report counts as, `row_here` what is told of
-//! an entry.
+//! To the layer above, `race_block` makes the `Block` of a race of a run, and what `write_block` writes of one is the text of
+//! `specs/Blocks.antt`, which knows no file; `row_here` is what is told of an entry.
 #![tactic(auto)]
+
+pub use rv_races::classes;
+pub use rv_symbols::{symbol_table, symbols};
 
 pub mod block;
 pub mod blocks;
-pub mod classes;
 pub mod explain;
 pub mod fault;
 mod lines;
@@ -19,8 +20,5 @@ pub mod races;
 pub mod row;
 mod rows;
 mod sides;
-mod steps;
-pub mod symbol_table;
-pub mod symbols;
 pub mod told;
 mod walk;

@@ -2,9 +2,9 @@
 ghost use Rattle.std.specs.Prelude.{◌≡◌, ◌+◌, ◌-◌, ◌<◌, ◌≤◌, ◌&&◌, false, Some, IfOk, OnOk, length, slice_get, unwrap_or};
 ghost use Rattle.rv_debug.specs.Placed.{moved};
 ghost use Rattle.rv_explain.specs.BlockOf as spec;
-ghost use Rattle.rv_explain.specs.Races.{run_of};
 ghost use Rattle.rv_explain.specs.Rows.{is_within};
 ghost use Rattle.rv_explain.specs.internal.Gathered.{IsCounted, KnowsMeetings, gathered_of};
+ghost use Rattle.rv_races.specs.Races.{run_of};
 
 use crate::row::{Row, Shown};
 use crate::rows::is_within;
@@ -14,6 +14,7 @@ use rv_collide::ending::Ending;
 use rv_debug::session::Session;
 use rv_hart::access::Access;
 use rv_memory::store::NoMemory;
+use rv_races::stretches::is_shown;
 use std::alloc::Global;
 
 /// What lines are told of: a report, the places that it is about, how many entries are shown around each, and which
@@ -32,28 +33,6 @@ struct Gathered {
     lines: Vec<Shown>,
     hidden: u32,
     meeting: u32,
-}
-
-fn is_close(around: u32, at: u32, place: u32) -> bool
-    ensures { result ≡ spec.is_close around at place }
-{
-    u64::from(place) <= u64::from(at) + u64::from(around)
-        && u64::from(at) <= u64::from(place) + u64::from(around)
-}
-
-fn is_near(around: u32, places: &[u32], at: u32) -> bool
-    ensures { result ≡ spec.is_near around places.now at }
-{
-    places.iter().any(|place| is_close(around, at, *place))
-}
-
-/// Whether an entry is shown: near to one of the places, or alone between two that are.
-fn is_shown(around: u32, places: &[u32], at: u32) -> bool
-    requires { at < 4_294_967_295 }
-    ensures { result ≡ spec.is_shown around places.now at }
-{
-    is_near(around, places, at)
-        || is_near(around, places, at.saturating_sub(1)) && is_near(around, places, at + 1)
 }
 
 /// Whether an access within the pause meets the bytes.

@@ -5,9 +5,9 @@ ghost use Rattle.rv_explain.specs.Names as spec;
 ghost use Rattle.rv_text.specs.Hexadecimal.{byte_digits};
 
 use crate::pieces::joined;
-use crate::symbol_table::SymbolTable;
 use rv_elf::Symbol;
 use rv_memory::store::NoMemory;
+use rv_symbols::symbol_table::SymbolTable;
 use rv_text::hexadecimal::{byte_digits, word_digits};
 use std::alloc::Global;
 

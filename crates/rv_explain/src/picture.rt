@@ -18,9 +18,9 @@ use crate::picture::shapes::{bands, report_elements, row_element};
 use crate::picture::short::picture_lines;
 use crate::pieces::joined;
 use crate::row::Shown;
-use crate::symbol_table::SymbolTable;
 use rv_memory::output::Output;
 use rv_memory::store::NoMemory;
+use rv_symbols::symbol_table::SymbolTable;
 use rv_text::decimal::Decimal;
 use std::alloc::Global;
 

@@ -1,57 +1,30 @@
 //! The block of a race of a run, as `specs/BlockOf.antt` has it.
-ghost use Rattle.std.specs.Prelude.{◌≡◌, ◌<◌, IfOk, IfSome, Some, length, map, option_map, slice_get};
+ghost use Rattle.std.specs.Prelude.{◌≡◌, ◌<◌, IfOk, Some, length, map, option_map, slice_get};
 ghost use Rattle.std.specs.Option.{option_copied};
-ghost use Rattle.rv_break.specs.declared.claim.Seen.{Seen};
 ghost use Rattle.rv_collide.specs.Answers.{pause_of};
 ghost use Rattle.rv_collide.specs.Pause.{within};
 ghost use Rattle.rv_collide.specs.Verdict.{endings};
-ghost use Rattle.rv_collide.specs.declared.ending.Verdict.TheVariants.{Hit};
 ghost use Rattle.rv_debug.specs.Placed.{moved};
 ghost use Rattle.rv_explain.specs.BlockOf as spec;
 ghost use Rattle.rv_explain.specs.Blocks.{shown_of};
 ghost use Rattle.rv_explain.specs.Explained.{race_of};
-ghost use Rattle.rv_explain.specs.Races.{AreTold, run_of};
+ghost use Rattle.rv_races.specs.Races.{AreTold, run_of};
 ghost use Rattle.rv_report.specs.OfPause.{IsOfPause};
 
 use crate::block::Block;
 use crate::lines::{About, lines};
-use crate::races::{Race, RunRaces};
 use crate::row::Shown;
 use crate::sides::side_at;
 use crate::walk::{Walked, walk};
 use rv_break::claim::Seen;
-use rv_collide::ending::{Ending, Verdict};
+use rv_collide::ending::Ending;
 use rv_debug::session::Session;
 use rv_elf::Image;
 use rv_memory::store::NoMemory;
+use rv_races::races::{Race, RunRaces};
+use rv_races::second::{own_access, second_of};
 use rv_report::exhibiting::endings_are_of_pauses;
 use std::alloc::Global;
-
-/// The paused access, as if it had been made.
-fn own_access(told: &Ending) -> Seen
-    ensures { result ≡ spec.own_access told.now }
-{
-    Seen {
-        place: told.paused_at,
-        hart: told.hart,
-        access: told.access,
-    }
-}
-
-/// The second access of a report.
-fn second_of(told: &Ending, last: Option<Seen>) -> Seen
-    requires starts { told.now.paused_at < told.now.resumed_at }
-    requires hit { (seen : Seen) → told.now.verdict ≡ Hit seen → seen.place < told.now.resumed_at }
-    requires last { IfSome last (λ seen. seen.place < told.now.resumed_at) }
-    ensures value { result ≡ spec.second_of told.now last told.now.verdict }
-    ensures before { result.place < told.now.resumed_at }
-{
-    match told.verdict {
-        Verdict::Hit(seen) => seen,
-        Verdict::Changed => last.unwrap_or(own_access(told)),
-        Verdict::Quiet => own_access(told),
-    }
-}
 
 /// The places that a block is about.
 fn places_about(

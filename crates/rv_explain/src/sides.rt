@@ -2,11 +2,10 @@
 ghost use Rattle.std.specs.Prelude.{◌≡◌, ◌≤◌, ◌&&◌, Some, IfOk, length};
 ghost use Rattle.rv_debug.specs.Placed.{moved};
 ghost use Rattle.rv_explain.specs.BlockOf as spec;
-ghost use Rattle.rv_explain.specs.Races.{run_of};
-ghost use Rattle.rv_explain.specs.Symbols.{is_inside};
+ghost use Rattle.rv_races.specs.Races.{run_of};
+ghost use Rattle.rv_symbols.specs.Symbols.{is_inside};
 
 use crate::block::Side;
-use crate::symbols::is_inside;
 use crate::walk::go_to;
 use rv_break::claim::Seen;
 use rv_debug::session::Session;
@@ -16,6 +15,7 @@ use rv_hart::machine::Machine;
 use rv_memory::paged::Paged;
 use rv_memory::region::Region;
 use rv_memory::store::NoMemory;
+use rv_symbols::symbols::is_inside;
 
 /// The register that holds where a function returns to.
 const RA: u8 = 1;

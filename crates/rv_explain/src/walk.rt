@@ -7,7 +7,7 @@ ghost use Rattle.rv_collide.specs.First.{seen_at};
 ghost use Rattle.rv_collide.specs.Pause.{within};
 ghost use Rattle.rv_debug.specs.Placed.{moved};
 ghost use Rattle.rv_explain.specs.BlockOf as spec;
-ghost use Rattle.rv_explain.specs.Races.{run_of};
+ghost use Rattle.rv_races.specs.Races.{run_of};
 
 use crate::rows::{is_within, met, wrote};
 use crate::told::stepped;

@@ -8,7 +8,7 @@ use Rattle.std.proofs.lemmas.List.FromFn.{map-range_with_len_more}
 use Rattle.rv_collide.specs.declared.ending.Ending.{Ending}
 use Rattle.rv_elf.specs.Contents.{Contents}
 use Rattle.rv_explain.specs.Races.{report_at, report_of, reports_of}
-use Rattle.rv_explain.specs.declared.races.Report.{Report}
+use Rattle.rv_races.specs.declared.races.Report.{Report}
 
 mapped_same : (xs : List ℕ) → map (λ (k : ℕ). k) xs ≡ xs
 mapped_same [] = refl

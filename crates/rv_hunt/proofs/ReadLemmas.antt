@@ -6,7 +6,7 @@ use Rattle.std.specs.Prelude.{IfOk, IfErr}
 use Rattle.std.proofs.lemmas.Bool.{or_parts}
 use Rattle.std.proofs.lemmas.List.{drop-drop}
 use Rattle.rv_text.specs.Pieces.{pieces_of}
-use Rattle.rv_explain.specs.declared.block.RaceClass.{RaceClass}
+use Rattle.rv_races.specs.declared.classes.RaceClass.{RaceClass}
 use Rattle.rv_hunt.specs.HuntRead.{IsTold, class_in, counts_in, cut_at, ends, pair_in, read, row_of_line, rows_in, rows_said, said_of, table_in, values_in, with_line}
 use Rattle.rv_hunt.specs.Rows.{added, has_race}
 use Rattle.rv_hunt.specs.declared.fault.ReadFault.{ReadFault}

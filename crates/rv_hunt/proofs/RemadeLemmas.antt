@@ -16,7 +16,7 @@ use Rattle.rv_drive.specs.Sampling.{sampling_of}
 use Rattle.rv_elf.specs.Contents.{Contents}
 use Rattle.rv_explain.specs.Classes.{rank}
 use Rattle.rv_explain.specs.Races.{reports, reports_of}
-use Rattle.rv_explain.specs.declared.races.Report.{Report}
+use Rattle.rv_races.specs.declared.races.Report.{Report}
 use Rattle.rv_hunt.proofs.MergeLemmas.{same_key_equiv}
 use Rattle.rv_hunt.proofs.ResultLemmas.{same_stored, split, table_seen}
 use Rattle.rv_hunt.specs.Hunted.{Hunt, IsOfRun, rows_from, rows_of}

@@ -1,8 +1,8 @@
 -- Which races a hunt counts, and which of them were not expected.
 use Rattle.std.specs.Prelude.{Bool, true, false, not, ◌&&◌, List}
 use Rattle.std.specs.List.{list_any}
-use Rattle.rv_explain.specs.declared.block.RaceClass.{RaceClass}
-use Rattle.rv_explain.specs.declared.block.RaceClass.TheVariants.{Kept, Counter, Flag, Ordered, Named}
+use Rattle.rv_races.specs.declared.classes.RaceClass.{RaceClass}
+use Rattle.rv_races.specs.declared.classes.RaceClass.TheVariants.{Kept, Counter, Flag, Ordered, Named}
 use Rattle.rv_hunt.specs.Rows.{has_race}
 use Rattle.rv_hunt.specs.declared.row.RaceRow.{RaceRow}
 use Rattle.rv_report.specs.declared.key.Key.{Key}

@@ -4,8 +4,8 @@ use Rattle.std.specs.Option.{ok_or, option_map_or}
 use Rattle.std.specs.Str.{bytes_eq}
 use Rattle.rv_collide.specs.ScheduleRead.{address_of, is_over, named, words_of}
 use Rattle.rv_explain.specs.Blocks.{class_word}
-use Rattle.rv_explain.specs.declared.block.RaceClass.{RaceClass}
-use Rattle.rv_explain.specs.declared.block.RaceClass.TheVariants.{Kept, Counter, Flag, Ordered, Named}
+use Rattle.rv_races.specs.declared.classes.RaceClass.{RaceClass}
+use Rattle.rv_races.specs.declared.classes.RaceClass.TheVariants.{Kept, Counter, Flag, Ordered, Named}
 use Rattle.rv_hunt.specs.HuntText.{verdict_word}
 use Rattle.rv_hunt.specs.Rows.{has_race}
 use Rattle.rv_hunt.specs.declared.fault.TableFault.{TableFault}

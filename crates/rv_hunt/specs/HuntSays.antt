@@ -1,7 +1,7 @@
 -- What a hunt says at its end.
 use Rattle.std.specs.Fmt.{decimal}
 use Rattle.std.specs.Prelude.{ℕ, ◌+◌, ◌==◌, if◌then◌else◌, List, [], ◌++◌, codes, length}
-use Rattle.rv_explain.specs.declared.block.RaceClass.TheVariants.{Named}
+use Rattle.rv_races.specs.declared.classes.RaceClass.TheVariants.{Named}
 use Rattle.rv_hunt.specs.EndedText.{ended_text}
 use Rattle.rv_hunt.specs.ToldOrder.{benign, bugs, of_class, reports_of}
 use Rattle.rv_hunt.specs.declared.row.RaceRow.{RaceRow}

@@ -4,8 +4,8 @@ use Rattle.rv_collide.specs.declared.ending.Ending.{Ending}
 use Rattle.rv_elf.specs.Contents.{Contents}
 use Rattle.rv_explain.specs.Classes.{rank}
 use Rattle.rv_explain.specs.Races.{reports_of}
-use Rattle.rv_explain.specs.declared.races.Race.{Race}
-use Rattle.rv_explain.specs.declared.races.Report.{Report}
+use Rattle.rv_races.specs.declared.races.Race.{Race}
+use Rattle.rv_races.specs.declared.races.Report.{Report}
 use Rattle.rv_hunt.specs.declared.row.RaceRow.{RaceRow}
 use Rattle.rv_report.specs.Races.{same_key}
 use Rattle.rv_report.specs.declared.key.Key.{Key}

@@ -2,7 +2,7 @@
 use Rattle.std.specs.Prelude.{ℕ, ◌+◌, Bool, nat_lt, if◌then◌else◌, List, [], ◌∷◌}
 use Rattle.std.specs.List.{fold, list_any}
 use Rattle.rv_explain.specs.Classes.{rank}
-use Rattle.rv_explain.specs.declared.races.Report.{Report}
+use Rattle.rv_races.specs.declared.races.Report.{Report}
 use Rattle.rv_hunt.specs.declared.row.RaceRow.{RaceRow}
 use Rattle.rv_collide.specs.Counts.{saturated}
 use Rattle.rv_report.specs.Races.{same_key}

@@ -7,10 +7,10 @@ use Rattle.std.proofs.lemmas.Option.{slice_get-get_or}
 use Rattle.rv_collide.specs.declared.ending.Ending.{Ending}
 use Rattle.rv_elf.specs.Contents.{Contents}
 use Rattle.rv_explain.specs.Races.{reports_of}
-use Rattle.rv_explain.specs.declared.block.RaceClass.{RaceClass}
-use Rattle.rv_explain.specs.declared.block.RaceClass.TheVariants.{Kept, Counter, Flag, Ordered}
-use Rattle.rv_explain.specs.declared.races.Race.{Race}
-use Rattle.rv_explain.specs.declared.races.Report.{Report}
+use Rattle.rv_races.specs.declared.classes.RaceClass.{RaceClass}
+use Rattle.rv_races.specs.declared.classes.RaceClass.TheVariants.{Kept, Counter, Flag, Ordered}
+use Rattle.rv_races.specs.declared.races.Race.{Race}
+use Rattle.rv_races.specs.declared.races.Report.{Report}
 use Rattle.rv_hunt.specs.Hunted.{Hunt, IsHunted}
 use Rattle.rv_hunt.specs.HuntedLaws.{RowsAreTold}
 use Rattle.rv_hunt.specs.Remade.{is_told_by, race_by, race_in}

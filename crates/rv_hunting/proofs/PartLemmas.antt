@@ -4,7 +4,7 @@ use Rattle.std.proofs.lemmas.List.{length-take-le, map-append, take_more}
 use Rattle.rv_collide.specs.declared.collider.Finished.{Finished}
 use Rattle.rv_elf.specs.Contents.{Contents}
 use Rattle.rv_explain.specs.Blocks.{block_text}
-use Rattle.rv_explain.specs.declared.races.Race.{Race}
+use Rattle.rv_races.specs.declared.races.Race.{Race}
 use Rattle.rv_hunt.specs.Hunted.{Hunt}
 use Rattle.rv_hunt.specs.Remade.{race_in}
 use Rattle.rv_hunt.specs.declared.row.RaceRow.{RaceRow}

@@ -5,7 +5,7 @@ use Rattle.std.specs.List.{range_with_len}
 use Rattle.rv_collide.specs.declared.ending.Ending.{Ending}
 use Rattle.rv_elf.specs.Contents.{Contents}
 use Rattle.rv_explain.specs.Races.{report_at, report_of, reports_of}
-use Rattle.rv_explain.specs.declared.races.Report.{Report}
+use Rattle.rv_races.specs.declared.races.Report.{Report}
 use Rattle.rv_report.specs.Races.{key_of}
 use Rattle.rv_report.specs.declared.key.Key.{Key}
 

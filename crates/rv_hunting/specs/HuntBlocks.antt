@@ -8,7 +8,7 @@ use Rattle.rv_elf.specs.Contents.{Contents}
 use Rattle.rv_explain.specs.BlockOf.{race_shown}
 use Rattle.rv_explain.specs.Blocks.{block_text}
 use Rattle.rv_explain.specs.Races.{Run, run_of}
-use Rattle.rv_explain.specs.declared.races.Race.{Race}
+use Rattle.rv_races.specs.declared.races.Race.{Race}
 use Rattle.rv_hunt.specs.HuntSays.{numbered}
 use Rattle.rv_hunt.specs.Hunted.{Hunt}
 use Rattle.rv_hunt.specs.Remade.{race_in}

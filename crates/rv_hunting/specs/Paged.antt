@@ -6,7 +6,7 @@ use Rattle.rv_explain.specs.BlockOf.{race_shown}
 use Rattle.rv_explain.specs.Blocks.{RaceShown, block_text}
 use Rattle.rv_explain.specs.Names.{name_text}
 use Rattle.rv_explain.specs.Picture.{picture_text}
-use Rattle.rv_explain.specs.declared.races.Race.{Race}
+use Rattle.rv_races.specs.declared.races.Race.{Race}
 use Rattle.rv_hunt.specs.Hunted.{Hunt}
 use Rattle.rv_hunt.specs.HuntSays.{Outcome}
 use Rattle.rv_hunt.specs.Remade.{race_in}

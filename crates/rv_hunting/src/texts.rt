@@ -1,7 +1,7 @@
 //! The texts of what a hunt came to. All of it is made before a byte is written.
 ghost use Rattle.std.specs.Prelude.{◌≡◌, ◌++◌, ◌||◌, is_err, IfOk, OnOk};
 ghost use Rattle.std.specs.Io.KnownBytes.{Appends};
-ghost use Rattle.rv_explain.specs.declared.block.RaceClass.TheVariants as class;
+ghost use Rattle.rv_races.specs.declared.classes.RaceClass.TheVariants as class;
 ghost use Rattle.rv_hunt.specs.HuntSays as spec;
 ghost use Rattle.rv_hunt.specs.HuntText.{table_text};
 ghost use Rattle.rv_hunt.specs.ToldOrder as order;

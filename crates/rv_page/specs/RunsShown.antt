@@ -1,7 +1,7 @@
 -- What the runs saw, in tables.
 use Rattle.std.specs.Prelude.{ℕ, ◌==◌, if◌then◌else◌, List, [], ◌∷◌, codes, drop, flat_map, length}
 use Rattle.rv_explain.specs.Pieces.{joined}
-use Rattle.rv_explain.specs.declared.block.RaceClass.TheVariants.{Named}
+use Rattle.rv_races.specs.declared.classes.RaceClass.TheVariants.{Named}
 use Rattle.rv_hunt.specs.EndedText.{end_words}
 use Rattle.rv_hunt.specs.HuntSays.{Outcome}
 use Rattle.rv_hunt.specs.ToldOrder.{of_class, reports_of}

@@ -3,9 +3,9 @@ use Rattle.std.specs.Prelude.{◌≡◌, ◌≤◌, ℕ, map}
 use Rattle.rv_collide.specs.Answers.{pause_of}
 use Rattle.rv_collide.specs.Pause.{within}
 use Rattle.rv_explain.specs.BlockOf.{Lines, meets_at}
-use Rattle.rv_explain.specs.Races.{Run}
 use Rattle.rv_explain.specs.declared.lines.About.{About}
 use Rattle.rv_explain.specs.declared.lines.Gathered.{Gathered}
+use Rattle.rv_races.specs.Races.{Run}
 
 abbrev pub gathered_of : Gathered → Lines
 gathered_of g = record { lines = g.lines.items; hidden = g.hidden; meeting = g.meeting }

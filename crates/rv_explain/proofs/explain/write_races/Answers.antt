@@ -1,8 +1,8 @@
 use Rattle.std.proofs.Common.{◌<◌, length, refl, rules, arith}
 use Rattle.std.proofs.lemmas.Option.{slice_get-get_or}
-use Rattle.rv_explain.specs.Explained.{blocks_text}
-use Rattle.rv_explain.specs.Races.{run_of}
 use Rattle.rv_explain.proofs.BlockLemmas.{appends_none, written_next}
+use Rattle.rv_explain.specs.Explained.{blocks_text}
+use Rattle.rv_races.specs.Races.{run_of}
 use Rattle.rv_explain.proofs.explain.write_races.Goals as goal
 
 pub loop-place-init : goal.loop-place-init

@@ -3,7 +3,7 @@ use Rattle.std.proofs.Common.{◌≡◌, take}
 use Rattle.std.specs.Io.KnownBytes.{Appends}
 use Rattle.rv_debug.specs.Placed.{moved}
 use Rattle.rv_explain.specs.Explained.{blocks_text}
-use Rattle.rv_explain.specs.Races.{run_of}
+use Rattle.rv_races.specs.Races.{run_of}
 use Rattle.rv_explain.proofs.explain.write_races.Given as goal
 
 abbrev pub invariant-loop-place : goal.invariant-loop-place

@@ -1,8 +1,8 @@
 use Rattle.std.proofs.Common.{◌≡◌, ◌-◌, ◌≤◌, arith, refl, ap}
-use Rattle.rv_explain.specs.BlockOf.{Lines, first_shown, lines, lines_from}
-use Rattle.rv_explain.specs.Races.{run_of}
-use Rattle.rv_explain.specs.internal.Gathered.{gathered_of}
 use Rattle.rv_explain.proofs.BlockLemmas.{lines_passed, none_yet}
+use Rattle.rv_explain.specs.BlockOf.{Lines, first_shown, lines, lines_from}
+use Rattle.rv_explain.specs.internal.Gathered.{gathered_of}
+use Rattle.rv_races.specs.Races.{run_of}
 use Rattle.rv_explain.proofs.lines.lines.Goals as goal
 
 pub loop-at-init : goal.loop-at-init

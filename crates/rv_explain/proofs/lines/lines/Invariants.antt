@@ -2,8 +2,8 @@
 use Rattle.std.proofs.Common.{◌≡◌, ◌-◌}
 use Rattle.rv_debug.specs.Placed.{moved}
 use Rattle.rv_explain.specs.BlockOf.{lines_from, first_shown}
-use Rattle.rv_explain.specs.Races.{run_of}
 use Rattle.rv_explain.specs.internal.Gathered.{IsCounted, gathered_of}
+use Rattle.rv_races.specs.Races.{run_of}
 use Rattle.rv_explain.proofs.lines.lines.Given as goal
 
 abbrev pub invariant-loop-at : goal.invariant-loop-at

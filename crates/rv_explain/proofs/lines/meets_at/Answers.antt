@@ -1,6 +1,6 @@
 use Rattle.std.proofs.Common.{◌∙◌}
-use Rattle.rv_explain.specs.Races.{run_of}
 use Rattle.rv_explain.proofs.BlockLemmas.{meets_there}
+use Rattle.rv_races.specs.Races.{run_of}
 use Rattle.rv_explain.proofs.lines.meets_at.Goals as goal
 
 pub returns : goal.returns

@@ -1,5 +1,5 @@
-use Rattle.rv_explain.specs.Races.{run_of}
 use Rattle.rv_explain.proofs.BlockLemmas.{block_is}
+use Rattle.rv_races.specs.Races.{run_of}
 use Rattle.rv_explain.proofs.race_block.block_of.Goals as goal
 
 pub second_of-other-requires-clause-hit : goal.second_of-other-requires-clause-hit

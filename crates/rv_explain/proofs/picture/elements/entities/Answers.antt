@@ -1,4 +1,4 @@
-use Rattle.std.proofs.Common.{◌<◌, length, arith}
+use Rattle.std.proofs.Common.{arith}
 use Rattle.rv_explain.proofs.FlatMaps.{flat_map_next}
 use Rattle.rv_explain.proofs.picture.elements.entities.Goals as goal
 use Rattle.rv_explain.specs.Picture.{entity}

@@ -1,0 +1,4 @@
+pub mod Classes
+pub mod Races
+pub mod Second
+pub mod Stretches

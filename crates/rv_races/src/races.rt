@@ -1,0 +1,162 @@
+//! The races of a run, as `specs/Races.antt` has it.
+ghost use Rattle.std.specs.Prelude.{◌≡◌, ◌++◌, IfOk, OnOk, position};
+ghost use Rattle.std.specs.Option.{option_to_list};
+ghost use Rattle.rv_debug.specs.Placed.{placed};
+ghost use Rattle.rv_races.specs.Races as spec;
+
+use crate::classes::{RaceClass, class_of, rank};
+use rv_collide::collider::Collider;
+use rv_collide::ending::Ending;
+use rv_elf::Image;
+use rv_memory::flat::Flat;
+use rv_memory::store::NoMemory;
+use rv_report::key::{Key, key_of};
+use std::alloc::Global;
+
+/// An ending that is a report: its number among the endings of its run, what it is about, and what it counts as.
+#[derive(Clone, Copy, Debug)]
+pub struct Report {
+    pub number: u32,
+    pub key: Key,
+    pub class: RaceClass,
+    pub ending: Ending,
+}
+
+/// A race: how many reports it has, and the one that it is told by, the first of those with the strongest class.
+#[derive(Clone, Copy)]
+pub struct Race {
+    pub reports: u64,
+    pub told: Report,
+}
+
+/// The races of a run in the order of their first reports, and how many reports and endings there are.
+#[derive(Drop)]
+pub struct RunRaces {
+    pub races: Vec<Race>,
+    pub reports: u64,
+    pub endings: u32,
+}
+
+/// The races of the run that a core has made. The ranges are those of the listed names.
+pub fn races_in(
+    alloc: Global,
+    image: &Image,
+    collider: &Collider<Flat>,
+    ranges: &[(u32, u32)],
+) -> Result<RunRaces, NoMemory>
+    requires { collider.now.image ≡ image.now }
+    ensures found { IfOk result (λ found.
+        spec.found_of found ≡ spec.found (spec.run_of (placed collider.now.image collider.now.plan collider.now.entries 0)) ranges.now) }
+    ensures told { IfOk result (λ found.
+        spec.AreTold (spec.run_of (placed collider.now.image collider.now.plan collider.now.entries 0)) found.races.items) }
+{
+    let reports = reports_in(alloc, image, collider, ranges)?;
+    let races = races_of(alloc, &reports)?;
+    Ok(RunRaces {
+        races,
+        reports: reports.len() as u64,
+        endings: collider.endings(),
+    })
+}
+
+/// The reports among the endings of a run.
+fn reports_in(
+    alloc: Global,
+    image: &Image,
+    collider: &Collider<Flat>,
+    ranges: &[(u32, u32)],
+) -> Result<Vec<Report>, NoMemory>
+    requires { collider.now.image ≡ image.now }
+    ensures { IfOk result (λ reports. reports.items
+        ≡ spec.reports (spec.run_of (placed collider.now.image collider.now.plan collider.now.entries 0)) ranges.now) }
+{
+    let mut reports = Vec::new(alloc);
+    for n in 0..collider.endings() {
+        let report = report_of(image, ranges, n, &collider.ending(n));
+        add_found(&mut reports, report)?;
+    }
+    Ok(reports)
+}
+
+/// Adds a report, where there is one.
+fn add_found(reports: &mut Vec<Report>, report: Option<Report>) -> Result<(), NoMemory>
+    ensures { OnOk result (reports.new.items ≡ reports.old.items ++ option_to_list report) }
+{
+    if let Some(report) = report {
+        reports.push(report)?;
+    }
+    Ok(())
+}
+
+/// Ending n as a report, where it is one.
+fn report_of(image: &Image, ranges: &[(u32, u32)], n: u32, told: &Ending) -> Option<Report>
+    ensures { result ≡ spec.report_of image.now ranges.now n told.now }
+{
+    let key = key_of(told)?;
+    Some(Report {
+        number: n,
+        key,
+        class: class_of(image, ranges, told),
+        ending: *told,
+    })
+}
+
+/// The races of reports.
+fn races_of(alloc: Global, reports: &[Report]) -> Result<Vec<Race>, NoMemory>
+    ensures { IfOk result (λ races. races.items ≡ spec.races_of reports.now) }
+{
+    let mut races = Vec::new(alloc);
+    for i in 0..reports.len() {
+        add_report(&mut races, &reports[i])?;
+    }
+    Ok(races)
+}
+
+/// A report more: of a race that there is, or of a new one.
+fn add_report(races: &mut Vec<Race>, report: &Report) -> Result<(), NoMemory>
+    ensures { OnOk result (races.new.items ≡ spec.with_report races.old.items report.now) }
+{
+    match place_of(races, report) {
+        Some(place) => races[place] = raised(&races[place], report),
+        None => races.push(Race {
+            reports: 1,
+            told: *report,
+        })?,
+    }
+    Ok(())
+}
+
+/// Whether the report is one of the race.
+fn is_of(report: &Report, race: &Race) -> bool
+    ensures { result ≡ spec.is_of report.now race.now }
+{
+    race.told.key == report.key
+}
+
+/// The place of the report's race.
+fn place_of(races: &[Race], report: &Report) -> Option<usize>
+    ensures { result ≡ position (spec.is_of report.now) races.now }
+{
+    races.iter().position(|race| is_of(report, race))
+}
+
+/// A race that has one report more.
+fn raised(race: &Race, report: &Report) -> Race
+    ensures { result ≡ spec.raised race.now report.now }
+{
+    Race {
+        reports: race.reports.saturating_add(1),
+        told: told_by(&race.told, report),
+    }
+}
+
+/// The later of two reports only where its class is the stronger.
+fn told_by(first: &Report, later: &Report) -> Report
+    ensures { result ≡ spec.told_by first.now later.now }
+{
+    if rank(later.class) < rank(first.class) {
+        *later
+    } else {
+        *first
+    }
+}
