@@ -147,6 +147,10 @@ values_line told =
 abbrev pub columns_text : List ℕ
 columns_text = codes "\n\n    entry  hart  event      bytes     instruction\n"
 
+-- the line of an entry
+abbrev pub entry_text : Contents → Ending → ℕ → Shown → List ℕ
+entry_text image told second shown = joined (shown_line image told second shown ∷ codes "\n" ∷ [])
+
 unfoldable pub lines_text : Contents → RaceShown → List ℕ
 lines_text image block = text_of_lines (map (shown_line image block.ending block.second) block.lines)
 
@@ -156,11 +160,14 @@ paused_text image block = joined (paused_line image block ∷ codes "\n" ∷ sid
 unfoldable pub other_text : Contents → RaceShown → List ℕ
 other_text image block = joined (other_line image block ∷ codes "\n" ∷ side_text image block.other ∷ [])
 
+unfoldable pub accesses_text : Contents → RaceShown → List ℕ
+accesses_text image block = joined (paused_text image block ∷ other_text image block ∷ [])
+
 -- its first line, why it is not kept, both accesses, the bytes, and the columns' names
 unfoldable pub head_text : Contents → List ℕ → ℕ → RaceShown → List ℕ
 head_text image run race block =
-    joined (first_line image run race block ∷ codes "\n" ∷ reason_text image block block.class ∷ paused_text image block
-    ∷ other_text image block ∷ values_line block.ending ∷ columns_text ∷ [])
+    joined (first_line image run race block ∷ codes "\n" ∷ reason_text image block block.class ∷ accesses_text image block
+    ∷ values_line block.ending ∷ columns_text ∷ [])
 
 -- The block of a race: that, and a line of each entry that is shown.
 unfoldable pub block_text : Contents → List ℕ → ℕ → RaceShown → List ℕ

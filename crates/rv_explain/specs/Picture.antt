@@ -156,10 +156,14 @@ band_element frame colour row =
 abbrev pub lane_number : Frame → ℕ → List ℕ
 lane_number frame hart = text_element (lane_x hart) (baseline (frame.first - 1)) (codes " text-anchor='middle'") (decimal hart)
 
+-- a line from one point to another, and how it is drawn
+unfoldable pub stroke : ℕ → ℕ → ℕ → ℕ → List ℕ → List ℕ
+stroke x1 y1 x2 y2 style =
+    joined (codes "<line x1='" ∷ decimal x1 ∷ codes "' y1='" ∷ decimal y1 ∷ codes "' x2='" ∷ decimal x2 ∷ codes "' y2='" ∷ decimal y2 ∷ codes "'" ∷ style ∷ codes "/>\n" ∷ [])
+
 -- its lane, from the first entry to the last
 unfoldable pub lane_line : Frame → ℕ → List ℕ
-lane_line frame hart =
-    joined (codes "<line x1='" ∷ decimal (lane_x hart) ∷ codes "' y1='" ∷ decimal (lanes_top frame) ∷ codes "' x2='" ∷ decimal (lane_x hart) ∷ codes "' y2='" ∷ decimal (lanes_end frame) ∷ codes "' stroke='#b8b8b8'/>\n" ∷ [])
+lane_line frame hart = stroke (lane_x hart) (lanes_top frame) (lane_x hart) (lanes_end frame) (codes " stroke='#b8b8b8'")
 
 unfoldable pub lane_element : Frame → ℕ → List ℕ
 lane_element frame hart = joined (lane_number frame hart ∷ lane_line frame hart ∷ [])
@@ -176,7 +180,7 @@ bar_element frame hart first last =
 -- an access that comes from one hart's lane into another's
 unfoldable pub access_element : Frame → ℕ → ℕ → ℕ → List ℕ
 access_element frame from into row =
-    joined (codes "<line x1='" ∷ decimal (lane_x from) ∷ codes "' y1='" ∷ decimal (middle frame row) ∷ codes "' x2='" ∷ decimal (lane_x into) ∷ codes "' y2='" ∷ decimal (middle frame row) ∷ codes "' stroke='#b3001b' stroke-width='2'/>\n" ∷ [])
+    stroke (lane_x from) (middle frame row) (lane_x into) (middle frame row) (codes " stroke='#b3001b' stroke-width='2'")
 
 -- entries that are left out break the lanes
 unfoldable pub break_element : Frame → ℕ → List ℕ
@@ -276,11 +280,15 @@ start_tag frame =
     joined (codes "<svg xmlns='http://www.w3.org/2000/svg'" ∷ size_attributes frame ∷ codes " font-family='ui-monospace, DejaVu Sans Mono, monospace' font-size='13' xml:space='preserve'>\n"
     ∷ codes "<rect width='100%' height='100%' fill='#ffffff'/>\n" ∷ [])
 
+-- all shapes: what is behind, lanes, the pause, and entries
+unfoldable pub shapes_of : Frame → RaceShown → List ℕ
+shapes_of frame block =
+    joined (bands frame block ∷ lane_elements frame ∷ report_elements frame block ∷ row_elements frame block.second block.lines ∷ [])
+
 unfoldable pub framed : Frame → List (List ℕ) → RaceShown → List ℕ
 framed frame lines block =
-    joined (start_tag frame ∷ bands frame block ∷ lane_elements frame ∷ report_elements frame block ∷ row_elements frame block.second block.lines ∷ line_elements frame lines
-    ∷ legend_element frame ∷ codes "</svg>\n" ∷ [])
+    joined (start_tag frame ∷ shapes_of frame block ∷ line_elements frame lines ∷ legend_element frame ∷ codes "</svg>\n" ∷ [])
 
--- The picture of a race: what is behind, lanes, the pause, entries, and texts.
+-- The picture of a race: shapes, and texts over them.
 unfoldable pub picture_text : Contents → ℕ → RaceShown → List ℕ
 picture_text image race block = framed (frame_of (picture_lines image race block) block) (picture_lines image race block) block

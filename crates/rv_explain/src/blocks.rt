@@ -8,6 +8,7 @@ use crate::block::{Block, RaceClass, Side};
 use crate::fault::ExplainFault;
 use crate::names::{address_text, name_text};
 use crate::pieces::{copied, joined};
+use crate::row::Shown;
 use crate::rows::{instruction_text, shown_line};
 use rv_collide::ending::{Ending, Verdict};
 use rv_memory::flagged::WriteFault;
@@ -304,6 +305,16 @@ fn other_text(alloc: Global, symbols: &SymbolTable, block: &Block) -> Result<Vec
     joined(alloc, &[&line, b"\n", &side])
 }
 
+/// Both accesses.
+#[tactic(auto, unfolding(crate::specs::Blocks::accesses_text))]
+fn accesses_text(alloc: Global, symbols: &SymbolTable, block: &Block) -> Result<Vec<u8>, NoMemory>
+    ensures { IfOk result (λ text. text.items ≡ spec.accesses_text symbols.now (spec.shown_of block.now)) }
+{
+    let paused = paused_text(alloc, symbols, block)?;
+    let other = other_text(alloc, symbols, block)?;
+    joined(alloc, &[&paused, &other])
+}
+
 #[tactic(auto, unfolding(crate::specs::Blocks::head_text))]
 fn head_text(
     alloc: Global,
@@ -316,13 +327,29 @@ fn head_text(
 {
     let first = first_line(alloc, symbols, run, race, block)?;
     let reason = reason_text(alloc, symbols, block)?;
-    let paused = paused_text(alloc, symbols, block)?;
-    let other = other_text(alloc, symbols, block)?;
+    let accesses = accesses_text(alloc, symbols, block)?;
     let values = values_line(alloc, &block.ending)?;
     joined(
         alloc,
-        &[&first, b"\n", &reason, &paused, &other, &values, COLUMNS],
+        &[&first, b"\n", &reason, &accesses, &values, COLUMNS],
     )
+}
+
+/// Writes the line of an entry, or of some that are left out.
+fn write_line<O: Output>(
+    alloc: Global,
+    writer: &mut O,
+    symbols: &SymbolTable,
+    block: &Block,
+    shown: &Shown,
+) -> Result<(), ExplainFault>
+    ensures ok { OnOk result (Appends (O.written writer.old) (O.written writer.new)
+        (spec.entry_text symbols.now block.now.ending block.now.second shown.now)) }
+    ensures race { result ≢ Err ExplainFault.NoRace }
+    ensures failed { O.has_failed writer.new ≡ (O.has_failed writer.old || is_write_fault result) }
+{
+    let line = shown_line(alloc, symbols, &block.ending, block.second, shown)?;
+    Ok(put_pieces(writer, &[&line, b"\n"])?)
 }
 
 #[tactic(auto, unfolding(crate::specs::Blocks::lines_text))]
@@ -337,8 +364,7 @@ fn write_lines<O: Output>(
     ensures failed { O.has_failed writer.new ≡ (O.has_failed writer.old || is_write_fault result) }
 {
     for shown in &block.lines {
-        let line = shown_line(alloc, symbols, &block.ending, block.second, shown)?;
-        put_pieces(writer, &[&line, b"\n"])?;
+        write_line(alloc, writer, symbols, block, shown)?;
     }
     Ok(())
 }

@@ -103,6 +103,18 @@ fn start_tag(alloc: Global, frame: &Frame) -> Result<Vec<u8>, NoMemory>
     )
 }
 
+#[tactic(auto, unfolding(crate::specs::Picture::shapes_of))]
+fn shapes_of(alloc: Global, frame: &Frame, block: &Block) -> Result<Vec<u8>, NoMemory>
+    requires { length block.now.lines.items < 2 ^ 32 }
+    ensures { IfOk result (λ text. text.items ≡ spec.shapes_of frame.now (shown_of block.now)) }
+{
+    let bands = bands(alloc, frame, block)?;
+    let lanes = lane_elements(alloc, frame)?;
+    let report = report_elements(alloc, frame, block)?;
+    let rows = row_elements(alloc, frame, block.second, &block.lines)?;
+    joined(alloc, &[&bands, &lanes, &report, &rows])
+}
+
 #[tactic(auto, unfolding(crate::specs::Picture::framed))]
 fn framed(
     alloc: Global,
@@ -115,25 +127,10 @@ fn framed(
     ensures { IfOk result (λ text. text.items ≡ spec.framed frame.now (map (λ line. line.items) lines.now) (shown_of block.now)) }
 {
     let start = start_tag(alloc, frame)?;
-    let bands = bands(alloc, frame, block)?;
-    let lanes = lane_elements(alloc, frame)?;
-    let report = report_elements(alloc, frame, block)?;
-    let rows = row_elements(alloc, frame, block.second, &block.lines)?;
+    let shapes = shapes_of(alloc, frame, block)?;
     let texts = line_elements(alloc, frame, lines)?;
     let legend = legend_element(alloc, frame)?;
-    joined(
-        alloc,
-        &[
-            &start,
-            &bands,
-            &lanes,
-            &report,
-            &rows,
-            &texts,
-            &legend,
-            b"</svg>\n",
-        ],
-    )
+    joined(alloc, &[&start, &shapes, &texts, &legend, b"</svg>\n"])
 }
 
 /// The picture of a race, an SVG. `race` is its number.

@@ -142,28 +142,48 @@ fn lane_number(alloc: Global, frame: &Frame, hart: u32) -> Result<Vec<u8>, NoMem
     text_element(alloc, lane_x(hart), y, style, number.as_bytes())
 }
 
+/// A line from one point to another, and how it is drawn.
+#[tactic(auto, unfolding(crate::specs::Picture::stroke))]
+fn stroke(
+    alloc: Global,
+    x1: u64,
+    y1: u64,
+    x2: u64,
+    y2: u64,
+    style: &[u8],
+) -> Result<Vec<u8>, NoMemory>
+    ensures { IfOk result (λ element. element.items ≡ spec.stroke x1 y1 x2 y2 style.now) }
+{
+    let x1 = Decimal::new(x1);
+    let y1 = Decimal::new(y1);
+    let x2 = Decimal::new(x2);
+    let y2 = Decimal::new(y2);
+    joined(
+        alloc,
+        &[
+            b"<line x1='",
+            x1.as_bytes(),
+            b"' y1='",
+            y1.as_bytes(),
+            b"' x2='",
+            x2.as_bytes(),
+            b"' y2='",
+            y2.as_bytes(),
+            b"'",
+            style,
+            b"/>\n",
+        ],
+    )
+}
+
 /// A hart's lane, from the first entry to the last.
 #[tactic(auto, unfolding(crate::specs::Picture::lane_line))]
 fn lane_line(alloc: Global, frame: &Frame, hart: u32) -> Result<Vec<u8>, NoMemory>
     ensures { IfOk result (λ element. element.items ≡ spec.lane_line frame.now hart) }
 {
-    let x = Decimal::new(lane_x(hart));
-    let top = Decimal::new(frame.lanes_top());
-    let end = Decimal::new(frame.lanes_end());
-    joined(
-        alloc,
-        &[
-            b"<line x1='",
-            x.as_bytes(),
-            b"' y1='",
-            top.as_bytes(),
-            b"' x2='",
-            x.as_bytes(),
-            b"' y2='",
-            end.as_bytes(),
-            b"' stroke='#b8b8b8'/>\n",
-        ],
-    )
+    let x = lane_x(hart);
+    let style = b" stroke='#b8b8b8'";
+    stroke(alloc, x, frame.lanes_top(), x, frame.lanes_end(), style)
 }
 
 /// A hart's number, and its lane.
@@ -224,23 +244,11 @@ pub(crate) fn access_element(
 ) -> Result<Vec<u8>, NoMemory>
     ensures { IfOk result (λ element. element.items ≡ spec.access_element frame.now from into row) }
 {
-    let from = Decimal::new(lane_x(u32::from(from)));
-    let into = Decimal::new(lane_x(u32::from(into)));
-    let y = Decimal::new(frame.middle(row));
-    joined(
-        alloc,
-        &[
-            b"<line x1='",
-            from.as_bytes(),
-            b"' y1='",
-            y.as_bytes(),
-            b"' x2='",
-            into.as_bytes(),
-            b"' y2='",
-            y.as_bytes(),
-            b"' stroke='#b3001b' stroke-width='2'/>\n",
-        ],
-    )
+    let from = lane_x(u32::from(from));
+    let into = lane_x(u32::from(into));
+    let y = frame.middle(row);
+    let style = b" stroke='#b3001b' stroke-width='2'";
+    stroke(alloc, from, y, into, y, style)
 }
 
 /// Entries that are left out break the lanes.

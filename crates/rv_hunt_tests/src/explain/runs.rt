@@ -424,12 +424,18 @@ fn no_entries_around(rt: HostRuntime) {
     assert_text(&rt, rt.alloc(), &THE_LOST, 0, LOST_ALONE);
 }
 
+/// Asserts that the text of all races is not empty, and the same with other numbers.
+fn assert_same(rt: &impl Abort, alloc: Global, around: u32, other: (u32, Option<u64>), what: &str) {
+    let all = text_of(rt, alloc, &THE_LOST, around, None).expect(rt, "a text");
+    let same = text_of(rt, alloc, &THE_LOST, other.0, other.1).expect(rt, "a text");
+    assert_is(rt, all.is_empty(), false, "an empty text");
+    assert_is(rt, &same, &all, what);
+}
+
 #[test]
 fn all_entries_around(rt: HostRuntime) {
-    let all = text_of(&rt, rt.alloc(), &THE_LOST, 1000, None).expect(&rt, "a text");
-    let more = text_of(&rt, rt.alloc(), &THE_LOST, 4_294_967_295, None).expect(&rt, "a text");
-    assert_is(&rt, all.is_empty(), false, "an empty text");
-    assert_is(&rt, &all, &more, "no more than all");
+    let most = (4_294_967_295, None);
+    assert_same(&rt, rt.alloc(), 1000, most, "no more than all");
 }
 
 /// Hart 0 is paused at its load; hart 1 stores, and jumps to where nothing can be fetched.
@@ -647,10 +653,7 @@ fn no_report(rt: HostRuntime) {
 
 #[test]
 fn one_race_alone(rt: HostRuntime) {
-    let all = text_of(&rt, rt.alloc(), &THE_LOST, 3, None).expect(&rt, "a text");
-    let one = text_of(&rt, rt.alloc(), &THE_LOST, 3, Some(1)).expect(&rt, "a text");
-    assert_is(&rt, all.is_empty(), false, "an empty text");
-    assert_is(&rt, &one, &all, "the one race");
+    assert_same(&rt, rt.alloc(), 3, (3, Some(1)), "the one race");
 }
 
 fn assert_no_race(rt: &impl Abort, alloc: Global, number: u64) {
