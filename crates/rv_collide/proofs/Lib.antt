@@ -35,6 +35,7 @@ pub mod Replayed
 pub mod ReportLemmas
 pub mod Resumptions
 pub mod Rooms
+pub mod RowLemmas
 pub mod ScheduleLemmas
 pub mod Slots
 pub mod SpellLemmas

@@ -2,4 +2,5 @@ pub mod Before
 pub mod Capped
 pub mod Core
 pub mod GoesOn
+pub mod Row
 pub mod Told

@@ -38,6 +38,7 @@ use std::alloc::Global;
 use std::marker::Model;
 use std::snapshot::Snapshot;
 
+mod again;
 mod quick;
 mod sharing;
 

@@ -68,12 +68,15 @@ pub fn replay_up_to<S: ByteStore>(
     ensures ok { OnOk result (collider.new ≡ stored collider.old.image collider.old.plan (take until entries.now)) }
     ensures err { IfErr result (λ fault. IsReplayFault (setting_of collider.old) entries.now fault) }
 {
-    for i in collider.entries() as usize..until {
+    let begin = collider.entries() as usize;
+    let mut i = collider.steps_again(entries, begin, until);
+    while i < until {
         collider.facts();
         let place = collider.entries();
         if let Err(why) = again(collider, entries[i]) {
             return Err(fault_at(place, why));
         }
+        i = collider.steps_again(entries, i + 1, until);
     }
     Ok(())
 }

@@ -55,7 +55,7 @@ impl<S: ByteStore> Collider<S> {
     /// Lets a hart that may take a turn make a common step. Where addresses may be armed or pauses open, its access is kept
     /// back at an armed address, and shown to the claims. `PLACE` is that of `Machine::step_quick`.
     #[inline(always)]
-    fn step_on<const PLACE: u8>(&mut self, h: u8, word: u32, is_watched: bool) -> bool
+    pub(super) fn step_on<const PLACE: u8>(&mut self, h: u8, word: u32, is_watched: bool) -> bool
         requires accepted { is_ok (forced (setting_of self.old) self.old.entries (Turn h)) ≡ true }
         requires goes_on { is_watched ≡ false → GoesOn self.old h }
         requires unwatched { is_watched ≡ false → openings self.old.entries ≡ [] }

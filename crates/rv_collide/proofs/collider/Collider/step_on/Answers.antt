@@ -12,7 +12,6 @@ use Rattle.rv_hart.specs.Step.{step_of}
 use Rattle.rv_hart.specs.declared.access.Event.{Event}
 use Rattle.rv_break.specs.Breakpoints.{Breaks}
 use Rattle.rv_collide.specs.Answers.{IsEvent, IsWord, StepsOn}
-use Rattle.rv_collide.specs.Next.{runs_at}
 use Rattle.rv_collide.specs.Numbers.{numbers}
 use Rattle.rv_collide.specs.Stored.{Stored, setting_of, stored}
 use Rattle.rv_collide.specs.declared.entry.Entry.{Entry}
