@@ -1,6 +1,6 @@
 -- Texts that a loop writes, piece by piece, into a writer whose bytes may be known: what is left of them, and what one
 -- piece leaves.
-use Rattle.std.proofs.Common.{◌≡◌, ℕ, ◌+◌, ◌-◌, ◌<◌, ◌≤◌, List, [], ◌∷◌, ◌++◌, zero, suc, true, Option, None, Some, refl, subst, sym, ap, inl, inr, length, ◌∙◌, append_assoc, append-nil, arith}
+use Rattle.std.proofs.Common.{◌≡◌, ℕ, ◌+◌, ◌-◌, ◌<◌, ◌≤◌, List, [], ◌∷◌, ◌++◌, zero, suc, true, Option, None, Some, refl, subst, sym, ap, inl, inr, length, ◌∙◌, append_assoc, arith}
 use Rattle.std.specs.Prelude.{IsSomeAnd, codes, is_some, slice_get}
 use Rattle.std.specs.List.{flat_map, range_with_len}
 use Rattle.std.specs.Io.KnownBytes.{Appends}
@@ -11,11 +11,12 @@ use Rattle.std.specs.Fmt.{decimal}
 use Rattle.rv_gdb.specs.Features.{features_text, head, register_element, register_elements, tail, type_of}
 use Rattle.rv_gdb.specs.Replies.{or_refused}
 use Rattle.rv_gdb.specs.Shown.{bytes_text, register_text, registers_text, word_text}
-use Rattle.rv_gdb.specs.Stops.{hexadecimal}
+use Rattle.rv_gdb.specs.Stops.{hexadecimal, stop_text, thread_text, why_text}
+use Rattle.rv_gdb.specs.declared.stop.Stop.{Stop}
 use Rattle.rv_hart.specs.Registers.{get}
 use Rattle.rv_hart.specs.declared.hart.Hart.{Hart}
 use Rattle.rv_memory.specs.Memory.{Memory, byte}
-use Rattle.rv_text.specs.Hexadecimal.{byte_digits}
+use Rattle.rv_text.specs.Hexadecimal.{byte_digits, word_digits}
 
 -- Whoever writes this text next has written the whole one.
 pub record IsLeft (whole left : List ℕ) (before now : Option (List ℕ)) : Type 0 where
@@ -99,9 +100,26 @@ registers_end (Some hart) r pc before now end past is e put =
 
 -- ---- threads
 
--- a byte, and then the digits of a number, as they are put
-pub digits_put : (byte number : ℕ) (digits : List ℕ) (before now : Option (List ℕ)) → digits ≡ hexadecimal number → Appends before now (byte ∷ digits ++ []) → Appends before now (byte ∷ hexadecimal number)
-digits_put byte number digits before now is put = subst (Appends before now) (ap (λ text. byte ∷ text) (append-nil digits ∙ is)) put
+-- the first thread, with what all of them begin with
+pub first_thread : (before now : Option (List ℕ)) → Appends before now (codes "m1") → Appends before now (codes "m" ++ hexadecimal 1)
+unfolding hexadecimal word_digits byte_digits
+first_thread before now put = put
+
+-- ---- stops
+
+six : (a b c d e f : List ℕ) → ((((a ++ b) ++ c) ++ d) ++ e) ++ f ≡ a ++ (b ++ (c ++ (d ++ (e ++ f))))
+six a b c d e f =
+    append_assoc (((a ++ b) ++ c) ++ d) e f ∙ append_assoc ((a ++ b) ++ c) d (e ++ f) ∙ append_assoc (a ++ b) c (d ++ (e ++ f)) ∙ append_assoc a b (c ++ (d ++ (e ++ f)))
+
+-- the pieces of a stop, as they are put
+pub stop_joined : (stop : Stop) (digits front address end number : List ℕ) → digits ≡ byte_digits stop.signal → front ++ (address ++ end) ≡ why_text stop.why → number ≡ thread_text stop.hart
+    → codes "T" ++ (digits ++ (front ++ (address ++ (end ++ (codes "thread:" ++ (number ++ codes ";")))))) ≡ stop_text stop
+stop_joined stop digits front address end number signal why thread =
+    let rest = codes "thread:" ++ (number ++ codes ";") in
+    ap (λ text. codes "T" ++ (digits ++ text)) (ap (λ text. front ++ text) (sym (append_assoc address end rest)) ∙ sym (append_assoc front (address ++ end) rest) ∙ ap (λ text. text ++ rest) why)
+    ∙ ap (λ digits. codes "T" ++ (digits ++ (why_text stop.why ++ rest))) signal
+    ∙ ap (λ number. codes "T" ++ (byte_digits stop.signal ++ (why_text stop.why ++ (codes "thread:" ++ (number ++ codes ";"))))) thread
+    ∙ sym (six (codes "T") (byte_digits stop.signal) (why_text stop.why) (codes "thread:") (thread_text stop.hart) (codes ";"))
 
 -- ---- pieces
 

@@ -2,8 +2,6 @@ pub mod Action
 pub mod Chosen
 pub mod Features
 pub mod Fields
-pub mod Framed
-pub mod Framing
 pub mod Monitor
 pub mod Packet
 pub mod Points

@@ -9,7 +9,7 @@ use rv_text::pieces::Pieces;
 use std::marker::Model;
 
 /// What a thread is to do: a step, or to go on.
-#[derive(Clone, Copy, Debug, PartialEq, Eq)]
+#[derive(Clone, Copy)]
 pub struct Action {
     pub steps: bool,
     pub id: Id,
@@ -73,13 +73,22 @@ pub(crate) fn are_actions(text: &[u8]) -> bool
 fn read_action(text: &[u8]) -> Option<Action>
     ensures { result ≡ spec.action_in text.now }
 {
-    let (steps, id) = match text {
-        [b's', rest @ ..] => (true, read_aim(rest)?),
-        [b'c', rest @ ..] => (false, read_aim(rest)?),
-        [b'S', rest @ ..] => (true, read_aim(behind_signal(rest)?)?),
-        [b'C', rest @ ..] => (false, read_aim(behind_signal(rest)?)?),
+    match text {
+        [letter, rest @ ..] => read_action_of(*letter, rest),
+        [] => None,
+    }
+}
+
+/// The action of a letter: a capital one has a signal behind it.
+fn read_action_of(letter: u8, text: &[u8]) -> Option<Action>
+    ensures { result ≡ spec.action_at letter text.now }
+{
+    let id = match letter {
+        b's' | b'c' => read_aim(text)?,
+        b'S' | b'C' => read_aim(behind_signal(text)?)?,
         _ => return None,
     };
+    let steps = letter == b's' || letter == b'S';
     Some(Action { steps, id })
 }
 

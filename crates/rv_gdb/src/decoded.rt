@@ -1,9 +1,9 @@
 //! Bytes that a packet writes in hexadecimal digits.
 ghost use Rattle.std.specs.Prelude.{◌≡◌, ◌<◌, ◌≤◌, [], ◌∷◌, ◌++◌, length};
 ghost use Rattle.rv_gdb.specs.Fields.{byte_of, bytes_in};
-ghost use Rattle.rv_gdb.specs.declared.framing.TheConstants.{MOST_BYTES};
+ghost use Rattle.rv_remote.specs.declared.framing.TheConstants.{MOST_BYTES};
 
-use crate::framing::MOST_BYTES;
+use rv_remote::framing::MOST_BYTES;
 use rv_text::numeral::read_number;
 use std::marker::Model;
 

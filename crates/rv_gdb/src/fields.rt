@@ -11,14 +11,14 @@ use rv_text::pieces::Pieces;
 const MOST_DIGITS: usize = 8;
 
 /// A thread's number, from 1 on, or any thread.
-#[derive(Clone, Copy, Debug, PartialEq, Eq)]
+#[derive(Clone, Copy)]
 pub enum Id {
     Any,
     Thread(u32),
 }
 
 /// Some bytes: the first, and how many.
-#[derive(Clone, Copy, Debug, PartialEq, Eq)]
+#[derive(Clone, Copy)]
 pub struct Range {
     pub from: u32,
     pub length: u32,

@@ -6,7 +6,7 @@ use rv_text::hexadecimal::{WORD_DIGITS, word_digits};
 use std::marker::Model;
 
 /// The hexadecimal digits of a word, without leading zeros. It takes no memory.
-#[derive(Debug, Drop)]
+#[derive(Drop)]
 pub(crate) struct Hexadecimal {
     digits: [u8; WORD_DIGITS],
     first: usize,

@@ -9,8 +9,6 @@ pub mod chosen;
 mod decoded;
 pub mod features;
 pub mod fields;
-pub mod framed;
-pub mod framing;
 mod hexadecimal;
 pub mod monitor;
 pub mod packet;

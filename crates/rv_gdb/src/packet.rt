@@ -1,7 +1,7 @@
 //! What a packet asks, as `specs/Packet.antt` has it.
 ghost use Rattle.std.specs.Prelude.{◌≡◌, ◌≤◌, length};
 ghost use Rattle.rv_gdb.specs.Packet as spec;
-ghost use Rattle.rv_gdb.specs.declared.framing.TheConstants.{MOST_BYTES};
+ghost use Rattle.rv_remote.specs.declared.framing.TheConstants.{MOST_BYTES};
 
 use crate::action::{Actions, are_actions};
 use crate::decoded::decode;
@@ -14,7 +14,7 @@ use rv_text::pieces::Pieces;
 pub const MOST_SHOWN: u32 = 256;
 
 /// How the run is to go on, of one thread or of all.
-#[derive(Clone, Copy, Debug, PartialEq, Eq)]
+#[derive(Clone, Copy)]
 pub enum Move {
     Step,
     Continue,

@@ -17,7 +17,7 @@ pub enum Kind {
 }
 
 /// A point: what it stops at, and its bytes.
-#[derive(Clone, Copy, Debug, PartialEq, Eq)]
+#[derive(Clone, Copy)]
 pub struct Point {
     pub kind: Kind,
     pub bytes: Range,

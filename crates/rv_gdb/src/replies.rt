@@ -21,7 +21,7 @@ use rv_memory::store::ByteStore;
 use std::alloc::Global;
 
 /// Why a request is refused.
-#[derive(Clone, Copy, Debug, PartialEq, Eq)]
+#[derive(Clone, Copy)]
 pub enum Refusal {
     /// What stands behind the word that the request is known by is not as it should be.
     Malformed = 1,

@@ -7,7 +7,7 @@ use rv_memory::output::Output;
 use std::alloc::Global;
 
 /// The bytes that were put so far, and whether memory for some was refused.
-#[derive(Debug, Drop)]
+#[derive(Drop)]
 pub struct Sheet {
     bytes: Vec<u8>,
     failed: bool,

@@ -91,17 +91,24 @@ pub fn write_bytes<S: ByteStore, O: Output>(
     Ok(())
 }
 
+/// Writes the thread of a hart behind another one.
+fn write_next_thread<O: Output>(writer: &mut O, hart: u8) -> Result<(), WriteFault>
+    ensures ok { OnOk result (Appends (O.written writer.old) (O.written writer.new) (spec.next_thread hart)) }
+    ensures failed { O.has_failed writer.new ≡ (O.has_failed writer.old || is_err result) }
+{
+    let thread = Hexadecimal::new(u32::from(hart) + 1);
+    put_pieces(writer, &[b",", thread.as_bytes()])
+}
+
 /// Writes the threads of so many harts.
 pub fn write_threads<O: Output>(writer: &mut O, harts: u8) -> Result<(), WriteFault>
     requires { 1 ≤ harts }
     ensures ok { OnOk result (Appends (O.written writer.old) (O.written writer.new) (spec.threads_text harts)) }
     ensures failed { O.has_failed writer.new ≡ (O.has_failed writer.old || is_err result) }
 {
-    let first = Hexadecimal::new(1);
-    put_pieces(writer, &[b"m", first.as_bytes()])?;
+    writer.put(b"m1")?;
     for hart in 1..harts {
-        let thread = Hexadecimal::new(u32::from(hart) + 1);
-        put_pieces(writer, &[b",", thread.as_bytes()])?;
+        write_next_thread(writer, hart)?;
     }
     Ok(())
 }

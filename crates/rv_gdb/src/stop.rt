@@ -1,17 +1,17 @@
 //! Where the run stops, as `specs/Stops.antt` has it.
-ghost use Rattle.std.specs.Prelude.{◌≡◌, ◌∷◌, [], ◌++◌, ◌||◌, ◌<◌, is_err, OnOk, IfOk};
+ghost use Rattle.std.specs.Prelude.{◌≡◌, ◌∷◌, [], ◌++◌, ◌||◌, ◌<◌, is_err, OnOk, IfOk, codes};
 ghost use Rattle.std.specs.Io.KnownBytes.{Appends};
 ghost use Rattle.std.specs.String.{string_bytes};
-ghost use Rattle.rv_gdb.specs.Framed.{packet_of};
+ghost use Rattle.rv_remote.specs.Framed.{packet_of};
 ghost use Rattle.rv_gdb.specs.Stops as spec;
 
-use crate::framed::write_packet_of;
 use crate::hexadecimal::Hexadecimal;
 use crate::point::Kind;
 use crate::points::Sight;
 use rv_hart::hart::Cause;
 use rv_memory::flagged::WriteFault;
-use rv_memory::output::{Output, put_pieces};
+use rv_memory::output::Output;
+use rv_remote::framed::write_packet_of;
 use rv_text::hexadecimal::byte_digits;
 
 /// The signal where nothing went wrong.
@@ -31,7 +31,7 @@ pub enum Why {
 }
 
 /// A stop: its place and its hart, why, and the signal's number.
-#[derive(Clone, Copy, Debug, PartialEq, Eq)]
+#[derive(Clone, Copy)]
 pub struct Stop {
     pub place: u32,
     pub hart: u8,
@@ -39,46 +39,37 @@ pub struct Stop {
     pub signal: u8,
 }
 
-/// The name that a stop gives to a watchpoint.
-fn watch_name(kind: Kind) -> &'static [u8]
-    ensures { result.now ≡ spec.watch_name kind }
+/// What a stop gives before the address of a watchpoint: its name, and a colon.
+fn watch_front(kind: Kind) -> &'static [u8]
+    ensures { result.now ≡ spec.watch_name kind ++ codes ":" }
 {
     match kind {
-        Kind::Write => b"watch",
-        Kind::Read => b"rwatch",
-        Kind::Access => b"awatch",
-        Kind::Software | Kind::Hardware => b"",
+        Kind::Write => b"watch:",
+        Kind::Read => b"rwatch:",
+        Kind::Access => b"awatch:",
+        Kind::Software | Kind::Hardware => b":",
     }
 }
 
-/// Writes why the run stops.
-fn write_why<O: Output>(writer: &mut O, why: &Why) -> Result<(), WriteFault>
-    ensures ok { OnOk result (Appends (O.written writer.old) (O.written writer.new) (spec.why_text why.now)) }
+/// Writes the packet of a stop, with the text of why the run stops in three pieces.
+fn write_stop_by<'p, O: Output>(
+    writer: &mut O,
+    stop: &Stop,
+    front: &'p [u8],
+    address: &'p [u8],
+    end: &'p [u8],
+) -> Result<(), WriteFault>
+    requires { front.now ++ (address.now ++ end.now) ≡ spec.why_text stop.now.why }
+    ensures ok { OnOk result (Appends (O.written writer.old) (O.written writer.new) (packet_of (spec.stop_text stop.now))) }
     ensures failed { O.has_failed writer.new ≡ (O.has_failed writer.old || is_err result) }
 {
-    match why {
-        Why::Stands => writer.put(b""),
-        Why::Watched(sight) => {
-            let address = Hexadecimal::new(sight.address);
-            put_pieces(
-                writer,
-                &[watch_name(sight.kind), b":", address.as_bytes(), b";"],
-            )
-        }
-        Why::End => writer.put(b"replaylog:end;"),
-        Why::Begin => writer.put(b"replaylog:begin;"),
-    }
-}
-
-/// Writes what is told of a stop.
-pub fn write_stop<O: Output>(writer: &mut O, stop: &Stop) -> Result<(), WriteFault>
-    ensures ok { OnOk result (Appends (O.written writer.old) (O.written writer.new) (spec.stop_text stop.now)) }
-    ensures failed { O.has_failed writer.new ≡ (O.has_failed writer.old || is_err result) }
-{
+    let signal = byte_digits(stop.signal);
     let thread = Hexadecimal::new(u32::from(stop.hart) + 1);
-    put_pieces(writer, &[b"T", &byte_digits(stop.signal)])?;
-    write_why(writer, &stop.why)?;
-    put_pieces(writer, &[b"thread:", thread.as_bytes(), b";"])
+    let number = thread.as_bytes();
+    write_packet_of(
+        writer,
+        &[b"T", &signal, front, address, end, b"thread:", number, b";"],
+    )
 }
 
 /// Writes the packet of what is told of a stop. It takes no memory.
@@ -86,35 +77,20 @@ pub fn write_stop_packet<O: Output>(writer: &mut O, stop: &Stop) -> Result<(), W
     ensures ok { OnOk result (Appends (O.written writer.old) (O.written writer.new) (packet_of (spec.stop_text stop.now))) }
     ensures failed { O.has_failed writer.new ≡ (O.has_failed writer.old || is_err result) }
 {
-    let signal = byte_digits(stop.signal);
-    let number = Hexadecimal::new(u32::from(stop.hart) + 1);
-    let thread = number.as_bytes();
     match stop.why {
-        Why::Stands => write_packet_of(writer, &[b"T", &signal, b"thread:", thread, b";"]),
+        Why::Stands => write_stop_by(writer, stop, b"", b"", b""),
         Why::Watched(sight) => {
             let address = Hexadecimal::new(sight.address);
-            write_packet_of(
+            write_stop_by(
                 writer,
-                &[
-                    b"T",
-                    &signal,
-                    watch_name(sight.kind),
-                    b":",
-                    address.as_bytes(),
-                    b";thread:",
-                    thread,
-                    b";",
-                ],
+                stop,
+                watch_front(sight.kind),
+                address.as_bytes(),
+                b";",
             )
         }
-        Why::End => write_packet_of(
-            writer,
-            &[b"T", &signal, b"replaylog:end;thread:", thread, b";"],
-        ),
-        Why::Begin => write_packet_of(
-            writer,
-            &[b"T", &signal, b"replaylog:begin;thread:", thread, b";"],
-        ),
+        Why::End => write_stop_by(writer, stop, b"replaylog:end;", b"", b""),
+        Why::Begin => write_stop_by(writer, stop, b"replaylog:begin;", b"", b""),
     }
 }
 

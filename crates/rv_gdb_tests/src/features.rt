@@ -24,22 +24,23 @@ fn assert_part(
     assert_is(rt, bytes.len(), count, "length");
 }
 
+/// A place and a length, what the part begins and ends with, and how many bytes it has with its letter.
+type Part = ((u32, u32), &'static [u8], &'static [u8], usize);
+
+const PARTS: [Part; 8] = [
+    ((0, 507), b"m<?xml version=\"1.0\"?><!DOCTYPE", b"", 508),
+    ((0, 513), b"m<?xml", b"", 513),
+    ((1444, 507), b"m", b"</target", 508),
+    ((1444, 508), b"l", b"</target>", 509),
+    ((1951, 507), b"l>", b"l>", 2),
+    ((1952, 507), b"l", b"l", 1),
+    ((u32::MAX, u32::MAX), b"l", b"l", 1),
+    ((0, 0), b"m", b"m", 1),
+];
+
 #[test]
 fn hands_out_the_text_in_parts(rt: HostRuntime) {
-    let alloc = rt.alloc();
-    assert_part(
-        &rt,
-        alloc,
-        (0, 507),
-        b"m<?xml version=\"1.0\"?><!DOCTYPE",
-        b"",
-        508,
-    );
-    assert_part(&rt, alloc, (0, 513), b"m<?xml", b"", 513);
-    assert_part(&rt, alloc, (1444, 507), b"m", b"</target", 508);
-    assert_part(&rt, alloc, (1444, 508), b"l", b"</target>", 509);
-    assert_part(&rt, alloc, (1951, 507), b"l>", b"l>", 2);
-    assert_part(&rt, alloc, (1952, 507), b"l", b"l", 1);
-    assert_part(&rt, alloc, (u32::MAX, u32::MAX), b"l", b"l", 1);
-    assert_part(&rt, alloc, (0, 0), b"m", b"m", 1);
+    for (range, begins, ends, count) in &PARTS {
+        assert_part(&rt, rt.alloc(), *range, begins, ends, *count);
+    }
 }

@@ -1,6 +1,6 @@
 use crate::assertion::assert_is;
-use rv_gdb::framed::write_packet;
 use rv_gdb::sheet::Sheet;
+use rv_remote::framed::write_packet;
 
 const PACKETS: [(&str, &str); 4] = [
     ("", "$#00"),

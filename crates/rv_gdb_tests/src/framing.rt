@@ -1,5 +1,5 @@
 use crate::assertion::assert_is;
-use rv_gdb::framing::{Heard, Reading};
+use rv_remote::framing::{Heard, Reading};
 use std::process::Abort;
 
 /// What is heard of some bytes that is not `Nothing`, with the places of the bytes that told it.
@@ -17,41 +17,40 @@ fn assert_heard(rt: &impl Abort, bytes: &[u8], wanted: &[(usize, Heard)], what: 
     assert_is(rt, left.len(), 0, what);
 }
 
+const RIGHT: Heard = Heard::Packet(true);
+
+const WRONG: Heard = Heard::Packet(false);
+
+/// Some bytes, what is heard of them, and what they are.
+type Row = (&'static [u8], &'static [(usize, Heard)], &'static str);
+
+const HEARD: [Row; 11] = [
+    (b"$g#67", &[(4, RIGHT)], "a packet"),
+    (b"$g#68", &[(4, WRONG)], "another sum"),
+    (b"$g#6x", &[(4, WRONG)], "another byte for a digit"),
+    (b"$QStartNoAckMode#B0", &[(18, RIGHT)], "a capital digit"),
+    (b"$#00", &[(3, RIGHT)], "no data"),
+    (
+        b"+x#00-$?#3f-",
+        &[(5, Heard::Again), (10, RIGHT), (11, Heard::Again)],
+        "between packets",
+    ),
+    (
+        b"$-+#58$?#3f$g#67",
+        &[(5, RIGHT), (10, RIGHT), (15, RIGHT)],
+        "one after another",
+    ),
+    (b"$abc$g#67", &[(8, RIGHT)], "begun anew"),
+    (b"$abc#2$g#67", &[(10, RIGHT)], "begun anew in its digits"),
+    (b"$abc#26", &[(6, RIGHT)], "a sum that wraps"),
+    (b"$abc#2", &[], "cut"),
+];
+
 #[test]
 fn hears_packets(rt: HostRuntime) {
-    let right = Heard::Packet(true);
-    let wrong = Heard::Packet(false);
-    assert_heard(&rt, b"$g#67", &[(4, right)], "a packet");
-    assert_heard(&rt, b"$g#68", &[(4, wrong)], "another sum");
-    assert_heard(&rt, b"$g#6x", &[(4, wrong)], "another byte for a digit");
-    assert_heard(
-        &rt,
-        b"$QStartNoAckMode#B0",
-        &[(18, right)],
-        "a capital digit",
-    );
-    assert_heard(&rt, b"$#00", &[(3, right)], "no data");
-    assert_heard(
-        &rt,
-        b"+x#00-$?#3f-",
-        &[(5, Heard::Again), (10, right), (11, Heard::Again)],
-        "between packets",
-    );
-    assert_heard(
-        &rt,
-        b"$-+#58$?#3f$g#67",
-        &[(5, right), (10, right), (15, right)],
-        "one after another",
-    );
-    assert_heard(&rt, b"$abc$g#67", &[(8, right)], "begun anew");
-    assert_heard(
-        &rt,
-        b"$abc#2$g#67",
-        &[(10, right)],
-        "begun anew in its digits",
-    );
-    assert_heard(&rt, b"$abc#26", &[(6, right)], "a sum that wraps");
-    assert_heard(&rt, b"$abc#2", &[], "cut");
+    for (bytes, wanted, what) in &HEARD {
+        assert_heard(&rt, bytes, wanted, what);
+    }
 }
 
 #[test]

@@ -88,15 +88,24 @@ impl Lines {
     }
 }
 
-fn why_of(rt: &impl Abort, alloc: Global, reason: Reason) -> String {
-    match reason {
-        Reason::Plain => format!(in alloc; "").expect(rt, "memory"),
-        Reason::Seen(2, address) => format!(in alloc; "watch:{address:x};").expect(rt, "memory"),
-        Reason::Seen(3, address) => format!(in alloc; "rwatch:{address:x};").expect(rt, "memory"),
-        Reason::Seen(_, address) => format!(in alloc; "awatch:{address:x};").expect(rt, "memory"),
-        Reason::End => format!(in alloc; "replaylog:end;").expect(rt, "memory"),
-        Reason::Begin => format!(in alloc; "replaylog:begin;").expect(rt, "memory"),
+fn watch_name(kind: u8) -> &'static str {
+    match kind {
+        2 => "watch",
+        3 => "rwatch",
+        _ => "awatch",
     }
+}
+
+fn why_of(rt: &impl Abort, alloc: Global, reason: Reason) -> String {
+    let why = match reason {
+        Reason::Seen(kind, address) => {
+            return format!(in alloc; "{}:{address:x};", watch_name(kind)).expect(rt, "memory");
+        }
+        Reason::Plain => "",
+        Reason::End => "replaylog:end;",
+        Reason::Begin => "replaylog:begin;",
+    };
+    format!(in alloc; "{why}").expect(rt, "memory")
 }
 
 // ---- the packets

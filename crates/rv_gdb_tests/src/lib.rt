@@ -1,4 +1,4 @@
-//! The tests of rv_gdb, rv_retrace and rv_stub, which serve a saved run to GDB.
+//! The tests of rv_remote, rv_gdb, rv_retrace and rv_stub, which serve a saved run to GDB.
 //!
 //! They stand in a crate of their own, so that those are not proved a second time with their tests.
 #![tactic(auto)]
@@ -21,7 +21,8 @@ mod going_on;
 mod monitor;
 #[cfg(test)]
 mod packet;
-pub mod parts;
+#[cfg(test)]
+mod parts;
 #[cfg(test)]
 mod plain;
 #[cfg(test)]

@@ -1,10 +1,10 @@
 use crate::assertion::assert_is;
 use rv_gdb::action::{Action, Actions};
 use rv_gdb::fields::Id;
-use rv_gdb::framing::MOST_BYTES;
 use rv_gdb::monitor::Order;
 use rv_gdb::packet::{Move, Request, read_request};
 use rv_gdb::point::Kind;
+use rv_remote::framing::MOST_BYTES;
 use std::process::Abort;
 
 /// A number for each thing that a packet may ask, with what it holds: what tests compare.

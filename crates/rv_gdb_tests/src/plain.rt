@@ -8,7 +8,7 @@ use std::alloc::Global;
 use std::process::Abort;
 
 /// A step: its place, its hart, where that stood, what it accessed, and how it left the hart.
-#[derive(Clone, Copy, Debug, PartialEq, Eq)]
+#[derive(Clone, Copy)]
 pub struct Made {
     place: u32,
     hart: u8,
@@ -32,7 +32,7 @@ pub struct Going {
     pub of_all: bool,
 }
 
-#[derive(Clone, Copy, Debug, PartialEq, Eq)]
+#[derive(Clone, Copy)]
 pub enum Reason {
     Plain,
     Seen(u8, u32),
@@ -40,7 +40,7 @@ pub enum Reason {
     Begin,
 }
 
-#[derive(Clone, Copy, Debug, PartialEq, Eq)]
+#[derive(Clone, Copy)]
 pub struct Stop {
     pub place: u32,
     pub hart: u8,

@@ -2,7 +2,7 @@ use crate::assertion::assert_is;
 use rv_gdb::point::Kind;
 use rv_gdb::points::Sight;
 use rv_gdb::sheet::Sheet;
-use rv_gdb::stop::{Stop, Why, signal_of, write_stop};
+use rv_gdb::stop::{Stop, Why, signal_of, write_stop_packet};
 use rv_hart::hart::Cause;
 
 /// The causes in their order, and the numbers of SIGBUS, SIGSEGV, SIGILL, SIGTRAP and SIGSYS.
@@ -25,12 +25,13 @@ fn tells_causes_by_signals(rt: HostRuntime) {
     }
 }
 
+/// A hart, a signal and why, and the packet.
 const STOPS: [(u8, u8, Why, &str); 7] = [
-    (0, 5, Why::Stands, "T05thread:1;"),
-    (15, 0, Why::Stands, "T00thread:10;"),
-    (9, 10, Why::Stands, "T0athread:a;"),
-    (1, 5, Why::End, "T05replaylog:end;thread:2;"),
-    (1, 5, Why::Begin, "T05replaylog:begin;thread:2;"),
+    (0, 5, Why::Stands, "$T05thread:1;#d7"),
+    (15, 0, Why::Stands, "$T00thread:10;#02"),
+    (9, 10, Why::Stands, "$T0athread:a;#33"),
+    (1, 5, Why::End, "$T05replaylog:end;thread:2;#53"),
+    (1, 5, Why::Begin, "$T05replaylog:begin;thread:2;#21"),
     (
         2,
         5,
@@ -38,7 +39,7 @@ const STOPS: [(u8, u8, Why, &str); 7] = [
             kind: Kind::Read,
             address: 0xabc,
         }),
-        "T05rwatch:abc;thread:3;",
+        "$T05rwatch:abc;thread:3;#fd",
     ),
     (
         2,
@@ -47,7 +48,7 @@ const STOPS: [(u8, u8, Why, &str); 7] = [
             kind: Kind::Access,
             address: 0xffff_ffff,
         }),
-        "T05awatch:ffffffff;thread:3;",
+        "$T05awatch:ffffffff;thread:3;#f6",
     ),
 ];
 
@@ -61,7 +62,7 @@ fn writes_stops(rt: HostRuntime) {
             why: *why,
             signal: *signal,
         };
-        let written = write_stop(&mut sheet, &stop);
+        let written = write_stop_packet(&mut sheet, &stop);
         assert_is(&rt, written.is_ok(), true, "written");
         assert_is(&rt, sheet.as_bytes(), wanted.as_bytes(), wanted);
     }

@@ -8,7 +8,7 @@ use rv_hart::machine::MOST_HARTS;
 pub type Harts = [bool; MOST_HARTS as usize];
 
 /// Of the harts, which may stop the run, and which of those are to make a step.
-#[derive(Clone, Copy, Debug, PartialEq, Eq)]
+#[derive(Clone, Copy)]
 pub struct Aims {
     pub among: Harts,
     pub stepping: Harts,

@@ -18,7 +18,7 @@ use rv_hart::machine::MOST_HARTS;
 use rv_memory::store::NoMemory;
 
 /// Steps of one hart alone, which have passed others' stops: the way, the hart, and the place where they began.
-#[derive(Clone, Copy, Debug, PartialEq, Eq)]
+#[derive(Clone, Copy)]
 pub struct Passed {
     pub way: Way,
     pub hart: u8,

@@ -14,14 +14,14 @@ use rv_gdb::packet::Move;
 use rv_hart::machine::MOST_HARTS;
 
 /// Forwards or back over the record.
-#[derive(Clone, Copy, Debug, PartialEq, Eq)]
+#[derive(Clone, Copy)]
 pub enum Way {
     Forwards,
     Back,
 }
 
 /// How a run goes on: the way, whose steps stop it, and whether all of its stops are told.
-#[derive(Clone, Copy, Debug, PartialEq, Eq)]
+#[derive(Clone, Copy)]
 pub struct Resumption {
     pub way: Way,
     pub aims: Aims,

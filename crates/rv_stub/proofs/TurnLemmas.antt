@@ -3,10 +3,10 @@ use Rattle.std.proofs.Common.{◌≡◌, ℕ, Bool, true, false, List, [], ◌++
 use Rattle.std.specs.Prelude.{◌&&◌, MatchBool, codes, if◌then◌else◌, not}
 use Rattle.std.specs.Io.KnownBytes.{Appends}
 use Rattle.std.proofs.KnownBytes.{Appends-nil, Appends-trans}
-use Rattle.rv_gdb.specs.Framed.{packet_of}
-use Rattle.rv_gdb.specs.Framing.{heard}
-use Rattle.rv_gdb.specs.declared.framing.Heard.{Heard}
-use Rattle.rv_gdb.specs.declared.framing.Heard.TheVariants.{Again, Nothing, Packet}
+use Rattle.rv_remote.specs.Framed.{packet_of}
+use Rattle.rv_remote.specs.Framing.{heard}
+use Rattle.rv_remote.specs.declared.framing.Heard.{Heard}
+use Rattle.rv_remote.specs.declared.framing.Heard.TheVariants.{Again, Nothing, Packet}
 use Rattle.rv_gdb.specs.declared.packet.Request.{Request}
 use Rattle.rv_stub.specs.Answers.{Answer, IsAnswer}
 use Rattle.rv_stub.specs.Heard.{Conversation, IsAcknowledged, IsTaken, IsTold, IsTurn, Turn, Turns, again, answering, ending, kills, requested, with_byte, writes}

@@ -2,12 +2,12 @@
 use Rattle.std.specs.Prelude.{◌≡◌, ℕ, ◌&&◌, Bool, true, false, nat_le, not, MatchBool, if◌then◌else◌, Option, Some, None, option_and_then, List, [], ◌++◌, codes, length}
 use Rattle.std.specs.Option.{option_map_or}
 use Rattle.rv_debug.specs.Placed.{Placed}
-use Rattle.rv_gdb.specs.Framed.{packet_of}
-use Rattle.rv_gdb.specs.Framing.{Reading, heard, next, silence}
+use Rattle.rv_remote.specs.Framed.{packet_of}
+use Rattle.rv_remote.specs.Framing.{Reading, heard, next, silence}
 use Rattle.rv_gdb.specs.Packet.{request_of}
-use Rattle.rv_gdb.specs.declared.framing.Heard.{Heard}
-use Rattle.rv_gdb.specs.declared.framing.Heard.TheVariants.{Nothing, Again, Packet}
-use Rattle.rv_gdb.specs.declared.framing.TheConstants.{MOST_BYTES}
+use Rattle.rv_remote.specs.declared.framing.Heard.{Heard}
+use Rattle.rv_remote.specs.declared.framing.Heard.TheVariants.{Nothing, Again, Packet}
+use Rattle.rv_remote.specs.declared.framing.TheConstants.{MOST_BYTES}
 use Rattle.rv_gdb.specs.declared.packet.Request.{Request}
 use Rattle.rv_gdb.specs.declared.packet.Request.TheVariants as asks
 use Rattle.rv_stub.specs.Answers.{Answer, IsAnswer}

@@ -3,7 +3,7 @@ use rv_memory::flagged::WriteFault;
 use rv_memory::store::NoMemory;
 
 /// A growth was refused.
-#[derive(Clone, Copy, Debug, PartialEq, Eq)]
+#[derive(Clone, Copy)]
 pub struct NoRoom;
 
 impl From<NoMemory> for NoRoom {

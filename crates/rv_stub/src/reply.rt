@@ -1,20 +1,20 @@
 //! The answer to a packet, before it is written.
 ghost use Rattle.std.specs.Prelude.{◌≡◌, ◌||◌, is_err, IfOk, OnOk};
 ghost use Rattle.std.specs.Io.KnownBytes.{Appends};
-ghost use Rattle.rv_gdb.specs.Framed.{packet_of};
+ghost use Rattle.rv_remote.specs.Framed.{packet_of};
 ghost use Rattle.rv_gdb.specs.Replies.{refusal_text};
 ghost use Rattle.rv_gdb.specs.Sheet.{bytes};
 ghost use Rattle.rv_gdb.specs.Shown.{digits_of};
 ghost use Rattle.rv_stub.specs.Reply as spec;
 
 use crate::no_room::NoRoom;
-use rv_gdb::framed::write_packet;
 use rv_gdb::replies::Refusal;
 use rv_gdb::sheet::Sheet;
 use rv_gdb::shown::write_digits;
 use rv_gdb::stop::{Stop, write_stop_packet};
 use rv_memory::flagged::WriteFault;
 use rv_memory::output::Output;
+use rv_remote::framed::write_packet;
 use std::alloc::Global;
 
 /// What is answered. Only a text that was gathered has taken memory.

@@ -1,10 +1,10 @@
 //! A talk: bytes in, answers out.
-ghost use Rattle.std.specs.Prelude.{◌≡◌, ◌<◌, ◌≤◌, ◌&&◌, ◌||◌, false, not, is_err, IfErr, IfSome, OnOk, codes, if◌then◌else◌};
-ghost use Rattle.std.specs.Io.KnownBytes.{Appends, Keeps};
+ghost use Rattle.std.specs.Prelude.{◌≡◌, ◌<◌, ◌≤◌, ◌&&◌, ◌||◌, false, not, is_err, IfErr, IfSome, OnOk};
+ghost use Rattle.std.specs.Io.KnownBytes.{Appends};
 ghost use Rattle.rv_debug.specs.Fault.{fails_by, is_read, is_write};
 ghost use Rattle.rv_memory.specs.Buffered as buffer;
 ghost use Rattle.rv_memory.specs.Flagged as flag;
-ghost use Rattle.rv_gdb.specs.declared.framing.Heard.TheVariants as heard_is;
+ghost use Rattle.rv_remote.specs.declared.framing.Heard.TheVariants as heard_is;
 ghost use Rattle.rv_stub.specs.Heard as spec;
 ghost use Rattle.rv_stub.specs.Met.{endings_of};
 ghost use Rattle.rv_stub.specs.Talk as talk;
@@ -14,11 +14,12 @@ use crate::state::Talk;
 use rv_collide::ending::Ending;
 use rv_debug::fault::TalkFault;
 use rv_debug::session::Session;
-use rv_gdb::framing::{Heard, MOST_BYTES, Reading};
 use rv_gdb::packet::{Request, read_request};
 use rv_memory::buffered::Buffered;
 use rv_memory::flagged::{Flagged, INPUT_LIMIT, WriteFault};
 use rv_memory::output::Output;
+use rv_remote::framing::{Heard, MOST_BYTES, Reading};
+use rv_remote::sending::{acknowledge, send_last};
 use std::alloc::Global;
 use std::io::{Read, Write};
 use std::marker::Model;
@@ -216,23 +217,6 @@ fn within(count: usize, left: usize) -> usize
     ensures cut { result < count → result ≡ left }
 {
     if count < left { count } else { left }
-}
-
-/// Writes whether a packet is taken, and flushes it before the answer is looked for.
-fn acknowledge<W: Write>(writer: &mut Buffered<W>, right: bool) -> Result<(), WriteFault>
-    ensures ok { OnOk result (Appends (buffer.written W.contents writer.old) (buffer.written W.contents writer.new) (if right then codes "+" else codes "-")) }
-    ensures failed { buffer.has_failed writer.new ≡ (buffer.has_failed writer.old || is_err result) }
-{
-    writer.put(if right { b"+" } else { b"-" })?;
-    writer.finish()
-}
-
-/// Sends the last answers: nothing is put after them.
-fn send_last<W: Write>(answers: &mut Buffered<W>) -> Result<(), WriteFault>
-    ensures sent { OnOk result (Keeps (buffer.written W.contents answers.old) (buffer.sent W.contents answers.new)) }
-    ensures failed { buffer.has_failed answers.new ≡ (buffer.has_failed answers.old || is_err result) }
-{
-    answers.finish()
 }
 
 impl Conversation {

@@ -23,7 +23,7 @@ use rv_report::exhibiting::{endings_are_of_pauses, writes_over};
 use std::alloc::Global;
 
 /// An access of a hart other than the paused one: the place of its entry, and the hart.
-#[derive(Clone, Copy, Debug, PartialEq, Eq)]
+#[derive(Clone, Copy)]
 pub struct Met {
     pub place: u32,
     pub hart: u8,

@@ -29,14 +29,14 @@ use rv_text::decimal::Decimal;
 use std::alloc::Global;
 
 /// Where a pause began, and the slot that watches it.
-#[derive(Clone, Copy, Debug, PartialEq, Eq)]
+#[derive(Clone, Copy)]
 pub struct Began {
     pub place: u32,
     pub slot: Option<u8>,
 }
 
 /// A pause: where it began, and the access that the hart would have made there.
-#[derive(Clone, Copy, Debug, PartialEq, Eq)]
+#[derive(Clone, Copy)]
 pub struct Pause {
     pub slot: Option<u8>,
     pub access: Access,

@@ -2,11 +2,11 @@
 use Rattle.std.specs.Prelude.{ℕ, ◌+◌, ◌%◌, ◌==◌, Bool, false, nat_lt, if◌then◌else◌, Option, Some, None, option_and_then, List, [], ◌∷◌, ◌++◌, length}
 use Rattle.std.specs.Option.{option_map_or}
 use Rattle.rv_text.specs.Numeral.{number_of, up_to}
-use Rattle.rv_gdb.specs.declared.framing.TheConstants.{MOST_BYTES}
-use Rattle.rv_gdb.specs.declared.framing.Stage.{Stage}
-use Rattle.rv_gdb.specs.declared.framing.Stage.TheVariants.{Outside, Inside, First, Second}
-use Rattle.rv_gdb.specs.declared.framing.Heard.{Heard}
-use Rattle.rv_gdb.specs.declared.framing.Heard.TheVariants.{Nothing, Again, Packet}
+use Rattle.rv_remote.specs.declared.framing.TheConstants.{MOST_BYTES}
+use Rattle.rv_remote.specs.declared.framing.Stage.{Stage}
+use Rattle.rv_remote.specs.declared.framing.Stage.TheVariants.{Outside, Inside, First, Second}
+use Rattle.rv_remote.specs.declared.framing.Heard.{Heard}
+use Rattle.rv_remote.specs.declared.framing.Heard.TheVariants.{Nothing, Again, Packet}
 
 -- A packet is `$` (36), its data, `#` (35) and two hexadecimal digits, the sum of the data modulo 256. (GDB's manual,
 -- "Overview" of the Remote Serial Protocol.) This is what was read of one, or of the last one: what the next byte is

@@ -1,6 +1,6 @@
 -- the sum of the bytes so far
 use Rattle.std.proofs.Common.{◌≡◌, ◌%◌, sum, take}
-use Rattle.rv_gdb.proofs.framed.sum_of.Given as goal
+use Rattle.rv_remote.proofs.framed.sum_of.Given as goal
 
 abbrev pub invariant-loop-byte : goal.invariant-loop-byte
 invariant-loop-byte l = l.total ≡ sum (take l.byte-index l.bytes) % 256

@@ -2,7 +2,7 @@
 ghost use Rattle.std.specs.Prelude.{◌≡◌, ◌%◌, ◌||◌, is_err, sum, OnOk};
 ghost use Rattle.std.specs.Io.KnownBytes.{Appends};
 ghost use Rattle.std.specs.List.{flat_map};
-ghost use Rattle.rv_gdb.specs.Framed as spec;
+ghost use Rattle.rv_remote.specs.Framed as spec;
 
 use rv_memory::flagged::WriteFault;
 use rv_memory::output::{Output, put_pieces};

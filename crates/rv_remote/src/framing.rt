@@ -1,8 +1,8 @@
 //! Bytes to packets, as `specs/Framing.antt` has it: a byte at a time, so that nothing more is ever waited for.
 ghost use Rattle.std.specs.Prelude.{◌≡◌, ◌==◌, Some};
 ghost use Rattle.std.specs.Option.{option_copied};
-ghost use Rattle.rv_gdb.specs.Framing as spec;
-ghost use Rattle.rv_gdb.specs.declared.framing.Stage.TheVariants as stage;
+ghost use Rattle.rv_remote.specs.Framing as spec;
+ghost use Rattle.rv_remote.specs.declared.framing.Stage.TheVariants as stage;
 
 use rv_text::numeral::read_number;
 use std::marker::Model;
@@ -11,7 +11,7 @@ use std::marker::Model;
 pub const MOST_BYTES: usize = 512;
 
 /// What the next byte is part of.
-#[derive(Clone, Copy, Debug, PartialEq, Eq)]
+#[derive(Clone, Copy)]
 pub enum Stage {
     /// Of no packet.
     Outside,
@@ -45,8 +45,8 @@ pub struct Reading {
 
 impl Model for Reading {
     ghost use Rattle.std.specs.Prelude.{◌≤◌, nat_le, if◌then◌else◌, Some, None, take};
-    ghost use Rattle.rv_gdb.specs.Framing.{Reading};
-    ghost use Rattle.rv_gdb.specs.declared.framing.TheConstants.{MOST_BYTES};
+    ghost use Rattle.rv_remote.specs.Framing.{Reading};
+    ghost use Rattle.rv_remote.specs.declared.framing.TheConstants.{MOST_BYTES};
 
     ghost Value = { Reading };
 
