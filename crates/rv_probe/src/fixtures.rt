@@ -1,7 +1,7 @@
 //! The rows that calls are made on.
 use crate::refusal::Refusal;
 use rv_asm::assemble;
-use rv_collide::collider::{Collider, Turned};
+use rv_collide::collider::Collider;
 use rv_collide::entry::Entry;
 use rv_collide::plan::Plan;
 use rv_collide::schedule::read_schedule;
@@ -45,7 +45,11 @@ pub(crate) fn plan(harts: u8, steps: u32, arms: u32, pause: u32) -> Result<Plan,
 /// A core that has made no turn.
 pub(crate) fn new_core<S: ByteStore>(alloc: Global, plan: Plan) -> Result<Collider<S>, Refusal> {
     let image = image(alloc)?;
-    Ok(Collider::new(alloc, &image, plan)?)
+    core_of(alloc, &image, plan)
+}
+
+fn core_of<S: ByteStore>(alloc: Global, image: &Image, plan: Plan) -> Result<Collider<S>, Refusal> {
+    Ok(Collider::new(alloc, image, plan)?)
 }
 
 /// A core over pages whose harts have made their first step.
@@ -55,16 +59,11 @@ pub(crate) fn begun(alloc: Global) -> Result<Collider<Paged>, Refusal> {
     Ok(collider)
 }
 
+/// Nothing is armed, so that each turn is a step.
 fn make_first_steps(collider: &mut Collider<Paged>) -> Result<(), Refusal> {
-    step(collider, 0)?;
-    step(collider, 1)
-}
-
-fn step(collider: &mut Collider<Paged>, hart: u8) -> Result<(), Refusal> {
-    match collider.turn(hart)? {
-        Turned::Stepped(_) => Ok(()),
-        Turned::Paused(_) => Err(Refusal::Other),
-    }
+    let _stepped = collider.turn(0)?;
+    let _stepped = collider.turn(1)?;
+    Ok(())
 }
 
 /// A machine over pages whose harts have made their first step.
@@ -80,7 +79,12 @@ pub(crate) fn session(alloc: Global, place: u32) -> Result<Session, Refusal> {
 }
 
 fn session_of_a_hit(alloc: Global) -> Result<Session, Refusal> {
-    let (plan, entries) = schedule(alloc, HIT)?;
     let image = image(alloc)?;
-    Ok(Session::new(alloc, &image, plan, entries)?)
+    session_of(alloc, &image)
+}
+
+/// The session of a hit, over its image: no exit drops the image beside the entries.
+fn session_of(alloc: Global, image: &Image) -> Result<Session, Refusal> {
+    let (plan, entries) = schedule(alloc, HIT)?;
+    Ok(Session::new(alloc, image, plan, entries)?)
 }

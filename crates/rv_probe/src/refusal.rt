@@ -72,7 +72,7 @@ impl From<LoadFault> for Refusal {
 
 impl From<AsmFault> for Refusal {
     fn from(fault: AsmFault) -> Refusal {
-        Refusal::by_memory(fault.kind == AsmKind::NoMemory)
+        Refusal::by_memory(matches!(fault.kind, AsmKind::NoMemory))
     }
 }
 
@@ -117,7 +117,7 @@ impl From<ReplayFault> for Refusal {
 
 impl From<ScheduleFault> for Refusal {
     fn from(fault: ScheduleFault) -> Refusal {
-        Refusal::by_memory(fault.kind == ScheduleKind::NoMemory)
+        Refusal::by_memory(matches!(fault.kind, ScheduleKind::NoMemory))
     }
 }
 

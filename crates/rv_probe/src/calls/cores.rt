@@ -43,29 +43,74 @@ pub(crate) fn reads_a_schedule<O: Output>(alloc: Global, screen: &mut O) -> Resu
     probe(screen, Reading { alloc })
 }
 
+/// What is made of an image and a plan.
+#[derive(Clone, Copy)]
+enum Asked {
+    Core,
+    Run,
+    Watched,
+}
+
+/// What comes of it.
 #[derive(Drop)]
-struct Beginning {
+enum Made {
+    Core(Collider<Flat>),
+    Run(Finished),
+    Watched(Watched),
+}
+
+#[derive(Drop)]
+struct OfPlan {
     alloc: Global,
     image: Image,
     plan: Plan,
+    asked: Asked,
 }
 
-impl Probed for Beginning {
-    type Answer = Collider<Flat>;
+impl Probed for OfPlan {
+    type Answer = Made;
 
-    fn call(&mut self) -> Result<Collider<Flat>, Refusal> {
-        Ok(Collider::new(self.alloc, &self.image, self.plan)?)
+    fn call(&mut self) -> Result<Made, Refusal> {
+        let (image, plan) = (&self.image, self.plan);
+        match self.asked {
+            Asked::Core => Ok(Made::Core(Collider::new(self.alloc, image, plan)?)),
+            Asked::Run => Ok(Made::Run(run_one(self.alloc, image, plan, 1, 0, &[])?)),
+            Asked::Watched => Ok(Made::Watched(Watched::new(self.alloc, image, plan, 1)?)),
+        }
     }
 
-    fn write_answer<O: Output>(answer: &Collider<Flat>, screen: &mut O) -> Result<(), WriteFault> {
-        write_collider(screen, answer)
+    fn write_answer<O: Output>(answer: &Made, screen: &mut O) -> Result<(), WriteFault> {
+        match answer {
+            Made::Core(collider) => write_collider(screen, collider),
+            Made::Run(told) => write_told(screen, told),
+            Made::Watched(watched) => write_collider(screen, watched.collider()),
+        }
     }
+}
+
+fn asks<O: Output>(alloc: Global, screen: &mut O, plan: Plan, asked: Asked) -> Result<(), Failure> {
+    let image = image(alloc)?;
+    probe(
+        screen,
+        OfPlan {
+            alloc,
+            image,
+            plan,
+            asked,
+        },
+    )
 }
 
 pub(crate) fn begins<O: Output>(alloc: Global, screen: &mut O) -> Result<(), Failure> {
-    let plan = plan(2, 100, 8, 10)?;
-    let image = image(alloc)?;
-    probe(screen, Beginning { alloc, image, plan })
+    asks(alloc, screen, plan(2, 100, 8, 10)?, Asked::Core)
+}
+
+pub(crate) fn runs_once<O: Output>(alloc: Global, screen: &mut O) -> Result<(), Failure> {
+    asks(alloc, screen, plan(2, 100, 4, 5)?, Asked::Run)
+}
+
+pub(crate) fn begins_watched<O: Output>(alloc: Global, screen: &mut O) -> Result<(), Failure> {
+    asks(alloc, screen, plan(2, 100, 4, 5)?, Asked::Watched)
 }
 
 #[derive(Drop)]
@@ -153,56 +198,6 @@ fn overlap(alloc: Global) -> Result<Overlapping, Refusal> {
 /// The calls of a core over plain memory, none of which asks for memory.
 pub(crate) fn takes_no_memory<O: Output>(alloc: Global, screen: &mut O) -> Result<(), Failure> {
     probe(screen, overlap(alloc)?)
-}
-
-#[derive(Drop)]
-struct Running {
-    alloc: Global,
-    image: Image,
-    plan: Plan,
-}
-
-impl Probed for Running {
-    type Answer = Finished;
-
-    fn call(&mut self) -> Result<Finished, Refusal> {
-        Ok(run_one(self.alloc, &self.image, self.plan, 1, 0, &[])?)
-    }
-
-    fn write_answer<O: Output>(answer: &Finished, screen: &mut O) -> Result<(), WriteFault> {
-        write_told(screen, answer)
-    }
-}
-
-pub(crate) fn runs_once<O: Output>(alloc: Global, screen: &mut O) -> Result<(), Failure> {
-    let plan = plan(2, 100, 4, 5)?;
-    let image = image(alloc)?;
-    probe(screen, Running { alloc, image, plan })
-}
-
-#[derive(Drop)]
-struct Watching {
-    alloc: Global,
-    image: Image,
-    plan: Plan,
-}
-
-impl Probed for Watching {
-    type Answer = Watched;
-
-    fn call(&mut self) -> Result<Watched, Refusal> {
-        Ok(Watched::new(self.alloc, &self.image, self.plan, 1)?)
-    }
-
-    fn write_answer<O: Output>(answer: &Watched, screen: &mut O) -> Result<(), WriteFault> {
-        write_collider(screen, answer.collider())
-    }
-}
-
-pub(crate) fn begins_watched<O: Output>(alloc: Global, screen: &mut O) -> Result<(), Failure> {
-    let plan = plan(2, 100, 4, 5)?;
-    let image = image(alloc)?;
-    probe(screen, Watching { alloc, image, plan })
 }
 
 #[derive(Drop)]

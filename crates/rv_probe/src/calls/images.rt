@@ -35,50 +35,94 @@ pub(crate) fn loads<O: Output>(alloc: Global, screen: &mut O) -> Result<(), Fail
     probe(screen, Loading { alloc, file })
 }
 
-#[derive(Drop)]
-struct Writing {
-    alloc: Global,
-    image: Image,
+/// What is made of an image.
+#[derive(Clone, Copy)]
+enum Asked {
+    File,
+    Copy,
+    Sites,
+    Ranges,
 }
 
-impl Probed for Writing {
-    type Answer = Vec<u8>;
+/// What comes of it.
+#[derive(Drop)]
+enum Made {
+    File(Vec<u8>),
+    Image(Image),
+    Sites(Sampler),
+    Ranges(Vec<(u32, u32)>),
+}
 
-    fn call(&mut self) -> Result<Vec<u8>, Refusal> {
-        Ok(write(self.alloc, &self.image)?)
+#[derive(Drop)]
+struct OfImage {
+    alloc: Global,
+    image: Image,
+    asked: Asked,
+}
+
+impl Probed for OfImage {
+    type Answer = Made;
+
+    fn call(&mut self) -> Result<Made, Refusal> {
+        let image = &self.image;
+        match self.asked {
+            Asked::File => Ok(Made::File(write(self.alloc, image)?)),
+            Asked::Copy => Ok(Made::Image(image.copy(self.alloc)?)),
+            Asked::Sites => Ok(Made::Sites(Sampler::sites(self.alloc, image, &[])?)),
+            Asked::Ranges => Ok(Made::Ranges(ranges(self.alloc, image, &["shared"])?)),
+        }
     }
 
-    fn write_answer<O: Output>(answer: &Vec<u8>, screen: &mut O) -> Result<(), WriteFault> {
-        write_bytes(screen, answer)
+    fn write_answer<O: Output>(answer: &Made, screen: &mut O) -> Result<(), WriteFault> {
+        match answer {
+            Made::File(bytes) => write_bytes(screen, bytes),
+            Made::Image(image) => write_image(screen, image),
+            Made::Sites(sites) => write_sites(screen, sites),
+            Made::Ranges(ranges) => write_ranges(screen, ranges),
+        }
     }
+}
+
+fn write_sites<O: Output>(screen: &mut O, sites: &Sampler) -> Result<(), WriteFault> {
+    write_address(screen, sites.pick(0))?;
+    write_address(screen, sites.pick(1))?;
+    write_address(screen, sites.pick(2))
+}
+
+fn write_ranges<O: Output>(screen: &mut O, ranges: &[(u32, u32)]) -> Result<(), WriteFault> {
+    for (first, size) in ranges {
+        write_address(screen, Some(*first))?;
+        write_address(screen, Some(*size))?;
+    }
+    Ok(())
+}
+
+fn asks<O: Output>(alloc: Global, screen: &mut O, asked: Asked) -> Result<(), Failure> {
+    let image = image(alloc)?;
+    probe(
+        screen,
+        OfImage {
+            alloc,
+            image,
+            asked,
+        },
+    )
 }
 
 pub(crate) fn writes<O: Output>(alloc: Global, screen: &mut O) -> Result<(), Failure> {
-    let image = image(alloc)?;
-    probe(screen, Writing { alloc, image })
-}
-
-#[derive(Drop)]
-struct Copying {
-    alloc: Global,
-    image: Image,
-}
-
-impl Probed for Copying {
-    type Answer = Image;
-
-    fn call(&mut self) -> Result<Image, Refusal> {
-        Ok(self.image.copy(self.alloc)?)
-    }
-
-    fn write_answer<O: Output>(answer: &Image, screen: &mut O) -> Result<(), WriteFault> {
-        write_image(screen, answer)
-    }
+    asks(alloc, screen, Asked::File)
 }
 
 pub(crate) fn copies<O: Output>(alloc: Global, screen: &mut O) -> Result<(), Failure> {
-    let image = image(alloc)?;
-    probe(screen, Copying { alloc, image })
+    asks(alloc, screen, Asked::Copy)
+}
+
+pub(crate) fn finds_sites<O: Output>(alloc: Global, screen: &mut O) -> Result<(), Failure> {
+    asks(alloc, screen, Asked::Sites)
+}
+
+pub(crate) fn finds_ranges<O: Output>(alloc: Global, screen: &mut O) -> Result<(), Failure> {
+    asks(alloc, screen, Asked::Ranges)
 }
 
 #[derive(Drop)]
@@ -170,56 +214,4 @@ pub(crate) fn lists<O: Output>(alloc: Global, screen: &mut O) -> Result<(), Fail
             rooms,
         },
     )
-}
-
-#[derive(Drop)]
-struct Sites {
-    alloc: Global,
-    image: Image,
-}
-
-impl Probed for Sites {
-    type Answer = Sampler;
-
-    fn call(&mut self) -> Result<Sampler, Refusal> {
-        Ok(Sampler::sites(self.alloc, &self.image, &[])?)
-    }
-
-    fn write_answer<O: Output>(answer: &Sampler, screen: &mut O) -> Result<(), WriteFault> {
-        write_address(screen, answer.pick(0))?;
-        write_address(screen, answer.pick(1))?;
-        write_address(screen, answer.pick(2))
-    }
-}
-
-pub(crate) fn finds_sites<O: Output>(alloc: Global, screen: &mut O) -> Result<(), Failure> {
-    let image = image(alloc)?;
-    probe(screen, Sites { alloc, image })
-}
-
-#[derive(Drop)]
-struct NamedRanges {
-    alloc: Global,
-    image: Image,
-}
-
-impl Probed for NamedRanges {
-    type Answer = Vec<(u32, u32)>;
-
-    fn call(&mut self) -> Result<Vec<(u32, u32)>, Refusal> {
-        Ok(ranges(self.alloc, &self.image, &["shared"])?)
-    }
-
-    fn write_answer<O: Output>(answer: &Vec<(u32, u32)>, screen: &mut O) -> Result<(), WriteFault> {
-        for (first, size) in answer.iter() {
-            write_address(screen, Some(*first))?;
-            write_address(screen, Some(*size))?;
-        }
-        Ok(())
-    }
-}
-
-pub(crate) fn finds_ranges<O: Output>(alloc: Global, screen: &mut O) -> Result<(), Failure> {
-    let image = image(alloc)?;
-    probe(screen, NamedRanges { alloc, image })
 }

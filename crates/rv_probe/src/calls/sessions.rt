@@ -39,10 +39,22 @@ impl Probed for Beginning {
     }
 }
 
+/// Adds a list of entries, and gives their plan.
+fn add_list(alloc: Global, lists: &mut Vec<Vec<Entry>>) -> Result<Plan, Refusal> {
+    let (plan, entries) = schedule(alloc, HIT)?;
+    lists.push(entries)?;
+    Ok(plan)
+}
+
+fn add_lists(alloc: Global, lists: &mut Vec<Vec<Entry>>) -> Result<Plan, Refusal> {
+    let _plan = add_list(alloc, lists)?;
+    add_list(alloc, lists)
+}
+
 fn lists(alloc: Global) -> Result<(Plan, Vec<Vec<Entry>>), Refusal> {
-    let (plan, first) = schedule(alloc, HIT)?;
-    let (_, second) = schedule(alloc, HIT)?;
-    Ok((plan, vec![in alloc; first, second]?))
+    let mut lists = Vec::new(alloc);
+    let plan = add_lists(alloc, &mut lists)?;
+    Ok((plan, lists))
 }
 
 pub(crate) fn begins<O: Output>(alloc: Global, screen: &mut O) -> Result<(), Failure> {
@@ -59,34 +71,55 @@ pub(crate) fn begins<O: Output>(alloc: Global, screen: &mut O) -> Result<(), Fai
     )
 }
 
-/// How a session moves.
+/// What a session is asked.
 #[derive(Clone, Copy)]
-enum Way {
-    To(u32),
+enum Asked {
+    Go(u32),
     Forward,
     Back,
+    Bytes,
+    Lines,
+    Find,
+}
+
+/// What it answers.
+#[derive(Drop)]
+enum Told {
+    Nothing,
+    Bytes(Vec<u8>),
+    Lines(Vec<String>),
+    Place(u32),
 }
 
 #[derive(Drop)]
-struct Moving {
+struct Asking {
+    alloc: Global,
     session: Session,
-    way: Way,
+    asked: Asked,
 }
 
-impl Probed for Moving {
-    type Answer = ();
+impl Probed for Asking {
+    type Answer = Told;
 
-    fn call(&mut self) -> Result<(), Refusal> {
-        match self.way {
-            Way::To(place) => self.session.go(place)?,
-            Way::Forward => self.session.forward()?,
-            Way::Back => self.session.back()?,
+    fn call(&mut self) -> Result<Told, Refusal> {
+        match self.asked {
+            Asked::Go(place) => self.session.go(place)?,
+            Asked::Forward => self.session.forward()?,
+            Asked::Back => self.session.back()?,
+            Asked::Bytes => return Ok(Told::Bytes(self.session.bytes(self.alloc, DATA, 16)?)),
+            Asked::Lines => return Ok(Told::Lines(self.session.list(self.alloc, 0x10000, 4)?)),
+            Asked::Find => return Ok(Told::Place(self.session.find(DATA)?)),
         }
-        Ok(())
+        Ok(Told::Nothing)
     }
 
-    fn write_answer<O: Output>(_answer: &(), _screen: &mut O) -> Result<(), WriteFault> {
-        Ok(())
+    fn write_answer<O: Output>(answer: &Told, screen: &mut O) -> Result<(), WriteFault> {
+        match answer {
+            Told::Nothing => Ok(()),
+            Told::Bytes(bytes) => write_bytes(screen, bytes),
+            Told::Lines(lines) => write_lines(screen, lines),
+            Told::Place(place) => write_number(screen, u64::from(*place)),
+        }
     }
 
     fn write_held<O: Output>(&self, screen: &mut O) -> Result<(), WriteFault> {
@@ -94,102 +127,46 @@ impl Probed for Moving {
     }
 }
 
-fn moves<O: Output>(alloc: Global, screen: &mut O, place: u32, way: Way) -> Result<(), Failure> {
+fn write_lines<O: Output>(screen: &mut O, lines: &[String]) -> Result<(), WriteFault> {
+    for line in lines {
+        put_pieces(screen, &[line.as_bytes(), b"\n"])?;
+    }
+    Ok(())
+}
+
+/// Asks the session at a place.
+fn asks<O: Output>(alloc: Global, screen: &mut O, place: u32, asked: Asked) -> Result<(), Failure> {
     let session = session(alloc, place)?;
-    probe(screen, Moving { session, way })
+    probe(
+        screen,
+        Asking {
+            alloc,
+            session,
+            asked,
+        },
+    )
 }
 
 pub(crate) fn goes<O: Output>(alloc: Global, screen: &mut O) -> Result<(), Failure> {
-    moves(alloc, screen, 0, Way::To(6))
+    asks(alloc, screen, 0, Asked::Go(6))
 }
 
 pub(crate) fn goes_forward<O: Output>(alloc: Global, screen: &mut O) -> Result<(), Failure> {
-    moves(alloc, screen, BEFORE_THE_STORE, Way::Forward)
+    asks(alloc, screen, BEFORE_THE_STORE, Asked::Forward)
 }
 
 pub(crate) fn goes_back<O: Output>(alloc: Global, screen: &mut O) -> Result<(), Failure> {
-    moves(alloc, screen, 6, Way::Back)
-}
-
-#[derive(Drop)]
-struct Bytes {
-    alloc: Global,
-    session: Session,
-}
-
-impl Probed for Bytes {
-    type Answer = Vec<u8>;
-
-    fn call(&mut self) -> Result<Vec<u8>, Refusal> {
-        Ok(self.session.bytes(self.alloc, DATA, 16)?)
-    }
-
-    fn write_answer<O: Output>(answer: &Vec<u8>, screen: &mut O) -> Result<(), WriteFault> {
-        write_bytes(screen, answer)
-    }
-
-    fn write_held<O: Output>(&self, screen: &mut O) -> Result<(), WriteFault> {
-        write_session(screen, &self.session)
-    }
+    asks(alloc, screen, 6, Asked::Back)
 }
 
 pub(crate) fn shows_bytes<O: Output>(alloc: Global, screen: &mut O) -> Result<(), Failure> {
-    let session = session(alloc, 6)?;
-    probe(screen, Bytes { alloc, session })
-}
-
-#[derive(Drop)]
-struct Lines {
-    alloc: Global,
-    session: Session,
-}
-
-impl Probed for Lines {
-    type Answer = Vec<String>;
-
-    fn call(&mut self) -> Result<Vec<String>, Refusal> {
-        Ok(self.session.list(self.alloc, 0x10000, 4)?)
-    }
-
-    fn write_answer<O: Output>(answer: &Vec<String>, screen: &mut O) -> Result<(), WriteFault> {
-        for line in answer.iter() {
-            put_pieces(screen, &[line.as_bytes(), b"\n"])?;
-        }
-        Ok(())
-    }
-
-    fn write_held<O: Output>(&self, screen: &mut O) -> Result<(), WriteFault> {
-        write_session(screen, &self.session)
-    }
+    asks(alloc, screen, 6, Asked::Bytes)
 }
 
 pub(crate) fn lists_lines<O: Output>(alloc: Global, screen: &mut O) -> Result<(), Failure> {
-    let session = session(alloc, 6)?;
-    probe(screen, Lines { alloc, session })
-}
-
-#[derive(Drop)]
-struct Finding {
-    session: Session,
-}
-
-impl Probed for Finding {
-    type Answer = u32;
-
-    fn call(&mut self) -> Result<u32, Refusal> {
-        Ok(self.session.find(DATA)?)
-    }
-
-    fn write_answer<O: Output>(answer: &u32, screen: &mut O) -> Result<(), WriteFault> {
-        write_number(screen, u64::from(*answer))
-    }
-
-    fn write_held<O: Output>(&self, screen: &mut O) -> Result<(), WriteFault> {
-        write_session(screen, &self.session)
-    }
+    asks(alloc, screen, 6, Asked::Lines)
 }
 
 pub(crate) fn finds<O: Output>(alloc: Global, screen: &mut O) -> Result<(), Failure> {
-    let session = session(alloc, 0)?;
-    probe(screen, Finding { session })
+    asks(alloc, screen, 0, Asked::Find)
 }
