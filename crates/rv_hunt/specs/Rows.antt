@@ -7,6 +7,7 @@ use Rattle.rv_hunt.specs.declared.row.RaceRow.{RaceRow}
 use Rattle.rv_collide.specs.Counts.{saturated}
 use Rattle.rv_report.specs.Races.{same_key}
 use Rattle.rv_report.specs.declared.key.Key.{Key}
+pub use Rattle.rv_tally.specs.Strongest as strongest
 
 -- the row of a single report of a run
 abbrev pub row_of : ℕ → Report → Key × RaceRow
@@ -15,7 +16,7 @@ row_of run report =
 
 -- of two rows of a race the one that it is told by: the later only where its class is the stronger
 abbrev pub told_by : RaceRow → RaceRow → RaceRow
-told_by first later = if nat_lt (rank later.class) (rank first.class) then later else first
+told_by first later = strongest.first_strongest (first, rank first.class) (later, rank later.class)
 
 -- Two rows of a race made one. A count stays at the largest number of 64 bits once there.
 abbrev pub joined : RaceRow → RaceRow → RaceRow

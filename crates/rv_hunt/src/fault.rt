@@ -27,7 +27,7 @@ pub struct TableFault {
 }
 
 /// Why there is no table.
-#[derive(Clone, Copy, Debug, PartialEq, Eq)]
+#[derive(Clone, Copy, Debug)]
 pub enum ReadFault {
     /// The text is none.
     Malformed(TableFault),

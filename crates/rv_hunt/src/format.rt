@@ -1,5 +1,5 @@
 /// Whose table a text is.
-#[derive(Clone, Copy, Debug, PartialEq, Eq)]
+#[derive(Clone, Copy)]
 pub enum TableFormat {
     /// A hunt table: each row ends with the class of its race.
     Hunt,

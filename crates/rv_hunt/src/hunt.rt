@@ -104,7 +104,7 @@ impl Hunt<'_> {
         requires goes_on { going.goes_on self.now.limit self.now.first hunted.now.tally ≡ true }
         ensures { result ≡ self.now.first + hunted.now.tally.runs }
     {
-        (u64::from(self.first) + hunted.tally.runs()) as u32
+        hunted.tally.next(self.first)
     }
 
     /// How many finished runs may be held by so many workers, from the run of that number on.

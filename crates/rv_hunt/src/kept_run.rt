@@ -18,7 +18,7 @@ use std::alloc::Global;
 
 /// What is kept of a run: what is counted of it, and its reports, in order. The run's entries, which are far more, are
 /// let go.
-#[derive(Debug, Drop)]
+#[derive(Drop)]
 pub struct KeptRun {
     pub summary: Summary,
     pub reports: Vec<Report>,

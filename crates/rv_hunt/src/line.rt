@@ -15,7 +15,7 @@ use rv_text::hexadecimal::{read_word, word_digits};
 use rv_text::pieces::Pieces;
 
 /// The numbers of a row. None stands for one over 2^64 - 1.
-#[derive(Clone, Copy, Debug, PartialEq, Eq)]
+#[derive(Clone, Copy)]
 pub struct Counts {
     pub count: Option<u64>,
     pub run: Option<u64>,
@@ -23,14 +23,14 @@ pub struct Counts {
 }
 
 /// The values of a row.
-#[derive(Clone, Copy, Debug, PartialEq, Eq)]
+#[derive(Clone, Copy)]
 pub struct Values {
     pub old: u32,
     pub new: u32,
 }
 
 /// What the words of a row say, before a number's range is tested.
-#[derive(Clone, Copy, Debug, PartialEq, Eq)]
+#[derive(Clone, Copy)]
 pub struct Said {
     pub key: Key,
     pub counts: Counts,

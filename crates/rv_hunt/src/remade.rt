@@ -10,7 +10,6 @@ ghost use Rattle.rv_tally.specs.Plans.{plan_of};
 use crate::hunt::Hunt;
 use crate::kept_run::{push_some, report_of};
 use crate::row::RaceRow;
-use rv_campaign::run_one;
 use rv_collide::collider::Finished;
 use rv_collide::ending::Ending;
 use rv_elf::Image;
@@ -18,6 +17,7 @@ use rv_explain::classes::rank;
 use rv_explain::races::{Race, Report};
 use rv_memory::store::NoMemory;
 use rv_report::key::Key;
+use rv_tally::again::made_again;
 use std::alloc::Global;
 
 /// The run that a row is told by, and the row's race, which is told by a report of that run. Each row of a hunt's table
@@ -110,8 +110,7 @@ impl Hunt<'_> {
         ensures race { IfOk result (λ remade. remade.race
             ≡ spec.race_in self.now.source.image self.now.ranges (key.now, row.now) remade.run.endings.items) }
     {
-        let plan = self.plans.plan(row.run);
-        let run = run_one(alloc, self.image, plan, self.seed, row.run, excluded)?;
+        let run = made_again(alloc, self.image, self.plans, self.seed, row.run, excluded)?;
         let race = race_in(alloc, self.image, self.ranges, key, row, &run.endings)?;
         Ok(Remade { run, race })
     }

@@ -6,12 +6,13 @@ use rv_explain::block::RaceClass;
 use rv_explain::classes::rank;
 use rv_explain::races::Report;
 use rv_report::key::Key;
+use rv_tally::strongest;
 
 /// What a table keeps of a race: how many reports there were, up to 2^64 - 1, and one of them: its class, its run,
 /// the place of its pause in that run, and its access's bytes when the pause began and ended. It is the first of
 /// those that have the strongest class. A race of two instructions is of hits, one of a single instruction of
 /// reports that found their bytes changed.
-#[derive(Clone, Copy, Debug, PartialEq, Eq)]
+#[derive(Clone, Copy)]
 pub struct RaceRow {
     pub count: u64,
     pub class: RaceClass,
@@ -40,11 +41,7 @@ pub fn row_of(run: u32, report: &Report) -> (Key, RaceRow)
 fn told_by(first: &RaceRow, later: &RaceRow) -> RaceRow
     ensures { result ≡ spec.told_by first.now later.now }
 {
-    if rank(later.class) < rank(first.class) {
-        *later
-    } else {
-        *first
-    }
+    strongest::first_strongest((*first, rank(first.class)), (*later, rank(later.class)))
 }
 
 /// Two rows of a race made one.

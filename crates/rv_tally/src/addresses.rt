@@ -10,7 +10,7 @@ use std::collections::BTreeSet;
 use std::marker::Model;
 
 /// Addresses, each once.
-#[derive(Debug, Drop)]
+#[derive(Drop)]
 pub struct Addresses {
     kept: BTreeSet<u32>,
 }

@@ -9,7 +9,7 @@ use std::alloc::Global;
 use std::marker::Model;
 
 /// Exits by code, traps by cause and address, and the harts that had no steps left.
-#[derive(Debug, Drop)]
+#[derive(Drop)]
 pub struct Ended {
     exits: Kinds,
     stops: Kinds,

@@ -12,7 +12,7 @@ use std::marker::Model;
 const MOST_TOLD: usize = 8;
 
 /// How many harts ended in one way.
-#[derive(Clone, Copy, Debug, PartialEq, Eq)]
+#[derive(Clone, Copy)]
 pub struct Kind {
     pub end: End,
     pub count: u64,
@@ -20,7 +20,7 @@ pub struct Kind {
 
 /// The first eight kinds of ends that were met, each with how many there were of it, and how many there were of all
 /// others. (The codes that harts exit with may be ever new ones.) Counts stay at 2^64 - 1 once there.
-#[derive(Debug, Drop)]
+#[derive(Drop)]
 pub struct Kinds {
     told: Vec<Kind>,
     rest: u64,

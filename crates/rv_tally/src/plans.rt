@@ -18,7 +18,7 @@ pub struct Lengths {
 
 /// The plans of all runs, by number. The lengths go through all scales, and there are 2, 4 and 8 harts by turns, where
 /// none are given.
-#[derive(Debug, Drop)]
+#[derive(Drop)]
 pub struct Plans {
     harts: Option<u8>,
     slots: u8,

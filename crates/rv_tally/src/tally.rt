@@ -1,5 +1,5 @@
 //! What the runs of a hunt saw, added up.
-ghost use Rattle.std.specs.Prelude.{◌≡◌, ◌+◌, OnOk, count_by};
+ghost use Rattle.std.specs.Prelude.{◌≡◌, ◌<◌, ◌+◌, ◌^◌, OnOk, count_by};
 ghost use Rattle.std.specs.List.{list_all, list_any};
 ghost use Rattle.rv_tally.specs.GoesOn as going;
 ghost use Rattle.rv_collide.specs.Counts.{saturated};
@@ -17,14 +17,14 @@ use std::alloc::Global;
 use std::marker::Model;
 
 /// How many steps the plans of the longest runs have, and how many harts exited in those runs.
-#[derive(Clone, Copy, Debug, PartialEq, Eq)]
+#[derive(Clone, Copy)]
 pub struct Longest {
     pub steps: u32,
     pub exits: u64,
 }
 
 /// What runs saw, added up in their order. Numbers stay at 2^64 - 1 once there.
-#[derive(Debug, Drop)]
+#[derive(Drop)]
 pub struct Tally {
     runs: u64,
     ended: Ended,
@@ -244,6 +244,14 @@ impl Tally {
                     && !self.is_hopeless()
             }
         }
+    }
+
+    /// The number of the next run, behind those from a number on that this tells of.
+    pub fn next(&self, first: u32) -> u32
+        requires { first + self.now.runs < 2 ^ 32 }
+        ensures { result ≡ first + self.now.runs }
+    {
+        (u64::from(first) + self.runs) as u32
     }
 
     /// Whether no pause was made.

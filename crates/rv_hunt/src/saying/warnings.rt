@@ -10,7 +10,7 @@ use rv_tally::kinds::Kind;
 use rv_tally::tally::Tally;
 
 /// Why a clean answer would mean nothing.
-#[derive(Clone, Copy, Debug, PartialEq, Eq)]
+#[derive(Clone, Copy)]
 pub enum Warning {
     /// The image has no site.
     NoSite,
