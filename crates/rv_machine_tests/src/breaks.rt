@@ -6,6 +6,7 @@ use crate::parts::access;
 use rv_break::breakpoints::Breakpoints;
 use rv_break::claim::{ARMED_LIMIT, MOST_SLOTS, Seen};
 use rv_hart::access::Access;
+use rv_hart::stops::Stops;
 use std::alloc::Global;
 use std::process::Abort;
 
@@ -60,6 +61,8 @@ fn assert_may_be_armed(rt: &impl Abort, breaks: &Breakpoints, wanted: bool) {
         breaks.may_be_armed(0x10008),
     ];
     assert_is(rt, found, [wanted, wanted, false], "may be armed");
+    let passed = [breaks.lets_by(0x10004), breaks.lets_by(0x10008)];
+    assert_is(rt, passed, [!wanted, true], "let by");
 }
 
 #[test]
