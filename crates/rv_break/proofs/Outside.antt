@@ -1,15 +1,18 @@
--- What lies outside of the claims' span is shown to none of them.
+-- What lies outside of the claims' span is shown to none of them, and what none takes changes none.
 use Rattle.std.proofs.Common.{◌≡◌, ℕ, zero, suc, ◌+◌, ◌≤◌, ◌<◌, Bool, true, false, cond, [], ◌∷◌, length, get_or, set, take, drop, ◌++◌, Option, Some, None, refl, ap, ap₂, ◌∙◌, sym, subst, arith}
 use Rattle.std.specs.Prelude.{◌==◌, ◌&&◌, ◌||◌, not, is_none, IfSome, option_map}
 use Rattle.std.proofs.Math.Seq.{take-append_seam}
+use Rattle.std.proofs.lemmas.Bool.{or_parts}
 use Rattle.std.proofs.lemmas.Bool.Decides.{nat_tests}
 use Rattle.std.proofs.lemmas.List.{length-map, length-set, take_more}
+use Rattle.std.specs.List.{list_any}
 use Rattle.rv_break.specs.Slots.{Slots, claim_after, is_for, slots_after}
 use Rattle.rv_break.specs.declared.claim.Claim.{Claim}
 use Rattle.rv_break.specs.declared.claim.Seen.{Seen}
 use Rattle.rv_break.specs.declared.claim.TheConstants.{MOST_SLOTS}
 use Rattle.rv_break.specs.declared.span.Span.{Span}
 use Rattle.rv_break.specs.internal.Span.{AreIn, LiesIn, WaitsIn, is_outside}
+use Rattle.rv_break.specs.internal.Taken.{is_waiting_for, takes}
 use Rattle.rv_hart.specs.Conflict.{meets, end_of}
 use Rattle.rv_hart.specs.declared.access.Access.{Access}
 
@@ -84,3 +87,14 @@ outside_shows_none s seen [] inside outside = refl
 outside_shows_none s seen (None ∷ slots) inside outside = ap (λ (rest : Slots). None ∷ rest) (outside_shows_none s seen slots inside.1 outside)
 outside_shows_none s seen (Some claim ∷ slots) inside outside =
     ap₂ (λ (c : Claim) (rest : Slots). Some c ∷ rest) (same_by s claim seen claim.seen refl inside.0 outside) (outside_shows_none s seen slots inside.1 outside)
+
+not_taken : (claim : Claim) (seen : Seen) → is_waiting_for claim seen ≡ false → claim_after seen claim ≡ claim
+not_taken claim seen none = ap (λ (b : Bool). record claim { seen = cond b (Some seen) claim.seen }) none
+
+-- an access that no claim takes changes none
+pub none_takes : (seen : Seen) (slots : Slots) → list_any (takes seen) slots ≡ false → slots_after seen slots ≡ slots
+none_takes seen [] none = refl
+none_takes seen (None ∷ slots) none = ap (λ (rest : Slots). None ∷ rest) (none_takes seen slots none)
+none_takes seen (Some claim ∷ slots) none =
+    let parts = or_parts (is_waiting_for claim seen) (list_any (takes seen) slots) none in
+    ap₂ (λ (c : Claim) (rest : Slots). Some c ∷ rest) (not_taken claim seen parts.0) (none_takes seen slots parts.1)

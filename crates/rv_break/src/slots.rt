@@ -1,6 +1,8 @@
 //! The data breakpoints.
 ghost use Rattle.std.specs.Prelude.{◌≡◌, ◌<◌, ◌≤◌, IfOk, IfSome, IfNone, IsTrue, ◌↔◌, Some, None, replicate, length, slice_set, option_map, is_none, position};
+ghost use Rattle.std.specs.List.{list_any};
 ghost use Rattle.rv_break.specs.Slots as spec;
+ghost use Rattle.rv_break.specs.internal.Taken.{is_waiting_for, takes};
 
 use crate::claim::{Claim, MOST_SLOTS, Seen};
 use crate::span::{Span, span_of};
@@ -68,11 +70,15 @@ impl Slots {
         }
     }
 
-    /// The same, where each claim is looked at. One that sees the access waits for no more.
+    /// The same, where each claim is looked at: the span has addresses that no claim waits for. A claim that takes the access
+    /// waits for no more.
     #[inline(never)]
     fn see_apart(&mut self, seen: Seen)
         ensures { self.new ≡ spec.slots_after seen self.old }
     {
+        if !is_taken(&self.claims, &seen) {
+            return;
+        }
         show(&mut self.claims, seen);
         self.watched = span_of(&self.claims);
     }
@@ -105,6 +111,29 @@ fn free_slot(claims: &[Option<Claim>]) -> Option<usize>
     claims.iter().position(|held| held.is_none())
 }
 
+/// Whether a claim takes the access.
+fn is_taken(claims: &[Option<Claim>], seen: &Seen) -> bool
+    ensures { result ≡ list_any (takes seen.now) claims.now }
+{
+    claims.iter().any(|held| takes(held, seen))
+}
+
+fn takes(held: &Option<Claim>, seen: &Seen) -> bool
+    ensures { result ≡ takes seen.now held.now }
+{
+    match held {
+        None => false,
+        Some(claim) => is_waiting_for(claim, seen),
+    }
+}
+
+/// Whether a claim is for the access and has seen none that it is for.
+fn is_waiting_for(claim: &Claim, seen: &Seen) -> bool
+    ensures { result ≡ is_waiting_for claim.now seen.now }
+{
+    claim.seen.is_none() && claim.hart != seen.hart && claim.access.conflicts(&seen.access)
+}
+
 fn show(claims: &mut [Option<Claim>], seen: Seen)
     ensures { claims.new ≡ spec.slots_after seen claims.old }
 {
@@ -126,7 +155,7 @@ fn show_one(held: &mut Option<Claim>, seen: Seen)
 fn show_claim(claim: &mut Claim, seen: Seen)
     ensures { claim.new ≡ spec.claim_after seen claim.old }
 {
-    if claim.seen.is_none() && claim.hart != seen.hart && claim.access.conflicts(&seen.access) {
+    if is_waiting_for(claim, &seen) {
         claim.seen = Some(seen);
     }
 }
