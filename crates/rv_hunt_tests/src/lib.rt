@@ -1,4 +1,4 @@
-//! The tests of rv_explain, rv_hunt and rv_page, and of the engines over them, rv_merge and rv_hunting.
+//! The tests of rv_explain and rv_hunt, and of the engines over them, those of rv_hunting.
 //!
 //! They stand in a crate of their own, so that these are not proved a second time with their tests.
 #![tactic(auto)]

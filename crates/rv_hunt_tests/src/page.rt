@@ -2,8 +2,8 @@
 use crate::assertion::assert_is;
 use rv_explain::block::RaceClass::{self, Flag, Kept, Named, Ordered};
 use rv_hunt::row::RaceRow;
-use rv_page::page_text;
-use rv_page::parts::{Outcome, RacePart};
+use rv_hunting::page::page_text;
+use rv_hunting::page::parts::{Outcome, RacePart};
 use rv_report::key::Key;
 use rv_tally::counts::Counts;
 use rv_tally::end::End;

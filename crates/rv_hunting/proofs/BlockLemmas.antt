@@ -18,10 +18,8 @@ use Rattle.rv_hunt.specs.ToldOrder.{is_of, of_class, told_rows}
 use Rattle.rv_hunt.specs.declared.hunted.Hunted.{Hunted}
 use Rattle.rv_hunt.specs.declared.row.RaceRow.{RaceRow}
 use Rattle.rv_hunting.proofs.ReportLemmas.{found_is_ending}
-use Rattle.rv_collide.specs.declared.collider.Finished.{Finished}
 use Rattle.rv_hunting.specs.Asked.{Onward}
-use Rattle.rv_hunting.specs.OnwardText.{gdb_text}
-use Rattle.rv_hunting.specs.HuntBlocks.{AreBlocks, IsBlock, IsRunOf, race_text, run_words}
+use Rattle.rv_hunting.specs.HuntBlocks.{AreBlocks, IsBlock}
 use Rattle.rv_hunting.specs.internal.Opened.{HasRace}
 use Rattle.rv_report.specs.declared.key.Key.{Key}
 
@@ -66,20 +64,6 @@ race_is_told image ranges row ended race made =
 
 pub no_race : {P : Type 0} (o : Option Race) → o ≡ None → is_some o ≡ true → P
 no_race o none some = (let no : false ≡ true = rw none at some in cc)
-
--- the block of a row is made of its run and its race
-pub block_made : (line : Onward) (hunt : Hunt) (k : ℕ) (row : Row) (run : Finished) (race : Race) (image : Contents) (words front text : List ℕ) → image ≡ hunt.source.image → IsRunOf hunt row run
-    → race_in hunt.source.image hunt.ranges row run.endings.items ≡ Some race → front ≡ race_text image words k run race → words ≡ run_words row.1.run run.plan.harts
-    → text ≡ front ++ gdb_text line.image line.folder k race.told.number → IsBlock line hunt k row text
-block_made line hunt k row run race image words front text same is_run is_race said worded last = record {
-  run = run;
-  is_run = is_run;
-  race = race;
-  is_race = is_race;
-  text_is =
-      last ∙ ap (λ (t : List ℕ). t ++ gdb_text line.image line.folder k race.told.number)
-      (said ∙ ap (λ (c : Contents). race_text c words k run race) same ∙ ap (λ (w : List ℕ). race_text hunt.source.image w k run race) worded);
-}
 
 -- ---- the rows that are told have races
 

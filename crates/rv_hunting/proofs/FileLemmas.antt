@@ -9,9 +9,9 @@ use Rattle.rv_hunting.specs.Asked.{Asked}
 use Rattle.rv_hunting.specs.HuntFault.{IsTold}
 use Rattle.rv_hunting.specs.Hunting.{Files, Hunting, IsHuntingOf, expected_in, hunt_of, ignored_in}
 use Rattle.rv_hunting.specs.declared.fault.HuntFault.TheVariants.{Command, Ignored, Expected}
-use Rattle.rv_merge.specs.FileFault as file
-use Rattle.rv_merge.specs.declared.fault.FileFault.{FileFault}
-use Rattle.rv_merge.specs.declared.ignore.Line.{Line}
+use Rattle.rv_hunting.specs.merge.FileFault as file
+use Rattle.rv_hunting.specs.declared.merge.fault.FileFault.{FileFault}
+use Rattle.rv_hunting.specs.declared.merge.ignore.Line.{Line}
 
 -- the bytes of the files, where they are known
 abbrev pub files_in : Option (List ℕ) → Option (Option (List ℕ)) → Option (Option (List ℕ)) → Option Files

@@ -12,7 +12,7 @@ use Rattle.rv_hunting.specs.Hunting.{AreTextsOf, Hunting, found_in, ignored_by, 
 use Rattle.rv_hunting.specs.declared.making.Made.{Made}
 use Rattle.rv_hunting.specs.declared.options.Shows.{Shows}
 use Rattle.rv_hunting.specs.internal.Opened.{HasRace, IsMade, texts_of}
-use Rattle.rv_merge.specs.Ignore.{is_told}
+use Rattle.rv_hunting.specs.merge.Ignore.{is_told}
 use Rattle.rv_report.specs.declared.key.Key.{Key}
 use Rattle.rv_tally.specs.Tally.{Tally}
 

@@ -3,7 +3,7 @@ use Rattle.std.proofs.Common.{◌≡◌, List, Result, Ok, Err, IfOk, ap, ◌∙
 use Rattle.std.specs.Prelude.{Bool, filter}
 use Rattle.rv_elf.specs.Contents.{Contents}
 use Rattle.rv_hunt.specs.declared.row.RaceRow.{RaceRow}
-use Rattle.rv_merge.specs.declared.ignore.Line.{Line}
+use Rattle.rv_hunting.specs.declared.merge.ignore.Line.{Line}
 use Rattle.rv_report.specs.declared.key.Key.{Key}
 
 abbrev Row : Type 0

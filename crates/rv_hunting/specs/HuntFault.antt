@@ -12,7 +12,7 @@ use Rattle.rv_hunting.specs.declared.folder.FolderFault.{FolderFault}
 use Rattle.rv_hunting.specs.declared.folder.FolderFault.TheVariants as folder
 use Rattle.rv_hunting.specs.declared.fault.HuntFault.{HuntFault}
 use Rattle.rv_hunting.specs.declared.fault.HuntFault.TheVariants.{Command, Ignored, Expected}
-use Rattle.rv_merge.specs.FileFault as file
+use Rattle.rv_hunting.specs.merge.FileFault as file
 
 -- the fault is neither that a device failed, nor that memory is out, nor that a thread could not be started
 abbrev pub is_plain_refusal : CommandFault → Bool

@@ -22,11 +22,11 @@ use Rattle.rv_hunting.specs.declared.found.Found.{Found}
 use Rattle.rv_hunting.specs.declared.inputs.Inputs.{Inputs}
 use Rattle.rv_hunting.specs.declared.options.Shows.{Shows}
 use Rattle.rv_hunting.specs.declared.options.Shows.TheVariants.{Text, Table}
-use Rattle.rv_merge.specs.Ignore.{ignores_of, is_ignored, is_told}
-use Rattle.rv_merge.specs.Merge.{bytes_if, is_unexpected}
-use Rattle.rv_merge.specs.TableFiles.{expected_table}
-use Rattle.rv_merge.specs.declared.fault.FileFault.{FileFault}
-use Rattle.rv_merge.specs.declared.ignore.Line.{Line}
+use Rattle.rv_hunting.specs.merge.Ignore.{ignores_of, is_ignored, is_told}
+use Rattle.rv_hunting.specs.merge.Merge.{bytes_if, is_unexpected}
+use Rattle.rv_hunting.specs.merge.TableFiles.{expected_table}
+use Rattle.rv_hunting.specs.declared.merge.fault.FileFault.{FileFault}
+use Rattle.rv_hunting.specs.declared.merge.ignore.Line.{Line}
 use Rattle.rv_report.specs.declared.key.Key.{Key}
 
 -- ---- what is hunted

@@ -7,3 +7,5 @@ pub mod OnwardText
 pub mod Paged
 pub mod Saved
 pub mod internal
+pub mod merge
+pub mod page

@@ -16,8 +16,8 @@ use Rattle.rv_hunting.specs.HuntBlocks.{IsRunOf, run_told, run_words}
 use Rattle.rv_hunting.specs.OnwardText.{gdb_text}
 use Rattle.rv_hunting.specs.declared.blocks.TheConstants.{AROUND}
 use Rattle.rv_hunting.specs.declared.paging.TheConstants.{MOST_PICTURES}
-use Rattle.rv_page.specs.PageText.{page_text}
-use Rattle.rv_page.specs.Parts.{Part}
+use Rattle.rv_hunting.specs.page.PageText.{page_text}
+use Rattle.rv_hunting.specs.page.Parts.{Part}
 use Rattle.rv_report.specs.declared.key.Key.{Key}
 
 -- the names of a race's instructions, the lower address first

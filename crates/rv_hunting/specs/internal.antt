@@ -1,3 +1,5 @@
 -- What only private contracts cite: no reader has to believe it.
+pub mod Adding
+pub mod Drawn
 pub mod MakeFault
 pub mod Opened

@@ -4,12 +4,12 @@ ghost use Rattle.rv_hunting.specs.HuntFault as spec;
 ghost use Rattle.rv_hunting.specs.internal.MakeFault as made;
 
 use crate::folder::FolderFault;
+use crate::merge::fault::FileFault;
 use rv_campaign::SeriesFault;
 use rv_engines::fault::Fault;
 use rv_engines::run::fault::CommandFault;
 use rv_memory::flagged::WriteFault;
 use rv_memory::store::NoMemory;
-use rv_merge::fault::FileFault;
 
 /// Why `hunt` writes nothing, or not all.
 #[derive(Clone, Copy, Debug, PartialEq, Eq)]
@@ -50,7 +50,7 @@ impl<'a> From<FolderFault> for HuntFault<'a> {
 }
 
 /// Why the runs of a hunt, or what is told of them, were not made.
-#[derive(Clone, Copy, Debug, PartialEq, Eq)]
+#[derive(Clone, Copy)]
 pub(crate) enum MakeFault {
     NoMemory,
     NoThread,

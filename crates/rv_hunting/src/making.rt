@@ -16,12 +16,15 @@ use crate::fault::MakeFault;
 use crate::folder::Folder;
 use crate::found::Found;
 use crate::lists::{Lists, is_unexpected};
+use crate::merge::parted::{Parted, part_rows};
 use crate::opening::Opened;
 use crate::options::{HuntOptions, LineParts, Shows};
+use crate::page::parts::Outcome;
+use crate::page::runs::warnings;
 use crate::paging::page_races;
 use crate::saving::save_races;
 use crate::sites::count_of;
-use crate::texts::{hunt_text, table_notes, table_of, warnings};
+use crate::texts::{hunt_text, table_notes, table_of};
 use rv_engines::new_file::NewFile;
 use rv_explain::symbol_table::SymbolTable;
 use rv_hunt::hunt::{Hunt, Watch};
@@ -30,8 +33,6 @@ use rv_hunt::laws::hunts_have_one_result;
 use rv_hunt::row::RaceRow;
 use rv_hunt::saying::order::{benign, bugs, told_rows};
 use rv_memory::store::NoMemory;
-use rv_merge::parted::{Parted, part_rows};
-use rv_page::parts::Outcome;
 use rv_report::key::Key;
 use rv_sample::Sampler;
 use std::alloc::Global;
@@ -81,7 +82,7 @@ fn texts(
         Shows::Text => {
             let blocks = told_blocks(alloc, hunt, excluded, line, told)?;
             let text = hunt_text(alloc, line, outcome, &blocks)?;
-            Ok((text, warnings(alloc, outcome)?))
+            Ok((text, warnings(alloc, outcome.sites, outcome.saw)?))
         }
         Shows::Table => {
             let text = table_of(alloc, outcome.rows)?;
@@ -200,13 +201,13 @@ pub(crate) fn make_hunt<T: Threads + Wait + Sync, P: Watch, D: Folder, F: NewFil
     ensures failed { (passes D.has_failed folder.new || passes F.has_failed page.new)
         ≡ (passes D.has_failed folder.old || passes F.has_failed page.old || fails_by_write result) }
 {
-    let sampler = Sampler::sites(alloc, &opened.image, &opened.excluded)?;
+    let sampler = Sampler::sites(alloc, &opened.image, &opened.lists.excluded)?;
     let hunt = Hunt {
         image: &opened.image,
         seed: u64::from(options.seed),
         sampler: &sampler,
         plans: &options.plans,
-        ranges: &opened.ranges,
+        ranges: &opened.lists.ranges,
         first: options.first,
         limit: options.limit,
     };
@@ -214,7 +215,7 @@ pub(crate) fn make_hunt<T: Threads + Wait + Sync, P: Watch, D: Folder, F: NewFil
     told(
         alloc,
         &hunt,
-        &opened.excluded,
+        &opened.lists.excluded,
         options,
         lists,
         &saw,

@@ -3,8 +3,8 @@ ghost use Rattle.std.specs.Prelude.{◌≡◌, ◌++◌, IfOk, OnOk, option_map}
 ghost use Rattle.rv_hunting.specs.OnwardText as spec;
 
 use crate::options::LineParts;
+use crate::page::pieces::joined;
 use rv_memory::store::NoMemory;
-use rv_page::pieces::joined;
 use rv_text::decimal::Decimal;
 use std::alloc::Global;
 

@@ -4,7 +4,7 @@ ghost use Rattle.rv_memory.specs.Flagged as flag;
 ghost use Rattle.rv_engines.specs.CommandFault.{IsTold, refusal, fails_by, is_read, is_thread, is_write};
 ghost use Rattle.rv_hunting.specs.Asked.{asked};
 ghost use Rattle.rv_hunting.specs.Hunting.{hunt_of};
-ghost use Rattle.rv_hunting.specs.internal.Opened.{hunt_in};
+ghost use Rattle.rv_hunting.specs.internal.Opened.{hunt_by, hunt_in, hunt_with};
 
 use crate::options::HuntOptions;
 use rv_elf::Image;
@@ -15,12 +15,40 @@ use rv_memory::flagged::Flagged;
 use std::alloc::Global;
 use std::io::Read;
 
-/// An image, the addresses that are no sites, and the bytes of the listed names.
+/// The addresses that are no sites, and the bytes of the listed names.
+#[derive(Drop)]
+pub struct Listed {
+    pub excluded: Vec<u32>,
+    pub ranges: Vec<(u32, u32)>,
+}
+
+/// An image, and the lists of the line.
 #[derive(Drop)]
 pub struct Opened {
     pub image: Image,
-    pub excluded: Vec<u32>,
-    pub ranges: Vec<(u32, u32)>,
+    pub lists: Listed,
+}
+
+/// Reads the lists.
+fn read_lists<'a>(
+    alloc: Global,
+    options: &HuntOptions<'a, '_>,
+    image: &Image,
+) -> Result<Listed, CommandFault<'a>>
+    ensures ok { IfOk result (λ lists. hunt_with (asked options.now) image.now ≡ Ok (hunt_by (asked options.now) image.now lists)) }
+    ensures err { IfErr result (λ fault. IsTold (hunt_with (asked options.now) image.now) (refusal fault)) }
+    ensures reader { fails_by is_read result ≡ false }
+    ensures writer { fails_by is_write result ≡ false }
+    ensures thread { fails_by is_thread result ≡ false }
+{
+    let excluded = match read_skipped(alloc, options.skip) {
+        Ok(excluded) => excluded,
+        Err(fault) => return Err(fault),
+    };
+    match read_named(alloc, image, options.named) {
+        Ok(ranges) => Ok(Listed { excluded, ranges }),
+        Err(fault) => Err(fault),
+    }
 }
 
 /// Reads an image, and then the lists.
@@ -37,12 +65,12 @@ pub fn open<'a, R: Read>(
     ensures writer { fails_by is_write result ≡ false }
     ensures thread { fails_by is_thread result ≡ false }
 {
-    let contents = read_image(alloc, image)?;
-    let excluded = read_skipped(alloc, options.skip)?;
-    let ranges = read_named(alloc, &contents, options.named)?;
-    Ok(Opened {
-        image: contents,
-        excluded,
-        ranges,
-    })
+    let image = match read_image(alloc, image) {
+        Ok(image) => image,
+        Err(fault) => return Err(CommandFault::Plain(fault)),
+    };
+    match read_lists(alloc, options, &image) {
+        Ok(lists) => Ok(Opened { image, lists }),
+        Err(fault) => Err(fault),
+    }
 }

@@ -9,7 +9,7 @@ use rv_tally::limit::Limit;
 use rv_tally::plans::Plans;
 
 /// What a hunt writes to its standard output.
-#[derive(Clone, Copy, Debug, PartialEq, Eq)]
+#[derive(Clone, Copy)]
 pub enum Shows {
     /// The races one by one, and what was seen.
     Text,
@@ -18,7 +18,7 @@ pub enum Shows {
 }
 
 /// Parts of the command line, as messages show them, by which the text tells how to go on.
-#[derive(Clone, Copy, Debug, PartialEq, Eq)]
+#[derive(Clone, Copy)]
 pub struct LineParts<'a> {
     /// All of it.
     pub command: &'a str,

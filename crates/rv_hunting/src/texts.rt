@@ -11,16 +11,16 @@ ghost use Rattle.rv_hunting.specs.Hunting.{keep};
 
 use crate::onward::push_keep_text;
 use crate::options::LineParts;
+use crate::page::parts::Outcome;
+use crate::page::runs::warnings;
 use rv_explain::block::RaceClass;
 use rv_hunt::row::RaceRow;
 use rv_hunt::saying::lines::{write_apart, write_saw, write_summary};
 use rv_hunt::saying::order::of_class;
-use rv_hunt::saying::warnings::write_warnings;
 use rv_hunt::table::write_listed_table;
 use rv_memory::flagged::{Flagged, WriteFault};
 use rv_memory::output::{Output, put_pieces};
 use rv_memory::store::NoMemory;
-use rv_page::parts::Outcome;
 use rv_report::key::Key;
 use std::alloc::Global;
 
@@ -98,18 +98,6 @@ fn plain_text(alloc: Global, outcome: &Outcome, blocks: &[u8]) -> Result<Vec<u8>
     }
 }
 
-/// The warnings.
-pub(crate) fn warnings(alloc: Global, outcome: &Outcome) -> Result<Vec<u8>, NoMemory>
-    ensures { IfOk result (λ notes. notes.items ≡ warnings_text outcome.now.sites outcome.now.saw) }
-{
-    let mut writer = Flagged::new(Vec::new(alloc));
-    match write_warnings(&mut writer, outcome.sites, outcome.saw) {
-        Ok(()) => Ok(writer.into_inner()),
-        // Only want of memory refuses a byte.
-        Err(_) => Err(NoMemory),
-    }
-}
-
 /// The lines behind the blocks.
 fn behind(alloc: Global, outcome: &Outcome) -> Result<Vec<u8>, NoMemory>
     ensures { IfOk result (λ lines. lines.items
@@ -133,7 +121,7 @@ pub(crate) fn table_notes(
     ensures { IfOk result (λ notes. notes.items ≡ (warnings_text outcome.now.sites outcome.now.saw
         ++ (spec.apart_text outcome.now ++ spec.saw_text outcome.now.sites outcome.now.saw)) ++ keep (parts line.now)) }
 {
-    let mut notes = warnings(alloc, outcome)?;
+    let mut notes = warnings(alloc, outcome.sites, outcome.saw)?;
     let lines = behind(alloc, outcome)?;
     notes.extend_from_slice(&lines)?;
     push_keep_text(alloc, &mut notes, line)?;

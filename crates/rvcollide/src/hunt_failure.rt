@@ -9,7 +9,7 @@ use rv_engines::fault::Fault;
 use rv_engines::run::fault::CommandFault;
 use rv_engines::sentences::{FaultLine, Paths};
 use rv_hunting::fault::HuntFault;
-use rv_merge::fault::FileFault;
+use rv_hunting::merge::fault::FileFault;
 
 const WRITE: FileFault = FileFault::Plain(Fault::Write);
 

@@ -6,9 +6,9 @@ use crate::files::InputFile;
 use rv_command::arguments::{TablePath, TablePaths};
 use rv_engines::fault::Fault;
 use rv_engines::run::fault::CommandFault;
+use rv_hunting::merge::run_merge;
 use rv_memory::buffered::Buffered;
 use rv_memory::flagged::Flagged;
-use rv_merge::merge::run_merge;
 
 /// The path of the file of a number, where there is one: the tables count from 0, and the table of what is expected comes
 /// behind them.

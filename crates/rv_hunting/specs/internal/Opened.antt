@@ -1,11 +1,15 @@
 -- What `hunt` has before it makes a run, and before it writes.
-use Rattle.std.specs.Prelude.{◌≡◌, true, is_some, List}
+use Rattle.std.specs.Prelude.{◌≡◌, true, is_some, List, Result, Ok}
+use Rattle.rv_elf.specs.Contents.{Contents}
+use Rattle.rv_engines.specs.Campaigns.{elements, listed, skipped}
+use Rattle.rv_engines.specs.CommandFault.{Refusal}
 use Rattle.rv_hunt.specs.HuntSays.{Outcome}
 use Rattle.rv_hunt.specs.Hunted.{Hunt, IsHunted}
 use Rattle.rv_hunt.specs.Remade.{race_in}
 use Rattle.rv_hunt.specs.declared.hunted.Hunted.{Hunted}
 use Rattle.rv_hunt.specs.declared.row.RaceRow.{RaceRow}
 use Rattle.rv_collide.specs.declared.collider.Finished.{Finished}
+use Rattle.rv_memory.specs.Chain.{◌>>=◌}
 use Rattle.rv_report.specs.declared.key.Key.{Key}
 use Rattle.rv_sample.specs.Sites.{sites}
 use Rattle.rv_hunting.specs.Asked.{Asked, Onward}
@@ -13,18 +17,30 @@ use Rattle.rv_hunting.specs.HuntBlocks.{IsRunOf}
 use Rattle.rv_hunting.specs.Hunting.{AreTexts, Hunting, Texts, found_of, outcome, told_of}
 use Rattle.rv_hunting.specs.declared.lists.Lists.{Lists}
 use Rattle.rv_hunting.specs.declared.making.Made.{Made}
+use Rattle.rv_hunting.specs.declared.opening.Listed.{Listed}
 use Rattle.rv_hunting.specs.declared.opening.Opened.{Opened}
 use Rattle.rv_hunting.specs.declared.options.Shows.{Shows}
 
--- the hunt of an image that is read, and of the lists
-abbrev pub hunt_in : Asked → Opened → Hunt
-hunt_in asked opened = record {
-  source = record { image = opened.image; sites = sites opened.image opened.excluded.items; seed = asked.seed };
+-- what an image that is read and the lists of the line are hunted by, or why a list is refused
+abbrev pub hunt_with : Asked → Contents → Result Hunt Refusal
+hunt_with asked image = do
+  excluded ← skipped (elements asked.skip)
+  ranges ← listed image (elements asked.named)
+  Ok (record { source = record { image = image; sites = sites image excluded; seed = asked.seed }; given = asked.given; ranges = ranges; first = asked.first; limit = asked.limit })
+
+-- the hunt of an image and of lists that are read
+abbrev pub hunt_by : Asked → Contents → Listed → Hunt
+hunt_by asked image lists = record {
+  source = record { image = image; sites = sites image lists.excluded.items; seed = asked.seed };
   given = asked.given;
-  ranges = opened.ranges.items;
+  ranges = lists.ranges.items;
   first = asked.first;
   limit = asked.limit;
 }
+
+-- the hunt of all that is read
+abbrev pub hunt_in : Asked → Opened → Hunt
+hunt_in asked opened = hunt_by asked opened.image opened.lists
 
 -- the same with the lists of files
 abbrev pub hunting_with : Hunt → Lists → Hunting

@@ -5,10 +5,10 @@ use rv_engine_tests::devices::{Endless, Sink};
 use rv_engines::fault::Fault;
 use rv_hunt::fault::TableKind::{End, Range, Shape, Twice};
 use rv_hunt::fault::{TableFault, TableKind};
+use rv_hunting::merge::fault::FileFault;
+use rv_hunting::merge::{MergeFault, run_merge};
 use rv_memory::buffered::Buffered;
 use rv_memory::flagged::Flagged;
-use rv_merge::fault::FileFault;
-use rv_merge::merge::{MergeFault, run_merge};
 use std::alloc::Global;
 use std::process::Abort;
 

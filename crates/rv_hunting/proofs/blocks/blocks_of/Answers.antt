@@ -1,11 +1,13 @@
-use Rattle.std.proofs.Common.{◌<◌, ◌+◌, ◌++◌, ap, arith, length, refl, sym, subst, take, ◌∙◌}
+use Rattle.std.proofs.Common.{◌<◌, ◌+◌, ◌++◌, ◌∷◌, ap, arith, length, refl, sym, subst, take, ◌∙◌}
 use Rattle.rv_hunting.specs.Asked.{parts}
 use Rattle.rv_hunting.specs.HuntBlocks.{AreBlocks}
 use Rattle.rv_hunting.proofs.BlockLemmas.{blocks_next}
+use Rattle.rv_hunting.proofs.DrawnLemmas.{is_block}
 use Rattle.rv_hunting.proofs.blocks.blocks_of.Goals as goal
 
 pub loop-place-preserved : goal.loop-place-preserved
 loop-place-preserved c =
     let below : c.loop-place.place < length c.args.rows.now = omega arith in
-    subst (AreBlocks (parts c.args.line.now) c.args.hunt.now 1 (take (c.loop-place.place + 1) c.args.rows.now)) (sym (c.in_ok-extend_from_slice.ensures.items ∙ ap (λ t. c.loop-place.text.items ++ t) c.deref.ensures.value))
-    (blocks_next (parts c.args.line.now) c.args.hunt.now c.args.rows.now c.loop-place.place _ _ _ c.loop-place.text.items c.in_ok-block.block.items below c.loop-place.invariant c.in_ok-block.ensures refl refl)
+    subst (AreBlocks (parts c.args.line.now) c.args.hunt.now 1 (take (c.loop-place.place + 1) c.args.rows.now)) (sym (c.in_ok-push_block.ensures ∙ ap (λ t. c.loop-place.text.items ++ (10 ∷ t)) c.deref.ensures.value))
+    (blocks_next (parts c.args.line.now) c.args.hunt.now c.args.rows.now c.loop-place.place _ _ _ c.loop-place.text.items (10 ∷ c.in_ok-drawn.drawn.block.items) below c.loop-place.invariant
+    (is_block (parts c.args.line.now) c.args.hunt.now _ _ _ c.in_ok-drawn.drawn c.in_ok-drawn.ensures) refl refl)

@@ -1,5 +1,5 @@
 use Rattle.rv_memory.specs.Flagged as flag
-use Rattle.rv_merge.specs.Merge as merge
+use Rattle.rv_hunting.specs.merge.Merge as merge
 use Rattle.rv_hunting.proofs.BoolLemmas.{second_failed, third_failed}
 use Rattle.rv_hunting.proofs.FileLemmas.{expected_told}
 use Rattle.rv_hunting.specs.Asked.{asked}

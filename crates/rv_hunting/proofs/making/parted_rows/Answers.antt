@@ -1,7 +1,7 @@
 use Rattle.std.proofs.Common.{◌∙◌, ap}
 use Rattle.rv_hunt.specs.Hunted.{Hunt}
 use Rattle.rv_hunting.proofs.PartedLemmas.{parted_is}
-use Rattle.rv_merge.specs.Ignore.{is_ignored, is_told}
+use Rattle.rv_hunting.specs.merge.Ignore.{is_ignored, is_told}
 use Rattle.rv_hunting.proofs.making.parted_rows.Goals as goal
 
 pub returns-clause-told : goal.returns-clause-told

@@ -2,7 +2,7 @@ use Rattle.std.proofs.Common.{◌<◌, ◌+◌, arith, length, map, refl, subst,
 use Rattle.rv_hunting.proofs.PartLemmas.{parts_next}
 use Rattle.rv_hunting.specs.Asked.{parts}
 use Rattle.rv_hunting.specs.Paged.{AreParts}
-use Rattle.rv_page.specs.Parts.{part_of}
+use Rattle.rv_hunting.specs.page.Parts.{part_of}
 use Rattle.rv_hunting.proofs.paging.parts_of.Goals as goal
 
 pub loop-place-preserved : goal.loop-place-preserved

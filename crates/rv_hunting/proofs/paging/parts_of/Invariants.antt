@@ -2,7 +2,7 @@
 use Rattle.std.proofs.Common.{map, take}
 use Rattle.rv_hunting.specs.Asked.{parts}
 use Rattle.rv_hunting.specs.Paged.{AreParts}
-use Rattle.rv_page.specs.Parts.{part_of}
+use Rattle.rv_hunting.specs.page.Parts.{part_of}
 use Rattle.rv_hunting.proofs.paging.parts_of.Given as goal
 
 abbrev pub invariant-loop-place : goal.invariant-loop-place

@@ -1,0 +1,6 @@
+-- The files of hunts, and what `merge` makes of them.
+pub mod FileFault
+pub mod FileFaultText
+pub mod Ignore
+pub mod Merge
+pub mod TableFiles

@@ -1,0 +1,8 @@
+//! Texts in markup: how any text stands in an HTML page.
+//!
+//! To the layers above, what `escaped` makes of a text is that of `specs/Escaped.antt`: it opens no element and ends no
+//! attribute, whatever the text's bytes are.
+#![tactic(auto)]
+
+pub mod escaped;
+pub mod laws;

@@ -1,4 +1,0 @@
-pub mod IgnoreLemmas
-pub mod MergeLemmas
-pub mod PartedLemmas
-pub mod SpelledLemmas

@@ -1,2 +1,0 @@
--- What only private contracts cite: no reader has to believe it.
-pub mod Adding
