@@ -7,4 +7,5 @@ pub mod RemadeLemmas
 pub mod ResultLemmas
 pub mod Rows
 pub mod Says
+pub mod SummaryLemmas
 pub mod Written

@@ -2,7 +2,8 @@
 use Rattle.std.proofs.Common.{◌≡◌, ℕ, ◌+◌, true, false, List, [], ◌∷◌, Some, None, Result, Ok, Err, ◌++◌, refl, sym, subst, ap, ◌∙◌}
 use Rattle.std.specs.Prelude.{◌==◌, drop, length, slice_get}
 use Rattle.rv_collide.specs.ScheduleRead.{is_over}
-use Rattle.std.specs.Prelude.{IfOk, IfErr}
+use Rattle.std.specs.Prelude.{IfOk, IfErr, OnOk}
+use Rattle.std.specs.Result.{result_and}
 use Rattle.std.proofs.lemmas.Bool.{or_parts}
 use Rattle.std.proofs.lemmas.List.{drop-drop}
 use Rattle.rv_text.specs.Pieces.{pieces_of}
@@ -118,14 +119,19 @@ pub read_lines : (format : TableFormat) (text : List ℕ) (lines : Lines) → li
 unfolding read
 read_lines format text lines is = sym (ap (table_in format) is)
 
-pub counted_ok : (format : TableFormat) (text : List ℕ) (lines : Lines) (said : ℕ) (rows : List (Key × RaceRow)) (r : Result (List (Key × RaceRow)) ReadFault) → lines ≡ pieces_of 10 text → rows_said lines ≡ Ok said → rows_in format [] (drop 1 lines) ≡ Ok rows
-    → IfOk r (λ same. same ≡ rows) → IfOk r (λ same. (length rows == said) ≡ true) → IfOk r (λ same. read format text ≡ Ok same)
-counted_ok format text lines said rows (Ok same) is front read_rows alike count =
-    read_lines format text lines is ∙ table_read format lines said rows front read_rows count ∙ ap Ok (sym alike)
-counted_ok format text lines said rows (Err fault) is front read_rows alike count = tt
+pub counted_ok : {T : Type 0} (format : TableFormat) (text : List ℕ) (lines : Lines) (said : ℕ) (rows : List (Key × RaceRow)) (r : Result T ReadFault) → lines ≡ pieces_of 10 text → rows_said lines ≡ Ok said → rows_in format [] (drop 1 lines) ≡ Ok rows
+    → OnOk r ((length rows == said) ≡ true) → OnOk r (read format text ≡ Ok rows)
+counted_ok format text lines said rows (Ok done) is front read_rows count =
+    read_lines format text lines is ∙ table_read format lines said rows front read_rows count
+counted_ok format text lines said rows (Err fault) is front read_rows count = tt
 
-pub counted_err : (format : TableFormat) (text : List ℕ) (lines : Lines) (said : ℕ) (rows : List (Key × RaceRow)) (r : Result (List (Key × RaceRow)) ReadFault) → lines ≡ pieces_of 10 text → rows_said lines ≡ Ok said → rows_in format [] (drop 1 lines) ≡ Ok rows
+pub counted_err : {T : Type 0} (format : TableFormat) (text : List ℕ) (lines : Lines) (said : ℕ) (rows : List (Key × RaceRow)) (r : Result T ReadFault) → lines ≡ pieces_of 10 text → rows_said lines ≡ Ok said → rows_in format [] (drop 1 lines) ≡ Ok rows
     → IfErr r (λ fault. (length rows == said) ≡ false) → IfErr r (λ fault. fault ≡ Malformed (record { line = length rows + 2; kind = End })) → IfErr r (IsTold (read format text))
-counted_err format text lines said rows (Ok same) is front read_rows other fault_is = tt
+counted_err format text lines said rows (Ok done) is front read_rows other fault_is = tt
 counted_err format text lines said rows (Err fault) is front read_rows other fault_is =
     subst (IsTold (read format text)) (sym fault_is) (read_lines format text lines is ∙ table_other format lines said rows front read_rows other)
+
+-- the rows that were read, where all went well
+pub read_all : {T : Type 0} (r : Result T ReadFault) (rows : List (Key × RaceRow)) (told : Result (List (Key × RaceRow)) TableFault) → OnOk r (told ≡ Ok rows) → IfOk (result_and r (Ok rows)) (λ all. told ≡ Ok all)
+read_all (Ok done) rows told is = is
+read_all (Err fault) rows told is = tt

@@ -27,7 +27,7 @@ use Rattle.rv_report.specs.declared.key.Key.{Key}
 use Rattle.rv_tally.specs.GoesOn.{goes_on}
 use Rattle.rv_collide.specs.Counts.{saturated}
 use Rattle.rv_tally.specs.Plans.{plan_of}
-use Rattle.rv_tally.specs.Summary.{AreCounts, IsSummary}
+use Rattle.rv_hunt.specs.Summary.{AreCounts, IsSummary}
 use Rattle.rv_tally.specs.Tally.{Tally, added, all_ended, is_exit, is_stop, longest_with, one_if, sum, with_addresses}
 use Rattle.rv_tally.specs.declared.counts.Counts.{Counts}
 use Rattle.rv_tally.specs.declared.end.End.{End}

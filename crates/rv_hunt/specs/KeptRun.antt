@@ -3,7 +3,7 @@ use Rattle.std.specs.Prelude.{◌≡◌, ℕ, List}
 use Rattle.rv_collide.specs.Stored.{Stored, setting_of}
 use Rattle.rv_explain.specs.Races.{Run, reports}
 use Rattle.rv_hunt.specs.declared.kept_run.KeptRun.{KeptRun}
-use Rattle.rv_tally.specs.Summary.{IsSummary}
+use Rattle.rv_hunt.specs.Summary.{IsSummary}
 
 -- the run of a core, as reports are told of it
 abbrev pub run_of : Stored → Run

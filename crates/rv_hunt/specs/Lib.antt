@@ -9,6 +9,7 @@ pub mod HuntedLaws
 pub mod KeptRun
 pub mod Remade
 pub mod Rows
+pub mod Summary
 pub mod ToldOrder
 pub mod WarningText
 pub mod internal

@@ -238,6 +238,28 @@ impl Hunt<'_> {
         Ok(())
     }
 
+    /// Adds what the runs of the hunt see that are still to be made.
+    fn go_on<R: Threads + Wait, W: Watch>(
+        &self,
+        rt: &R,
+        alloc: Global,
+        hunted: &mut Hunted,
+        workers: u8,
+        watch: &mut W,
+    ) -> Result<(), SeriesFault>
+        requires so_far { spec.IsSoFar self.now hunted.old }
+        requires hunt { spec.IsHunt self.now }
+        requires workers { workers ≤ 16 }
+        ensures { OnOk result (spec.IsHunted self.now hunted.new) }
+    {
+        while self.goes_on(hunted) {
+            let next = self.next(hunted);
+            let lot = self.lot(rt, alloc, hunted, next, workers)?;
+            self.add_lot(alloc, hunted, next, &lot, watch)?;
+        }
+        Ok(())
+    }
+
     /// What the runs of the hunt see: exactly those from the first number on that its limit allows, whatever the number
     /// of workers (1 to 16). Some runs are made together, which are then added up in the order of their numbers; what
     /// of them is behind the hunt's end is let go.
@@ -253,11 +275,7 @@ impl Hunt<'_> {
         ensures { IfOk result (λ hunted. spec.IsHunted self.now hunted) }
     {
         let mut hunted = Hunted::new(alloc);
-        while self.goes_on(&hunted) {
-            let next = self.next(&hunted);
-            let lot = self.lot(rt, alloc, &hunted, next, workers)?;
-            self.add_lot(alloc, &mut hunted, next, &lot, watch)?;
-        }
-        Ok(hunted)
+        self.go_on(rt, alloc, &mut hunted, workers, watch)
+            .and(Ok(hunted))
     }
 }

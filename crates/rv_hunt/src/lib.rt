@@ -18,5 +18,6 @@ pub mod reading;
 pub mod remade;
 pub mod row;
 pub mod saying;
+pub mod summary;
 pub mod table;
 mod texts;

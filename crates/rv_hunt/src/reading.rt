@@ -50,28 +50,27 @@ fn cut_at(rows: &HuntTable, format: TableFormat, cut: &[u8]) -> Result<(), ReadF
 
 /// Reads the rows of the lines that are left.
 fn read_rows(
-    alloc: Global,
+    rows: &mut HuntTable,
     format: TableFormat,
     first: &[u8],
     lines: &mut Pieces<'_>,
-) -> Result<HuntTable, ReadFault>
-    ensures ok { IfOk result (λ rows. spec.rows_in format [] (first.now ∷ lines.old) ≡ Ok rows) }
-    ensures err { IfErr result (spec.IsTold (spec.rows_in format [] (first.now ∷ lines.old))) }
+) -> Result<(), ReadFault>
+    ensures ok { OnOk result (spec.rows_in format rows.old (first.now ∷ lines.old) ≡ Ok rows.new) }
+    ensures err { IfErr result (spec.IsTold (spec.rows_in format rows.old (first.now ∷ lines.old))) }
 {
-    let mut rows = HuntTable::new(alloc);
     let mut line = first;
     'lines: loop {
         let Some(next) = lines.next_piece() else {
-            cut_at(&rows, format, line)?;
-            return Ok(rows);
+            cut_at(rows, format, line)?;
+            return Ok(());
         };
         if ends(format, line) {
             if is_over(next, lines) {
-                return Ok(rows);
+                return Ok(());
             }
             return Err(at(TableKind::End, rows.len() as u64 + 3));
         }
-        add_line(&mut rows, format, line)?;
+        add_line(rows, format, line)?;
         line = next;
     }
 }
@@ -92,24 +91,24 @@ fn read_front<'a>(lines: &mut Pieces<'a>) -> Result<(u64, &'a [u8]), TableKind>
     Ok((said, second))
 }
 
-/// The rows, where they are as many as is said.
-fn counted(rows: HuntTable, said: u64) -> Result<HuntTable, ReadFault>
-    ensures same { IfOk result (λ same. same ≡ rows) }
-    ensures count { IfOk result (λ same. (length rows == said) ≡ true) }
-    ensures other { IfErr result (λ fault. (length rows == said) ≡ false) }
-    ensures err { IfErr result (λ fault. fault ≡ faults.Malformed (record { line = length rows + 2; kind = kinds.End })) }
+/// Whether the rows are as many as is said.
+fn counted(rows: &HuntTable, said: u64) -> Result<(), ReadFault>
+    ensures count { OnOk result ((length rows.now == said) ≡ true) }
+    ensures other { IfErr result (λ fault. (length rows.now == said) ≡ false) }
+    ensures err { IfErr result (λ fault. fault ≡ faults.Malformed (record { line = length rows.now + 2; kind = kinds.End })) }
 {
     let count = rows.len() as u64;
     if count == said {
-        Ok(rows)
+        Ok(())
     } else {
         Err(at(TableKind::End, count + 2))
     }
 }
 
-/// Reads the table that a text is.
-pub fn read_table(alloc: Global, format: TableFormat, text: &[u8]) -> Result<HuntTable, ReadFault>
-    ensures ok { IfOk result (λ rows. spec.read format text.now ≡ Ok rows) }
+/// Reads the rows of the table that a text is into an empty table.
+fn read_into(rows: &mut HuntTable, format: TableFormat, text: &[u8]) -> Result<(), ReadFault>
+    requires { rows.old ≡ [] }
+    ensures ok { OnOk result (spec.read format text.now ≡ Ok rows.new) }
     ensures err { IfErr result (spec.IsTold (spec.read format text.now)) }
 {
     let mut lines = Pieces::of(text, b'\n');
@@ -117,8 +116,17 @@ pub fn read_table(alloc: Global, format: TableFormat, text: &[u8]) -> Result<Hun
         Ok(front) => front,
         Err(kind) => return Err(at(kind, 1)),
     };
-    let rows = read_rows(alloc, format, second, &mut lines)?;
+    read_rows(rows, format, second, &mut lines)?;
     counted(rows, said)
+}
+
+/// Reads the table that a text is.
+pub fn read_table(alloc: Global, format: TableFormat, text: &[u8]) -> Result<HuntTable, ReadFault>
+    ensures ok { IfOk result (λ rows. spec.read format text.now ≡ Ok rows) }
+    ensures err { IfErr result (spec.IsTold (spec.read format text.now)) }
+{
+    let mut rows = HuntTable::new(alloc);
+    read_into(&mut rows, format, text).and(Ok(rows))
 }
 
 /// Reads a hunt table, or else one of `run`.

@@ -10,6 +10,7 @@ ghost use Rattle.rv_tally.specs.Plans.{plan_of};
 use crate::hunt::Hunt;
 use crate::kept_run::{push_some, report_of};
 use crate::row::RaceRow;
+use rv_campaign::run_one;
 use rv_collide::collider::Finished;
 use rv_collide::ending::Ending;
 use rv_elf::Image;
@@ -17,7 +18,6 @@ use rv_explain::classes::rank;
 use rv_explain::races::{Race, Report};
 use rv_memory::store::NoMemory;
 use rv_report::key::Key;
-use rv_tally::again::made_again;
 use std::alloc::Global;
 
 /// The run that a row is told by, and the row's race, which is told by a report of that run. Each row of a hunt's table
@@ -110,7 +110,15 @@ impl Hunt<'_> {
         ensures race { IfOk result (λ remade. remade.race
             ≡ spec.race_in self.now.source.image self.now.ranges (key.now, row.now) remade.run.endings.items) }
     {
-        let run = made_again(alloc, self.image, self.plans, self.seed, row.run, excluded)?;
+        let again = self.plans.numbered(row.run);
+        let run = run_one(
+            alloc,
+            self.image,
+            again.plan,
+            self.seed,
+            again.number,
+            excluded,
+        )?;
         let race = race_in(alloc, self.image, self.ranges, key, row, &run.endings)?;
         Ok(Remade { run, race })
     }

@@ -102,11 +102,8 @@ impl HuntTable {
     pub fn rows(&self, alloc: Global) -> Result<Vec<(Key, RaceRow)>, NoMemory>
         ensures { IfOk result (λ rows. rows.items ≡ self.now) }
     {
-        let mut rows = Vec::new(alloc);
-        for (key, row) in self.rows.iter() {
-            rows.push((*key, *row))?;
-        }
-        Ok(rows)
+        let rows = self.rows.iter().map(|(key, row)| (*key, *row));
+        Ok(rows.collect(alloc)?)
     }
 
     /// Whether a race may be a bug, and this table has no row of it.
@@ -121,12 +118,7 @@ impl HuntTable {
     pub fn has_unexpected(&self, expected: &HuntTable) -> bool
         ensures { result ≡ expect.has_unexpected expected.now self.now }
     {
-        for (key, row) in self.rows.iter() {
-            if expected.lacks(key, row) {
-                return true;
-            }
-        }
-        false
+        self.rows.iter().any(|(key, row)| expected.lacks(key, row))
     }
 
     /// Writes the table: `races N`, and a line of each row. It takes no memory.

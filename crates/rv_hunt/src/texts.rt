@@ -24,9 +24,16 @@ fn write_count<O: Output>(writer: &mut O, row: &RaceRow) -> Result<(), WriteFaul
     let place = Decimal::new(u64::from(row.entry));
     put_pieces(
         writer,
-        &[b" count ", count.as_bytes(), b" run ", run.as_bytes()],
-    )?;
-    put_pieces(writer, &[b" entry ", place.as_bytes(), b" "])
+        &[
+            b" count ",
+            count.as_bytes(),
+            b" run ",
+            run.as_bytes(),
+            b" entry ",
+            place.as_bytes(),
+            b" ",
+        ],
+    )
 }
 
 fn write_verdict<O: Output>(writer: &mut O, second: Option<u32>) -> Result<(), WriteFault>

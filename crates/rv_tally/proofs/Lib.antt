@@ -1,2 +1,1 @@
-pub mod SummaryLemmas
 pub mod FoldLemmas

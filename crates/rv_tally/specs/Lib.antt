@@ -2,6 +2,5 @@ pub mod GoesOn
 pub mod Kinds
 pub mod Plans
 pub mod Strongest
-pub mod Summary
 pub mod Tally
 pub mod Warnings

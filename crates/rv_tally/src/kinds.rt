@@ -38,19 +38,13 @@ impl Model for Kinds {
 fn is_same(end: End, other: End) -> bool
     ensures { result ≡ spec.same_end end other }
 {
-    match end {
-        End::Exited(code) => match other {
-            End::Exited(other) => code == other,
-            End::Stopped(_, _) | End::OutOfSteps => false,
-        },
-        End::Stopped(cause, pc) => match other {
-            End::Stopped(other, at) => cause.number() == other.number() && pc == at,
-            End::Exited(_) | End::OutOfSteps => false,
-        },
-        End::OutOfSteps => match other {
-            End::OutOfSteps => true,
-            End::Exited(_) | End::Stopped(_, _) => false,
-        },
+    match (end, other) {
+        (End::Exited(code), End::Exited(other)) => code == other,
+        (End::Stopped(cause, pc), End::Stopped(other, at)) => {
+            cause.number() == other.number() && pc == at
+        }
+        (End::OutOfSteps, End::OutOfSteps) => true,
+        _ => false,
     }
 }
 
@@ -72,11 +66,7 @@ fn counted(kind: Kind, end: End) -> Kind
 fn all_counted(alloc: Global, kinds: &[Kind], end: End) -> Result<Vec<Kind>, NoMemory>
     ensures { IfOk result (λ told. told.items ≡ map (spec.counted end) kinds.now) }
 {
-    let mut told = Vec::new(alloc);
-    for kind in kinds {
-        told.push(counted(*kind, end))?;
-    }
-    Ok(told)
+    Ok(kinds.iter().map(|kind| counted(*kind, end)).collect(alloc)?)
 }
 
 impl Kinds {

@@ -25,6 +25,13 @@ pub struct Plans {
     lengths: Option<Lengths>,
 }
 
+/// A run of a hunt: its plan, and its number, which with the seed gives its words.
+#[derive(Clone, Copy)]
+pub struct Numbered {
+    pub plan: Plan,
+    pub number: u32,
+}
+
 impl Model for Plans {
     ghost use Rattle.rv_tally.specs.Plans.{Given, IsGiven};
 
@@ -156,5 +163,14 @@ impl Plans {
             Some(plan) => plan,
             None => unreachable!(),
         }
+    }
+
+    /// The run of that number, which is made again by its plan and its number.
+    pub fn numbered(&self, number: u32) -> Numbered
+        ensures plan { numbers result.plan ≡ spec.plan_of self.now number }
+        ensures number { result.number ≡ number }
+    {
+        let plan = self.plan(number);
+        Numbered { plan, number }
     }
 }

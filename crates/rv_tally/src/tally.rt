@@ -66,41 +66,25 @@ fn sum(a: Counts, b: Counts) -> Counts
     }
 }
 
-fn is_exit(end: End) -> bool
-    ensures { result ≡ spec.is_exit end }
-{
-    match end {
-        End::Exited(_) => true,
-        End::Stopped(_, _) | End::OutOfSteps => false,
-    }
-}
-
-fn is_stop(end: End) -> bool
-    ensures { result ≡ spec.is_stop end }
-{
-    match end {
-        End::Stopped(_, _) => true,
-        End::Exited(_) | End::OutOfSteps => false,
-    }
-}
-
 /// How many harts exited.
 fn exits(ends: &[End]) -> u64
     ensures { result ≡ count_by spec.is_exit ends.now }
 {
-    ends.iter().filter(|end| is_exit(**end)).count() as u64
+    ends.iter()
+        .filter(|end| matches!(end, End::Exited(_)))
+        .count() as u64
 }
 
 fn some_stopped(ends: &[End]) -> bool
     ensures { result ≡ list_any spec.is_stop ends.now }
 {
-    ends.iter().any(|end| is_stop(*end))
+    ends.iter().any(|end| matches!(end, End::Stopped(_, _)))
 }
 
 fn each_stopped(ends: &[End]) -> bool
     ensures { result ≡ list_all spec.is_stop ends.now }
 {
-    ends.iter().all(|end| is_stop(*end))
+    ends.iter().all(|end| matches!(end, End::Stopped(_, _)))
 }
 
 /// A count, and one more where it holds.

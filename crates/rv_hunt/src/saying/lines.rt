@@ -1,5 +1,5 @@
 //! The first line of what a hunt says, and those behind the blocks of its races.
-ghost use Rattle.std.specs.Prelude.{◌≡◌, ◌||◌, is_err, OnOk};
+ghost use Rattle.std.specs.Prelude.{◌≡◌, ◌||◌, is_err, flat_map, OnOk};
 ghost use Rattle.std.specs.Io.KnownBytes.{Appends};
 ghost use Rattle.rv_hunt.specs.HuntSays as spec;
 
@@ -9,7 +9,6 @@ use crate::saying::order::{benign, bugs, reports_of};
 use rv_memory::flagged::WriteFault;
 use rv_memory::output::{Output, put_pieces};
 use rv_report::key::Key;
-use rv_tally::counts::Counts;
 use rv_tally::tally::Tally;
 use rv_text::decimal::Decimal;
 
@@ -20,6 +19,17 @@ fn write_number<O: Output>(writer: &mut O, name: &[u8], number: u64) -> Result<(
 {
     let number = Decimal::new(number);
     put_pieces(writer, &[name, number.as_bytes()])
+}
+
+/// Writes names, each with its number.
+fn write_numbers<O: Output>(writer: &mut O, parts: &[(&[u8], u64)]) -> Result<(), WriteFault>
+    ensures ok { OnOk result (Appends (O.written writer.old) (O.written writer.new) (flat_map (λ part. spec.numbered part.0.now part.1) parts.now)) }
+    ensures failed { O.has_failed writer.new ≡ (O.has_failed writer.old || is_err result) }
+{
+    for (name, number) in parts {
+        write_number(writer, name, *number)?;
+    }
+    Ok(())
 }
 
 /// Writes the first line.
@@ -33,15 +43,14 @@ pub fn write_summary<O: Output>(
     ensures failed { O.has_failed writer.new ≡ (O.has_failed writer.old || is_err result) }
 {
     let counts = saw.counts();
-    write_number(writer, b"races ", bugs(rows))?;
-    write_number(writer, b", likely benign ", benign(rows))?;
-    write_number(
-        writer,
-        b", reports ",
-        counts.hit.saturating_add(counts.changed),
-    )?;
-    write_number(writer, b" of ", saw.pauses())?;
-    write_number(writer, b" endings in ", saw.runs())?;
+    let numbers: [(&[u8], u64); 5] = [
+        (b"races ", bugs(rows)),
+        (b", likely benign ", benign(rows)),
+        (b", reports ", counts.hit.saturating_add(counts.changed)),
+        (b" of ", saw.pauses()),
+        (b" endings in ", saw.runs()),
+    ];
+    write_numbers(writer, &numbers)?;
     writer.put(b" runs\n")
 }
 
@@ -74,27 +83,6 @@ pub fn write_apart<O: Output>(
     writer.put(b"\n")
 }
 
-/// Writes how many sites there are, and what came of them.
-fn write_sites<O: Output>(writer: &mut O, sites: u32, saw: &Tally) -> Result<(), WriteFault>
-    ensures ok { OnOk result (Appends (O.written writer.old) (O.written writer.new) (spec.sites_text sites saw.now)) }
-    ensures failed { O.has_failed writer.new ≡ (O.has_failed writer.old || is_err result) }
-{
-    write_number(writer, b"seen sites ", u64::from(sites))?;
-    write_number(writer, b", armed ", saw.armed().count())?;
-    write_number(writer, b", paused at ", saw.paused().count())
-}
-
-/// Writes how the pauses ended.
-fn write_pauses<O: Output>(writer: &mut O, pauses: u64, counts: Counts) -> Result<(), WriteFault>
-    ensures ok { OnOk result (Appends (O.written writer.old) (O.written writer.new) (spec.pauses_text pauses counts)) }
-    ensures failed { O.has_failed writer.new ≡ (O.has_failed writer.old || is_err result) }
-{
-    write_number(writer, b"; pauses ", pauses)?;
-    write_number(writer, b": quiet ", counts.quiet)?;
-    write_number(writer, b", hit ", counts.hit)?;
-    write_number(writer, b", changed ", counts.changed)
-}
-
 /// Writes what was seen.
 #[tactic(auto, unfolding(crate::specs::HuntSays::seen_line))]
 pub fn write_seen<O: Output>(writer: &mut O, sites: u32, saw: &Tally) -> Result<(), WriteFault>
@@ -102,10 +90,18 @@ pub fn write_seen<O: Output>(writer: &mut O, sites: u32, saw: &Tally) -> Result<
     ensures failed { O.has_failed writer.new ≡ (O.has_failed writer.old || is_err result) }
 {
     let counts = saw.counts();
-    write_sites(writer, sites, saw)?;
-    write_pauses(writer, saw.pauses(), counts)?;
-    write_number(writer, b"; unwatched ", counts.unwatched)?;
-    write_number(writer, b"; steps ", counts.steps)?;
+    let numbers: [(&[u8], u64); 9] = [
+        (b"seen sites ", u64::from(sites)),
+        (b", armed ", saw.armed().count()),
+        (b", paused at ", saw.paused().count()),
+        (b"; pauses ", saw.pauses()),
+        (b": quiet ", counts.quiet),
+        (b", hit ", counts.hit),
+        (b", changed ", counts.changed),
+        (b"; unwatched ", counts.unwatched),
+        (b"; steps ", counts.steps),
+    ];
+    write_numbers(writer, &numbers)?;
     writer.put(b"\n")
 }
 

@@ -1,7 +1,8 @@
 //! Where a clean answer would mean nothing.
-ghost use Rattle.std.specs.Prelude.{◌≡◌, ◌||◌, is_err, flat_map, OnOk};
+ghost use Rattle.std.specs.Prelude.{◌≡◌, ◌||◌, None, is_err, flat_map, IfSome, OnOk};
 ghost use Rattle.std.specs.Io.KnownBytes.{Appends};
 ghost use Rattle.rv_hunt.specs.WarningText as spec;
+ghost use Rattle.rv_tally.specs.Tally.{Tally};
 
 use crate::saying::ended::write_end;
 use rv_memory::flagged::WriteFault;
@@ -71,27 +72,38 @@ fn write_trapped<O: Output>(writer: &mut O, saw: &Tally) -> Result<(), WriteFaul
     writer.put(b": is the program built for RV32IMA without an operating system?")
 }
 
+/// The words of a warning, where they are the same whatever runs saw.
+fn fixed_words(warning: Warning) -> Option<&'static [u8]>
+    ensures fixed { IfSome result (λ words. (saw : Tally) → words.now ≡ spec.warning_words saw warning) }
+    ensures other { result ≡ None → warning ≡ Warning.Trapped }
+{
+    match warning {
+        Warning::NoSite => Some(
+            b"the image has no load or store to pause at: is it the right file, and what does --skip leave out?",
+        ),
+        Warning::NoPause => Some(
+            b"no pause was made, so that no race could be seen: do the harts reach a load or a store?",
+        ),
+        Warning::Trapped => None,
+        Warning::NoOtherStep => Some(
+            b"in no pause did another hart make a step: take more --harts, or a longer pause by --plan",
+        ),
+        Warning::FewArmed => Some(
+            b"fewer than half of the sites were ever armed: take a greater --budget",
+        ),
+        Warning::NoExit => Some(
+            b"in the longest runs no hart exited: if the program ends, take more steps by --plan",
+        ),
+    }
+}
+
 fn write_words<O: Output>(writer: &mut O, saw: &Tally, warning: Warning) -> Result<(), WriteFault>
     ensures ok { OnOk result (Appends (O.written writer.old) (O.written writer.new) (spec.warning_words saw.now warning)) }
     ensures failed { O.has_failed writer.new ≡ (O.has_failed writer.old || is_err result) }
 {
-    match warning {
-        Warning::NoSite => writer.put(
-            b"the image has no load or store to pause at: is it the right file, and what does --skip leave out?",
-        ),
-        Warning::NoPause => writer.put(
-            b"no pause was made, so that no race could be seen: do the harts reach a load or a store?",
-        ),
-        Warning::Trapped => write_trapped(writer, saw),
-        Warning::NoOtherStep => writer.put(
-            b"in no pause did another hart make a step: take more --harts, or a longer pause by --plan",
-        ),
-        Warning::FewArmed => writer.put(
-            b"fewer than half of the sites were ever armed: take a greater --budget",
-        ),
-        Warning::NoExit => writer.put(
-            b"in the longest runs no hart exited: if the program ends, take more steps by --plan",
-        ),
+    match fixed_words(warning) {
+        Some(words) => writer.put(words),
+        None => write_trapped(writer, saw),
     }
 }
 

@@ -18,6 +18,8 @@ use std::process::Abort;
 use std::sync::Wait;
 use std::thread::Threads;
 
+mod counted;
+
 /// The words of `examples/ring.elf`.
 const RING: [u32; 37] = [
     0x0002_0437,

@@ -1,7 +1,7 @@
 use Rattle.std.proofs.Common.{◌≡◌}
 use Rattle.rv_hunt.specs.HuntSays.{reports, summary_line}
 use Rattle.rv_hunt.specs.ToldOrder as order
-use Rattle.rv_hunt.proofs.Says.{put_then}
+use Rattle.rv_hunt.proofs.Says.{five, put_then}
 use Rattle.rv_collide.specs.Counts.{saturated}
 use Rattle.rv_tally.specs.Tally.{pauses}
 use Rattle.rv_hunt.proofs.saying.lines.write_summary.Goals as goal
@@ -15,8 +15,5 @@ returns-clause-ok g c =
     let told : c.saturating_add.result ≡ reports c.args.saw.now = rw counts at c.saturating_add.ensures in
     let made : c.pauses.result ≡ saturated (pauses c.args.saw.now) = cc in
     let runs : c.runs.result ≡ c.args.saw.now.runs = cc in
-    put_then c.put.result _ _ _ _ _ (rw bugs at c.in_ok-write_number.ensures.ok)
-    (put_then c.put.result _ _ _ _ _ (rw benign at c.in_ok-write_number-2.ensures.ok)
-    (put_then c.put.result _ _ _ _ _ (rw told at c.in_ok-write_number-3.ensures.ok)
-    (put_then c.put.result _ _ _ _ _ (rw made at c.in_ok-write_number-4.ensures.ok)
-    (put_then c.put.result _ _ _ _ _ (rw runs at c.in_ok-write_number-5.ensures.ok) c.put.ensures.ok))))
+    let all = put_then c.put.result _ _ _ _ _ c.in_ok-write_numbers.ensures.ok c.put.ensures.ok in
+    rw (← five _ _ _ _ _ _) (rw (bugs, benign, told, made, runs) at all)

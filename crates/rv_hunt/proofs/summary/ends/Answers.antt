@@ -1,6 +1,6 @@
 use Rattle.std.proofs.Common.{arith}
-use Rattle.rv_tally.proofs.SummaryLemmas.{all_ended, ended_next}
-use Rattle.rv_tally.proofs.summary.ends.Goals as goal
+use Rattle.rv_hunt.proofs.SummaryLemmas.{all_ended, ended_next}
+use Rattle.rv_hunt.proofs.summary.ends.Goals as goal
 
 pub loop-h-preserved : goal.loop-h-preserved
 loop-h-preserved c = record {

@@ -2,7 +2,7 @@ use Rattle.std.proofs.Common.{◌≡◌, ◌≤◌, ◌-◌, false}
 use Rattle.std.specs.Prelude.{is_some}
 use Rattle.std.specs.List.{list_any, range_with_len}
 use Rattle.rv_collide.specs.Entries.{stepped_at}
-use Rattle.rv_tally.proofs.summary.has_step_within.Given as goal
+use Rattle.rv_hunt.proofs.summary.has_step_within.Given as goal
 
 abbrev pub invariant-loop-place : goal.invariant-loop-place
 invariant-loop-place l = record {

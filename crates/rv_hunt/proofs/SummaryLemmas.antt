@@ -12,7 +12,7 @@ use Rattle.rv_collide.specs.Stored.{Stored, setting_of}
 use Rattle.rv_hart.specs.State.{State}
 use Rattle.rv_hart.specs.declared.hart.Hart.{Hart}
 use Rattle.rv_hart.specs.declared.hart.Status.{Status}
-use Rattle.rv_tally.specs.Summary.{end_of, end_with, ends}
+use Rattle.rv_hunt.specs.Summary.{end_of, end_with, ends}
 use Rattle.rv_tally.specs.declared.end.End.{End}
 
 -- ---- one more of a list

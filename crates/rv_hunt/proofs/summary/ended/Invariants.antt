@@ -1,6 +1,6 @@
 use Rattle.std.proofs.Common.{◌≡◌, ◌≤◌, take}
-use Rattle.rv_tally.specs.Summary.{ended}
-use Rattle.rv_tally.proofs.summary.ended.Given as goal
+use Rattle.rv_hunt.specs.Summary.{ended}
+use Rattle.rv_hunt.proofs.summary.ended.Given as goal
 
 abbrev pub invariant-loop-n : goal.invariant-loop-n
 invariant-loop-n l = record {

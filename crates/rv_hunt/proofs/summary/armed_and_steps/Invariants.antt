@@ -1,7 +1,7 @@
 use Rattle.std.proofs.Common.{◌≡◌, ◌≤◌, length, take}
 use Rattle.rv_collide.specs.Entries.{steps}
-use Rattle.rv_tally.specs.Summary.{armed_in}
-use Rattle.rv_tally.proofs.summary.armed_and_steps.Given as goal
+use Rattle.rv_hunt.specs.Summary.{armed_in}
+use Rattle.rv_hunt.proofs.summary.armed_and_steps.Given as goal
 
 abbrev pub invariant-loop-n : goal.invariant-loop-n
 invariant-loop-n l = record {

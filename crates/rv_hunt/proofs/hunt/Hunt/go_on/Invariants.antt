@@ -1,7 +1,7 @@
 -- the runs so far are those of the hunt
 use Rattle.std.proofs.Common.{◌-◌, ◌^◌}
 use Rattle.rv_hunt.specs.Hunted.{IsSoFar}
-use Rattle.rv_hunt.proofs.hunt.Hunt.hunted.Given as goal
+use Rattle.rv_hunt.proofs.hunt.Hunt.go_on.Given as goal
 
 abbrev pub invariant-loop-alloc : goal.invariant-loop-alloc
 invariant-loop-alloc g l = IsSoFar l.self l.hunted

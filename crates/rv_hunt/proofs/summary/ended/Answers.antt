@@ -1,7 +1,7 @@
 use Rattle.std.proofs.Common.{arith}
-use Rattle.rv_tally.specs.Summary.{ended}
-use Rattle.rv_tally.proofs.SummaryLemmas.{pushed}
-use Rattle.rv_tally.proofs.summary.ended.Goals as goal
+use Rattle.rv_hunt.specs.Summary.{ended}
+use Rattle.rv_hunt.proofs.SummaryLemmas.{pushed}
+use Rattle.rv_hunt.proofs.summary.ended.Goals as goal
 
 pub loop-n-preserved : goal.loop-n-preserved
 loop-n-preserved c = record {

@@ -3,9 +3,9 @@ use Rattle.std.specs.Prelude.{is_some}
 use Rattle.std.specs.List.{list_any, range_with_len}
 use Rattle.rv_collide.specs.Entries.{between, stepped_at}
 use Rattle.rv_collide.specs.Pause.{within}
-use Rattle.rv_tally.specs.Summary.{has_step_within}
-use Rattle.rv_tally.proofs.SummaryLemmas.{any_there, none_more, none_of_fewer}
-use Rattle.rv_tally.proofs.summary.has_step_within.Goals as goal
+use Rattle.rv_hunt.specs.Summary.{has_step_within}
+use Rattle.rv_hunt.proofs.SummaryLemmas.{any_there, none_more, none_of_fewer}
+use Rattle.rv_hunt.proofs.summary.has_step_within.Goals as goal
 
 pub returns-then-is_step : goal.returns-then-is_step
 unfolding has_step_within within between

@@ -1,9 +1,9 @@
-use Rattle.std.proofs.Common.{◌+◌, ◌++◌, ◌∙◌, ap, arith, rules}
+use Rattle.std.proofs.Common.{◌++◌, ◌∙◌, ap, arith, rules}
 use Rattle.std.specs.Option.{option_to_list}
 use Rattle.rv_collide.specs.Entries.{stepped_hart, steps}
-use Rattle.rv_tally.specs.Summary.{armed_address, armed_in}
-use Rattle.rv_tally.proofs.SummaryLemmas.{counted_more, picked_more}
-use Rattle.rv_tally.proofs.summary.armed_and_steps.Goals as goal
+use Rattle.rv_hunt.specs.Summary.{armed_address, armed_in}
+use Rattle.rv_hunt.proofs.SummaryLemmas.{counted_more, picked_more}
+use Rattle.rv_hunt.proofs.summary.armed_and_steps.Goals as goal
 
 pub loop-n-init : goal.loop-n-init
 unfolding armed_in steps

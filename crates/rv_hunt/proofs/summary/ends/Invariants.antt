@@ -1,6 +1,6 @@
 use Rattle.std.proofs.Common.{◌≡◌, ◌≤◌, map, take}
-use Rattle.rv_tally.specs.Summary.{end_of}
-use Rattle.rv_tally.proofs.summary.ends.Given as goal
+use Rattle.rv_hunt.specs.Summary.{end_of}
+use Rattle.rv_hunt.proofs.summary.ends.Given as goal
 
 abbrev pub invariant-loop-h : goal.invariant-loop-h
 invariant-loop-h l = record {
