@@ -1,8 +1,7 @@
 //! What the tests assert by.
-use rv_engine_tests::devices::{Failing, Sink, tells_each_failing_call, tells_each_failing_read};
+use rv_engine_tests::devices::{Sink, tells_each_failing_call};
 use rv_engines::fault::Fault;
 use rv_memory::buffered::Buffered;
-use rv_memory::flagged::Flagged;
 use std::alloc::Global;
 use std::fmt::Debug;
 use std::process::Abort;
@@ -24,16 +23,4 @@ pub fn assert_tells_each_failing_call<F: Fn(&mut Buffered<Sink>) -> Result<(), F
 {
     let told = tells_each_failing_call(alloc, takes_none, engine);
     assert_is(rt, told, Ok(()), "a failing writer");
-}
-
-/// Asserts that an engine tells each failure of its reader.
-pub fn assert_tells_each_failing_read<F: Fn(&mut Flagged<Failing<'_>>) -> Result<(), Fault>>(
-    rt: &impl Abort,
-    text: &[u8],
-    engine: F,
-)
-    requires { F.IsAlwaysCallable engine }
-{
-    let told = tells_each_failing_read(text, engine);
-    assert_is(rt, told, Ok(()), "a failing reader");
 }

@@ -1,3 +1,7 @@
-//! The engines of `hunt` and `merge`.
+//! The engines of `hunt` and `merge`, on devices that fail and a folder that gets full.
+mod folder;
 mod hunting;
-mod merge;
+mod ignoring;
+mod merging;
+mod readers;
+mod texts;

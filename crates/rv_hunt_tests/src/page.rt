@@ -1,5 +1,6 @@
 //! The pages of small hunts.
 use crate::assertion::assert_is;
+use crate::tallies::{Ran, add};
 use rv_explain::block::RaceClass::{self, Flag, Kept, Named, Ordered};
 use rv_hunt::row::RaceRow;
 use rv_hunting::page::page_text;
@@ -7,35 +8,24 @@ use rv_hunting::page::parts::{Outcome, RacePart};
 use rv_report::key::Key;
 use rv_tally::counts::Counts;
 use rv_tally::end::End;
-use rv_tally::summary::Summary;
 use rv_tally::tally::Tally;
 use std::alloc::Global;
 use std::process::Abort;
 
 /// A run of two harts.
-fn run(rt: &impl Abort, alloc: Global) -> Summary {
-    Summary {
-        most_steps: 2000,
-        ends: vec![in alloc; End::Exited(5050), End::OutOfSteps].expect(rt, "memory"),
-        armed: vec![in alloc; 0x10054, 0x10074].expect(rt, "memory"),
-        paused: vec![in alloc; 0x10074].expect(rt, "memory"),
-        counts: Counts {
-            steps: 3000,
-            quiet: 5,
-            hit: 2,
-            changed: 1,
-            unwatched: 4,
-            passed: 7,
-        },
-    }
-}
-
-/// What one run saw.
-fn seen(rt: &impl Abort, alloc: Global, run: &Summary) -> Tally {
-    let mut saw = Tally::new(alloc);
-    saw.add(alloc, run).expect(rt, "memory");
-    saw
-}
+const RAN: Ran<'static> = Ran {
+    ends: &[End::Exited(5050), End::OutOfSteps],
+    armed: &[0x10054, 0x10074],
+    paused: &[0x10074],
+    counts: Counts {
+        steps: 3000,
+        quiet: 5,
+        hit: 2,
+        changed: 1,
+        unwatched: 4,
+        passed: 7,
+    },
+};
 
 fn row(class: RaceClass, count: u64, run: u32) -> (Key, RaceRow) {
     let key = Key {
@@ -53,55 +43,50 @@ fn row(class: RaceClass, count: u64, run: u32) -> (Key, RaceRow) {
     (key, row)
 }
 
-fn race(
-    rt: &impl Abort,
-    alloc: Global,
-    row: (Key, RaceRow),
-    names: &[u8],
-    block: &[u8],
-    picture: Option<&[u8]>,
-) -> RacePart {
-    let picture = match picture {
-        Some(picture) => Some(picture.to_vec(alloc).expect(rt, "memory")),
-        None => None,
+/// A race's class, count and run, its instructions by name, its block, and whether it has a picture.
+type Shown = ((RaceClass, u64, u32), &'static [u8], &'static [u8], bool);
+
+fn race(rt: &impl Abort, alloc: Global, shown: &Shown) -> RacePart {
+    let ((class, count, run), names, block, is_drawn) = *shown;
+    let picture = if is_drawn {
+        Some(Vec::from_slice(alloc, b"<svg></svg>\n").expect(rt, "memory"))
+    } else {
+        None
     };
     RacePart {
-        row,
-        names: names.to_vec(alloc).expect(rt, "memory"),
-        block: block.to_vec(alloc).expect(rt, "memory"),
+        row: row(class, count, run),
+        names: Vec::from_slice(alloc, names).expect(rt, "memory"),
+        block: Vec::from_slice(alloc, block).expect(rt, "memory"),
         picture,
     }
 }
 
-/// The page of races of what was seen, of which `rows` are all.
-fn page_of(
-    rt: &impl Abort,
-    alloc: Global,
-    command: &[u8],
-    saw: &Tally,
-    rows: &[(Key, RaceRow)],
-    races: &[RacePart],
-) -> Vec<u8> {
-    let outcome = Outcome {
-        sites: 3,
-        saw,
-        rows,
-        ignored: &[],
-    };
-    page_text(alloc, command, &outcome, races).expect(rt, "memory")
+fn races_of(rt: &impl Abort, alloc: Global, shown: &[Shown]) -> Vec<RacePart> {
+    let mut races = Vec::new(alloc);
+    for race_shown in shown {
+        races.push(race(rt, alloc, race_shown)).expect(rt, "memory");
+    }
+    races
 }
 
-/// The same of that run.
+/// The page of races of what that run saw, of which `rows` are all.
 fn page(
     rt: &impl Abort,
     alloc: Global,
     command: &[u8],
     rows: &[(Key, RaceRow)],
-    races: &[RacePart],
+    shown: &[Shown],
 ) -> Vec<u8> {
-    let run = run(rt, alloc);
-    let saw = seen(rt, alloc, &run);
-    page_of(rt, alloc, command, &saw, rows, races)
+    let races = races_of(rt, alloc, shown);
+    let mut saw = Tally::new(alloc);
+    add(rt, alloc, &mut saw, &RAN);
+    let outcome = Outcome {
+        sites: 3,
+        saw: &saw,
+        rows,
+        ignored: &[],
+    };
+    page_text(alloc, command, &outcome, &races).expect(rt, "memory")
 }
 
 /// How many times a text stands in another.
@@ -125,12 +110,22 @@ fn from<'a>(text: &'a [u8], part: &[u8]) -> &'a [u8] {
     &[]
 }
 
-/// The text before another that it ends with.
-fn before<'a>(text: &'a [u8], end: &[u8]) -> &'a [u8] {
-    &text[..text.len().saturating_sub(from(text, end).len())]
+/// The text from where a part of it stands, before another that follows.
+fn between<'a>(text: &'a [u8], part: &[u8], end: &[u8]) -> &'a [u8] {
+    let found = from(text, part);
+    &found[..found.len().saturating_sub(from(found, end).len())]
 }
 
-static FRONT: &[u8] = b"<!DOCTYPE html>\n\
+/// The parts of a page: where each begins, what is behind it, and the part.
+type Part = (&'static [u8], &'static [u8], &'static [u8]);
+
+fn assert_parts(rt: &impl Abort, page: &[u8], parts: &[Part]) {
+    for (begin, end, wanted) in parts {
+        assert_is(rt, between(page, begin, end), *wanted, "a part");
+    }
+}
+
+const FRONT: &[u8] = b"<!DOCTYPE html>\n\
 <html lang='en'>\n\
 <head>\n\
 <meta charset='utf-8'/>\n\
@@ -139,7 +134,7 @@ static FRONT: &[u8] = b"<!DOCTYPE html>\n\
 </title>\n\
 <style>\n";
 
-static NO_RACE: &[u8] = b"</style>\n\
+const NO_RACE: &[u8] = b"</style>\n\
 </head>\n\
 <body>\n\
 <h1>races 0, likely benign 0, reports 3 of 8 endings in 1 runs\n\
@@ -198,18 +193,16 @@ static NO_RACE: &[u8] = b"</style>\n\
 #[test]
 fn no_race(rt: HostRuntime) {
     let rows = [row(Named, 3, 0)];
-    let page = page(
-        &rt,
-        rt.alloc(),
-        b"rvcollide hunt a.elf --page a.html",
-        &rows,
-        &[],
-    );
-    assert_is(&rt, before(&page, b":root"), FRONT, "before the style");
-    assert_is(&rt, from(&page, b"</style>"), NO_RACE, "behind the style");
+    let command = b"rvcollide hunt a.elf --page a.html";
+    let page = page(&rt, rt.alloc(), command, &rows, &[]);
+    let parts: &[Part] = &[
+        (b"", b":root", FRONT),
+        (b"</style>", b"no such part", NO_RACE),
+    ];
+    assert_parts(&rt, &page, parts);
 }
 
-static TWO_RACES: &[u8] = b"<section id='races'>\n\
+const TWO_RACES: &[u8] = b"<section id='races'>\n\
 <h2>Races</h2>\n\
 <div class='scroll'><table>\n\
 <thead>\n\
@@ -238,79 +231,62 @@ static TWO_RACES: &[u8] = b"<section id='races'>\n\
 </pre>\n\
 </details>\n";
 
+const TWO: &[Shown] = &[
+    (
+        (Kept, 12, 5),
+        b"a+0x0/0x4 and b+0x0/0x4",
+        b"race 1\n  one\n",
+        true,
+    ),
+    ((Ordered, 1, 0), b"c+0x8", b"race 2\n  two\n", false),
+];
+
 #[test]
 fn two_races(rt: HostRuntime) {
-    let alloc = rt.alloc();
     let rows = [row(Kept, 12, 5), row(Ordered, 1, 0)];
-    let races = [
-        race(
-            &rt,
-            alloc,
-            rows[0],
-            b"a+0x0/0x4 and b+0x0/0x4",
-            b"race 1\n  one\n",
-            Some(b"<svg></svg>\n"),
-        ),
-        race(&rt, alloc, rows[1], b"c+0x8", b"race 2\n  two\n", None),
-    ];
-    let page = page(&rt, alloc, b"", &rows, &races);
-    let found = from(&page, b"<section id='races'>");
-    assert_is(
-        &rt,
-        before(found, b"<section id='ended'>"),
-        TWO_RACES,
-        "the races",
-    );
+    let page = page(&rt, rt.alloc(), b"", &rows, TWO);
+    let parts: &[Part] = &[(b"<section id='races'>", b"<section id='ended'>", TWO_RACES)];
+    assert_parts(&rt, &page, parts);
 }
 
 /// A name that would end the block and begin a script, in each place where it may stand.
-#[test]
-fn a_hostile_name(rt: HostRuntime) {
-    let alloc = rt.alloc();
-    let rows = [row(Flag, 1, 0)];
-    let name = b"</pre><script>";
-    let races = [race(&rt, alloc, rows[0], name, name, None)];
-    let page = page(&rt, alloc, b"a '\"&<>\x1b\xc3\xa9\\\t", &rows, &races);
-    let command = before(from(&page, b"<p><code>"), b"\n<nav>");
-    assert_is(
-        &rt,
-        command,
+const HOSTILE: &[Shown] = &[((Flag, 1, 0), b"</pre><script>", b"</pre><script>", false)];
+
+/// The command, the row and the block.
+const ESCAPED: &[Part] = &[
+    (
+        b"<p><code>",
+        b"\n<nav>",
         b"<p><code>a &#39;&quot;&amp;&lt;&gt;\\x1b\\xc3\\xa9\\\\x09</code></p>",
-        "the command",
-    );
-    let row = before(from(&page, b"<td><code>"), b"<td>flag");
-    assert_is(
-        &rt,
-        row,
+    ),
+    (
+        b"<td><code>",
+        b"<td>flag",
         b"<td><code>&lt;/pre&gt;&lt;script&gt;</code></td>",
-        "the row",
-    );
-    let block = before(from(&page, b"<summary>"), b"</details>");
-    assert_is(
-        &rt,
-        block,
+    ),
+    (
+        b"<summary>",
+        b"</details>",
         b"<summary>race 1: <code>&lt;/pre&gt;&lt;script&gt;</code>, flag</summary>\n\
 <pre>&lt;/pre&gt;&lt;script&gt;</pre>\n",
-        "the block",
-    );
+    ),
+];
+
+#[test]
+fn a_hostile_name(rt: HostRuntime) {
+    let rows = [row(Flag, 1, 0)];
+    let page = page(&rt, rt.alloc(), b"a '\"&<>\x1b\xc3\xa9\\\t", &rows, HOSTILE);
+    assert_parts(&rt, &page, ESCAPED);
     assert_is(&rt, count(&page, b"<script"), 0, "scripts");
 }
 
-/// So many races, of which the last has no picture.
-fn all_but_one_drawn(rt: &impl Abort, alloc: Global, count: u32) -> Vec<RacePart> {
-    let mut races = Vec::new(alloc);
-    for number in 0..count {
-        let is_drawn = number + 1 < count;
-        let picture = is_drawn.then_some(b"<svg></svg>\n".as_slice());
-        races
-            .push(race(rt, alloc, row(Kept, 1, 0), b"a and b", b"block\n", picture))
-            .expect(rt, "memory");
-    }
-    races
-}
+/// A race of a page of many, with its picture and without.
+const DRAWN: Shown = ((Kept, 1, 0), b"a and b", b"block\n", true);
 
-/// Parts of a page of 101 races, and how often it has each.
-static OF_MANY: [(&[u8], usize); 6] = [
+const LAST: Shown = ((Kept, 1, 0), b"a and b", b"block\n", false);
+
+/// Parts of a page of 101 races, of which the last has no picture, and how often it has each.
+const OF_MANY: &[(&[u8], usize)] = &[
     (b"<figure>\n<svg></svg>\n</figure>", 100),
     (b"<pre>block\n</pre>", 101),
     (b"<section id='race-101'>\n<h3>race 101</h3>\n<pre>", 1),
@@ -321,10 +297,10 @@ static OF_MANY: [(&[u8], usize); 6] = [
 
 #[test]
 fn many_races(rt: HostRuntime) {
-    let alloc = rt.alloc();
-    let races = all_but_one_drawn(&rt, alloc, 101);
-    let page = page(&rt, alloc, b"", &[row(Kept, 1, 0)], &races);
-    for (part, wanted) in &OF_MANY {
+    let mut shown = [DRAWN; 101];
+    shown[100] = LAST;
+    let page = page(&rt, rt.alloc(), b"", &[row(Kept, 1, 0)], &shown);
+    for (part, wanted) in OF_MANY {
         assert_is(
             &rt,
             (part, count(&page, part)),

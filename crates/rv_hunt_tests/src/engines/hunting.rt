@@ -1,34 +1,33 @@
-//! Hunts of small images, byte by byte; their files; and devices that fail.
-mod devices;
-mod folder;
-mod given;
-mod refusals;
-mod texts;
-
-use crate::assertion::assert_is;
-use crate::engines::hunting::folder::KeptFolder;
-use crate::parts::segment;
-use rv_elf::{Image, Symbol, write};
+//! Hunts whose devices fail at each call in turn.
+use crate::assertion::{assert_is, assert_tells_each_failing_call};
+use crate::engines::folder::FullFolder;
+use crate::engines::readers::{Device, reader_of};
+use crate::images::{Named, file_of};
 use rv_engine_tests::devices::Kept;
+use rv_engines::fault::Fault;
+use rv_engines::run::fault::CommandFault;
 use rv_hunt::hunt::Watch;
 use rv_hunt::hunted::Hunted;
 use rv_hunting::engine::run_hunt;
 use rv_hunting::fault::HuntFault;
-use rv_hunting::found::Found;
 use rv_hunting::inputs::Inputs;
 use rv_hunting::options::{HuntOptions, LineParts, Shows};
-use rv_memory::buffered::Buffered;
+use rv_memory::buffered::{Buffered, MOST_PENDING};
 use rv_memory::flagged::Flagged;
-use rv_memory::region::Region;
+use rv_memory::output::Output;
+use rv_hunting::merge::fault::FileFault;
 use rv_tally::limit::Limit;
 use rv_tally::plans::{Lengths, Plans};
 use std::alloc::Global;
+use std::io::{Read, Write};
 use std::process::Abort;
 use std::sync::Wait;
 use std::thread::Threads;
 
 /// `lui x6,0x20`, `sw x10,0(x6)`, `lw x5,0(x6)`, `ecall`.
 const P: [u32; 4] = [0x0002_0337, 0x00a3_2023, 0x0003_2283, 0x0000_0073];
+
+const WORD: [Named; 1] = [("word", 0x20000, 4, 1)];
 
 /// Is told of each run, and keeps nothing.
 #[derive(Drop)]
@@ -38,141 +37,270 @@ impl Watch for Unseen {
     fn saw(&mut self, _: &Hunted) {}
 }
 
-/// Words at 00010000, R and X.
-fn code(rt: &impl Abort, alloc: Global, words: &[u32]) -> Region {
-    let mut bytes = Vec::new(alloc);
-    for word in words {
-        bytes
-            .extend_from_slice(&word.to_le_bytes())
-            .expect(rt, "memory");
-    }
-    let len = bytes.len();
-    assert!(rt; 1 <= len && len <= 65_536);
-    segment(0x10000, bytes, len as u32, true)
-}
-
-/// An image of words, and 4,096 zero bytes at 00020000 word+0x0/0x4, R and W, of which `word` names the first four.
-fn image(rt: &impl Abort, alloc: Global, words: &[u32]) -> Image {
-    let code = code(rt, alloc, words);
-    let data = segment(0x20000, Vec::new(alloc), 4096, false);
-    let segments = vec![in alloc; code, data].expect(rt, "memory");
-    let word = Symbol {
-        name: String::from_str(alloc, "word").expect(rt, "memory"),
-        value: 0x20000,
-        size: 4,
-        kind: 1,
-    };
-    let symbols = vec![in alloc; word].expect(rt, "memory");
-    Image::new(0x10000, segments, symbols).expect(rt, "an image")
-}
-
-/// The file of that image.
-fn file_of(rt: &impl Abort, alloc: Global, words: &[u32]) -> Vec<u8> {
-    write(alloc, &image(rt, alloc, words)).expect(rt, "memory")
-}
-
-/// Plans of so many harts, steps, arms, and steps of a pause.
-fn plans(rt: &impl Abort, harts: u8, steps: u32, arms: u32, pause: u32) -> Plans {
-    let lengths = Lengths { steps, arms, pause };
-    Plans::new(Some(harts), 4, Some(lengths)).expect(rt, "plans")
-}
-
-/// What is told of a line that saves nothing.
-const LINE: LineParts = LineParts {
-    command: "rvcollide hunt a.elf --seed 0",
-    image: "a.elf",
-    options: " --seed 0",
-    folder: None,
+const LENGTHS: Lengths = Lengths {
+    steps: 100,
+    arms: 5,
+    pause: 1,
 };
 
-/// So many runs from one on, a hunt that lists nothing.
-fn options<'a>(plans: Plans, first: u32, runs: u8, shows: Shows) -> HuntOptions<'a, 'a> {
+/// A hunt of one run of three harts, which finds two races.
+fn options(rt: &impl Abort) -> HuntOptions<'static, 'static> {
     HuntOptions {
-        plans,
+        plans: Plans::new(Some(3), 4, Some(LENGTHS)).expect(rt, "plans"),
         seed: 0,
-        first,
-        limit: Limit::Runs(u64::from(runs)),
+        first: 1,
+        limit: Limit::Runs(1),
         workers: 2,
         named: None,
         skip: None,
-        shows,
-        line: LINE,
+        shows: Shows::Text,
+        line: LineParts {
+            command: "rvcollide hunt a.elf --seed 0",
+            image: "a.elf",
+            options: " --seed 0",
+            folder: None,
+        },
     }
 }
 
-/// The files of a hunt: those that it reads, where they are given, and those that it makes.
-#[derive(Drop)]
-struct Files<'f> {
-    image: &'f [u8],
-    ignored: Option<&'f [u8]>,
-    expected: Option<&'f [u8]>,
-    folder: Option<KeptFolder>,
-    page: Option<Kept>,
-}
-
-/// Just an image.
-fn alone<'f>(image: &'f [u8]) -> Files<'f> {
-    Files {
-        image,
-        ignored: None,
-        expected: None,
-        folder: None,
-        page: None,
-    }
-}
-
-fn reader_if<'f>(text: Option<&'f [u8]>) -> Option<Flagged<&'f [u8]>> {
-    let text = text?;
-    Some(Flagged::new(text))
-}
-
-/// What a hunt of some files writes: the text, and the notes.
-fn hunted<'a>(
-    rt: &(impl Abort + Threads + Wait + Sync),
+/// What the hunt of some files answers to devices.
+fn told<R: Read, W: Write, E: Write>(
+    rt: &(impl Threads + Wait + Sync),
     alloc: Global,
-    files: &mut Files<'_>,
-    options: &HuntOptions<'a, '_>,
-) -> (Result<Found, HuntFault<'a>>, Vec<u8>, Vec<u8>) {
-    let mut inputs = Inputs {
-        image: Flagged::new(files.image),
-        ignored: reader_if(files.ignored),
-        expected: reader_if(files.expected),
-    };
-    let mut writer = Buffered::new(alloc, Vec::new(alloc));
-    let mut notes = Buffered::new(alloc, Vec::new(alloc));
-    assert!(rt; options.is_legal());
+    asked: &HuntOptions<'static, 'static>,
+    inputs: &mut Inputs<R>,
+    folder: &mut Option<FullFolder>,
+    writer: &mut Buffered<W>,
+    notes: &mut Buffered<E>,
+) -> Result<(), HuntFault<'static>> {
+    if !asked.is_legal() {
+        return Err(HuntFault::Command(CommandFault::NoRace));
+    }
+    let mut page: Option<Kept> = None;
     let outcome = run_hunt(
         rt,
         alloc,
-        options,
-        &mut inputs,
-        &mut files.folder,
-        &mut files.page,
-        &mut writer,
-        &mut notes,
+        asked,
+        inputs,
+        folder,
+        &mut page,
+        writer,
+        notes,
         &mut Unseen,
     );
-    (outcome, writer.into_inner(), notes.into_inner())
+    drop(page);
+    match outcome {
+        Ok(_) => Ok(()),
+        Err(fault) => Err(fault),
+    }
 }
 
-/// What a hunt that is not refused writes.
-fn written(
+/// An image alone.
+fn alone<'f>(image: &'f [u8]) -> Inputs<&'f [u8]> {
+    Inputs {
+        image: Flagged::new(image),
+        ignored: None,
+        expected: None,
+    }
+}
+
+/// The same of an image alone, as any command may tell it.
+fn told_of<W: Write, E: Write>(
+    rt: &(impl Threads + Wait + Sync),
+    alloc: Global,
+    asked: &HuntOptions<'static, 'static>,
+    image: &[u8],
+    writer: &mut Buffered<W>,
+    notes: &mut Buffered<E>,
+) -> Result<(), Fault> {
+    match told(
+        rt,
+        alloc,
+        asked,
+        &mut alone(image),
+        &mut None,
+        writer,
+        notes,
+    ) {
+        Ok(()) => Ok(()),
+        Err(HuntFault::Command(CommandFault::Plain(fault))) => Err(fault),
+        Err(_) => Err(Fault::TooLong),
+    }
+}
+
+const LIST: &[u8] = b"# known\nword 00010004\n";
+
+const TABLE: &[u8] = b"races 0\n";
+
+/// Readers of the three files, of which that of the place fails at the read of that number.
+fn readers<'f>(image: &'f [u8], place: usize, fails_at: u64) -> Inputs<Device<'f>> {
+    let at = |file| if file == place { fails_at } else { 0 };
+    Inputs {
+        image: reader_of(image, at(0)),
+        ignored: Some(reader_of(LIST, at(1))),
+        expected: Some(reader_of(TABLE, at(2))),
+    }
+}
+
+fn has_failed(reader: &Option<Flagged<Device<'_>>>) -> bool {
+    match reader {
+        Some(reader) => reader.failed(),
+        None => false,
+    }
+}
+
+/// Which of the readers have failed.
+fn failed(inputs: &Inputs<Device<'_>>) -> [bool; 3] {
+    [
+        inputs.image.failed(),
+        has_failed(&inputs.ignored),
+        has_failed(&inputs.expected),
+    ]
+}
+
+/// The faults of the three files' readers.
+const FAULTS: [HuntFault; 3] = [
+    HuntFault::Command(CommandFault::Plain(Fault::Read)),
+    HuntFault::Ignored(FileFault::Plain(Fault::Read)),
+    HuntFault::Expected(FileFault::Plain(Fault::Read)),
+];
+
+/// What the hunt answers where a reader of the place fails at the read of that number, and which have failed. It writes
+/// nothing where it is refused.
+fn told_reading(
     rt: &(impl Abort + Threads + Wait + Sync),
     alloc: Global,
-    files: &mut Files<'_>,
-    options: &HuntOptions<'_, '_>,
-    found: Found,
-) -> (Vec<u8>, Vec<u8>) {
-    let (outcome, text, notes) = hunted(rt, alloc, files, options);
-    assert_is(rt, outcome, Ok(found), "the outcome");
-    (text, notes)
+    image: &[u8],
+    place: usize,
+    fails_at: u64,
+) -> (Result<(), HuntFault<'static>>, [bool; 3]) {
+    let asked = options(rt);
+    let mut inputs = readers(image, place, fails_at);
+    let mut writer = Buffered::new(alloc, Vec::new(alloc));
+    let mut notes = Buffered::new(alloc, Vec::new(alloc));
+    let outcome = told(
+        rt,
+        alloc,
+        &asked,
+        &mut inputs,
+        &mut None,
+        &mut writer,
+        &mut notes,
+    );
+    let is_written = !writer.into_inner().is_empty();
+    assert_is(rt, is_written, outcome.is_ok(), "what is written");
+    (outcome, failed(&inputs))
 }
 
-/// Found are so many races that may be a bug, of which none was expected where some were.
-fn found(bugs: u64, is_unexpected: bool) -> Found {
-    Found {
-        bugs,
-        benign: 0,
-        is_unexpected,
+/// Asserts that each read of a file's reader in turn is told as that file's fault, and gives how many reads there are.
+fn reads_of(
+    rt: &(impl Abort + Threads + Wait + Sync),
+    alloc: Global,
+    image: &[u8],
+    place: usize,
+    fault: HuntFault<'static>,
+) -> u64 {
+    let only = [place == 0, place == 1, place == 2];
+    for fails_at in 1..100 {
+        let (outcome, failed) = told_reading(rt, alloc, image, place, fails_at);
+        if outcome.is_ok() {
+            assert_is(rt, failed, [false; 3], "none has failed");
+            return fails_at - 1;
+        }
+        assert_is(rt, outcome, Err(fault), "the fault");
+        assert_is(rt, failed, only, "that reader alone has failed");
+    }
+    0
+}
+
+/// A read gives ten bytes at most, and the last one none.
+fn reads_in(text: &[u8]) -> u64 {
+    text.len().div_ceil(10) as u64 + 1
+}
+
+#[test]
+fn tells_readers_that_fail(rt: HostRuntime) {
+    let alloc = rt.alloc();
+    let file = file_of(&rt, alloc, &P, &WORD);
+    let wanted = [reads_in(&file), reads_in(LIST), reads_in(TABLE)];
+    for place in 0..3 {
+        let found = reads_of(&rt, alloc, &file, place, FAULTS[place]);
+        assert_is(&rt, found, wanted[place], "the reads");
+    }
+}
+
+/// So many bytes that what follows goes to the device by itself.
+const GATHERED: [u8; MOST_PENDING] = [b'-'; MOST_PENDING];
+
+#[test]
+fn tells_a_writer_that_fails(rt: HostRuntime) {
+    let alloc = rt.alloc();
+    let asked = options(&rt);
+    let file = file_of(&rt, alloc, &P, &WORD);
+    assert_tells_each_failing_call(&rt, alloc, false, |writer| {
+        writer.put(&GATHERED)?;
+        let mut notes = Buffered::new(alloc, Vec::new(alloc));
+        told_of(&rt, alloc, &asked, &file, writer, &mut notes)
+    });
+}
+
+/// Where the notes fail no byte of the text is written.
+#[test]
+fn tells_notes_that_fail(rt: HostRuntime) {
+    let alloc = rt.alloc();
+    let asked = options(&rt);
+    let file = file_of(&rt, alloc, &P, &WORD);
+    assert_tells_each_failing_call(&rt, alloc, true, |notes| {
+        notes.put(&GATHERED)?;
+        let mut writer = Buffered::new(alloc, Vec::new(alloc));
+        let outcome = told_of(&rt, alloc, &asked, &file, &mut writer, notes);
+        if outcome.is_err() && !writer.into_inner().is_empty() {
+            return Err(Fault::TooLong);
+        }
+        outcome
+    });
+}
+
+const WRITE: HuntFault = HuntFault::Command(CommandFault::Plain(Fault::Write));
+
+/// A folder that gets full keeps what it took, and nothing is written.
+fn assert_full(
+    rt: &(impl Abort + Threads + Wait + Sync),
+    alloc: Global,
+    image: &[u8],
+    takes: usize,
+) {
+    let asked = options(rt);
+    let mut folder = Some(FullFolder {
+        takes,
+        made: 0,
+        failed: false,
+    });
+    let mut writer = Buffered::new(alloc, Vec::new(alloc));
+    let mut notes = Buffered::new(alloc, Vec::new(alloc));
+    let outcome = told(
+        rt,
+        alloc,
+        &asked,
+        &mut alone(image),
+        &mut folder,
+        &mut writer,
+        &mut notes,
+    );
+    let written = (writer.into_inner().len(), notes.into_inner().len());
+    assert_is(rt, outcome, Err(WRITE), "the fault");
+    assert_is(rt, written, (0, 0), "nothing is written");
+    let made = match folder {
+        Some(folder) => folder.made,
+        None => 9,
+    };
+    assert_is(rt, made, takes, "what was taken");
+}
+
+#[test]
+fn tells_a_folder_that_gets_full(rt: HostRuntime) {
+    let file = file_of(&rt, rt.alloc(), &P, &WORD);
+    for takes in 0..2 {
+        assert_full(&rt, rt.alloc(), &file, takes);
     }
 }

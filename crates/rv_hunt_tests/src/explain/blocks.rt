@@ -1,8 +1,21 @@
-//! Blocks: the ring's race, a lost update that a Changed report tells of, and each class. Names, numbers and marks of the
+//! Blocks: the ring's race, a lost update that a Changed report tells of, and the reasons of classes. Names, numbers and marks of the
 //! first are those of another implementation.
-use super::*;
+use crate::assertion::assert_is;
+use crate::images::{Named, image};
+use rv_break::claim::Seen;
+use rv_collide::ending::{Ending, Verdict};
+use rv_collide::entry::Entry::{self, Armed, Disarmed, Paused, Resumed, Stepped};
+use rv_explain::block::{Block, RaceClass, Side};
+use rv_explain::blocks::write_block;
+use rv_explain::classes::{class_of, stronger};
+use rv_explain::row::{After, Row, Shown};
+use rv_explain::symbol_table::SymbolTable;
+use rv_hart::access::Access;
+use rv_memory::flagged::Flagged;
+use std::alloc::Global;
+use std::process::Abort;
 
-pub(super) const RING: [Row4; 3] = [
+pub(super) const RING: [Named; 3] = [
     ("put", 0x10030, 0x30, 2),
     ("take", 0x10060, 0x28, 2),
     ("rings", 0x20000, 0x200, 1),
@@ -25,6 +38,14 @@ const STORES: Access = Access {
     write: true,
 };
 
+const SWAPS: Access = Access {
+    pc: 0x10054,
+    first: 0x20008,
+    size: 4,
+    read: true,
+    write: true,
+};
+
 /// `lw x28, 0(x7)`, `sw x21, 0(x7)`, and `slli x7, x7, 2`.
 const LW: Option<u32> = Some(0x0003_ae03);
 
@@ -32,46 +53,80 @@ const SW: Option<u32> = Some(0x0153_a023);
 
 const SLLI: Option<u32> = Some(0x0023_9393);
 
-fn row(place: u32, entry: Entry, pc: u32, word: Option<u32>, access: Option<Access>) -> Shown {
+/// An entry of no instruction.
+const ENTRY: Row = Row {
+    place: 0,
+    entry: Resumed(0),
+    pc: 0,
+    word: None,
+    access: None,
+    after: After::GoesOn,
+    bytes: 1,
+};
+
+/// A store that touches the bytes.
+const STORED: Row = Row {
+    pc: 0x10054,
+    word: SW,
+    access: Some(STORES),
+    ..ENTRY
+};
+
+const RING_LINES: [Shown; 8] = [
     Shown::Row(Row {
-        place,
-        entry,
-        pc,
-        word,
-        access,
-        after: After::GoesOn,
-        bytes: 1,
-    })
-}
+        place: 63,
+        entry: Paused(1, Some(1)),
+        pc: 0x10074,
+        word: LW,
+        ..ENTRY
+    }),
+    Shown::Row(Row { place: 64, ..ENTRY }),
+    Shown::Row(Row {
+        place: 65,
+        entry: Armed(0x10074),
+        ..ENTRY
+    }),
+    Shown::Row(Row {
+        place: 66,
+        entry: Stepped(0),
+        ..STORED
+    }),
+    Shown::Gap {
+        entries: 39,
+        meeting: 0,
+    },
+    Shown::Row(Row {
+        place: 106,
+        entry: Resumed(1),
+        ..ENTRY
+    }),
+    Shown::Row(Row {
+        place: 107,
+        entry: Stepped(0),
+        pc: 0x10044,
+        word: SLLI,
+        ..ENTRY
+    }),
+    Shown::Row(Row {
+        place: 108,
+        entry: Paused(1, Some(0)),
+        pc: 0x10074,
+        word: LW,
+        ..ENTRY
+    }),
+];
 
-fn ring_lines(rt: &impl Abort, alloc: Global) -> Vec<Shown> {
-    vec![in alloc;
-        row(63, Entry::Paused(1, Some(1)), 0x10074, LW, None),
-        row(64, Entry::Resumed(0), 0, None, None),
-        row(65, Entry::Armed(0x10074), 0, None, None),
-        row(66, Entry::Stepped(0), 0x10054, SW, Some(STORES)),
-        Shown::Gap {
-            entries: 39,
-            meeting: 0
-        },
-        row(106, Entry::Resumed(1), 0, None, None),
-        row(107, Entry::Stepped(0), 0x10044, SLLI, None),
-        row(108, Entry::Paused(1, Some(0)), 0x10074, LW, None),
-    ]
-    .expect(rt, "memory")
-}
-
-const fn side(hart: u8, access: Access, word: Option<u32>) -> Side {
+fn side(hart: u8, access: Access, word: Option<u32>, caller: Option<u32>) -> Side {
     Side {
         hart,
         access,
         word,
-        caller: None,
+        caller,
     }
 }
 
 /// The ring's report, by which verdict it is one.
-const fn told(verdict: Verdict, slot: Option<u8>) -> Ending {
+fn told(verdict: Verdict, slot: Option<u8>) -> Ending {
     Ending {
         hart: 1,
         paused_at: 63,
@@ -90,24 +145,29 @@ const HIT: Verdict = Verdict::Hit(Seen {
     access: STORES,
 });
 
-pub(super) fn ring(rt: &impl Abort, alloc: Global) -> Block {
+/// The ring's block, where its race is of that class.
+pub(super) fn ring(rt: &impl Abort, alloc: Global, class: RaceClass) -> Block {
     Block {
         reports: 8,
-        class: RaceClass::Kept,
+        class,
         number: 1,
         ending: told(HIT, Some(1)),
-        paused: side(1, LOADS, LW),
-        other: side(0, STORES, SW),
+        paused: side(1, LOADS, LW, None),
+        other: side(0, STORES, SW, None),
         second: 66,
-        lines: ring_lines(rt, alloc),
+        lines: Vec::from_slice(alloc, &RING_LINES).expect(rt, "memory"),
     }
 }
 
-fn text(rt: &impl Abort, alloc: Global, run: &[u8], block: &Block) -> Vec<u8> {
-    let image = image(rt, alloc, &RING);
-    let symbols = SymbolTable::new(alloc, &image).expect(rt, "memory");
+fn text(
+    rt: &impl Abort,
+    alloc: Global,
+    symbols: &SymbolTable,
+    run: &[u8],
+    block: &Block,
+) -> Vec<u8> {
     let mut writer = Flagged::new(Vec::new(alloc));
-    write_block(alloc, &mut writer, &symbols, run, 1, block).expect(rt, "a block");
+    write_block(alloc, &mut writer, symbols, run, 1, block).expect(rt, "a block");
     writer.into_inner()
 }
 
@@ -129,55 +189,69 @@ const RING_TEXT: &str = "race 1: put+0x24/0x30 and take+0x14/0x28, 8 reports, ke
       108     1  paused 0             00010074 take+0x14/0x28: lw x28, 0(x7)
 ";
 
-#[test]
-fn the_ring(rt: HostRuntime) {
-    let block = ring(&rt, rt.alloc());
-    let text = text(&rt, rt.alloc(), b"", &block);
-    assert_is(&rt, text.as_slice(), RING_TEXT.as_bytes(), "the block");
-}
-
 /// A change of one report in run 12: no data breakpoint, both harts called, the paused word written over, and each event.
 fn changed(rt: &impl Abort, alloc: Global) -> Block {
-    let mut exited = row(67, Entry::Stepped(2), 0x10030, None, None);
-    if let Shown::Row(row) = &mut exited {
-        row.after = After::Exited;
-    }
-    let mut stopped = row(68, Entry::Stepped(3), 0x50000, None, None);
-    if let Shown::Row(row) = &mut stopped {
-        row.after = After::Stopped;
-    }
-    let swaps = Access {
-        read: true,
-        ..STORES
-    };
-    let lines = vec![in alloc;
-        row(63, Entry::Paused(1, None), 0x10074, None, None),
-        row(64, Entry::Stepped(2), 0x10054, SW, Some(STORES)),
-        row(65, Entry::Disarmed(0x50000), 0, None, None),
-        row(66, Entry::Stepped(0), 0x10054, SW, Some(swaps)),
-        exited,
-        stopped,
-        Shown::Gap {
-            entries: 2,
-            meeting: 1
-        },
-        row(110, Entry::Stepped(0), 0x10054, SW, Some(STORES)),
-    ]
-    .expect(rt, "memory");
     Block {
         reports: 1,
         class: RaceClass::Named,
         number: 0,
         ending: told(Verdict::Changed, None),
-        paused: Side {
-            caller: Some(0x10064),
-            ..side(1, LOADS, None)
-        },
-        other: side(0, swaps, SW),
+        paused: side(1, LOADS, None, Some(0x10064)),
+        other: side(0, SWAPS, SW, None),
         second: 66,
-        lines,
+        lines: Vec::from_slice(alloc, &CHANGED_LINES).expect(rt, "memory"),
     }
 }
+
+const CHANGED_LINES: [Shown; 8] = [
+    Shown::Row(Row {
+        place: 63,
+        entry: Paused(1, None),
+        pc: 0x10074,
+        ..ENTRY
+    }),
+    Shown::Row(Row {
+        place: 64,
+        entry: Stepped(2),
+        ..STORED
+    }),
+    Shown::Row(Row {
+        place: 65,
+        entry: Disarmed(0x50000),
+        ..ENTRY
+    }),
+    Shown::Row(Row {
+        place: 66,
+        entry: Stepped(0),
+        pc: 0x10054,
+        word: SW,
+        access: Some(SWAPS),
+        ..ENTRY
+    }),
+    Shown::Row(Row {
+        place: 67,
+        entry: Stepped(2),
+        pc: 0x10030,
+        after: After::Exited,
+        ..ENTRY
+    }),
+    Shown::Row(Row {
+        place: 68,
+        entry: Stepped(3),
+        pc: 0x50000,
+        after: After::Stopped,
+        ..ENTRY
+    }),
+    Shown::Gap {
+        entries: 2,
+        meeting: 1,
+    },
+    Shown::Row(Row {
+        place: 110,
+        entry: Stepped(0),
+        ..STORED
+    }),
+];
 
 const CHANGED_TEXT: &str = "race 1: take+0x14/0x28, 1 report, named, first in run 12, 4 harts
   named: the bytes are listed by --named
@@ -199,15 +273,8 @@ const CHANGED_TEXT: &str = "race 1: take+0x14/0x28, 1 report, named, first in ru
       110     0             00000001  00010054 put+0x24/0x30: sw x21, 0(x7)
 ";
 
-#[test]
-fn a_change(rt: HostRuntime) {
-    let block = changed(&rt, rt.alloc());
-    let text = text(&rt, rt.alloc(), b", first in run 12, 4 harts", &block);
-    assert_is(&rt, text.as_slice(), CHANGED_TEXT.as_bytes(), "the block");
-}
-
 /// A class, the word of it and the line of its reason.
-static REASONS: [(RaceClass, &str); 4] = [
+const REASONS: &[(RaceClass, &str)] = &[
     (RaceClass::Kept, "kept\n  hart 1 was"),
     (
         RaceClass::Counter,
@@ -223,43 +290,71 @@ static REASONS: [(RaceClass, &str); 4] = [
     ),
 ];
 
-#[test]
-fn each_reason(rt: HostRuntime) {
-    for (class, wanted) in &REASONS {
-        assert_reason(&rt, rt.alloc(), *class, wanted);
-    }
-}
-
-fn assert_reason(rt: &impl Abort, alloc: Global, class: RaceClass, wanted: &'static str) {
-    let mut block = ring(rt, alloc);
-    block.class = class;
-    let text = text(rt, alloc, b"", &block);
+fn assert_reason(
+    rt: &impl Abort,
+    alloc: Global,
+    symbols: &SymbolTable,
+    class: RaceClass,
+    wanted: &str,
+) {
+    let block = ring(rt, alloc, class);
+    let text = text(rt, alloc, symbols, b"", &block);
+    drop(block);
     let start = "race 1: put+0x24/0x30 and take+0x14/0x28, 8 reports, ".len();
     let found = text.get(start..start.saturating_add(wanted.len()));
     assert_is(rt, found, Some(wanted.as_bytes()), "the reason");
 }
 
-#[test]
-fn the_totals(rt: HostRuntime) {
-    let mut writer = Flagged::new(Vec::new(rt.alloc()));
-    assert_is(&rt, write_totals(&mut writer, 1, 8, 61), Ok(()), "written");
-    let text = writer.into_inner();
-    assert_is(
-        &rt,
-        text.as_slice(),
-        b"races 1, reports 8 of 61 endings\n",
-        "the line",
+fn assert_block(
+    rt: &impl Abort,
+    alloc: Global,
+    symbols: &SymbolTable,
+    run: &[u8],
+    block: &Block,
+    wanted: &str,
+) {
+    let text = text(rt, alloc, symbols, run, block);
+    assert_is(rt, text.as_slice(), wanted.as_bytes(), "the block");
+}
+
+fn assert_blocks(rt: &impl Abort, alloc: Global, symbols: &SymbolTable) {
+    let kept = ring(rt, alloc, RaceClass::Kept);
+    assert_block(rt, alloc, symbols, b"", &kept, RING_TEXT);
+    let changed = changed(rt, alloc);
+    assert_block(
+        rt,
+        alloc,
+        symbols,
+        b", first in run 12, 4 harts",
+        &changed,
+        CHANGED_TEXT,
     );
+    drop(kept);
+    drop(changed);
+    for (class, wanted) in REASONS {
+        assert_reason(rt, alloc, symbols, *class, wanted);
+    }
 }
 
 /// Without file bytes no instruction orders, and no class but Named and Kept holds.
 #[test]
-fn the_class_of_a_report(rt: HostRuntime) {
-    let image = image(&rt, rt.alloc(), &RING);
+fn blocks_and_classes_of_reports(rt: HostRuntime) {
+    let image = image(&rt, rt.alloc(), &[], &RING);
+    let symbols = SymbolTable::new(rt.alloc(), &image).expect(&rt, "memory");
+    assert_blocks(&rt, rt.alloc(), &symbols);
     let ending = told(HIT, Some(1));
-    assert_is(&rt, class_of(&image, &[], &ending), RaceClass::Kept, "kept");
-    let named = class_of(&image, &[(0x20008, 1)], &ending);
-    assert_is(&rt, named, RaceClass::Named, "named");
+    let found = (
+        class_of(&image, &[], &ending),
+        class_of(&image, &[(0x20008, 1)], &ending),
+    );
+    drop(symbols);
+    drop(image);
+    assert_is(
+        &rt,
+        found,
+        (RaceClass::Kept, RaceClass::Named),
+        "kept, and named",
+    );
     let both = stronger(RaceClass::Ordered, RaceClass::Flag);
     assert_is(&rt, both, RaceClass::Flag, "of two");
 }

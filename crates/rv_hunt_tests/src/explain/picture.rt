@@ -1,17 +1,11 @@
-//! The picture of the ring's race, element by element, and what long names and names of XML's own characters become.
+//! The picture of the ring's race, element by element.
 use super::blocks::{RING, ring};
-use super::*;
+use crate::assertion::assert_is;
+use crate::images::image;
+use rv_explain::block::RaceClass;
 use rv_explain::picture::write_picture;
-
-/// The picture of the ring's race under the names of an image's symbols.
-fn drawn(rt: &impl Abort, alloc: Global, symbols: &[Row4]) -> String {
-    let image = image(rt, alloc, symbols);
-    let table = SymbolTable::new(alloc, &image).expect(rt, "memory");
-    let block = ring(rt, alloc);
-    let mut writer = Flagged::new(Vec::new(alloc));
-    write_picture(alloc, &mut writer, &table, 1, &block).expect(rt, "a picture");
-    String::from_utf8(writer.into_inner()).expect(rt, "a text")
-}
+use rv_explain::symbol_table::SymbolTable;
+use rv_memory::flagged::Flagged;
 
 /// The longest line is that of the bytes, of 90 characters: 72 pixels to the left of it, 16 behind it.
 const RING_PICTURE: &str =
@@ -55,33 +49,17 @@ const RING_PICTURE: &str =
 
 #[test]
 fn the_ring_is_drawn(rt: HostRuntime) {
-    let picture = drawn(&rt, rt.alloc(), &RING);
-    assert_is(&rt, picture.as_str(), RING_PICTURE, "the picture");
-}
-
-/// A name of 43 characters, one of 40 with a `+` among them, and one that ends a text in XML.
-const NAMES: [Row4; 3] = [
-    (
-        "a23456789b23456789c23456789d23456789e234567",
-        0x10030,
-        0x30,
-        2,
-    ),
-    ("</text><script>", 0x10060, 0x28, 2),
-    (
-        "a2345678+b2345678+c2345678+d2345678+e234",
-        0x20000,
-        0x200,
-        1,
-    ),
-];
-
-#[test]
-fn names_are_cut_and_written_as_entities(rt: HostRuntime) {
-    let picture = drawn(&rt, rt.alloc(), &NAMES);
-    let title =
-        ">race 1: a23456789b23456789c23456789d23456789e234..+0x24/0x30 and &lt;/text&gt;&lt;script&gt;+0x14/0x28, 8 reports, kept</text>";
-    assert_is(&rt, picture.contains(title), true, "the title");
-    let data = "at 00020008 a2345678+b2345678+c2345678+d2345678+e234+0x8/0x200, ending 1</text>";
-    assert_is(&rt, picture.contains(data), true, "the data");
+    let alloc = rt.alloc();
+    let block = ring(&rt, alloc, RaceClass::Kept);
+    let image = image(&rt, alloc, &[], &RING);
+    let symbols = SymbolTable::new(alloc, &image).expect(&rt, "memory");
+    let mut writer = Flagged::new(Vec::new(alloc));
+    write_picture(alloc, &mut writer, &symbols, 1, &block).expect(&rt, "a picture");
+    let picture = writer.into_inner();
+    assert_is(
+        &rt,
+        picture.as_slice(),
+        RING_PICTURE.as_bytes(),
+        "the picture",
+    );
 }

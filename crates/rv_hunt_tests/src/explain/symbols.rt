@@ -1,7 +1,13 @@
-//! Which symbol an address is told by: nested ones, ones without a size, two at one address, marks, and none.
-use super::*;
+//! A table of symbols finds by halves what a walk over them finds. (`tests/explain` has the names of addresses.)
+use crate::assertion::assert_is;
+use crate::images::{Named, image};
+use rv_elf::{Image, Symbol};
+use rv_explain::symbol_table::SymbolTable;
+use rv_explain::symbols::symbol_of;
+use std::alloc::Global;
+use std::process::Abort;
 
-const SYMBOLS: [Row4; 14] = [
+const SYMBOLS: [Named; 14] = [
     ("_start", 0x10000, 0, 0),
     ("$x", 0x10010, 0, 0),
     (".L4", 0x10018, 8, 2),
@@ -18,57 +24,9 @@ const SYMBOLS: [Row4; 14] = [
     ("a\\ b\u{e9}\u{7f}", 0x20200, 4, 1),
 ];
 
-static NAMES: [(u32, &str); 16] = [
-    (0x10000, "_start+0x0"),
-    (0x1001c, "_start+0x1c"),
-    (0x10020, "main+0x0/0x30"),
-    (0x1002f, "main+0xf/0x30"),
-    (0x10030, "shorter+0x0/0x8"),
-    (0x10038, "inner+0x8/0x10"),
-    (0x10040, "main+0x20/0x30"),
-    (0x10050, "00010050"),
-    (0x20000, "counter+0x0/0x4"),
-    (0x20004, "first+0x0/0x8"),
-    (0x2000c, "_edata+0xc/0x40"),
-    (0x20040, "00020040"),
-    (0x20110, "last+0x10"),
-    (0x20201, "a\\\\\\x20b\\xc3\\xa9\\x7f+0x1/0x4"),
-    (0x20204, "00020204"),
-    (0x30000, "00030000"),
-];
-
-fn assert_name(rt: &impl Abort, alloc: Global, symbols: &SymbolTable, row: &(u32, &str)) {
-    let name = name_text(alloc, symbols, row.0).expect(rt, "memory");
-    assert_is(rt, name.as_slice(), row.1.as_bytes(), "the name");
-}
-
-fn assert_digits(rt: &impl Abort, alloc: Global, symbols: &SymbolTable, row: &(u32, &str)) {
-    let text = address_text(alloc, symbols, row.0).expect(rt, "memory");
-    assert_is(rt, text.as_slice(), row.1.as_bytes(), "with its digits");
-}
-
-/// Addresses with their digits, and one without a name.
-const DIGITS: &[(u32, &str)] = &[(0x20008, "00020008 first+0x4/0x8"), (0x10050, "00010050")];
-
-fn assert_names(rt: &impl Abort, alloc: Global, symbols: &SymbolTable) {
-    for row in &NAMES {
-        assert_name(rt, alloc, symbols, row);
-    }
-    for row in DIGITS {
-        assert_digits(rt, alloc, symbols, row);
-    }
-}
-
-#[test]
-fn an_address_by_its_symbol(rt: HostRuntime) {
-    let image = image(&rt, rt.alloc(), &SYMBOLS);
-    let symbols = SymbolTable::new(rt.alloc(), &image).expect(&rt, "memory");
-    assert_names(&rt, rt.alloc(), &symbols);
-}
-
 /// At each address a table of these symbols finds what a walk over them finds.
-fn assert_same(rt: &impl Abort, alloc: Global, rows: &[Row4]) {
-    let image = image(rt, alloc, rows);
+fn assert_same(rt: &impl Abort, alloc: Global, rows: &[Named]) {
+    let image = image(rt, alloc, &[], rows);
     let symbols = SymbolTable::new(alloc, &image).expect(rt, "memory");
     for (first, end) in &ADDRESSES {
         for address in *first..*end {
@@ -96,7 +54,7 @@ const ADDRESSES: [(u32, u32); 4] = [
 ];
 
 /// Symbols that nest and that end where others begin, two of each, one up to the last address, and one past it.
-const NESTED: [Row4; 12] = [
+const NESTED: [Named; 12] = [
     ("all", 0x10000, 0x100, 2),
     ("front", 0x10000, 0x40, 2),
     ("back", 0x10040, 0x40, 2),

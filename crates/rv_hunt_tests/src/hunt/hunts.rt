@@ -1,13 +1,12 @@
-//! Hunts: what they see, and when they end.
+//! Hunts by any number of workers, and runs that are made again.
 use super::text;
 use crate::assertion::assert_is;
-use crate::parts::zeros;
+use crate::images::image;
 use rv_elf::Image;
 use rv_explain::block::RaceClass;
 use rv_hunt::hunt::{Hunt, Watch};
 use rv_hunt::hunted::Hunted;
 use rv_hunt::row::RaceRow;
-use rv_memory::region::Region;
 use rv_report::key::Key;
 use rv_sample::Sampler;
 use rv_tally::counts::Counts;
@@ -88,115 +87,91 @@ impl Watch for Seen {
     }
 }
 
-fn bytes_of(rt: &impl Abort, alloc: Global, words: &[u32]) -> Vec<u8> {
-    let mut bytes = Vec::new(alloc);
-    for word in words {
-        bytes
-            .extend_from_slice(&word.to_le_bytes())
-            .expect(rt, "memory");
-    }
-    bytes
-}
-
-fn code(rt: &impl Abort, alloc: Global, words: &[u32]) -> Region {
-    let bytes = bytes_of(rt, alloc, words);
-    let len = bytes.len();
-    assert!(rt; 1 <= len && len <= 65_536);
-    Region {
-        start: 0x10000,
-        bytes,
-        len: len as u32,
-        r: true,
-        w: false,
-        x: true,
-    }
-}
-
-/// An image of words at 00010000, and 4,096 zero bytes at 00020000.
-fn image(rt: &impl Abort, alloc: Global, words: &[u32]) -> Image {
-    let code = code(rt, alloc, words);
-    let segments = vec![in alloc; code, zeros(alloc, 0x20000, 4096, false)].expect(rt, "memory");
-    Image::new(0x10000, segments, Vec::new(alloc)).expect(rt, "an image")
-}
-
-/// A hunt that is tried: the image's words, its harts and lengths where they are given, the first run, and the limit.
-type Tried = (
-    &'static [u32],
-    Option<u8>,
-    Option<(u32, u32, u32)>,
-    u32,
-    Limit,
-);
+/// A hunt that is tried: its words, its harts and lengths where they are given, the first run, and the limit.
+type Tried = (&'static [u32], Option<u8>, Option<Lengths>, u32, Limit);
 
 /// Three runs of the ring by the plan of its example.
-const RING_HUNT: Tried = (&RING, None, Some((2000, 64, 100)), 0, Runs(3));
+const RING_HUNT: Tried = (
+    &RING,
+    None,
+    Some(Lengths {
+        steps: 2000,
+        arms: 64,
+        pause: 100,
+    }),
+    0,
+    Runs(3),
+);
 
 fn plans_of(rt: &impl Abort, tried: &Tried) -> Plans {
-    let (_, harts, lengths, _, _) = tried;
-    let lengths = lengths.map(|(steps, arms, pause)| Lengths { steps, arms, pause });
-    Plans::new(*harts, 4, lengths).expect(rt, "plans")
+    Plans::new(tried.1, 4, tried.2).expect(rt, "plans")
 }
 
-fn hunted<R: Threads + Wait + Abort>(
-    rt: &R,
-    alloc: Global,
+fn hunt_of<'a>(
     tried: &Tried,
-    workers: u8,
-    seen: &mut Seen,
-) -> Hunted {
-    let (words, _, _, first, limit) = tried;
-    let plans = plans_of(rt, tried);
-    let image = image(rt, alloc, words);
-    let sampler = Sampler::sites(alloc, &image, &[]).expect(rt, "memory");
-    let hunt = Hunt {
-        image: &image,
+    image: &'a Image,
+    sampler: &'a Sampler,
+    plans: &'a Plans,
+) -> Hunt<'a> {
+    Hunt {
+        image,
         seed: 1,
-        sampler: &sampler,
-        plans: &plans,
+        sampler,
+        plans,
         ranges: &[],
-        first: *first,
-        limit: *limit,
-    };
-    hunted_by(rt, alloc, &hunt, workers, seen)
+        first: tried.3,
+        limit: tried.4,
+    }
 }
 
-fn hunted_by<R: Threads + Wait + Abort>(
+/// The table's text; how many runs there were and were told, how many harts had no steps left, and the numbers.
+type Told = (Vec<u8>, (u64, u64, u64, Counts));
+
+fn told_by<R: Threads + Wait + Abort>(rt: &R, alloc: Global, hunt: &Hunt<'_>, workers: u8) -> Told {
+    assert!(rt; hunt.is_legal() && workers <= 16);
+    let mut seen = Seen { runs: 0 };
+    let hunted = hunt
+        .hunted(rt, alloc, workers, &mut seen)
+        .expect(rt, "a hunt");
+    let tally = &hunted.tally;
+    let numbers = (
+        tally.runs(),
+        seen.runs,
+        tally.ended().out_of_steps(),
+        tally.counts(),
+    );
+    let rows = text(rt, alloc, &hunted.table);
+    drop(hunted);
+    (rows, numbers)
+}
+
+/// Asserts that so many workers see the same.
+fn assert_same<R: Threads + Wait + Abort>(
     rt: &R,
     alloc: Global,
     hunt: &Hunt<'_>,
     workers: u8,
-    seen: &mut Seen,
-) -> Hunted {
-    assert!(rt; hunt.is_legal() && workers <= 16);
-    hunt.hunted(rt, alloc, workers, seen).expect(rt, "a hunt")
+    one: &Told,
+) {
+    let other = told_by(rt, alloc, hunt, workers);
+    assert_is(rt, other.0.as_slice(), one.0.as_slice(), "rows");
+    assert_is(rt, other.1, one.1, "numbers");
 }
 
-/// How many runs there were, how many harts had no steps left, and the numbers.
-type Numbers = (u64, u64, Counts);
-
-fn numbers(hunted: &Hunted) -> Numbers {
-    let tally = &hunted.tally;
-    (tally.runs(), tally.ended().out_of_steps(), tally.counts())
+/// What one worker sees, and sixteen and two see too.
+fn told_of_each<R: Threads + Wait + Abort>(rt: &R, alloc: Global, hunt: &Hunt<'_>) -> Told {
+    let one = told_by(rt, alloc, hunt, 1);
+    assert_is(rt, one.1.0, one.1.1, "runs told");
+    assert_same(rt, alloc, hunt, 2, &one);
+    assert_same(rt, alloc, hunt, 16, &one);
+    one
 }
 
-/// The table and the numbers of a hunt by so many workers, which told each run.
-fn told<R: Threads + Wait + Abort>(
-    rt: &R,
-    alloc: Global,
-    tried: &Tried,
-    workers: u8,
-) -> (Vec<u8>, Numbers) {
-    let mut seen = Seen { runs: 0 };
-    let hunted = hunted(rt, alloc, tried, workers, &mut seen);
-    assert_is(rt, seen.runs, hunted.tally.runs(), "runs told");
-    let told = told_of(rt, alloc, &hunted);
-    drop(hunted);
-    told
-}
-
-fn told_of(rt: &impl Abort, alloc: Global, hunted: &Hunted) -> (Vec<u8>, Numbers) {
-    let numbers = numbers(hunted);
-    (text(rt, alloc, &hunted.table), numbers)
+fn told<R: Threads + Wait + Abort>(rt: &R, alloc: Global, tried: &Tried) -> Told {
+    let plans = plans_of(rt, tried);
+    let image = image(rt, alloc, tried.0, &[]);
+    let sampler = Sampler::sites(alloc, &image, &[]).expect(rt, "memory");
+    told_of_each(rt, alloc, &hunt_of(tried, &image, &sampler, &plans))
 }
 
 const RING_ROWS: &[u8] = b"races 1\n\
@@ -213,66 +188,63 @@ const RING_COUNTS: Counts = Counts {
 
 #[test]
 fn the_rings_races(rt: HostRuntime) {
-    let (rows, numbers) = told(&rt, rt.alloc(), &RING_HUNT, 2);
+    let (rows, numbers) = told(&rt, rt.alloc(), &RING_HUNT);
     assert_is(&rt, rows.as_slice(), RING_ROWS, "rows");
-    assert_is(&rt, numbers, (3, 14, RING_COUNTS), "numbers");
+    assert_is(&rt, numbers, (3, 3, 14, RING_COUNTS), "numbers");
 }
 
-/// The race of the ring's hunt.
-const KEY: Key = Key {
-    first: 0x10054,
-    second: Some(0x10074),
-};
+/// Hunts that many workers make: of few runs and of many, some of which arm most.
+const SHARED: &[Tried] = &[
+    (
+        &RING,
+        None,
+        Some(Lengths {
+            steps: 300,
+            arms: 64,
+            pause: 15,
+        }),
+        3,
+        Budget(10_000),
+    ),
+    (
+        &ENDLESS,
+        Some(3),
+        Some(Lengths {
+            steps: 300,
+            arms: 4096,
+            pause: 5,
+        }),
+        0,
+        Budget(3000),
+    ),
+    (&NO_SITES, None, None, 0, Runs(600)),
+];
 
-/// Its row, of a run and of a pause that began at the entry.
-fn row_of(run: u32, entry: u32) -> RaceRow {
-    RaceRow {
-        count: 13,
-        class: RaceClass::Kept,
-        run,
-        entry,
-        old: 0,
-        new: 1,
+#[test]
+fn any_number_of_workers_sees_the_same(rt: HostRuntime) {
+    for tried in SHARED {
+        let (_, _) = told(&rt, rt.alloc(), tried);
     }
 }
 
-/// The number and the count of what is found again of a row of the ring's hunt, whose pause began at the entry.
-fn found_again(rt: &impl Abort, alloc: Global, run: u32, entry: u32) -> Option<(u32, u64)> {
-    let row = row_of(run, entry);
-    let plans = plans_of(rt, &RING_HUNT);
-    let image = image(rt, alloc, &RING);
-    let sampler = Sampler::sites(alloc, &image, &[]).expect(rt, "memory");
-    let hunt = Hunt {
-        image: &image,
-        seed: 1,
-        sampler: &sampler,
-        plans: &plans,
-        ranges: &[],
-        first: 0,
-        limit: Runs(3),
-    };
-    let again = hunt.remade(alloc, &[], &KEY, &row).expect(rt, "memory");
-    let found = match &again.race {
-        Some(race) => Some((race.told.number, race.reports)),
-        None => None,
-    };
-    drop(again);
-    found
-}
-
-#[test]
-fn the_run_of_a_row_is_made_again(rt: HostRuntime) {
-    let found = found_again(&rt, rt.alloc(), 0, 63);
-    assert_is(&rt, found, Some((1, 13)), "the row's");
-    let none = found_again(&rt, rt.alloc(), 0, 64);
-    assert_is(&rt, none, None, "no row's");
-}
-
 /// Hunts, and how many runs they make.
-static HUNTS: [(Tried, u64); 8] = [
+const HUNTS: &[(Tried, u64)] = &[
     ((&ENDLESS, None, None, 0, Budget(1)), 1),
     ((&ENDLESS, None, None, 7, Budget(1300)), 1),
-    ((&ENDLESS, None, Some((1000, 64, 50)), 0, Budget(1301)), 2),
+    (
+        (
+            &ENDLESS,
+            None,
+            Some(Lengths {
+                steps: 1000,
+                arms: 64,
+                pause: 50,
+            }),
+            0,
+            Budget(1301),
+        ),
+        2,
+    ),
     ((&NO_SITES, None, None, 0, Runs(300)), 300),
     ((&RING, Some(1), None, 8, Runs(5)), 5),
     ((&TRAP, None, None, 0, Budget(20_000)), 48),
@@ -285,45 +257,58 @@ static HUNTS: [(Tried, u64); 8] = [
 
 #[test]
 fn how_many_runs_are_made(rt: HostRuntime) {
-    for (tried, runs) in &HUNTS {
-        let (_, (made, _, _)) = told(&rt, rt.alloc(), tried, 2);
-        assert_is(&rt, made, *runs, "runs");
+    for (tried, runs) in HUNTS {
+        let (_, numbers) = told(&rt, rt.alloc(), tried);
+        assert_is(&rt, numbers.0, *runs, "runs");
     }
 }
 
-/// Hunts that many workers make: of few runs and of many, some of which arm most.
-static SHARED: [Tried; 3] = [
-    (&RING, None, Some((300, 64, 15)), 3, Budget(10_000)),
-    (&ENDLESS, Some(3), Some((300, 4096, 5)), 0, Budget(3000)),
-    (&NO_SITES, None, None, 0, Runs(600)),
-];
+/// The race of the ring's hunt.
+const KEY: Key = Key {
+    first: 0x10054,
+    second: Some(0x10074),
+};
 
-/// Asserts that so many workers see the same.
-fn assert_same<R: Threads + Wait + Abort>(
-    rt: &R,
-    alloc: Global,
-    tried: &Tried,
-    workers: u8,
-    one: &(Vec<u8>, Numbers),
-) {
-    let other = told(rt, alloc, tried, workers);
-    assert_is(rt, other.0.as_slice(), one.0.as_slice(), "rows");
-    assert_is(rt, other.1, one.1, "numbers");
+/// Its row, of a pause of run 0 that began at the entry.
+fn row_at(entry: u32) -> RaceRow {
+    RaceRow {
+        count: 13,
+        class: RaceClass::Kept,
+        run: 0,
+        entry,
+        old: 0,
+        new: 1,
+    }
 }
 
-fn assert_any_number_sees_the_same<R: Threads + Wait + Abort>(
-    rt: &R,
-    alloc: Global,
-    tried: &Tried,
-) {
-    let one = told(rt, alloc, tried, 1);
-    assert_same(rt, alloc, tried, 2, &one);
-    assert_same(rt, alloc, tried, 16, &one);
+/// The number and the count of what is found again of a row of the ring's hunt.
+fn found_again(rt: &impl Abort, alloc: Global, image: &Image, row: &RaceRow) -> Option<(u32, u64)> {
+    let plans = plans_of(rt, &RING_HUNT);
+    let sampler = Sampler::sites(alloc, image, &[]).expect(rt, "memory");
+    let hunt = Hunt {
+        image,
+        seed: 1,
+        sampler: &sampler,
+        plans: &plans,
+        ranges: &[],
+        first: 0,
+        limit: Runs(3),
+    };
+    let again = hunt.remade(alloc, &[], &KEY, row).expect(rt, "memory");
+    let found = match &again.race {
+        Some(race) => Some((race.told.number, race.reports)),
+        None => None,
+    };
+    drop(again);
+    found
 }
 
 #[test]
-fn any_number_of_workers_sees_the_same(rt: HostRuntime) {
-    for tried in &SHARED {
-        assert_any_number_sees_the_same(&rt, rt.alloc(), tried);
-    }
+fn the_run_of_a_row_is_made_again(rt: HostRuntime) {
+    let image = image(&rt, rt.alloc(), &RING, &[]);
+    let found = found_again(&rt, rt.alloc(), &image, &row_at(63));
+    let none = found_again(&rt, rt.alloc(), &image, &row_at(64));
+    drop(image);
+    assert_is(&rt, found, Some((1, 13)), "the row's");
+    assert_is(&rt, none, None, "no row's");
 }

@@ -1,12 +1,6 @@
-//! The files of hunts, and the devices that they are read from.
-mod ignoring;
-mod merging;
-mod texts;
-
+//! The devices that files are read from.
 use rv_memory::flagged::Flagged;
-use std::alloc::Global;
 use std::io::{self, ErrorKind, Read};
-use std::process::Abort;
 
 /// A reader of a text, ten bytes a read, whose read of that number, from 1 on, fails.
 #[derive(Drop)]
@@ -36,20 +30,4 @@ pub fn reader_of(text: &[u8], fails_at: u64) -> Flagged<Device<'_>> {
         reads: 0,
         fails_at,
     })
-}
-
-/// Readers of the texts, of which the one at that place fails at the read of that number.
-fn readers_of<'t>(
-    rt: &impl Abort,
-    alloc: Global,
-    texts: &[&'t [u8]],
-    place: usize,
-    fails_at: u64,
-) -> Vec<Flagged<Device<'t>>> {
-    let mut made = Vec::new(alloc);
-    for (number, text) in texts.iter().enumerate() {
-        let fails = if number == place { fails_at } else { 0 };
-        made.push(reader_of(text, fails)).expect(rt, "memory");
-    }
-    made
 }

@@ -1,0 +1,142 @@
+//! Ignore lists: which races they fit, and readers that fail.
+use crate::assertion::assert_is;
+use crate::engines::readers::reader_of;
+use crate::images::{Named, image};
+use rv_engines::fault::Fault;
+use rv_explain::block::RaceClass;
+use rv_explain::symbol_table::SymbolTable;
+use rv_hunt::row::RaceRow;
+use rv_hunting::merge::fault::FileFault;
+use rv_hunting::merge::ignore::{Ignores, read_ignores};
+use rv_hunting::merge::parted::part_rows;
+use rv_report::key::Key;
+use std::alloc::Global;
+use std::process::Abort;
+
+/// A start file's label without a size, a function, one that lies in it, a name with bytes that are not shown, and one of
+/// eight hexadecimal digits.
+const SYMBOLS: [Named; 5] = [
+    ("_start", 0x10000, 0, 2),
+    ("main", 0x10020, 0x20, 2),
+    ("inner", 0x10030, 0x8, 2),
+    ("a\\ b", 0x10100, 4, 2),
+    ("00010000", 0x10104, 4, 2),
+];
+
+/// A list, a race, and whether the list fits it.
+type Fits = (&'static str, u32, Option<u32>, bool);
+
+const FITS: &[Fits] = &[
+    ("", 0x10020, None, false),
+    ("# main *\n", 0x10020, None, false),
+    ("main *\n", 0x10020, None, true),
+    ("main *\n", 0x1003f, Some(0x10100), true),
+    ("main *\n", 0x10000, Some(0x10024), true),
+    ("main *\n", 0x1001c, Some(0x10040), false),
+    ("* main\n", 0x10020, None, true),
+    ("main main\n", 0x10020, Some(0x1003c), true),
+    ("main main\n", 0x10020, None, false),
+    ("main inner", 0x10020, Some(0x10030), true),
+    ("inner main", 0x10020, Some(0x10030), true),
+    ("inner inner", 0x10020, Some(0x10030), false),
+    ("00010020 inner # known\n", 0x10020, Some(0x10034), true),
+    ("00010020 inner\n", 0x10024, Some(0x10034), false),
+    ("inner   00010020#", 0x10020, Some(0x10034), true),
+    ("00010020 00010020\n", 0x10020, None, false),
+    ("* *\n", 0x10ffc, Some(0x10ffc), true),
+    ("* *\n", 0x10ffc, None, true),
+    ("_start *\n", 0x1001c, None, true),
+    ("a\\\\\\x20b *\n", 0x10100, None, true),
+    ("00010000 *\n", 0x10104, None, false),
+    ("\n  \n#\n* 00010ffc\nmain *\n", 0x10024, None, true),
+];
+
+/// The list of a text, whose read of that number fails.
+fn read(
+    alloc: Global,
+    symbols: &SymbolTable,
+    text: &str,
+    fails_at: u64,
+) -> Result<Ignores, FileFault> {
+    read_ignores(alloc, symbols, &mut reader_of(text.as_bytes(), fails_at))
+}
+
+fn assert_fits(rt: &impl Abort, alloc: Global, symbols: &SymbolTable, row: &Fits) {
+    let (list, first, second, wanted) = *row;
+    let ignores = read(alloc, symbols, list, 0).expect(rt, "a list");
+    let found = ignores.fits(symbols, &Key { first, second });
+    assert_is(rt, found, wanted, list);
+}
+
+fn row(first: u32, second: Option<u32>, run: u32) -> (Key, RaceRow) {
+    let row = RaceRow {
+        count: 1,
+        class: RaceClass::Kept,
+        run,
+        entry: 0,
+        old: 0,
+        new: 1,
+    };
+    (Key { first, second }, row)
+}
+
+fn assert_runs(rt: &impl Abort, rows: &[(Key, RaceRow)], wanted: &[u32]) {
+    assert_is(rt, rows.len(), wanted.len(), "how many");
+    for (row, run) in rows.iter().zip(wanted) {
+        assert_is(rt, row.1.run, *run, "a row");
+    }
+}
+
+/// Of which runs the rows are told, and of which they are ignored.
+fn assert_parted(
+    rt: &impl Abort,
+    alloc: Global,
+    symbols: &SymbolTable,
+    ignores: &Ignores,
+    told: &[u32],
+    ignored: &[u32],
+) {
+    let rows = [
+        row(0x10020, None, 0),
+        row(0x10000, None, 1),
+        row(0x10000, Some(0x10034), 2),
+        row(0x10100, None, 3),
+    ];
+    let parted = part_rows(alloc, symbols, ignores, &rows).expect(rt, "memory");
+    assert_runs(rt, &parted.told, told);
+    assert_runs(rt, &parted.ignored, ignored);
+}
+
+fn assert_parts(rt: &impl Abort, alloc: Global, symbols: &SymbolTable) {
+    let ignores = read(alloc, symbols, "main *", 0).expect(rt, "a list");
+    assert_parted(rt, alloc, symbols, &ignores, &[1, 3], &[0, 2]);
+    assert_parted(
+        rt,
+        alloc,
+        symbols,
+        &Ignores::none(alloc),
+        &[0, 1, 2, 3],
+        &[],
+    );
+}
+
+/// A list is read in three reads.
+fn assert_tells_failing_reads(rt: &impl Abort, alloc: Global, symbols: &SymbolTable) {
+    for fails_at in 1..5 {
+        let found = read(alloc, symbols, "main *\n* inner\n", fails_at).err();
+        let wanted = (fails_at < 4).then_some(FileFault::Plain(Fault::Read));
+        assert_is(rt, found, wanted, "a read");
+    }
+}
+
+#[test]
+fn lists_fit_races_and_part_rows(rt: HostRuntime) {
+    let alloc = rt.alloc();
+    let image = image(&rt, alloc, &[], &SYMBOLS);
+    let symbols = SymbolTable::new(alloc, &image).expect(&rt, "memory");
+    for row in FITS {
+        assert_fits(&rt, alloc, &symbols, row);
+    }
+    assert_parts(&rt, alloc, &symbols);
+    assert_tells_failing_reads(&rt, alloc, &symbols);
+}

@@ -1,0 +1,120 @@
+//! Merges whose devices fail at each call in turn.
+use crate::assertion::{assert_is, assert_tells_each_failing_call};
+use crate::engines::readers::{Device, reader_of};
+use rv_engine_tests::devices::Sink;
+use rv_engines::fault::Fault;
+use rv_memory::buffered::{Buffered, MOST_PENDING};
+use rv_memory::flagged::Flagged;
+use rv_memory::output::Output;
+use rv_hunting::merge::fault::FileFault;
+use rv_hunting::merge::{MergeFault, run_merge};
+use std::alloc::Global;
+use std::process::Abort;
+
+const EARLIER: &[u8] = b"races 2\n\
+    00010054 00010074 count 13 run 0 entry 63 hit old 00000000 new 00000001 ordered\n\
+    0001000c - count 1 run 0 entry 64 changed old 00000000 new 00000040 flag\n";
+
+const LATER: &[u8] = b"races 3\n\
+    00010058 - count 2 run 7 entry 5 changed old 00000000 new 00000002 named\n\
+    00010054 00010074 count 18446744073709551610 run 8 entry 9 hit old 00000003 new 00000004 kept\n\
+    0001000c - count 1 run 9 entry 3 changed old 00000001 new 00000002 flag\n";
+
+const NONE: &[u8] = b"races 0\n";
+
+/// What the merge of some tables comes to: the table, or the fault. Where it is refused, nothing may be written.
+fn outcome<'t>(
+    rt: &impl Abort,
+    alloc: Global,
+    tables: &mut [Flagged<Device<'t>>],
+    expected: &mut Option<Flagged<Device<'t>>>,
+) -> Result<Vec<u8>, MergeFault> {
+    let mut writer = Buffered::new(alloc, Vec::new(alloc));
+    let merged = run_merge(alloc, tables, expected, &mut writer);
+    assert_is(rt, writer.failed(), false, "the writer failed");
+    let written = writer.into_inner();
+    match merged {
+        Ok(_) => Ok(written),
+        Err(fault) => {
+            assert_is(rt, written.len(), 0, "bytes");
+            Err(fault)
+        }
+    }
+}
+
+/// No command line has no table.
+#[test]
+fn no_tables_are_merged(rt: HostRuntime) {
+    let text = outcome(&rt, rt.alloc(), &mut [], &mut None).expect(&rt, "a table");
+    assert_is(&rt, text.as_slice(), NONE, "the table");
+}
+
+/// Merges two tables, where the file of that number fails at a read of its own. It tells the outcome, and whether one of
+/// the tables' devices failed.
+fn merge_failing(
+    rt: &impl Abort,
+    alloc: Global,
+    file: usize,
+    fails_at: u64,
+) -> (Result<Vec<u8>, MergeFault>, bool) {
+    let at = |place| if file == place { fails_at } else { 0 };
+    let mut tables = [reader_of(EARLIER, at(0)), reader_of(LATER, at(1))];
+    let mut expected = Some(reader_of(NONE, at(2)));
+    let outcome = outcome(rt, alloc, &mut tables, &mut expected);
+    let failed = tables[0].failed() || tables[1].failed();
+    (outcome, failed)
+}
+
+/// Each read of a file fails in turn, the one at its end too.
+fn assert_tells_failing_reads(rt: &impl Abort, alloc: Global, file: usize) {
+    let wanted = MergeFault {
+        file: Some(file),
+        fault: FileFault::Plain(Fault::Read),
+    };
+    for fails_at in 1..100 {
+        let (outcome, failed) = merge_failing(rt, alloc, file, fails_at);
+        assert_is(rt, failed && file == 2, false, "a table");
+        if outcome.is_ok() {
+            assert_is(rt, fails_at > 2, true, "a read and the end");
+            assert_is(rt, failed, false, "no device failed");
+            return;
+        }
+        assert_is(rt, outcome.err(), Some(wanted), "a read");
+    }
+}
+
+#[test]
+fn failing_reads_are_told(rt: HostRuntime) {
+    for file in 0..3 {
+        assert_tells_failing_reads(&rt, rt.alloc(), file);
+    }
+}
+
+/// The fault of an engine's writer alone.
+fn plain(merged: Result<bool, MergeFault>) -> Result<(), Fault> {
+    match merged {
+        Ok(_) => Ok(()),
+        Err(
+            MergeFault {
+                file: None,
+                fault: FileFault::Plain(fault),
+            },
+        ) => Err(fault),
+        Err(_) => Err(Fault::Read),
+    }
+}
+
+/// So many bytes that what follows goes to the device by itself.
+const GATHERED: [u8; MOST_PENDING] = [b'-'; MOST_PENDING];
+
+#[test]
+fn failing_writes_are_told(rt: HostRuntime) {
+    let alloc = rt.alloc();
+    for takes_none in [false, true] {
+        assert_tells_each_failing_call(&rt, alloc, takes_none, |writer: &mut Buffered<Sink>| {
+            writer.put(&GATHERED)?;
+            let mut tables = [reader_of(LATER, 0)];
+            plain(run_merge(alloc, &mut tables, &mut None, writer))
+        });
+    }
+}
