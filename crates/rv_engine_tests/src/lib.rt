@@ -1,5 +1,5 @@
-//! The tests of the engines and of the command line, and the devices that engines are tried with: readers and writers
-//! that fail.
+//! The tests of the engines, of the command line and of what serves a saved run to GDB, and the devices that engines are
+//! tried with: readers and writers that fail.
 //!
 //! They stand in a crate of their own, so that the engines are not proved a second time with their tests.
 #![tactic(auto)]
@@ -17,6 +17,8 @@ pub mod devices;
 mod exhibit;
 #[cfg(test)]
 mod explain;
+#[cfg(test)]
+mod gdb;
 #[cfg(test)]
 mod images;
 #[cfg(test)]

@@ -6,7 +6,7 @@ use crate::fields::Id;
 use crate::packet::Request;
 
 /// The harts that a talk is about: thread t is hart t - 1, and no hart stands for any.
-#[derive(Clone, Copy, Debug, PartialEq, Eq)]
+#[derive(Clone, Copy)]
 pub struct Chosen {
     /// The hart that was told or asked for last.
     pub focus: u8,

@@ -1,5 +1,5 @@
 //! What packets are made of, as `specs/Fields.antt` has it.
-ghost use Rattle.std.specs.Prelude.{◌≡◌};
+ghost use Rattle.std.specs.Prelude.{◌≡◌, ◌∷◌, []};
 ghost use Rattle.std.specs.Option.{option_copied};
 ghost use Rattle.std.specs.Str.{bytes_eq};
 ghost use Rattle.rv_gdb.specs.Fields as spec;
@@ -73,11 +73,19 @@ pub(crate) fn read_range(text: &[u8]) -> Option<Range>
     ensures { result ≡ spec.range_in text.now }
 {
     let mut pieces = Pieces::of(text, b',');
-    let from = pieces.next_piece()?;
-    let length = pieces.next_piece()?;
-    if pieces.next_piece().is_some() {
-        return None;
+    match (
+        pieces.next_piece(),
+        pieces.next_piece(),
+        pieces.next_piece(),
+    ) {
+        (Some(from), Some(length), None) => range_of(from, length),
+        _ => None,
     }
+}
+
+fn range_of(from: &[u8], length: &[u8]) -> Option<Range>
+    ensures { result ≡ spec.range_of (from.now ∷ length.now ∷ []) }
+{
     Some(Range {
         from: read_hexadecimal(from)?,
         length: read_hexadecimal(length)?,

@@ -7,7 +7,7 @@ use rv_text::decimal::read_decimal;
 use rv_text::pieces::Pieces;
 
 /// What a user asks.
-#[derive(Clone, Copy, Debug, PartialEq, Eq)]
+#[derive(Clone, Copy)]
 pub enum Order {
     /// `entry N`: to place N.
     Entry(u32),
@@ -52,12 +52,13 @@ fn plain_order(name: &[u8]) -> Option<Order>
 fn numbered_order(name: &[u8], word: &[u8]) -> Option<Order>
     ensures { result ≡ spec.numbered_order name.now word.now }
 {
+    let number = read_decimal(word, u32::MAX)?;
     if is(name, b"entry") {
-        Some(Order::Entry(read_decimal(word, u32::MAX)?))
+        Some(Order::Entry(number))
     } else if is(name, b"ending") {
-        Some(Order::Ending(read_decimal(word, u32::MAX)?))
+        Some(Order::Ending(number))
     } else if is(name, b"hit") {
-        Some(Order::Hit(read_decimal(word, u32::MAX)?))
+        Some(Order::Hit(number))
     } else {
         None
     }

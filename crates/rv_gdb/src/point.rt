@@ -2,7 +2,7 @@
 use crate::fields::Range;
 
 /// What a point stops at, in the order of the numbers 0 to 4 that GDB gives them.
-#[derive(Clone, Copy, Debug, PartialEq, Eq)]
+#[derive(Clone, Copy)]
 pub enum Kind {
     /// An instruction about to be made at the address. (GDB would put a word of its own there.)
     Software,

@@ -13,7 +13,7 @@ use std::marker::Model;
 pub const MOST_POINTS: usize = 256;
 
 /// A byte of an access that a point watches, and the kind of the point.
-#[derive(Clone, Copy, Debug, PartialEq, Eq)]
+#[derive(Clone, Copy)]
 pub struct Sight {
     pub kind: Kind,
     pub address: u32,

@@ -18,7 +18,7 @@ use rv_text::hexadecimal::byte_digits;
 pub const TRAP: u8 = 5;
 
 /// Why the run stops.
-#[derive(Clone, Copy, Debug, PartialEq, Eq)]
+#[derive(Clone, Copy)]
 pub enum Why {
     /// It stands there: by a point at an instruction, a step, an end of its hart.
     Stands,

@@ -24,7 +24,7 @@ pub enum Stage {
 }
 
 /// What a byte told.
-#[derive(Clone, Copy, Debug, PartialEq, Eq)]
+#[derive(Clone, Copy)]
 pub enum Heard {
     Nothing,
     /// The last packet is to be written again.

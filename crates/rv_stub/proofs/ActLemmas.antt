@@ -3,7 +3,7 @@ use Rattle.std.proofs.Common.{◌≡◌, List, true, Some, length, refl}
 use Rattle.rv_debug.specs.Placed.{state}
 use Rattle.rv_gdb.specs.declared.action.Action.{Action}
 use Rattle.rv_hart.specs.State.{State}
-use Rattle.rv_retrace.specs.Resumption.{of_actions}
+use Rattle.rv_stub.specs.Resumption.{of_actions}
 use Rattle.rv_stub.specs.Answers.{acting, name_harts, resuming}
 use Rattle.rv_stub.specs.Standing.{Standing}
 

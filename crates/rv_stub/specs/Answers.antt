@@ -28,9 +28,9 @@ use Rattle.rv_gdb.specs.declared.stop.Why.TheVariants.{Stands}
 use Rattle.rv_hart.specs.State.{State}
 use Rattle.rv_hart.specs.declared.machine.TheConstants.{MOST_HARTS}
 use Rattle.rv_retrace.specs.Going.{stop_at}
-use Rattle.rv_retrace.specs.Resumed.{remembered, stop_of}
-use Rattle.rv_retrace.specs.Resumption.{of_actions, of_move}
-use Rattle.rv_retrace.specs.declared.resumption.Resumption.{Resumption}
+use Rattle.rv_stub.specs.Resumed.{remembered, stop_of}
+use Rattle.rv_stub.specs.Resumption.{of_actions, of_move}
+use Rattle.rv_stub.specs.declared.resumption.Resumption.{Resumption}
 use Rattle.rv_stub.specs.Met.{endings_of, met_by}
 use Rattle.rv_stub.specs.Paused.{standing_text}
 use Rattle.rv_stub.specs.Standing.{Standing, are_there}

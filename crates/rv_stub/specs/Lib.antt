@@ -3,5 +3,7 @@ pub mod Heard
 pub mod Met
 pub mod Paused
 pub mod Reply
+pub mod Resumed
+pub mod Resumption
 pub mod Standing
 pub mod Talk

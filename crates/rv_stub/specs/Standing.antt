@@ -5,7 +5,7 @@ use Rattle.rv_debug.specs.Placed.{Placed}
 use Rattle.rv_gdb.specs.Chosen as chosen
 use Rattle.rv_gdb.specs.declared.chosen.Chosen.{Chosen}
 use Rattle.rv_gdb.specs.declared.point.Point.{Point}
-use Rattle.rv_retrace.specs.declared.resume.Passed.{Passed}
+use Rattle.rv_stub.specs.declared.resume.Passed.{Passed}
 
 -- The run at its place, the threads that are chosen, the points that are set, and what is remembered of steps that were
 -- passed.

@@ -7,5 +7,7 @@
 pub mod engine;
 pub mod no_room;
 pub mod reply;
+pub mod resume;
+pub mod resumption;
 pub mod state;
 pub mod talk;

@@ -10,11 +10,11 @@ ghost use Rattle.std.specs.Prelude.{◌≡◌};
 ghost use Rattle.rv_stub.specs.Met.{endings_of};
 ghost use Rattle.rv_stub.specs.Standing as spec;
 
+use crate::resume::Passed;
 use rv_collide::ending::Ending;
 use rv_debug::session::Session;
 use rv_gdb::chosen::Chosen;
 use rv_gdb::points::Points;
-use rv_retrace::resume::Passed;
 use std::alloc::Global;
 use std::marker::Model;
 
@@ -31,7 +31,7 @@ pub struct Talk {
 
 impl Model for Talk {
     ghost use Rattle.std.specs.Prelude.{◌≡◌, IfSome};
-    ghost use Rattle.rv_retrace.specs.Resumed.{IsPassed};
+    ghost use Rattle.rv_stub.specs.Resumed.{IsPassed};
     ghost use Rattle.rv_stub.specs.Met.{endings_of};
     ghost use Rattle.rv_stub.specs.Standing.{Standing};
 

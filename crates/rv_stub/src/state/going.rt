@@ -7,6 +7,8 @@ ghost use Rattle.rv_stub.specs.Reply.{reply_text};
 
 use crate::no_room::NoRoom;
 use crate::reply::Reply;
+use crate::resume::resume;
+use crate::resumption::{Resumption, of_actions, of_move};
 use crate::state::Talk;
 use crate::state::chosen::are_there;
 use rv_gdb::action::{Action, Actions};
@@ -16,8 +18,6 @@ use rv_gdb::point::Point;
 use rv_gdb::replies::Refusal;
 use rv_gdb::stop::{Stop, TRAP, Why};
 use rv_hart::machine::MOST_HARTS;
-use rv_retrace::resume::resume;
-use rv_retrace::resumption::{Resumption, of_actions, of_move};
 use std::alloc::Global;
 
 /// All actions of a packet, in their order.

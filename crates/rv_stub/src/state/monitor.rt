@@ -1,6 +1,7 @@
 //! The commands that a user gives by GDB's `monitor`.
-ghost use Rattle.std.specs.Prelude.{◌≡◌, ◌++◌, ◌||◌, ◌≤◌, is_err, IfOk, None, OnErr, OnOk, length, slice_get};
+ghost use Rattle.std.specs.Prelude.{◌≡◌, ◌∷◌, [], ◌++◌, ◌||◌, ◌≤◌, is_err, IfOk, None, OnErr, OnOk, length, slice_get};
 ghost use Rattle.std.specs.Io.KnownBytes.{Appends};
+ghost use Rattle.rv_collide.specs.Texts.{ending_line};
 ghost use Rattle.rv_debug.specs.Placed.{moved};
 ghost use Rattle.rv_gdb.specs.Shown.{digits_of};
 ghost use Rattle.rv_stub.specs.Answers as spec;
@@ -9,7 +10,8 @@ ghost use Rattle.rv_stub.specs.Reply.{reply_text};
 use crate::no_room::NoRoom;
 use crate::reply::Reply;
 use crate::state::Talk;
-use crate::state::met::{ending_of, met_by};
+use crate::state::met::{Met, ending_of, met_by};
+use rv_collide::ending::Ending;
 use rv_collide::entry::Entry;
 use rv_collide::schedule::writing::write_entry;
 use rv_collide::texts::write_ending;
@@ -88,6 +90,46 @@ fn write_thread<O: Output>(writer: &mut O, hart: u8) -> Result<(), WriteFault>
     put_pieces(writer, &[b"thread ", thread.as_bytes(), b"\n"])
 }
 
+/// Writes a place as above, and the thread of a hart there.
+fn write_met<O: Output>(
+    writer: &mut O,
+    session: &Session,
+    place: u32,
+    hart: u8,
+) -> Result<(), WriteFault>
+    ensures ok { OnOk result (Appends (O.written writer.old) (O.written writer.new) (spec.where_text session.now.entries place ++ spec.thread_line hart)) }
+    ensures failed { O.has_failed writer.new ≡ (O.has_failed writer.old || is_err result) }
+{
+    write_where(writer, session, place)?;
+    write_thread(writer, hart)?;
+    Ok(())
+}
+
+/// The answer that tells of an ending, and of the place after the beginning of its pause.
+fn reply_at_pause(
+    alloc: Global,
+    session: &Session,
+    n: u32,
+    told: &Ending,
+    place: u32,
+) -> Result<Reply, NoRoom>
+    ensures { IfOk result (λ reply. reply_text reply ≡ digits_of (ending_line n told.now ++ 10 ∷ [] ++ spec.where_text session.now.entries place ++ spec.thread_line told.now.hart)) }
+{
+    let mut text = Sheet::new(alloc);
+    write_ending(&mut text, u64::from(n), told)?;
+    write_met(&mut text, session, place, told.hart)?;
+    Reply::of_digits(alloc, text.as_bytes())
+}
+
+/// The answer that tells of the access that met a pause.
+fn reply_at_met(alloc: Global, session: &Session, met: &Met) -> Result<Reply, NoRoom>
+    ensures { IfOk result (λ reply. reply_text reply ≡ digits_of (spec.where_text session.now.entries met.now.place ++ spec.thread_line met.now.hart)) }
+{
+    let mut text = Sheet::new(alloc);
+    write_met(&mut text, session, met.place, met.hart)?;
+    Reply::of_digits(alloc, text.as_bytes())
+}
+
 impl Talk {
     /// Goes to a place. Its answer was gathered before, so that nothing is changed where there is no memory for it.
     fn place_at(&mut self, place: u32, reply: Reply) -> Result<Reply, NoRoom>
@@ -126,11 +168,7 @@ impl Talk {
             return Reply::of_digits(alloc, b"fault 6 NoEnding\n");
         };
         let place = told.paused_at + 1;
-        let mut text = Sheet::new(alloc);
-        write_ending(&mut text, u64::from(n), &told)?;
-        write_where(&mut text, &self.session, place)?;
-        write_thread(&mut text, told.hart)?;
-        let reply = Reply::of_digits(alloc, text.as_bytes())?;
+        let reply = reply_at_pause(alloc, &self.session, n, &told, place)?;
         self.place_at(place, reply)
     }
 
@@ -145,10 +183,7 @@ impl Talk {
         let Some(met) = met_by(&mut self.session, &told)? else {
             return Reply::of_digits(alloc, b"fault 7 NotReport\n");
         };
-        let mut text = Sheet::new(alloc);
-        write_where(&mut text, &self.session, met.place)?;
-        write_thread(&mut text, met.hart)?;
-        let reply = Reply::of_digits(alloc, text.as_bytes())?;
+        let reply = reply_at_met(alloc, &self.session, &met)?;
         self.place_at(met.place, reply)
     }
 

@@ -1,8 +1,9 @@
 //! How a hart stands, also where it is paused.
-ghost use Rattle.std.specs.Prelude.{◌≡◌, ◌<◌, ◌≤◌, ◌||◌, is_err, IfOk, IfSome, OnErr, OnOk, length};
+ghost use Rattle.std.specs.Prelude.{◌≡◌, ◌<◌, ◌≤◌, ◌||◌, is_err, IfOk, IfSome, OnErr, OnOk, length, option_and_then, slice_get};
 ghost use Rattle.std.specs.Io.KnownBytes.{Appends};
 ghost use Rattle.rv_debug.specs.Placed.{SomeState};
-ghost use Rattle.rv_gdb.specs.Sheet as sheet;
+ghost use Rattle.rv_gdb.specs.Shown.{digits_of};
+ghost use Rattle.rv_hart.specs.NextAccess.{next_access};
 ghost use Rattle.rv_hart.specs.SomeHart.{SomeHart};
 ghost use Rattle.rv_hart.specs.Texts.{front_text};
 ghost use Rattle.rv_stub.specs.Answers as answer;
@@ -21,10 +22,11 @@ use rv_gdb::replies::Refusal;
 use rv_gdb::sheet::Sheet;
 use rv_hart::access::Access;
 use rv_hart::hart::Status;
+use rv_hart::machine::Machine;
 use rv_hart::texts::{write_access, write_status};
 use rv_memory::flagged::WriteFault;
 use rv_memory::output::{Output, put_pieces};
-use rv_memory::store::NoMemory;
+use rv_memory::store::{ByteStore, NoMemory};
 use rv_text::decimal::Decimal;
 use std::alloc::Global;
 
@@ -66,6 +68,16 @@ fn pause_before(entries: &[Entry], hart: u8, place: u32) -> Option<Began>
     began
 }
 
+/// The next access of a hart, if there is that hart.
+fn next_of<S: ByteStore>(machine: &Machine<S>, hart: u8) -> Option<Access>
+    ensures { result ≡ option_and_then (λ found. next_access machine.now.state hart) (slice_get machine.now.state.harts hart) }
+{
+    if hart >= machine.harts() {
+        return None;
+    }
+    machine.next_access(hart)
+}
+
 /// The access that a hart would have made where its pause began.
 fn paused_access(session: &mut Session, hart: u8, began: Began) -> Result<Option<Access>, NoMemory>
     requires { began.place ≤ length session.old.entries }
@@ -73,11 +85,7 @@ fn paused_access(session: &mut Session, hart: u8, began: Began) -> Result<Option
     ensures same { session.new ≡ session.old }
 {
     let visit = session.visit(began.place)?;
-    let machine = visit.machine();
-    if hart >= machine.harts() {
-        return Ok(None);
-    }
-    Ok(machine.next_access(hart))
+    Ok(next_of(visit.machine(), hart))
 }
 
 /// How a hart is paused at the place.
@@ -134,16 +142,16 @@ fn write_standing<O: Output>(
     Ok(())
 }
 
-/// The text of how a hart stands.
-fn standing_text(alloc: Global, session: &mut Session, hart: u8) -> Result<Sheet, NoRoom>
+/// The answer that tells how a hart stands.
+fn reply_of_standing(alloc: Global, session: &mut Session, hart: u8) -> Result<Reply, NoRoom>
     requires { SomeState (λ s. hart < length s.harts) session.old }
-    ensures text { IfOk result (λ text. SomeState (λ s. SomeHart (λ h. sheet.bytes text ≡ spec.standing_text session.old hart h) s hart) session.old) }
+    ensures text { IfOk result (λ reply. SomeState (λ s. SomeHart (λ h. reply_text reply ≡ digits_of (spec.standing_text session.old hart h)) s hart) session.old) }
     ensures same { session.new ≡ session.old }
 {
     let pause = pause_of(session, hart)?;
     let mut text = Sheet::new(alloc);
     write_standing(&mut text, hart, session.machine().status(hart), &pause)?;
-    Ok(text)
+    Reply::of_digits(alloc, text.as_bytes())
 }
 
 impl Talk {
@@ -154,10 +162,7 @@ impl Talk {
     {
         let harts = self.session.machine().harts();
         match aim_of(harts, id) {
-            Some(Some(hart)) if hart < harts => {
-                let text = standing_text(alloc, &mut self.session, hart)?;
-                Reply::of_digits(alloc, text.as_bytes())
-            }
+            Some(Some(hart)) if hart < harts => reply_of_standing(alloc, &mut self.session, hart),
             _ => Ok(Reply::refused(Refusal::NoSuch)),
         }
     }

@@ -9,12 +9,12 @@ use Rattle.rv_gdb.specs.declared.stop.Why.{Why}
 use Rattle.rv_gdb.specs.declared.stop.Why.TheVariants.{Begin, End, Stands}
 use Rattle.rv_hart.specs.declared.machine.TheConstants.{MOST_HARTS}
 use Rattle.rv_retrace.specs.Going.{first_stop, last_stop, stop_at}
-use Rattle.rv_retrace.specs.Resumption.{no_hart}
+use Rattle.rv_stub.specs.Resumption.{no_hart}
 use Rattle.rv_retrace.specs.declared.aims.Aims.{Aims}
-use Rattle.rv_retrace.specs.declared.resume.Passed.{Passed}
-use Rattle.rv_retrace.specs.declared.resumption.Resumption.{Resumption}
-use Rattle.rv_retrace.specs.declared.resumption.Way.{Way}
-use Rattle.rv_retrace.specs.declared.resumption.Way.TheVariants.{Forwards, Back}
+use Rattle.rv_stub.specs.declared.resume.Passed.{Passed}
+use Rattle.rv_stub.specs.declared.resumption.Resumption.{Resumption}
+use Rattle.rv_stub.specs.declared.resumption.Way.{Way}
+use Rattle.rv_stub.specs.declared.resumption.Way.TheVariants.{Forwards, Back}
 
 -- ---- what a lone step passed
 

@@ -4,14 +4,14 @@ ghost use Rattle.std.specs.List.{list_any};
 ghost use Rattle.std.specs.Option.{option_map_or};
 ghost use Rattle.rv_gdb.specs.Chosen.{IsAmong};
 ghost use Rattle.rv_hart.specs.declared.machine.TheConstants.{MOST_HARTS};
-ghost use Rattle.rv_retrace.specs.Resumption as spec;
+ghost use Rattle.rv_stub.specs.Resumption as spec;
 
-use crate::aims::{Aims, Harts};
 use rv_gdb::action::Action;
 use rv_gdb::chosen::Chosen;
 use rv_gdb::fields::Id;
 use rv_gdb::packet::Move;
 use rv_hart::machine::MOST_HARTS;
+use rv_retrace::aims::{Aims, Harts};
 
 /// Forwards or back over the record.
 #[derive(Clone, Copy)]

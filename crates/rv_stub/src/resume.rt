@@ -1,14 +1,11 @@
 //! A run that goes on from its place to where it stops, as `specs/Resumed.antt` has it.
 ghost use Rattle.std.specs.Prelude.{◌≡◌, ◌<◌, ◌≤◌, IfOk, IfSome, IfNone, OnErr, length, position, unwrap_or};
+ghost use Rattle.std.specs.Option.{option_map_or};
 ghost use Rattle.rv_debug.specs.Placed.{moved};
 ghost use Rattle.rv_debug.specs.Visited.{IsVisit};
 ghost use Rattle.rv_hart.specs.declared.machine.TheConstants.{MOST_HARTS};
-ghost use Rattle.rv_retrace.specs.Going as going;
-ghost use Rattle.rv_retrace.specs.Resumed as spec;
+ghost use Rattle.rv_stub.specs.Resumed as spec;
 
-use crate::aims::{Aims, Harts};
-use crate::backwards::last_stop;
-use crate::forwards::first_stop;
 use crate::resumption::{Resumption, Way};
 use rv_debug::session::visit::Visit;
 use rv_debug::session::{Session, SessionFault};
@@ -16,6 +13,9 @@ use rv_gdb::points::Points;
 use rv_gdb::stop::{Stop, TRAP, Why};
 use rv_hart::machine::MOST_HARTS;
 use rv_memory::store::NoMemory;
+use rv_retrace::aims::{Aims, Harts};
+use rv_retrace::backwards::last_stop;
+use rv_retrace::forwards::first_stop;
 
 /// Steps of one hart alone, which have passed others' stops: the way, the hart, and the place where they began.
 #[derive(Clone, Copy)]
@@ -58,60 +58,43 @@ fn told_late(resumption: &Resumption, passed: Option<Passed>) -> Option<Passed>
     }
 }
 
-/// The first stop of what was passed, forwards, and a visit of where the search has come to.
-fn first_of_passed(
-    session: &mut Session,
-    points: &Points,
-    aims: &Aims,
-    passed: Passed,
-) -> Result<(Option<Stop>, Visit), NoMemory>
-    requires hart { passed.hart < MOST_HARTS }
-    requires from { passed.from ≤ session.old.place }
+/// A visit of where the search begins, forwards.
+fn visit_of_begin(session: &mut Session, passed: Option<Passed>) -> Result<Visit, NoMemory>
+    requires { IfSome passed (spec.IsBefore session.old.place) }
     ensures same { session.new ≡ session.old }
-    ensures value { IfOk result (λ found. found.0 ≡ going.first_stop session.old points.now (spec.left_out aims.now passed.hart) passed.from session.old.place) }
-    ensures there { IfOk result (λ found. IfSome found.0 (λ stop. IsVisit session.old stop.place found.1)) }
-    ensures none { IfOk result (λ found. IfNone found.0 (IsVisit session.old session.old.place found.1)) }
+    ensures begin { IfOk result (λ visit. IsVisit session.old (option_map_or (λ passed. passed.from) passed session.old.place) visit) }
 {
-    let place = session.place();
-    let mut visit = session.visit(passed.from)?;
-    let found = first_stop(
-        session,
-        &mut visit,
-        points,
-        &left_out(aims, passed.hart),
-        place,
-    )?;
-    Ok((found, visit))
+    session.facts();
+    match passed {
+        None => session.visit_here(),
+        Some(passed) => session.visit(passed.from),
+    }
 }
 
-/// The first stop forwards, and a visit of it, or else of the record's end.
+/// The first stop forwards. The visit goes from where the search begins to it, or else to the record's end.
 fn found_forwards(
-    session: &mut Session,
+    session: &Session,
+    visit: &mut Visit,
     points: &Points,
     aims: &Aims,
     passed: Option<Passed>,
-) -> Result<(Option<Stop>, Visit), NoMemory>
-    requires passed { IfSome passed (spec.IsBefore session.old.place) }
-    ensures same { session.new ≡ session.old }
-    ensures value { IfOk result (λ found. found.0 ≡ spec.found_forwards session.old points.now aims.now passed) }
-    ensures past { IfOk result (λ found. IfNone passed (IfSome found.0 (λ stop. (stop.hart < MOST_HARTS) × (session.old.place ≤ stop.place)))) }
-    ensures there { IfOk result (λ found. IfSome found.0 (λ stop. IsVisit session.old stop.place found.1)) }
-    ensures none { IfOk result (λ found. IfNone found.0 (IsVisit session.old (length session.old.entries) found.1)) }
+) -> Result<Option<Stop>, NoMemory>
+    requires passed { IfSome passed (spec.IsBefore session.now.place) }
+    requires begin { IsVisit session.now (option_map_or (λ passed. passed.from) passed session.now.place) visit.old }
+    ensures value { IfOk result (λ found. found ≡ spec.found_forwards session.now points.now aims.now passed) }
+    ensures past { IfOk result (λ found. IfNone passed (IfSome found (λ stop. (stop.hart < MOST_HARTS) × (session.now.place ≤ stop.place)))) }
+    ensures there { IfOk result (λ found. IfSome found (λ stop. IsVisit session.now stop.place visit.new)) }
+    ensures none { IfOk result (λ found. IfNone found (IsVisit session.now (length session.now.entries) visit.new)) }
 {
-    let count = session.count();
     session.facts();
-    let mut visit = match passed {
-        None => session.visit_here()?,
-        Some(passed) => {
-            let (found, visit) = first_of_passed(session, points, aims, passed)?;
-            if found.is_some() {
-                return Ok((found, visit));
-            }
-            visit
+    if let Some(passed) = passed {
+        let late = left_out(aims, passed.hart);
+        let found = first_stop(session, visit, points, &late, session.place())?;
+        if found.is_some() {
+            return Ok(found);
         }
-    };
-    let found = first_stop(session, &mut visit, points, aims, count)?;
-    Ok((found, visit))
+    }
+    first_stop(session, visit, points, aims, session.count())
 }
 
 /// The last stop back.
@@ -246,7 +229,8 @@ fn forwards(
     ensures there { IfOk result (λ gone. session.new ≡ moved session.old gone.0.place) }
     ensures refused { OnErr result (session.new ≡ session.old) }
 {
-    let (found, visit) = found_forwards(session, points, &resumption.aims, late)?;
+    let mut visit = visit_of_begin(session, late)?;
+    let found = found_forwards(session, &mut visit, points, &resumption.aims, late)?;
     let stop = match found {
         Some(stop) => stop,
         None => otherwise(session, resumption, focus),

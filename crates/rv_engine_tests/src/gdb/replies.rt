@@ -2,8 +2,8 @@ ghost use Rattle.std.specs.Prelude.{All};
 ghost use Rattle.rv_memory.specs.Extent.{IsExtent};
 
 use crate::assertion::assert_is;
+use crate::gdb::packet::request_of;
 use rv_gdb::chosen::Chosen;
-use rv_gdb::packet::read_request;
 use rv_gdb::replies::{known_reply, write_state_reply};
 use rv_gdb::sheet::Sheet;
 use rv_hart::machine::Machine;
@@ -52,7 +52,7 @@ const CHOSEN: Chosen = Chosen {
 };
 
 /// A packet of a stopped run, and its answer: none where it is no question about the state.
-const STATE: [(&str, Option<&str>); 13] = [
+const STATE: &[(&str, Option<&str>)] = &[
     ("qC", Some("QC2")),
     ("qfThreadInfo", Some("m1,2")),
     ("p0", Some("00000000")),
@@ -75,10 +75,9 @@ fn assert_state(
     text: &str,
     wanted: Option<&str>,
 ) {
-    assert!(rt; text.len() <= 512);
     assert!(rt; machine.harts() == 2);
     let mut sheet = Sheet::new(alloc);
-    let Some(request) = read_request(text.as_bytes()) else {
+    let Some(request) = request_of(rt, text) else {
         assert_is(rt, false, true, text);
         return;
     };
@@ -94,12 +93,12 @@ fn assert_state(
 fn answers_what_the_state_is(rt: HostRuntime) {
     let alloc = rt.alloc();
     let machine = machine(&rt, alloc);
-    for (text, wanted) in &STATE {
+    for (text, wanted) in STATE {
         assert_state(&rt, alloc, &machine, text, *wanted);
     }
 }
 
-const KNOWN: [(&str, Option<&str>); 8] = [
+const KNOWN: &[(&str, Option<&str>)] = &[
     ("QStartNoAckMode", Some("OK")),
     ("qAttached", Some("1")),
     ("qsThreadInfo", Some("l")),
@@ -110,14 +109,14 @@ const KNOWN: [(&str, Option<&str>); 8] = [
     ("g", None),
 ];
 
+fn assert_known(rt: &impl Abort, text: &str, wanted: Option<&str>) {
+    let request = request_of(rt, text).expect(rt, text);
+    assert_is(rt, known_reply(&request), wanted.map(str::as_bytes), text);
+}
+
 #[test]
 fn knows_answers(rt: HostRuntime) {
-    for (text, wanted) in &KNOWN {
-        assert!(rt; text.len() <= 512);
-        let known = match read_request(text.as_bytes()) {
-            Some(request) => known_reply(&request),
-            None => None,
-        };
-        assert_is(&rt, known, wanted.map(str::as_bytes), text);
+    for (text, wanted) in KNOWN {
+        assert_known(&rt, text, *wanted);
     }
 }

@@ -1,14 +1,23 @@
 use crate::assertion::assert_is;
-use crate::parts::point;
-use rv_gdb::point::Kind;
+use crate::gdb::packet::place_of;
+use rv_gdb::fields::Range;
+use rv_gdb::point::{Kind, Point};
 use rv_gdb::points::Points;
 use rv_hart::access::Access;
 use std::alloc::Global;
 use std::process::Abort;
 
+/// A point of a kind at so many bytes.
+fn point(kind: Kind, from: u32, length: u32) -> Point {
+    Point {
+        kind,
+        bytes: Range { from, length },
+    }
+}
+
 /// Points that are set: a point of kind 0 and one of kind 1, one of each kind that watches, and one of more bytes than
 /// there are addresses.
-const SET: [(Kind, u32, u32); 6] = [
+const SET: &[(Kind, u32, u32)] = &[
     (Kind::Software, 0x10004, 4),
     (Kind::Hardware, 0x10008, 2),
     (Kind::Access, 0x20000, 2),
@@ -19,7 +28,7 @@ const SET: [(Kind, u32, u32); 6] = [
 
 fn points(rt: &impl Abort, alloc: Global) -> Points {
     let mut points = Points::new(alloc);
-    for (kind, from, length) in &SET {
+    for (kind, from, length) in SET {
         let point = point(*kind, *from, *length);
         points.set(point).expect(rt, "memory");
     }
@@ -27,7 +36,7 @@ fn points(rt: &impl Abort, alloc: Global) -> Points {
 }
 
 /// Addresses of instructions, and whether a point is there.
-const BREAKS: [(u32, bool); 4] = [
+const BREAKS: &[(u32, bool)] = &[
     (0x10004, true),
     (0x10005, false),
     (0x10008, true),
@@ -37,38 +46,26 @@ const BREAKS: [(u32, bool); 4] = [
 #[test]
 fn breaks_at_points_of_kinds_0_and_1(rt: HostRuntime) {
     let points = points(&rt, rt.alloc());
-    for (pc, wanted) in &BREAKS {
+    for (pc, wanted) in BREAKS {
         assert_is(&rt, points.breaks(*pc), *wanted, "pc");
     }
 }
 
-/// An access's first byte, its size, whether it reads and writes; the kind and the byte that see it.
-type Seen = (u32, u8, bool, bool, Option<(Kind, u32)>);
+/// An access's first byte, its size, whether it reads and writes; the number of the kind and the byte that see it.
+type Seen = (u32, u8, bool, bool, Option<(u8, u32)>);
 
-const SEEN: [Seen; 11] = [
-    (0x20000, 4, true, false, Some((Kind::Access, 0x20000))),
-    (0x20001, 1, true, false, Some((Kind::Read, 0x20001))),
-    (0x20001, 1, true, true, Some((Kind::Write, 0x20001))),
-    (0x20002, 2, false, true, Some((Kind::Write, 0x20002))),
+const SEEN: &[Seen] = &[
+    (0x20000, 4, true, false, Some((4, 0x20000))),
+    (0x20001, 1, true, false, Some((3, 0x20001))),
+    (0x20001, 1, true, true, Some((2, 0x20001))),
+    (0x20002, 2, false, true, Some((2, 0x20002))),
     (0x20002, 2, true, false, None),
     (0x20003, 1, true, true, None),
     (0x1fffe, 2, true, true, None),
-    (
-        0xffff_fffc,
-        4,
-        false,
-        true,
-        Some((Kind::Write, 0xffff_fffe)),
-    ),
+    (0xffff_fffc, 4, false, true, Some((2, 0xffff_fffe))),
     (0xffff_fffc, 4, true, false, None),
     (0, 4, false, true, None),
-    (
-        0xffff_ffff,
-        4,
-        false,
-        true,
-        Some((Kind::Write, 0xffff_ffff)),
-    ),
+    (0xffff_ffff, 4, false, true, Some((2, 0xffff_ffff))),
 ];
 
 fn assert_sees(rt: &impl Abort, points: &Points, row: &Seen) {
@@ -81,7 +78,7 @@ fn assert_sees(rt: &impl Abort, points: &Points, row: &Seen) {
         write,
     };
     let found = match points.seen(&access) {
-        Some(sight) => Some((sight.kind, sight.address)),
+        Some(sight) => Some((place_of(sight.kind), sight.address)),
         None => None,
     };
     assert_is(rt, found, wanted, "access");
@@ -90,7 +87,7 @@ fn assert_sees(rt: &impl Abort, points: &Points, row: &Seen) {
 #[test]
 fn sees_the_least_byte_and_there_the_least_kind(rt: HostRuntime) {
     let points = points(&rt, rt.alloc());
-    for row in &SEEN {
+    for row in SEEN {
         assert_sees(&rt, &points, row);
     }
 }
@@ -127,7 +124,7 @@ fn takes_points_away(rt: HostRuntime) {
     points.clear(point(Kind::Software, 0x10004, 4));
     assert_is(&rt, points.breaks(0x10004), false, "it is gone");
     assert_is(&rt, points.breaks(0x10008), true, "another one");
-    for (kind, from, length) in &SET {
+    for (kind, from, length) in SET {
         points.clear(point(*kind, *from, *length));
     }
     assert_is(&rt, points.is_empty(), true, "all are gone");

@@ -27,7 +27,7 @@ fn assert_part(
 /// A place and a length, what the part begins and ends with, and how many bytes it has with its letter.
 type Part = ((u32, u32), &'static [u8], &'static [u8], usize);
 
-const PARTS: [Part; 8] = [
+const PARTS: &[Part] = &[
     ((0, 507), b"m<?xml version=\"1.0\"?><!DOCTYPE", b"", 508),
     ((0, 513), b"m<?xml", b"", 513),
     ((1444, 507), b"m", b"</target", 508),
@@ -40,7 +40,7 @@ const PARTS: [Part; 8] = [
 
 #[test]
 fn hands_out_the_text_in_parts(rt: HostRuntime) {
-    for (range, begins, ends, count) in &PARTS {
+    for (range, begins, ends, count) in PARTS {
         assert_part(&rt, rt.alloc(), *range, begins, ends, *count);
     }
 }

@@ -6,7 +6,7 @@ use rv_gdb::stop::{Stop, Why, signal_of, write_stop_packet};
 use rv_hart::hart::Cause;
 
 /// The causes in their order, and the numbers of SIGBUS, SIGSEGV, SIGILL, SIGTRAP and SIGSYS.
-const SIGNALS: [(Cause, u8); 9] = [
+const SIGNALS: &[(Cause, u8)] = &[
     (Cause::TargetMisaligned, 10),
     (Cause::FetchFault, 11),
     (Cause::Illegal, 4),
@@ -20,13 +20,13 @@ const SIGNALS: [(Cause, u8); 9] = [
 
 #[test]
 fn tells_causes_by_signals(rt: HostRuntime) {
-    for (cause, signal) in &SIGNALS {
+    for (cause, signal) in SIGNALS {
         assert_is(&rt, signal_of(*cause), *signal, "a cause");
     }
 }
 
 /// A hart, a signal and why, and the packet.
-const STOPS: [(u8, u8, Why, &str); 7] = [
+const STOPS: &[(u8, u8, Why, &str)] = &[
     (0, 5, Why::Stands, "$T05thread:1;#d7"),
     (15, 0, Why::Stands, "$T00thread:10;#02"),
     (9, 10, Why::Stands, "$T0athread:a;#33"),
@@ -54,7 +54,7 @@ const STOPS: [(u8, u8, Why, &str); 7] = [
 
 #[test]
 fn writes_stops(rt: HostRuntime) {
-    for (hart, signal, why, wanted) in &STOPS {
+    for (hart, signal, why, wanted) in STOPS {
         let mut sheet = Sheet::new(rt.alloc());
         let stop = Stop {
             place: 0,

@@ -9,9 +9,9 @@ use Rattle.rv_gdb.specs.declared.fields.Id.TheVariants.{Any, Thread}
 use Rattle.rv_gdb.specs.declared.packet.Move.{Move}
 use Rattle.rv_gdb.specs.declared.packet.Move.TheVariants.{Step, Continue, StepBack, ContinueBack}
 use Rattle.rv_hart.specs.declared.machine.TheConstants.{MOST_HARTS}
-use Rattle.rv_retrace.specs.declared.resumption.Resumption.{Resumption}
-use Rattle.rv_retrace.specs.declared.resumption.Way.{Way}
-use Rattle.rv_retrace.specs.declared.resumption.Way.TheVariants.{Forwards, Back}
+use Rattle.rv_stub.specs.declared.resumption.Resumption.{Resumption}
+use Rattle.rv_stub.specs.declared.resumption.Way.{Way}
+use Rattle.rv_stub.specs.declared.resumption.Way.TheVariants.{Forwards, Back}
 
 -- the harts of which something holds
 abbrev pub harts_that : (ℕ → Bool) → List Bool

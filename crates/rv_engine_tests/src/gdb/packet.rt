@@ -8,7 +8,7 @@ use rv_remote::framing::MOST_BYTES;
 use std::process::Abort;
 
 /// A number for each thing that a packet may ask, with what it holds: what tests compare.
-fn told(request: Option<Request<'_>>) -> (u8, u32, u32) {
+pub fn told(request: Option<Request<'_>>) -> (u8, u32, u32) {
     match request {
         None => (255, 0, 0),
         Some(Request::Supported) => (0, 0, 0),
@@ -63,7 +63,7 @@ fn number_of(id: Id) -> u32 {
     }
 }
 
-fn place_of(kind: Kind) -> u8 {
+pub fn place_of(kind: Kind) -> u8 {
     match kind {
         Kind::Software => 0,
         Kind::Hardware => 1,
@@ -89,10 +89,15 @@ fn sum_of(actions: &mut Actions<'_>) -> u32 {
     sum
 }
 
+/// What a packet's data asks.
+pub fn request_of<'t>(rt: &impl Abort, text: &'t str) -> Option<Request<'t>> {
+    assert!(rt; text.len() <= MOST_BYTES);
+    read_request(text.as_bytes())
+}
+
 fn assert_told(rt: &impl Abort, rows: &[(&str, (u8, u32, u32))]) {
     for (text, wanted) in rows {
-        assert!(rt; text.len() <= MOST_BYTES);
-        assert_is(rt, told(read_request(text.as_bytes())), *wanted, text);
+        assert_is(rt, told(request_of(rt, text)), *wanted, text);
     }
 }
 
@@ -100,7 +105,7 @@ const BAD: (u8, u32, u32) = (255, 0, 0);
 
 const OTHER: (u8, u32, u32) = (254, 0, 0);
 
-const WHOLE: [(&str, (u8, u32, u32)); 24] = [
+const WHOLE: &[(&str, (u8, u32, u32))] = &[
     ("qSupported", (0, 0, 0)),
     ("qSupported:multiprocess+;swbreak+", (0, 0, 0)),
     ("qSupportedX", OTHER),
@@ -129,10 +134,10 @@ const WHOLE: [(&str, (u8, u32, u32)); 24] = [
 
 #[test]
 fn knows_packets_by_their_whole_data(rt: HostRuntime) {
-    assert_told(&rt, &WHOLE);
+    assert_told(&rt, WHOLE);
 }
 
-const THREADS: [(&str, (u8, u32, u32)); 16] = [
+const THREADS: &[(&str, (u8, u32, u32))] = &[
     ("T1", (8, 1, 0)),
     ("T10", (8, 16, 0)),
     ("T0", (8, 0, 0)),
@@ -153,10 +158,10 @@ const THREADS: [(&str, (u8, u32, u32)); 16] = [
 
 #[test]
 fn reads_threads(rt: HostRuntime) {
-    assert_told(&rt, &THREADS);
+    assert_told(&rt, THREADS);
 }
 
-const STATE: [(&str, (u8, u32, u32)); 24] = [
+const STATE: &[(&str, (u8, u32, u32))] = &[
     ("p20", (13, 32, 0)),
     ("p", BAD),
     ("p2x", BAD),
@@ -185,10 +190,10 @@ const STATE: [(&str, (u8, u32, u32)); 24] = [
 
 #[test]
 fn reads_what_is_asked_of_the_state(rt: HostRuntime) {
-    assert_told(&rt, &STATE);
+    assert_told(&rt, STATE);
 }
 
-const LONG: [(&str, (u8, u32, u32)); 28] = [
+const LONG: &[(&str, (u8, u32, u32))] = &[
     ("Z0,10010,4", (20, 0x10010, 4)),
     ("Z1,10010,4", (21, 0x10010, 4)),
     ("Z2,20000,4", (22, 0x20000, 4)),
@@ -221,5 +226,5 @@ const LONG: [(&str, (u8, u32, u32)); 28] = [
 
 #[test]
 fn reads_points_actions_and_commands(rt: HostRuntime) {
-    assert_told(&rt, &LONG);
+    assert_told(&rt, LONG);
 }

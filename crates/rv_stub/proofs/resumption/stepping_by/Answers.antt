@@ -3,8 +3,8 @@ use Rattle.std.proofs.Math.ListN.{set}
 use Rattle.std.proofs.lemmas.List.{length-set}
 use Rattle.std.proofs.lemmas.List.Edits.{fill_by_more}
 use Rattle.std.proofs.lemmas.List.FromFn.{fill_by_all}
-use Rattle.rv_retrace.specs.Resumption.{steps_by}
-use Rattle.rv_retrace.proofs.resumption.stepping_by.Goals as goal
+use Rattle.rv_stub.specs.Resumption.{steps_by}
+use Rattle.rv_stub.proofs.resumption.stepping_by.Goals as goal
 
 pub loop-hart-preserved : goal.loop-hart-preserved
 loop-hart-preserved c =

@@ -2,7 +2,7 @@ use crate::assertion::assert_is;
 use rv_gdb::sheet::Sheet;
 use rv_remote::framed::write_packet;
 
-const PACKETS: [(&str, &str); 4] = [
+const PACKETS: &[(&str, &str)] = &[
     ("", "$#00"),
     ("OK", "$OK#9a"),
     ("T05thread:1;", "$T05thread:1;#d7"),
@@ -14,7 +14,7 @@ const PACKETS: [(&str, &str); 4] = [
 
 #[test]
 fn writes_packets(rt: HostRuntime) {
-    for (data, wanted) in &PACKETS {
+    for (data, wanted) in PACKETS {
         let mut sheet = Sheet::new(rt.alloc());
         let written = write_packet(&mut sheet, data.as_bytes());
         assert_is(&rt, written.is_ok(), true, "written");
