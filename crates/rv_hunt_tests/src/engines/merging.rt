@@ -3,11 +3,11 @@ use crate::assertion::{assert_is, assert_tells_each_failing_call};
 use crate::engines::readers::{Device, reader_of};
 use rv_engine_tests::devices::Sink;
 use rv_engines::fault::Fault;
+use rv_hunting::merge::fault::FileFault;
+use rv_hunting::merge::{MergeFault, run_merge};
 use rv_memory::buffered::{Buffered, MOST_PENDING};
 use rv_memory::flagged::Flagged;
 use rv_memory::output::Output;
-use rv_hunting::merge::fault::FileFault;
-use rv_hunting::merge::{MergeFault, run_merge};
 use std::alloc::Global;
 use std::process::Abort;
 

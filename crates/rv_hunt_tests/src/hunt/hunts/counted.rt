@@ -1,6 +1,6 @@
 //! What is counted of a run.
-use super::image;
 use crate::assertion::assert_is;
+use crate::images::image;
 use rv_collide::collider::Collider;
 use rv_collide::plan::Plan;
 use rv_hart::hart::Cause;
@@ -14,7 +14,7 @@ use std::process::Abort;
 
 /// A core of an image of words.
 fn core(rt: &impl Abort, alloc: Global, words: &[u32], plan: Plan) -> Collider<Flat> {
-    let image = image(rt, alloc, words);
+    let image = image(rt, alloc, words, &[]);
     Collider::new(alloc, &image, plan).expect(rt, "memory")
 }
 
