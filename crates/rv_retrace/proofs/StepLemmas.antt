@@ -54,6 +54,10 @@ unseen : (access : Access) → seen [] access ≡ None
 unfolding seen
 unseen access = first_never (seen_at [] access) (unseen_at access) access.first _
 
+pub unseen_by : (access : Option Access) → option_and_then (seen []) access ≡ None
+unseen_by None = refl
+unseen_by (Some access) = unseen access
+
 unwatched : (place h : ℕ) (access : Option Access) → watched [] place h access ≡ None
 unwatched place h None = refl
 unwatched place h (Some access) = map_none _ (seen [] access) (unseen access)

@@ -16,6 +16,10 @@ fn sight<S: ByteStore>(machine: &Machine<S>, points: &Points, hart: u8) -> Optio
     requires { hart < length machine.now.state.harts }
     ensures { result ≡ option_and_then (seen points.now) (next_access machine.now.state hart) }
 {
+    // Where no point is set the access is not asked for: that decodes the hart's word once more.
+    if points.is_empty() {
+        return None;
+    }
     let access = machine.next_access(hart)?;
     points.seen(&access)
 }
