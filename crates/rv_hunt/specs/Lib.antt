@@ -12,4 +12,7 @@ pub mod Rows
 pub mod Summary
 pub mod ToldOrder
 pub mod WarningText
+pub mod engine
 pub mod internal
+pub mod merge
+pub mod page

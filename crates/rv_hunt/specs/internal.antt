@@ -1,3 +1,7 @@
 -- What only private contracts cite: no reader has to believe it.
+pub mod Adding
+pub mod Drawn
 pub mod Lookup
 pub mod Lots
+pub mod MakeFault
+pub mod Opened

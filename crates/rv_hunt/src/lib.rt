@@ -1,10 +1,15 @@
-//! Hunt tables: the races of many runs, a row for each, and how tables of a hunt's pieces are merged.
+//! Hunts: the races of many runs, what is told of them, and the tables of a hunt's pieces, made one.
 //!
 //! To the layer above, a table is a function of the whole list of rows that were added to it (`specs/Rows.antt`).
 //! What is written of it is the text of `specs/HuntText.antt`, and what is read is what `specs/HuntRead.antt` says. A
 //! hunt makes the runs of `specs/Hunted.antt`, of each of which it keeps what `specs/KeptRun.antt` has.
+//!
+//! Two engines stand on these: that of `hunt` is `engine.rt`, with `specs/engine/`, and that of `merge` is `merge.rt`, which
+//! adds tables and has the lists of races that are to be ignored, with `specs/merge/`. The page of a hunt is `page.rt`, with
+//! definitions of its own in `specs/page/`.
 #![tactic(auto)]
 
+pub mod engine;
 pub mod expected;
 pub mod fault;
 pub mod format;
@@ -13,7 +18,9 @@ pub mod hunted;
 pub mod kept_run;
 pub mod laws;
 pub mod line;
+pub mod merge;
 mod number;
+pub mod page;
 pub mod reading;
 pub mod remade;
 pub mod row;

@@ -2,9 +2,9 @@
 use crate::assertion::assert_is;
 use crate::tallies::{Ran, add};
 use rv_explain::block::RaceClass::{self, Flag, Kept, Named, Ordered};
+use rv_hunt::page::page_text;
+use rv_hunt::page::parts::{Outcome, RacePart};
 use rv_hunt::row::RaceRow;
-use rv_hunting::page::page_text;
-use rv_hunting::page::parts::{Outcome, RacePart};
 use rv_report::key::Key;
 use rv_tally::counts::Counts;
 use rv_tally::end::End;

@@ -15,8 +15,8 @@ use Rattle.rv_engines.specs.declared.sentences.FaultLine.{FaultLine}
 use Rattle.rv_engines.specs.Sentences.{line_output}
 use Rattle.rv_engines.specs.Shown.{shown}
 use Rattle.std.specs.Fmt.{decimal}
-use Rattle.rv_hunting.specs.merge.FileFaultText as file
-use Rattle.rv_hunting.specs.declared.merge.fault.FileFault.{FileFault}
+use Rattle.rv_hunt.specs.merge.FileFaultText as file
+use Rattle.rv_hunt.specs.declared.merge.fault.FileFault.{FileFault}
 use Rattle.rvcollide.specs.declared.file_line.FileLine.{FileLine}
 use Rattle.rvcollide.specs.declared.file_line.FilePlace.{FilePlace}
 

@@ -3,7 +3,7 @@ ghost use Rattle.std.specs.Prelude.{◌≡◌, Some};
 ghost use Rattle.rvcollide.specs.Failure as spec;
 
 use rv_engines::shown::Shown;
-use rv_hunting::merge::fault::{FileFault, sentence};
+use rv_hunt::merge::fault::{FileFault, sentence};
 use std::fmt;
 
 /// A file or a folder, or the schedule of a race in a folder.

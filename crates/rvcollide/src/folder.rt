@@ -1,8 +1,8 @@
 //! The folder of a hunt's schedules, on the system.
 ghost use Rattle.std.specs.Prelude.{◌≡◌, ◌||◌};
-ghost use Rattle.rv_hunting.specs.FolderFault.{is_write};
+ghost use Rattle.rv_hunt.specs.engine.FolderFault.{is_write};
 
-use rv_hunting::folder::{Folder, FolderFault};
+use rv_hunt::engine::folder::{Folder, FolderFault};
 use rv_memory::flagged::{Flagged, flush, write_whole};
 use rv_text::decimal::read_decimal;
 use std::fs::{self, File};

@@ -8,8 +8,8 @@ use rv_command::command::hunt::HuntLine;
 use rv_engines::fault::Fault;
 use rv_engines::run::fault::CommandFault;
 use rv_engines::sentences::{FaultLine, Paths};
-use rv_hunting::fault::HuntFault;
-use rv_hunting::merge::fault::FileFault;
+use rv_hunt::engine::fault::HuntFault;
+use rv_hunt::merge::fault::FileFault;
 
 const WRITE: FileFault = FileFault::Plain(Fault::Write);
 

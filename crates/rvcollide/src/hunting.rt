@@ -1,6 +1,6 @@
 //! The engine of `hunt` on the files of a line, and what is told while it works.
 ghost use Rattle.std.specs.Prelude.{IfSome};
-ghost use Rattle.rv_hunting.specs.Asked.{AreLegal};
+ghost use Rattle.rv_hunt.specs.engine.Asked.{AreLegal};
 
 use crate::failure::Failure;
 use crate::files::{InputFile, OutputFile};
@@ -10,12 +10,12 @@ use crate::paths::{expect_path, ignore_path};
 use crate::shown_line::ShownLine;
 use rv_command::arguments::{FolderPath, ImagePath, PagePath};
 use rv_command::command::hunt::HuntLine;
+use rv_hunt::engine::found::Found;
+use rv_hunt::engine::inputs::Inputs;
+use rv_hunt::engine::options::{HuntOptions, LineParts, MOST_WORKERS, Shows};
+use rv_hunt::engine::run_hunt;
 use rv_hunt::hunt::Watch;
 use rv_hunt::hunted::Hunted;
-use rv_hunting::engine::run_hunt;
-use rv_hunting::found::Found;
-use rv_hunting::inputs::Inputs;
-use rv_hunting::options::{HuntOptions, LineParts, MOST_WORKERS, Shows};
 use rv_memory::buffered::Buffered;
 use rv_memory::flagged::Flagged;
 use rv_tally::limit::Limit;

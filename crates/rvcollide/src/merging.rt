@@ -6,7 +6,7 @@ use crate::files::InputFile;
 use rv_command::arguments::{TablePath, TablePaths};
 use rv_engines::fault::Fault;
 use rv_engines::run::fault::CommandFault;
-use rv_hunting::merge::run_merge;
+use rv_hunt::merge::run_merge;
 use rv_memory::buffered::Buffered;
 use rv_memory::flagged::Flagged;
 

@@ -4,7 +4,7 @@ use rv_collide::plan::DEFAULT_SLOTS;
 use rv_command::arguments::{FolderPath, ImagePath};
 use rv_command::command::hunt::{DEFAULT_SEED, HuntLine};
 use rv_engines::shown::Shown;
-use rv_hunting::options::LineParts;
+use rv_hunt::engine::options::LineParts;
 use rv_tally::plans::Lengths;
 use std::alloc::{AllocError, Global};
 

@@ -1,5 +1,5 @@
 //! A folder that gets full.
-use rv_hunting::folder::{Folder, FolderFault};
+use rv_hunt::engine::folder::{Folder, FolderFault};
 
 /// A folder that takes so many files, and counts them.
 #[derive(Drop)]

@@ -2,7 +2,7 @@
 use crate::assertion::assert_is;
 use rv_engines::fault::Fault;
 use rv_hunt::fault::{TableFault, TableKind};
-use rv_hunting::merge::fault::{FileFault, IgnoreFault, IgnoreKind, sentence};
+use rv_hunt::merge::fault::{FileFault, IgnoreFault, IgnoreKind, sentence};
 
 /// A fault, its exit status, its text, and its sentence.
 type Told = (FileFault, u8, &'static str, &'static str);

@@ -1,0 +1,58 @@
+-- What is asked by the files of a hunt, and why one of them is refused.
+use Rattle.std.proofs.Common.{◌≡◌, ℕ, List, Option, Some, None, Result, Ok, sym, subst, ◌∙◌, true, false}
+use Rattle.std.specs.Prelude.{IfSome, IsOkAnd, option_and_then, option_map}
+use Rattle.std.specs.Result.{IsOk}
+use Rattle.rv_engines.specs.CommandFault as command
+use Rattle.rv_engines.specs.declared.run.fault.CommandFault.{CommandFault}
+use Rattle.rv_hunt.specs.Hunted.{Hunt}
+use Rattle.rv_hunt.specs.engine.Asked.{Asked}
+use Rattle.rv_hunt.specs.engine.HuntFault.{IsTold}
+use Rattle.rv_hunt.specs.engine.Hunting.{Files, Hunting, IsHuntingOf, expected_in, hunt_of, ignored_in}
+use Rattle.rv_hunt.specs.declared.engine.fault.HuntFault.TheVariants.{Command, Ignored, Expected}
+use Rattle.rv_hunt.specs.merge.FileFault as file
+use Rattle.rv_hunt.specs.declared.merge.fault.FileFault.{FileFault}
+use Rattle.rv_hunt.specs.declared.merge.ignore.Line.{Line}
+
+-- the bytes of the files, where they are known
+abbrev pub files_in : Option (List ℕ) → Option (Option (List ℕ)) → Option (Option (List ℕ)) → Option Files
+files_in image ignored expected =
+    option_and_then (λ i. option_and_then (λ g. option_map (λ e. record { image = i; ignored = g; expected = e }) expected) ignored) image
+
+pub hunting_known : (image : Option (List ℕ)) (ignored expected : Option (Option (List ℕ))) (asked : Asked) (hunting : Hunting) → IfSome image (λ bytes. hunt_of asked bytes ≡ Ok hunting.hunt)
+    → IfSome ignored (λ bytes. ignored_in hunting.hunt.source.image bytes ≡ Ok hunting.ignored) → IfSome expected (λ bytes. expected_in bytes ≡ Ok hunting.expected) → IfSome (files_in image ignored expected) (λ files. IsHuntingOf asked files hunting)
+hunting_known None ignored expected asked hunting h g e = tt
+hunting_known (Some i) None expected asked hunting h g e = tt
+hunting_known (Some i) (Some l) None asked hunting h g e = tt
+hunting_known (Some i) (Some l) (Some t) asked hunting h g e = record { hunt_is = h; ignored_is = g; expected_is = e }
+
+never : {P : Type 0} → true ≡ false → P
+never h = cc
+
+pub command_told : (image : Option (List ℕ)) (ignored expected : Option (Option (List ℕ))) (asked : Asked) (fault : CommandFault) → command.is_thread (command.refusal fault) ≡ false
+    → IfSome image (λ bytes. command.IsTold (hunt_of asked bytes) (command.refusal fault)) → IfSome (files_in image ignored expected) (λ files. IsTold asked files (Command fault))
+command_told None ignored expected asked fault other h = tt
+command_told (Some i) None expected asked fault other h = tt
+command_told (Some i) (Some l) None asked fault other h = tt
+command_told (Some i) (Some l) (Some t) asked fault other h = (h, λ thread. never (sym thread ∙ other))
+
+and_ok : {A B : Type 0} (r : Result A B) (a : A) (Fact : A → Type 0) → r ≡ Ok a → Fact a → IsOkAnd r Fact
+and_ok {A = A} {B = B} r a Fact is fact = subst (λ (o : Result A B). IsOkAnd o Fact) (sym is) fact
+
+pub ignored_told : (image : Option (List ℕ)) (ignored expected : Option (Option (List ℕ))) (asked : Asked) (hunt : Hunt) (fault : FileFault) → IfSome image (λ bytes. hunt_of asked bytes ≡ Ok hunt)
+    → IfSome ignored (λ bytes. file.IsTold (ignored_in hunt.source.image bytes) fault) → IfSome (files_in image ignored expected) (λ files. IsTold asked files (Ignored fault))
+ignored_told None ignored expected asked hunt fault h g = tt
+ignored_told (Some i) None expected asked hunt fault h g = tt
+ignored_told (Some i) (Some l) None asked hunt fault h g = tt
+ignored_told (Some i) (Some l) (Some t) asked hunt fault h g =
+    and_ok (hunt_of asked i) hunt (λ (found : Hunt). file.IsTold (ignored_in found.source.image l) fault) h g
+
+pub is_ok : {A B : Type 0} (r : Result A B) (a : A) → r ≡ Ok a → IsOk r
+is_ok {A = A} {B = B} r a is = rw is
+
+pub expected_told : (image : Option (List ℕ)) (ignored expected : Option (Option (List ℕ))) (asked : Asked) (hunt : Hunt) (lines : List Line) (fault : FileFault) → IfSome image (λ bytes. hunt_of asked bytes ≡ Ok hunt)
+    → IfSome ignored (λ bytes. ignored_in hunt.source.image bytes ≡ Ok lines) → IfSome expected (λ bytes. file.IsTold (expected_in bytes) fault) → IfSome (files_in image ignored expected) (λ files. IsTold asked files (Expected fault))
+expected_told None ignored expected asked hunt lines fault h g e = tt
+expected_told (Some i) None expected asked hunt lines fault h g e = tt
+expected_told (Some i) (Some l) None asked hunt lines fault h g e = tt
+expected_told (Some i) (Some l) (Some t) asked hunt lines fault h g e =
+    (and_ok (hunt_of asked i) hunt (λ (found : Hunt). IsOk (ignored_in found.source.image l)) h (is_ok (ignored_in hunt.source.image l) lines g), e)

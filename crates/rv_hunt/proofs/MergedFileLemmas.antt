@@ -1,0 +1,241 @@
+-- Files that are merged one after another.
+use Rattle.std.proofs.Common.{◌≡◌, ℕ, ◌+◌, ◌<◌, Bool, true, false, List, [], ◌∷◌, Option, Some, None, Result, Ok, Err, zero, suc, refl, sym, ap, subst, ◌∙◌, arith}
+use Rattle.std.specs.Prelude.{◌||◌, IfSome, drop, length, option_and_then, option_map, slice_get, slice_set}
+use Rattle.std.specs.List.{fold, list_any}
+use Rattle.rv_hunt.specs.Rows.{merged}
+use Rattle.rv_memory.specs.Chain.{◌>>=◌}
+use Rattle.rv_memory.specs.Flagged.{device, has_failed}
+use Rattle.rv_memory.specs.declared.flagged.Flagged.{Flagged}
+use Rattle.rv_engines.specs.declared.fault.Fault.TheVariants as fault
+use Rattle.rv_hunt.specs.merge.FileFault.{UnlessDevice}
+use Rattle.rv_hunt.specs.merge.Merge.{Files, Merge, IsTold, Table, bytes_of, expected_in, in_file, is_unexpected, merge_of, merged_all, tables_from}
+use Rattle.rv_hunt.specs.merge.TableFiles.{hunt_table}
+use Rattle.rv_hunt.specs.declared.merge.fault.FileFault.{FileFault}
+use Rattle.rv_hunt.specs.declared.merge.fault.FileFault.TheVariants.{Plain}
+use Rattle.rv_hunt.specs.declared.merge.MergeFault.{MergeFault}
+use Rattle.rv_hunt.specs.internal.Adding.{with_file, with_files}
+
+-- ---- what is told of a file is told of those that more files follow
+
+unless_device : (given : FileFault) (P Q : Type 0) → (P → Q) → UnlessDevice given P → UnlessDevice given Q
+unless_device (Plain fault.Read) P Q next said = tt
+unless_device (Plain fault.Write) P Q next said = tt
+unless_device (Plain fault.NoMemory) P Q next said = tt
+unless_device given P Q next said = next said
+
+pub told_of : {A B : Type 0} (r : Result A MergeFault) (s : Result B MergeFault) (given : MergeFault) → (r ≡ Err given → s ≡ Err given) → IsTold r given → IsTold s given
+told_of r s given next told = unless_device given.fault (r ≡ Err given) (s ≡ Err given) next told
+
+err_then : {A B : Type 0} (r : Result A MergeFault) (next : A → Result B MergeFault) (given : MergeFault) → r ≡ Err given → (r >>= next) ≡ Err given
+err_then (Ok a) next given is = cc
+err_then (Err e) next given is = cc
+
+-- ---- tables added one by one are what they are merged to
+
+fold_next : (before table : Table) (r : Result (List Table) MergeFault) → (r >>= λ tables. Ok (fold merged (merged before table) tables)) ≡ ((r >>= λ tables. Ok (table ∷ tables)) >>= λ tables. Ok (fold merged before tables))
+fold_next before table (Ok tables) = refl
+fold_next before table (Err given) = refl
+
+added_next : (number : ℕ) (before : Table) (later : List (List ℕ)) (r : Result Table MergeFault) → ((rows : Table) → with_files (number + 1) rows later ≡ (tables_from (number + 1) later >>= λ tables. Ok (fold merged rows tables)))
+    → ((r >>= λ table. Ok (merged before table)) >>= λ rows. with_files (number + 1) rows later) ≡ ((r >>= λ table. tables_from (number + 1) later >>= λ tables. Ok (table ∷ tables)) >>= λ tables. Ok (fold merged before tables))
+added_next number before later (Ok table) others = others (merged before table) ∙ fold_next before table (tables_from (number + 1) later)
+added_next number before later (Err given) others = refl
+
+pub added_are : (number : ℕ) (before : Table) (files : List (List ℕ)) → with_files number before files ≡ (tables_from number files >>= λ tables. Ok (fold merged before tables))
+unfolding with_files with_file tables_from
+added_are number before [] = refl
+added_are number before (bytes ∷ later) = added_next number before later (in_file number (hunt_table bytes)) (λ rows. added_are (number + 1) rows later)
+
+pub files_next : (number : ℕ) (before after : Table) (bytes : List ℕ) (later : List (List ℕ)) → with_file number before bytes ≡ Ok after → with_files number before (bytes ∷ later) ≡ with_files (number + 1) after later
+unfolding with_files
+files_next number before after bytes later is = ap (λ r. r >>= λ rows. with_files (number + 1) rows later) is
+
+pub files_end : (number : ℕ) (before : Table) → with_files number before [] ≡ Ok before
+unfolding with_files
+files_end number before = refl
+
+pub files_told : (number : ℕ) (before : Table) (bytes : List ℕ) (later : List (List ℕ)) (given : MergeFault) → with_file number before bytes ≡ Err given → with_files number before (bytes ∷ later) ≡ Err given
+unfolding with_files
+files_told number before bytes later given is = err_then (with_file number before bytes) (λ rows. with_files (number + 1) rows later) given is
+
+-- ---- a list of readers
+
+or_moved : (a b now : Bool) → ((a || now) || b) ≡ ((a || b) || now)
+or_moved true b now = refl
+or_moved false true true = refl
+or_moved false true false = refl
+or_moved false false true = refl
+or_moved false false false = refl
+
+or_within : (a b now : Bool) → (a || (b || now)) ≡ ((a || b) || now)
+or_within true b now = refl
+or_within false b now = refl
+
+some_same : {A : Type 0} (a b : A) → Some a ≡ Some b → a ≡ b
+some_same a b is = cc
+
+-- the readers after one of them was read on
+pub failed_set : {R : Type 0} (readers : List (Flagged R)) (place : ℕ) (before after : Flagged R) (now : Bool) → slice_get readers place ≡ Some before → has_failed after ≡ (has_failed before || now) → list_any has_failed (slice_set readers place after) ≡ (list_any has_failed readers || now)
+failed_set [] place before after now at is = cc
+failed_set (reader ∷ readers) zero before after now at is =
+    let same : has_failed after ≡ (has_failed reader || now) = is ∙ ap (λ r. has_failed r || now) (sym (some_same reader before at)) in
+    rw same (or_moved (has_failed reader) (list_any has_failed readers) now)
+failed_set (reader ∷ readers) (suc place) before after now at is =
+    rw (failed_set readers place before after now at is) (or_within (has_failed reader) (list_any has_failed readers) now)
+
+-- the bytes of all readers are those of the first, and those of the others
+bytes_of_parts : {R : Type 0} (remaining : R → Option (List ℕ)) (first : Option (List ℕ)) (others : Option (List (List ℕ))) (files : List (List ℕ))
+    → option_and_then (λ bytes. option_map (λ later. bytes ∷ later) others) first ≡ Some files → (bytes : List ℕ) × (later : List (List ℕ)) × (first ≡ Some bytes) × (others ≡ Some later) × (files ≡ bytes ∷ later)
+bytes_of_parts remaining None others files are = cc
+bytes_of_parts remaining (Some bytes) None files are = cc
+bytes_of_parts remaining (Some bytes) (Some later) files are = (bytes, later, refl, refl, sym (some_same (bytes ∷ later) files are))
+
+next_is : (n : ℕ) → suc n + 1 ≡ suc (n + 1)
+next_is n = omega arith
+
+-- the bytes of a reader are those of its place
+pub bytes_at : {R : Type 0} (remaining : R → Option (List ℕ)) (readers : List (Flagged R)) (place : ℕ) (reader : Flagged R) (files : List (List ℕ)) → slice_get readers place ≡ Some reader → bytes_of remaining readers ≡ Some files → (bytes : List ℕ) × (remaining (device reader) ≡ Some bytes) × (drop place files ≡ bytes ∷ drop (place + 1) files)
+bytes_at remaining [] place reader files at are = cc
+bytes_at remaining (first ∷ readers) zero reader files at are =
+    let parts = bytes_of_parts remaining (remaining (device first)) (bytes_of remaining readers) files are in
+    (parts.0, rw (sym (some_same first reader at)) parts.2, parts.4 ∙ ap (λ (later : List (List ℕ)). parts.0 ∷ later) (ap (drop 1) (sym parts.4)))
+bytes_at remaining (first ∷ readers) (suc place) reader files at are =
+    let parts = bytes_of_parts remaining (remaining (device first)) (bytes_of remaining readers) files are in
+    let others = bytes_at remaining readers place reader parts.1 at parts.3 in
+    (others.0, others.1, ap (drop (suc place)) parts.4 ∙ others.2 ∙ ap (λ (later : List (List ℕ)). others.0 ∷ later) (sym (ap (drop (suc place + 1)) parts.4 ∙ ap (λ (n : ℕ). drop n (parts.0 ∷ parts.1)) (next_is place))))
+
+-- where all tables were read, nothing is left
+pub bytes_end : {R : Type 0} (remaining : R → Option (List ℕ)) (readers : List (Flagged R)) (files : List (List ℕ)) → bytes_of remaining readers ≡ Some files → drop (length readers) files ≡ []
+bytes_end remaining [] files are = rw (sym (some_same [] files are)) refl
+bytes_end remaining (first ∷ readers) files are =
+    let parts = bytes_of_parts remaining (remaining (device first)) (bytes_of remaining readers) files are in
+    ap (drop (suc (length readers))) parts.4 ∙ bytes_end remaining readers parts.1 parts.3
+
+pub bytes_count : {R : Type 0} (remaining : R → Option (List ℕ)) (readers : List (Flagged R)) (files : List (List ℕ)) → bytes_of remaining readers ≡ Some files → length readers ≡ length files
+bytes_count remaining [] files are = rw (sym (some_same [] files are)) refl
+bytes_count remaining (first ∷ readers) files are =
+    let parts = bytes_of_parts remaining (remaining (device first)) (bytes_of remaining readers) files are in
+    ap suc (bytes_count remaining readers parts.1 parts.3) ∙ ap length (sym parts.4)
+
+-- ---- one table more
+
+step_known : {R : Type 0} (remaining : R → Option (List ℕ)) (readers : List (Flagged R)) (place : ℕ) (reader : Flagged R) (rows after : Table) (known : Option (List (List ℕ))) → bytes_of remaining readers ≡ known → slice_get readers place ≡ Some reader
+    → IfSome known (λ files. with_files 0 [] files ≡ with_files place rows (drop place files)) → IfSome (remaining (device reader)) (λ bytes. with_file place rows bytes ≡ Ok after)
+    → IfSome known (λ files. with_files 0 [] files ≡ with_files (place + 1) after (drop (place + 1) files))
+step_known remaining readers place reader rows after None are at so_far is = tt
+step_known remaining readers place reader rows after (Some files) are at so_far is =
+    let found = bytes_at remaining readers place reader files at are in
+    so_far ∙ ap (with_files place rows) found.2 ∙ files_next place rows after found.0 (drop (place + 1) files) (subst (λ (o : Option (List ℕ)). IfSome o (λ bytes. with_file place rows bytes ≡ Ok after)) found.1 is)
+
+pub step : {R : Type 0} (remaining : R → Option (List ℕ)) (readers : List (Flagged R)) (place : ℕ) (reader : Flagged R) (rows after : Table) → slice_get readers place ≡ Some reader
+    → IfSome (bytes_of remaining readers) (λ files. with_files 0 [] files ≡ with_files place rows (drop place files)) → IfSome (remaining (device reader)) (λ bytes. with_file place rows bytes ≡ Ok after)
+    → IfSome (bytes_of remaining readers) (λ files. with_files 0 [] files ≡ with_files (place + 1) after (drop (place + 1) files))
+step remaining readers place reader rows after at so_far is = step_known remaining readers place reader rows after (bytes_of remaining readers) refl at so_far is
+
+refused_known : {R : Type 0} (remaining : R → Option (List ℕ)) (readers : List (Flagged R)) (place : ℕ) (reader : Flagged R) (rows : Table) (given : MergeFault) (known : Option (List (List ℕ))) → bytes_of remaining readers ≡ known → slice_get readers place ≡ Some reader
+    → IfSome known (λ files. with_files 0 [] files ≡ with_files place rows (drop place files)) → IfSome (remaining (device reader)) (λ bytes. IsTold (with_file place rows bytes) given)
+    → IfSome known (λ files. IsTold (with_files 0 [] files) given)
+refused_known remaining readers place reader rows given None are at so_far told = tt
+refused_known remaining readers place reader rows given (Some files) are at so_far told =
+    let found = bytes_at remaining readers place reader files at are in
+    told_of (with_file place rows found.0) (with_files 0 [] files) given
+    (λ is. so_far ∙ ap (with_files place rows) found.2 ∙ files_told place rows found.0 (drop (place + 1) files) given is)
+    (subst (λ (o : Option (List ℕ)). IfSome o (λ bytes. IsTold (with_file place rows bytes) given)) found.1 told)
+
+pub refused : {R : Type 0} (remaining : R → Option (List ℕ)) (readers : List (Flagged R)) (place : ℕ) (reader : Flagged R) (rows : Table) (given : MergeFault) → slice_get readers place ≡ Some reader
+    → IfSome (bytes_of remaining readers) (λ files. with_files 0 [] files ≡ with_files place rows (drop place files)) → IfSome (remaining (device reader)) (λ bytes. IsTold (with_file place rows bytes) given)
+    → IfSome (bytes_of remaining readers) (λ files. IsTold (with_files 0 [] files) given)
+refused remaining readers place reader rows given at so_far told = refused_known remaining readers place reader rows given (bytes_of remaining readers) refl at so_far told
+
+all_known : {R : Type 0} (remaining : R → Option (List ℕ)) (readers : List (Flagged R)) (place : ℕ) (rows : Table) (known : Option (List (List ℕ))) → bytes_of remaining readers ≡ known → place ≡ length readers
+    → IfSome known (λ files. with_files 0 [] files ≡ with_files place rows (drop place files)) → IfSome known (λ files. with_files 0 [] files ≡ Ok rows)
+all_known remaining readers place rows None are is so_far = tt
+all_known remaining readers place rows (Some files) are is so_far =
+    so_far ∙ ap (with_files place rows) (ap (λ n. drop n files) is ∙ bytes_end remaining readers files are) ∙ files_end place rows
+
+pub all_added : {R : Type 0} (remaining : R → Option (List ℕ)) (readers : List (Flagged R)) (place : ℕ) (rows : Table) → place ≡ length readers
+    → IfSome (bytes_of remaining readers) (λ files. with_files 0 [] files ≡ with_files place rows (drop place files)) → IfSome (bytes_of remaining readers) (λ files. with_files 0 [] files ≡ Ok rows)
+all_added remaining readers place rows is so_far = all_known remaining readers place rows (bytes_of remaining readers) refl is so_far
+
+pub at_start : {R : Type 0} (remaining : R → Option (List ℕ)) (readers : List (Flagged R)) → IfSome (bytes_of remaining readers) (λ files. with_files 0 [] files ≡ with_files 0 [] (drop 0 files))
+at_start remaining readers = start (bytes_of remaining readers)
+  where
+    start : (known : Option (List (List ℕ))) → IfSome known (λ files. with_files 0 [] files ≡ with_files 0 [] (drop 0 files))
+    start None = tt
+    start (Some files) = refl
+
+-- a reader behind those that were read is as it was
+pub behind : {A : Type 0} (xs : List A) (place other : ℕ) (x : A) → place < other → slice_get (slice_set xs place x) other ≡ slice_get xs other
+behind [] place other x below = refl
+behind (y ∷ ys) zero zero x below = absurd (omega arith)
+behind (y ∷ ys) zero (suc other) x below = refl
+behind (y ∷ ys) (suc place) zero x below = absurd (omega arith)
+behind (y ∷ ys) (suc place) (suc other) x below = behind ys place other x (omega arith)
+
+-- ---- all files
+
+-- what is merged, where the races that are expected are read last
+abbrev with_expected : Table → Option Table → Result Merge MergeFault
+with_expected table expected = Ok (record { table = table; is_unexpected = is_unexpected expected table })
+
+tables_read : (rows : Table) (r : Result (List Table) MergeFault) (last : Result (Option Table) MergeFault) → (r >>= λ tables. Ok (merged_all tables)) ≡ Ok rows → (r >>= λ tables. last >>= with_expected (merged_all tables)) ≡ (last >>= with_expected rows)
+tables_read rows (Ok tables) last is = ap (λ (table : Table). last >>= with_expected table) (ok_same (merged_all tables) rows is)
+  where
+    ok_value : Result Table MergeFault → Table
+    ok_value (Ok a) = a
+    ok_value (Err other) = []
+
+    ok_same : (a b : Table) → (let one : Result Table MergeFault = Ok a in one ≡ Ok b) → a ≡ b
+    ok_same a b same = ap ok_value same
+tables_read rows (Err given) last is = cc
+
+tables_told : (r : Result (List Table) MergeFault) (last : Result (Option Table) MergeFault) (given : MergeFault) → (r >>= λ tables. Ok (merged_all tables)) ≡ Err given → (r >>= λ tables. last >>= with_expected (merged_all tables)) ≡ Err given
+tables_told (Ok tables) last given is = cc
+tables_told (Err other) last given is = cc
+
+-- the tables were merged
+tables_ok : (files : Files) (rows : Table) → with_files 0 [] files.tables ≡ Ok rows → merge_of files ≡ (expected_in (length files.tables) files.expected >>= with_expected rows)
+unfolding merge_of
+tables_ok files rows is = tables_read rows (tables_from 0 files.tables) (expected_in (length files.tables) files.expected) (sym (added_are 0 [] files.tables) ∙ is)
+
+-- one of them was refused
+tables_err : (files : Files) (given : MergeFault) → with_files 0 [] files.tables ≡ Err given → merge_of files ≡ Err given
+unfolding merge_of
+tables_err files given is = tables_told (tables_from 0 files.tables) (expected_in (length files.tables) files.expected) given (sym (added_are 0 [] files.tables) ∙ is)
+
+abbrev known : Option (List (List ℕ)) → Option (Option (List ℕ)) → Option Files
+known tables last = option_and_then (λ each. option_map (λ expected. record { tables = each; expected = expected }) last) tables
+
+pub tables_refused : (tables : Option (List (List ℕ))) (last : Option (Option (List ℕ))) (given : MergeFault) → IfSome tables (λ each. IsTold (with_files 0 [] each) given) → IfSome (known tables last) (λ files. IsTold (merge_of files) given)
+tables_refused None last given told = tt
+tables_refused (Some each) None given told = tt
+tables_refused (Some each) (Some expected) given told =
+    told_of (with_files 0 [] each) (merge_of (record { tables = each; expected = expected })) given (tables_err (record { tables = each; expected = expected }) given) told
+
+pub expected_refused : (tables : Option (List (List ℕ))) (last : Option (Option (List ℕ))) (rows : Table) (count : ℕ) (given : MergeFault) → IfSome tables (λ each. with_files 0 [] each ≡ Ok rows) → IfSome tables (λ each. count ≡ length each)
+    → IfSome last (λ expected. IsTold (expected_in count expected) given) → IfSome (known tables last) (λ files. IsTold (merge_of files) given)
+expected_refused None last rows count given is many told = tt
+expected_refused (Some each) None rows count given is many told = tt
+expected_refused (Some each) (Some expected) rows count given is many told =
+    told_of (expected_in count expected) (merge_of (record { tables = each; expected = expected })) given
+    (λ refused. tables_ok (record { tables = each; expected = expected }) rows is ∙ err_then (expected_in (length each) expected) (with_expected rows) given (ap (λ n. expected_in n expected) (sym many) ∙ refused))
+    told
+
+pub all_merged : (tables : Option (List (List ℕ))) (last : Option (Option (List ℕ))) (rows : Table) (count : ℕ) (expected : Option Table) (found : Bool) → IfSome tables (λ each. with_files 0 [] each ≡ Ok rows) → IfSome tables (λ each. count ≡ length each)
+    → IfSome last (λ given. expected_in count given ≡ Ok expected) → found ≡ is_unexpected expected rows → IfSome (known tables last) (λ files. merge_of files ≡ Ok (record { table = rows; is_unexpected = found }))
+all_merged None last rows count expected found is many read told = tt
+all_merged (Some each) None rows count expected found is many read told = tt
+all_merged (Some each) (Some given) rows count expected found is many read told =
+    tables_ok (record { tables = each; expected = given }) rows is ∙ ap (λ r. r >>= with_expected rows) (ap (λ n. expected_in n given) (sym many) ∙ read)
+    ∙ ap (λ (f : Bool). Ok (record { table = rows; is_unexpected = f })) (sym told)
+
+pub count_known : {R : Type 0} (remaining : R → Option (List ℕ)) (readers : List (Flagged R)) → IfSome (bytes_of remaining readers) (λ each. length readers ≡ length each)
+count_known remaining readers = counted (bytes_of remaining readers) refl
+  where
+    counted : (o : Option (List (List ℕ))) → bytes_of remaining readers ≡ o → IfSome o (λ each. length readers ≡ length each)
+    counted None are = tt
+    counted (Some each) are = bytes_count remaining readers each are
+
+pub none_failed : (failed : Bool) → (failed || false) ≡ failed
+none_failed true = refl
+none_failed false = refl

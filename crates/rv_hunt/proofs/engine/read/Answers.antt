@@ -1,0 +1,20 @@
+use Rattle.rv_memory.specs.Flagged as flag
+use Rattle.rv_hunt.specs.merge.Merge as merge
+use Rattle.rv_hunt.proofs.BoolLemmas.{second_failed, third_failed}
+use Rattle.rv_hunt.proofs.FileLemmas.{expected_told}
+use Rattle.rv_hunt.specs.engine.Asked.{asked}
+use Rattle.rv_hunt.specs.internal.Opened.{hunt_in}
+use Rattle.rv_hunt.proofs.engine.read.Goals as goal
+
+pub returns-in-Err-clause-readers : goal.returns-in-Err-clause-readers
+returns-in-Err-clause-readers g c =
+    second_failed _ _ _ _ _ _ c.in_ok-opened.ensures.reader c.in-Err.ensures.reader
+
+pub returns-clause-err : goal.returns-clause-err
+returns-clause-err g c =
+    expected_told (g.R.Read.remaining (flag.device c.args.inputs.now.image)) (merge.bytes_if g.R.Read.remaining c.args.inputs.now.ignored) (merge.bytes_if g.R.Read.remaining c.args.inputs.now.expected) (asked c.args.options.now)
+    (hunt_in (asked c.args.options.now) c.in_ok-opened.opened) c.in-Ok.ignored c.in-Err-read_known.fault c.in_ok-opened.ensures.ok c.in-Ok.ensures.ok c.in-Err-read_known.ensures.err
+
+pub returns-clause-readers : goal.returns-clause-readers
+returns-clause-readers g c =
+    third_failed _ _ _ _ _ _ _ c.in_ok-opened.ensures.reader c.in-Ok.ensures.reader c.in-Err-read_known.ensures.reader

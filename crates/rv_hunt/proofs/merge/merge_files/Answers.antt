@@ -1,0 +1,21 @@
+use Rattle.std.proofs.Common.{length}
+use Rattle.std.proofs.lemmas.Result.{err_from_is_err_and}
+use Rattle.rv_hunt.specs.merge.Merge as spec
+use Rattle.rv_hunt.proofs.MergedFileLemmas.{all_merged, count_known, expected_refused, tables_refused}
+use Rattle.rv_hunt.proofs.merge.merge_files.Goals as goal
+
+pub returns-in_err-table-clause-err : goal.returns-in_err-table-clause-err
+returns-in_err-table-clause-err g c =
+    let p = err_from_is_err_and c.from_residual.result c.from_residual.ensures.1 in
+    rw (p.1, p.2) (tables_refused (spec.bytes_of g.R.Read.remaining c.args.tables.now) (spec.bytes_if g.R.Read.remaining c.args.expected.now) c.in_err-table.field-0.0 c.in_err-table.ensures.err)
+
+pub returns-in_err-expected-clause-err : goal.returns-in_err-expected-clause-err
+returns-in_err-expected-clause-err g c =
+    let p = err_from_is_err_and c.from_residual-in_err-expected.result c.from_residual-in_err-expected.ensures.1 in
+    rw (p.1, p.2) (expected_refused (spec.bytes_of g.R.Read.remaining c.args.tables.now) (spec.bytes_if g.R.Read.remaining c.args.expected.now) c.in_ok-table.table (length c.merged_files.new.tables) c.in_err-expected.field-0.0 c.in_ok-table.ensures.ok
+    (rw c.in_ok-table.ensures.count (count_known g.R.Read.remaining c.args.tables.now)) c.in_err-expected.ensures.err)
+
+pub returns-clause-ok : goal.returns-clause-ok
+returns-clause-ok g c =
+    all_merged (spec.bytes_of g.R.Read.remaining c.args.tables.now) (spec.bytes_if g.R.Read.remaining c.args.expected.now) c.in_ok-table.table (length c.merged_files.new.tables) c.in_ok-expected.expected c.is_unexpected-found.result c.in_ok-table.ensures.ok
+    (rw c.in_ok-table.ensures.count (count_known g.R.Read.remaining c.args.tables.now)) c.in_ok-expected.ensures.ok c.is_unexpected-found.ensures

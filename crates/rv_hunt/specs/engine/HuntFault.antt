@@ -1,0 +1,70 @@
+-- Why `hunt` writes nothing: of which file it says so, and which device failed.
+use Rattle.std.specs.Prelude.{◌≡◌, Bool, true, false, Result, Ok, Err, IsOkAnd}
+use Rattle.std.specs.Result.{IsOk}
+use Rattle.rv_engines.specs.CommandFault as command
+use Rattle.rv_engines.specs.declared.fault.Fault.TheVariants as fault
+use Rattle.rv_engines.specs.declared.run.fault.CommandFault.{CommandFault}
+use Rattle.rv_engines.specs.declared.run.fault.CommandFault.TheVariants.{Plain, NoThread}
+use Rattle.rv_hunt.specs.Hunted.{Hunt}
+use Rattle.rv_hunt.specs.engine.Asked.{Asked}
+use Rattle.rv_hunt.specs.engine.Hunting.{Files, Hunting, IsHuntingOf, expected_in, hunt_of, ignored_in}
+use Rattle.rv_hunt.specs.declared.engine.folder.FolderFault.{FolderFault}
+use Rattle.rv_hunt.specs.declared.engine.folder.FolderFault.TheVariants as folder
+use Rattle.rv_hunt.specs.declared.engine.fault.HuntFault.{HuntFault}
+use Rattle.rv_hunt.specs.declared.engine.fault.HuntFault.TheVariants.{Command, Ignored, Expected}
+use Rattle.rv_hunt.specs.merge.FileFault as file
+
+-- the fault is neither that a device failed, nor that memory is out, nor that a thread could not be started
+abbrev pub is_plain_refusal : CommandFault → Bool
+is_plain_refusal (Plain fault.Read) = false
+is_plain_refusal (Plain fault.Write) = false
+is_plain_refusal (Plain fault.NoMemory) = false
+is_plain_refusal NoThread = false
+is_plain_refusal given = true
+
+abbrev pub of_command : CommandFault → HuntFault
+of_command given = Command given
+
+abbrev pub of_folder : FolderFault → HuntFault
+of_folder folder.NoMemory = Command (Plain fault.NoMemory)
+of_folder folder.Write = Command (Plain fault.Write)
+
+abbrev pub write_failed : HuntFault
+write_failed = Command (Plain fault.Write)
+
+-- the image is not refused, and neither is the list of races to be ignored
+abbrev pub IsListRead : Asked → Files → Type 0
+IsListRead asked files = IsOkAnd (hunt_of asked files.image) (λ (hunt : Hunt). IsOk (ignored_in hunt.source.image files.ignored))
+
+-- The fault is the one that is told of the files, which are read in their order: the image with the lists of the line,
+-- the list of races to be ignored, the table of expected ones. That no thread could be started is told only where none
+-- of them is refused.
+abbrev pub IsTold : Asked → Files → HuntFault → Type 0
+IsTold asked files (Command given) =
+    command.IsTold (hunt_of asked files.image) (command.refusal given) × (command.is_thread (command.refusal given) ≡ true → (hunting : Hunting) × IsHuntingOf asked files hunting)
+IsTold asked files (Ignored given) =
+    IsOkAnd (hunt_of asked files.image) (λ (hunt : Hunt). file.IsTold (ignored_in hunt.source.image files.ignored) given)
+IsTold asked files (Expected given) = IsListRead asked files × file.IsTold (expected_in files.expected) given
+
+-- the fault is that a reader failed
+abbrev pub is_read : HuntFault → Bool
+is_read (Command given) = command.is_read (command.refusal given)
+is_read (Ignored given) = file.is_read given
+is_read (Expected given) = file.is_read given
+
+-- the fault is that a writer, a file or a folder failed
+abbrev pub is_write : HuntFault → Bool
+is_write (Command given) = command.is_write (command.refusal given)
+is_write (Ignored given) = file.is_write given
+is_write (Expected given) = file.is_write given
+
+-- the fault is of what the files or the line say, and of no device
+abbrev pub is_of_files : HuntFault → Bool
+is_of_files (Command given) = is_plain_refusal given
+is_of_files (Ignored given) = true
+is_of_files (Expected given) = true
+
+-- something was refused, and the fault passes the test
+abbrev pub fails_by : {A : Type 0} → (HuntFault → Bool) → Result A HuntFault → Bool
+fails_by test (Ok a) = false
+fails_by test (Err given) = test given

@@ -1,0 +1,150 @@
+-- What `hunt` makes of the bytes of an image and its options.
+use Rattle.std.specs.Prelude.{◌≡◌, ℕ, Bool, false, ◌||◌, Option, Some, None, option_and_then, option_map, Result, Ok, List, [], ◌++◌, filter, length}
+use Rattle.std.specs.Option.{option_map_or}
+use Rattle.rv_elf.specs.Contents.{Contents}
+use Rattle.rv_hunt.specs.HuntSays.{Outcome, apart_text, hunt_text, saw_text}
+use Rattle.rv_hunt.specs.HuntText.{table_text}
+use Rattle.rv_hunt.specs.Hunted.{Hunt, IsHunted}
+use Rattle.rv_hunt.specs.ToldOrder.{benign, bugs, told_rows}
+use Rattle.rv_hunt.specs.WarningText.{warnings_text}
+use Rattle.rv_hunt.specs.declared.hunted.Hunted.{Hunted}
+use Rattle.rv_hunt.specs.declared.row.RaceRow.{RaceRow}
+use Rattle.rv_memory.specs.Flagged.{device, has_failed}
+use Rattle.rv_memory.specs.Chain.{◌>>=◌}
+use Rattle.rv_sample.specs.Sites.{sites}
+use Rattle.rv_engines.specs.Campaigns.{elements, listed, skipped}
+use Rattle.rv_engines.specs.CommandFault.{Refusal, plainly}
+use Rattle.rv_engines.specs.Images.{image_of}
+use Rattle.rv_hunt.specs.engine.Asked.{Asked, Onward}
+use Rattle.rv_hunt.specs.engine.HuntBlocks.{AreBlocks}
+use Rattle.rv_hunt.specs.engine.OnwardText.{keep_text}
+use Rattle.rv_hunt.specs.declared.engine.found.Found.{Found}
+use Rattle.rv_hunt.specs.declared.engine.inputs.Inputs.{Inputs}
+use Rattle.rv_hunt.specs.declared.engine.options.Shows.{Shows}
+use Rattle.rv_hunt.specs.declared.engine.options.Shows.TheVariants.{Text, Table}
+use Rattle.rv_hunt.specs.merge.Ignore.{ignores_of, is_ignored, is_told}
+use Rattle.rv_hunt.specs.merge.Merge.{bytes_if, is_unexpected}
+use Rattle.rv_hunt.specs.merge.TableFiles.{expected_table}
+use Rattle.rv_hunt.specs.declared.merge.fault.FileFault.{FileFault}
+use Rattle.rv_hunt.specs.declared.merge.ignore.Line.{Line}
+use Rattle.rv_report.specs.declared.key.Key.{Key}
+
+-- ---- what is hunted
+
+-- The hunt that an image's bytes and the options ask for, or why it is refused: by the image, by the list of addresses,
+-- or by the list of names.
+unfoldable pub hunt_of : Asked → List ℕ → Result Hunt Refusal
+hunt_of asked bytes = do
+  image ← plainly (image_of bytes)
+  excluded ← skipped (elements asked.skip)
+  ranges ← listed image (elements asked.named)
+  Ok (record { source = record { image = image; sites = sites image excluded; seed = asked.seed }; given = asked.given; ranges = ranges; first = asked.first; limit = asked.limit })
+
+-- ---- the files
+
+-- the bytes of the image, of the list of races to be ignored, and of the table of expected ones, where they are given
+pub record Files : Type 0 where
+  pub image : List ℕ
+  pub ignored : Option (List ℕ)
+  pub expected : Option (List ℕ)
+
+-- the bytes that the readers have left, where they are all known
+abbrev pub files_of : {R : Type 0} → (R → Option (List ℕ)) → Inputs R → Option Files
+files_of remaining inputs =
+    option_and_then (λ image. option_and_then (λ ignored. option_map (λ expected. record { image = image; ignored = ignored; expected = expected })
+    (bytes_if remaining inputs.expected))
+    (bytes_if remaining inputs.ignored))
+    (remaining (device inputs.image))
+
+-- one of the readers has failed
+abbrev pub any_failed : {R : Type 0} → Inputs R → Bool
+any_failed inputs =
+    has_failed inputs.image || option_map_or has_failed inputs.ignored false || option_map_or has_failed inputs.expected false
+
+-- the lines of the races to be ignored, or why the list is refused
+abbrev pub ignored_in : Contents → Option (List ℕ) → Result (List Line) FileFault
+ignored_in image None = Ok []
+ignored_in image (Some bytes) = ignores_of image bytes
+
+-- the table of the races that are expected, or why it is refused
+abbrev pub expected_in : Option (List ℕ) → Result (Option (List (Key × RaceRow))) FileFault
+expected_in None = Ok None
+expected_in (Some bytes) = expected_table bytes >>= λ table. Ok (Some table)
+
+-- What is hunted, which races are counted and not told, and which are expected.
+pub record Hunting : Type 0 where
+  pub hunt : Hunt
+  pub ignored : List Line
+  pub expected : Option (List (Key × RaceRow))
+
+-- the files and the options ask for it
+pub record IsHuntingOf (asked : Asked) (files : Files) (hunting : Hunting) : Type 0 where
+  pub hunt_is : hunt_of asked files.image ≡ Ok hunting.hunt
+  pub ignored_is : ignored_in hunting.hunt.source.image files.ignored ≡ Ok hunting.ignored
+  pub expected_is : expected_in files.expected ≡ Ok hunting.expected
+
+-- ---- what is told
+
+-- the rows of the races that no line of the list fits, and of the others
+abbrev pub told_in : Hunting → Hunted → List (Key × RaceRow)
+told_in hunting saw = filter (λ (row : Key × RaceRow). is_told hunting.hunt.source.image hunting.ignored row.0) saw.table
+
+abbrev pub ignored_by : Hunting → Hunted → List (Key × RaceRow)
+ignored_by hunting saw = filter (λ (row : Key × RaceRow). is_ignored hunting.hunt.source.image hunting.ignored row.0) saw.table
+
+-- what a hunt came to
+abbrev pub outcome : Hunting → Hunted → Outcome
+outcome hunting saw = record {
+  sites = length hunting.hunt.source.sites;
+  saw = saw.tally;
+  rows = told_in hunting saw;
+  ignored = ignored_by hunting saw;
+}
+
+-- The text for the standard output, and the notes for the standard error.
+pub record Texts : Type 0 where
+  pub text : List ℕ
+  pub notes : List ℕ
+
+abbrev pub keep : Onward → List ℕ
+keep line = keep_text line.image line.options line.folder
+
+-- the races one by one, and how a run is kept; the notes are the warnings
+abbrev pub told_one_by_one : Onward → Outcome → List ℕ → Texts
+told_one_by_one line o blocks = record { text = hunt_text o blocks ++ keep line; notes = warnings_text o.sites o.saw }
+
+-- the table; behind the warnings stands what the other text has behind its blocks
+abbrev pub told_as_table : Onward → Outcome → Texts
+told_as_table line o = record { text = table_text o.rows; notes = (warnings_text o.sites o.saw ++ (apart_text o ++ saw_text o.sites o.saw)) ++ keep line }
+
+-- These are the texts of what a hunt came to, in one of the two ways, with the races that are told one by one.
+abbrev pub AreTextsOf : Onward → Shows → Hunt → Outcome → List (Key × RaceRow) → Texts → Type 0
+AreTextsOf line Text hunt o told texts = (blocks : List ℕ) × AreBlocks line hunt 1 told blocks × (texts ≡ told_one_by_one line o blocks)
+AreTextsOf line Table hunt o told texts = texts ≡ told_as_table line o
+
+-- the races that are told one by one, in their order
+abbrev pub told_of : Hunting → Hunted → List (Key × RaceRow)
+told_of hunting saw = told_rows (told_in hunting saw)
+
+abbrev pub AreTexts : Onward → Shows → Hunting → Hunted → Texts → Type 0
+AreTexts line shows hunting saw texts = AreTextsOf line shows hunting.hunt (outcome hunting saw) (told_of hunting saw) texts
+
+-- how many races may be a bug, how many are likely benign, and whether one that may be a bug is not expected
+abbrev pub found_in : Option (List (Key × RaceRow)) → List (Key × RaceRow) → Found
+found_in expected rows = record { bugs = bugs rows; benign = benign rows; is_unexpected = is_unexpected expected rows }
+
+abbrev pub found_of : Hunting → Hunted → Found
+found_of hunting saw = found_in hunting.expected (told_in hunting saw)
+
+-- The runs of the hunt are made; what they saw is told and counted, the runs of the races that are told are saved, and the
+-- page is made.
+pub record IsTold (line : Onward) (shows : Shows) (hunting : Hunting) (found : Found) (Writes Notes : List ℕ → Type 0) (Saves : List (Key × RaceRow) → Type 0) (Pages : Outcome → List (Key × RaceRow) → Type 0) : Type 0 where
+  pub saw : Hunted
+  pub hunted : IsHunted hunting.hunt saw
+  pub texts : Texts
+  pub are_texts : AreTexts line shows hunting saw texts
+  pub written : Writes texts.text
+  pub noted : Notes texts.notes
+  pub saved : Saves (told_of hunting saw)
+  pub paged : Pages (outcome hunting saw) (told_of hunting saw)
+  pub found_is : found ≡ found_of hunting saw

@@ -1,0 +1,40 @@
+-- Why the runs of a hunt, or what is told of them, were not made.
+use Rattle.std.specs.Prelude.{Bool, true, false, Result, Ok, Err}
+use Rattle.rv_campaign.specs.declared.kept.SeriesFault.{SeriesFault}
+use Rattle.rv_campaign.specs.declared.kept.SeriesFault.TheVariants as series
+use Rattle.rv_engines.specs.declared.fault.Fault.TheVariants as fault
+use Rattle.rv_engines.specs.declared.run.fault.CommandFault.{CommandFault}
+use Rattle.rv_engines.specs.declared.run.fault.CommandFault.TheVariants as command
+use Rattle.rv_hunt.specs.declared.engine.folder.FolderFault.{FolderFault}
+use Rattle.rv_hunt.specs.declared.engine.folder.FolderFault.TheVariants as folder
+use Rattle.rv_hunt.specs.declared.engine.fault.MakeFault.{MakeFault}
+use Rattle.rv_hunt.specs.declared.engine.fault.MakeFault.TheVariants.{NoMemory, NoThread, Write}
+
+abbrev pub as_command : MakeFault → CommandFault
+as_command NoMemory = command.Plain fault.NoMemory
+as_command NoThread = command.NoThread
+as_command Write = command.Plain fault.Write
+
+abbrev pub of_series : SeriesFault → MakeFault
+of_series series.NoMemory = NoMemory
+of_series series.NoThread = NoThread
+
+abbrev pub of_folder : FolderFault → MakeFault
+of_folder folder.NoMemory = NoMemory
+of_folder folder.Write = Write
+
+abbrev pub no_memory : MakeFault
+no_memory = NoMemory
+
+abbrev pub write_failed : MakeFault
+write_failed = Write
+
+abbrev pub is_write : MakeFault → Bool
+is_write NoMemory = false
+is_write NoThread = false
+is_write Write = true
+
+-- something was not made, since a file could not be made
+abbrev pub fails_by_write : {A : Type 0} → Result A MakeFault → Bool
+fails_by_write (Ok a) = false
+fails_by_write (Err fault) = is_write fault

@@ -1,0 +1,49 @@
+-- What is told of a file's fault, and the exit status.
+use Rattle.std.specs.Prelude.{ℕ, Option, Some, List, ◌++◌, codes}
+use Rattle.std.specs.Fmt.{decimal}
+use Rattle.rv_engines.specs.FaultText as plain
+use Rattle.rv_engines.specs.Sentences.{fault_sentence}
+use Rattle.rv_hunt.specs.declared.fault.TableKind.{TableKind}
+use Rattle.rv_hunt.specs.declared.fault.TableKind.TheVariants as table
+use Rattle.rv_hunt.specs.declared.merge.fault.FileFault.{FileFault}
+use Rattle.rv_hunt.specs.declared.merge.fault.FileFault.TheVariants.{Plain, Table, Ignore}
+use Rattle.rv_hunt.specs.declared.merge.fault.IgnoreKind.{IgnoreKind}
+use Rattle.rv_hunt.specs.declared.merge.fault.IgnoreKind.TheVariants as ignore
+
+abbrev pub table_kind_name : TableKind → List ℕ
+table_kind_name table.Shape = codes "Shape"
+table_kind_name table.Range = codes "Range"
+table_kind_name table.Twice = codes "Twice"
+table_kind_name table.End = codes "End"
+
+abbrev pub ignore_kind_name : IgnoreKind → List ℕ
+ignore_kind_name ignore.Shape = codes "Shape"
+ignore_kind_name ignore.Unknown = codes "Unknown"
+
+-- what is written of a fault after its file's name; a line counts from 1
+abbrev pub fault_output : FileFault → Option (List ℕ)
+fault_output (Plain fault) = plain.fault_output fault
+fault_output (Table fault) = Some (codes "table line " ++ (decimal fault.line ++ (codes " " ++ table_kind_name fault.kind)))
+fault_output (Ignore fault) = Some (codes "ignore line " ++ (decimal fault.line ++ (codes " " ++ ignore_kind_name fault.kind)))
+
+abbrev pub table_sentence : TableKind → List ℕ
+table_sentence table.Shape = codes "the line is not the row of a race: is this a table of hunt?"
+table_sentence table.Range = codes "a number or an address of the row is out of range"
+table_sentence table.Twice = codes "the race has a row already: use merge to add tables"
+table_sentence table.End = codes "there are not as many rows as the first line says: was the file cut off?"
+
+abbrev pub ignore_sentence : IgnoreKind → List ℕ
+ignore_sentence ignore.Shape = codes "a line is two sides, each an address of eight hexadecimal digits, a symbol's name or *"
+ignore_sentence ignore.Unknown = codes "the image has no symbol with this name"
+
+-- what is wrong, or what to do
+abbrev pub sentence : FileFault → List ℕ
+sentence (Plain fault) = fault_sentence fault
+sentence (Table fault) = table_sentence fault.kind
+sentence (Ignore fault) = ignore_sentence fault.kind
+
+-- the exit status: 1 for a refused file, 3 for a device that failed, 4 for want of memory
+abbrev pub status : FileFault → ℕ
+status (Plain fault) = plain.status fault
+status (Table fault) = 1
+status (Ignore fault) = 1

@@ -1,0 +1,210 @@
+//! The engine of `hunt`: an image in, its races out.
+//!
+//! It reads an image, makes runs of it as long as it is told to, and writes what they saw: the races as people read them,
+//! or as a table. What it writes is stated in `specs/engine/Hunting.antt`.
+ghost use Rattle.std.specs.Prelude.{◌≡◌, ◌||◌, true, false, is_err, is_some, IfErr, IfOk, IfSome, OnOk};
+ghost use Rattle.std.specs.Io.KnownBytes.{Appends, Keeps};
+ghost use Rattle.rv_memory.specs.Buffered as buffer;
+ghost use Rattle.rv_engines.specs.Campaigns.{passes};
+ghost use Rattle.rv_hunt.specs.engine.Asked.{AreLegal, asked, parts};
+ghost use Rattle.rv_hunt.specs.engine.FolderFault.{fails_by_write};
+ghost use Rattle.rv_hunt.specs.engine.HuntFault.{IsTold, fails_by, is_of_files, is_read, is_write};
+ghost use Rattle.rv_hunt.specs.engine.Hunting as spec;
+ghost use Rattle.rv_hunt.specs.engine.Paged.{IsPaged};
+ghost use Rattle.rv_hunt.specs.engine.Saved.{AreSaved};
+ghost use Rattle.rv_hunt.specs.internal.Opened.{IsMade, hunt_in, hunting_with};
+
+use crate::engine::fault::HuntFault;
+use crate::engine::folder::{Folder, FolderFault};
+use crate::engine::found::Found;
+use crate::engine::inputs::Inputs;
+use crate::engine::lists::{Lists, read_ignored, read_known};
+use crate::engine::making::{Made, make_hunt};
+use crate::engine::opening::{Opened, open};
+use crate::engine::options::HuntOptions;
+use crate::hunt::Watch;
+use rv_engines::new_file::NewFile;
+use rv_memory::buffered::Buffered;
+use rv_memory::flagged::WriteFault;
+use rv_memory::output::Output;
+use std::alloc::Global;
+use std::io::{Read, Write};
+use std::sync::Wait;
+use std::thread::Threads;
+
+pub mod blocks;
+mod drawn;
+pub mod fault;
+pub mod folder;
+pub mod found;
+pub mod inputs;
+mod lists;
+mod making;
+mod onward;
+mod opening;
+pub mod options;
+pub mod paging;
+mod saving;
+mod sites;
+mod texts;
+
+/// Writes the notes to their last byte, and then the text.
+fn publish<W: Write, E: Write>(
+    made: &Made,
+    writer: &mut Buffered<W>,
+    notes: &mut Buffered<E>,
+) -> Result<(), WriteFault>
+    ensures text { OnOk result (Appends (buffer.written W.contents writer.old) (buffer.sent W.contents writer.new) made.now.text.items) }
+    ensures notes { OnOk result (Appends (buffer.written E.contents notes.old) (buffer.sent E.contents notes.new) made.now.notes.items) }
+    ensures first { buffer.has_failed notes.old ≡ false → buffer.has_failed notes.new ≡ true
+        → Keeps (buffer.sent W.contents writer.old) (buffer.sent W.contents writer.new) }
+    ensures writers { (buffer.has_failed notes.new || buffer.has_failed writer.new)
+        ≡ (buffer.has_failed notes.old || buffer.has_failed writer.old || is_err result) }
+{
+    notes.put(&made.notes)?;
+    notes.finish()?;
+    writer.put(&made.text)?;
+    writer.finish()
+}
+
+/// Reads the image, and then the lists.
+fn read<'a, R: Read>(
+    alloc: Global,
+    options: &HuntOptions<'a, '_>,
+    inputs: &mut Inputs<R>,
+) -> Result<(Opened, Lists), HuntFault<'a>>
+    ensures ok { IfOk result (λ read. IfSome (spec.files_of R.remaining inputs.old) (λ files.
+        spec.IsHuntingOf (asked options.now) files (hunting_with (hunt_in (asked options.now) read.0) read.1))) }
+    ensures err { IfErr result (λ fault. IfSome (spec.files_of R.remaining inputs.old) (λ files.
+        IsTold (asked options.now) files fault)) }
+    ensures readers { spec.any_failed inputs.new ≡ (spec.any_failed inputs.old || fails_by is_read result) }
+    ensures writer { fails_by is_write result ≡ false }
+{
+    let opened = open(alloc, options, &mut inputs.image)?;
+    let ignored = match read_ignored(alloc, &opened.image, &mut inputs.ignored) {
+        Ok(ignored) => ignored,
+        Err(fault) => return Err(HuntFault::Ignored(fault)),
+    };
+    match read_known(alloc, &mut inputs.expected) {
+        Ok(expected) => Ok((opened, Lists { ignored, expected })),
+        Err(fault) => Err(HuntFault::Expected(fault)),
+    }
+}
+
+/// Looks at the folder, where one is given.
+fn look<D: Folder>(folder: &mut Option<D>) -> Result<(), FolderFault>
+    ensures used { passes D.is_used folder.new ≡ passes D.is_used folder.old }
+    ensures wanted { is_some folder.new ≡ is_some folder.old }
+    ensures failed { passes D.has_failed folder.new ≡ (passes D.has_failed folder.old || fails_by_write result) }
+{
+    match folder {
+        None => Ok(()),
+        Some(folder) => folder.look(),
+    }
+}
+
+/// Reads the image and the lists, looks at the folder, and makes the runs of a hunt, the schedules of the races that are told,
+/// the page, and the texts of what the runs saw.
+fn make<'a, T: Threads + Wait + Sync, R: Read, D: Folder, F: NewFile, P: Watch>(
+    rt: &T,
+    alloc: Global,
+    options: &HuntOptions<'a, '_>,
+    inputs: &mut Inputs<R>,
+    folder: &mut Option<D>,
+    page: &mut Option<F>,
+    watch: &mut P,
+) -> Result<Made, HuntFault<'a>>
+    requires { AreLegal options.now }
+    ensures made { IfOk result (λ made. IfSome (spec.files_of R.remaining inputs.old) (λ files.
+        (hunting : spec.Hunting) × spec.IsHuntingOf (asked options.now) files hunting
+        × IsMade (parts options.now.line) options.now.shows hunting
+        (λ rows. IfSome folder.new (λ saved. AreSaved hunting.hunt (D.Holds saved) rows))
+        (λ came rows. IfSome page.new (λ file. IsPaged (parts options.now.line) hunting.hunt came rows (F.Holds file)))
+        made)) }
+    ensures wanted { (is_some folder.new ≡ is_some folder.old) × (is_some page.new ≡ is_some page.old) }
+    ensures refused { IfErr result (λ fault. IfSome (spec.files_of R.remaining inputs.old) (λ files.
+        IsTold (asked options.now) files fault)) }
+    ensures no_schedules { IfErr result (λ fault. is_of_files fault ≡ true
+        → passes D.is_used folder.new ≡ passes D.is_used folder.old) }
+    ensures no_page { IfErr result (λ fault. is_of_files fault ≡ true
+        → passes F.is_made page.new ≡ passes F.is_made page.old) }
+    ensures readers { spec.any_failed inputs.new ≡ (spec.any_failed inputs.old || fails_by is_read result) }
+    ensures writers { (passes D.has_failed folder.new || passes F.has_failed page.new)
+        ≡ ((passes D.has_failed folder.old || passes F.has_failed page.old) || fails_by is_write result) }
+{
+    let (opened, lists) = match read(alloc, options, inputs) {
+        Ok(read) => read,
+        Err(fault) => return Err(fault),
+    };
+    match look(folder) {
+        Ok(()) => {}
+        Err(fault) => return Err(HuntFault::from(fault)),
+    }
+    match make_hunt(rt, alloc, options, &opened, &lists, folder, page, watch) {
+        Ok(made) => Ok(made),
+        Err(fault) => Err(HuntFault::Command(fault.as_command())),
+    }
+}
+
+/// Reads the image and the lists, looks at the folder, makes the runs of a hunt, the schedules of the races that are told
+/// and the page, and writes what the runs saw. `notes` is the standard error: it has got all of the notes before the first byte
+/// of the text is written. Where a file or a list is refused, or the folder is, nothing is made or written.
+pub fn run_hunt<
+    'a,
+    T: Threads + Wait + Sync,
+    R: Read,
+    D: Folder,
+    F: NewFile,
+    W: Write,
+    E: Write,
+    P: Watch,
+>(
+    rt: &T,
+    alloc: Global,
+    options: &HuntOptions<'a, '_>,
+    inputs: &mut Inputs<R>,
+    folder: &mut Option<D>,
+    page: &mut Option<F>,
+    writer: &mut Buffered<W>,
+    notes: &mut Buffered<E>,
+    watch: &mut P,
+) -> Result<Found, HuntFault<'a>>
+    requires { AreLegal options.now }
+    ensures told { IfOk result (λ found. IfSome (spec.files_of R.remaining inputs.old) (λ files.
+        (hunting : spec.Hunting) × spec.IsHuntingOf (asked options.now) files hunting
+        × spec.IsTold (parts options.now.line) options.now.shows hunting found
+        (Appends (buffer.written W.contents writer.old) (buffer.sent W.contents writer.new))
+        (Appends (buffer.written E.contents notes.old) (buffer.sent E.contents notes.new))
+        (λ rows. IfSome folder.new (λ made. AreSaved hunting.hunt (D.Holds made) rows))
+        (λ came rows. IfSome page.new (λ file. IsPaged (parts options.now.line) hunting.hunt came rows (F.Holds file))))) }
+    ensures wanted { (is_some folder.new ≡ is_some folder.old) × (is_some page.new ≡ is_some page.old) }
+    ensures refused { IfErr result (λ fault. IfSome (spec.files_of R.remaining inputs.old) (λ files.
+        IsTold (asked options.now) files fault)) }
+    ensures nothing { IfErr result (λ fault. is_write fault ≡ false
+        → Keeps (buffer.sent W.contents writer.old) (buffer.sent W.contents writer.new)) }
+    ensures no_notes { IfErr result (λ fault. is_write fault ≡ false
+        → Keeps (buffer.sent E.contents notes.old) (buffer.sent E.contents notes.new)) }
+    ensures no_schedules { IfErr result (λ fault. is_of_files fault ≡ true
+        → passes D.is_used folder.new ≡ passes D.is_used folder.old) }
+    ensures no_page { IfErr result (λ fault. is_of_files fault ≡ true
+        → passes F.is_made page.new ≡ passes F.is_made page.old) }
+    ensures first { buffer.has_failed notes.old ≡ false → buffer.has_failed notes.new ≡ true
+        → Keeps (buffer.sent W.contents writer.old) (buffer.sent W.contents writer.new) }
+    ensures files_first { (passes D.has_failed folder.old || passes F.has_failed page.old) ≡ false
+        → (passes D.has_failed folder.new || passes F.has_failed page.new) ≡ true
+        → Keeps (buffer.sent W.contents writer.old) (buffer.sent W.contents writer.new) }
+    ensures readers { spec.any_failed inputs.new ≡ (spec.any_failed inputs.old || fails_by is_read result) }
+    ensures writers { ((passes D.has_failed folder.new || passes F.has_failed page.new)
+        || (buffer.has_failed notes.new || buffer.has_failed writer.new))
+        ≡ (((passes D.has_failed folder.old || passes F.has_failed page.old)
+        || (buffer.has_failed notes.old || buffer.has_failed writer.old)) || fails_by is_write result) }
+{
+    let made = match make(rt, alloc, options, inputs, folder, page, watch) {
+        Ok(made) => made,
+        Err(fault) => return Err(fault),
+    };
+    match publish(&made, writer, notes) {
+        Ok(()) => Ok(made.found),
+        Err(fault) => Err(HuntFault::from(fault)),
+    }
+}

@@ -1,0 +1,36 @@
+//! The folder of a hunt's schedules.
+ghost use Rattle.std.specs.Prelude.{◌≡◌, ◌≢◌, ◌||◌, List, OnOk, ℕ};
+ghost use Rattle.rv_hunt.specs.engine.FolderFault.{fails_by_write};
+
+/// Why a folder takes no file.
+#[derive(Clone, Copy, PartialEq, Eq)]
+pub enum FolderFault {
+    NoMemory,
+    /// The folder is not there, a file is there already, or it cannot be written.
+    Write,
+}
+
+/// A folder that is there, in which a hunt makes a file for each race that it tells.
+pub trait Folder {
+    ghost use Rattle.std.specs.Prelude.{Bool, List, ℕ};
+
+    /// Whether a file was made, or it was tried.
+    ghost is_used: { Self → Bool };
+
+    /// The file of that number was made, and these are its bytes.
+    ghost Holds: { Self → ℕ → List ℕ → Type 0 };
+
+    /// Whether looking, making or writing has failed.
+    ghost has_failed: { Self → Bool };
+
+    /// Looks whether the folder is there and has no file that a race could have. Nothing is made.
+    fn look(&mut self) -> Result<(), FolderFault>
+        ensures used { is_used self.new ≡ is_used self.old }
+        ensures failed { has_failed self.new ≡ (has_failed self.old || fails_by_write result) };
+
+    /// Makes the file of that number, with these bytes.
+    fn make(&mut self, number: u64, bytes: &[u8]) -> Result<(), FolderFault>
+        ensures ok { OnOk result (Holds self.new number bytes.now) }
+        ensures kept { (n : ℕ) (text : List ℕ) → n ≢ number → Holds self.old n text → Holds self.new n text }
+        ensures failed { has_failed self.new ≡ (has_failed self.old || fails_by_write result) };
+}

@@ -1,0 +1,97 @@
+//! The lists of files: races that are to be ignored, and races that are expected.
+ghost use Rattle.std.specs.Prelude.{◌≡◌, ◌||◌, false, Ok, IfOk, IfErr, IfSome};
+ghost use Rattle.std.specs.Option.{option_map_or};
+ghost use Rattle.rv_memory.specs.Flagged as flag;
+ghost use Rattle.rv_hunt.specs.Expected as expect;
+ghost use Rattle.rv_hunt.specs.engine.Hunting as spec;
+ghost use Rattle.rv_hunt.specs.merge.FileFault.{IsTold, fails_by, is_read, is_write};
+ghost use Rattle.rv_hunt.specs.merge.Merge as merge;
+
+use crate::expected::may_be_bug;
+use crate::merge::fault::FileFault;
+use crate::merge::ignore::{Ignores, read_ignores};
+use crate::merge::table_file::read_expected;
+use crate::row::RaceRow;
+use crate::table::HuntTable;
+use rv_elf::Image;
+use rv_explain::symbol_table::SymbolTable;
+use rv_memory::flagged::Flagged;
+use rv_report::key::Key;
+use std::alloc::Global;
+use std::io::Read;
+
+/// The races that are to be ignored, and those that are expected.
+#[derive(Drop)]
+pub(crate) struct Lists {
+    pub(crate) ignored: Ignores,
+    pub(crate) expected: Option<HuntTable>,
+}
+
+/// Reads the list of races that are to be ignored, where one is given.
+pub(crate) fn read_ignored<R: Read>(
+    alloc: Global,
+    image: &Image,
+    list: &mut Option<Flagged<R>>,
+) -> Result<Ignores, FileFault>
+    ensures ok { IfOk result (λ lines. IfSome (merge.bytes_if R.remaining list.old) (λ bytes.
+        spec.ignored_in image.now bytes ≡ Ok lines)) }
+    ensures err { IfErr result (λ fault. IfSome (merge.bytes_if R.remaining list.old) (λ bytes.
+        IsTold (spec.ignored_in image.now bytes) fault)) }
+    ensures reader { option_map_or flag.has_failed list.new false
+        ≡ (option_map_or flag.has_failed list.old false || fails_by is_read result) }
+    ensures writer { fails_by is_write result ≡ false }
+{
+    match list {
+        None => Ok(Ignores::none(alloc)),
+        Some(reader) => {
+            let symbols = SymbolTable::new(alloc, image)?;
+            read_ignores(alloc, &symbols, reader)
+        }
+    }
+}
+
+/// Reads the table of the races that are expected, where one is given.
+pub(crate) fn read_known<R: Read>(
+    alloc: Global,
+    table: &mut Option<Flagged<R>>,
+) -> Result<Option<HuntTable>, FileFault>
+    ensures ok { IfOk result (λ known. IfSome (merge.bytes_if R.remaining table.old) (λ bytes.
+        spec.expected_in bytes ≡ Ok known)) }
+    ensures err { IfErr result (λ fault. IfSome (merge.bytes_if R.remaining table.old) (λ bytes.
+        IsTold (spec.expected_in bytes) fault)) }
+    ensures reader { option_map_or flag.has_failed table.new false
+        ≡ (option_map_or flag.has_failed table.old false || fails_by is_read result) }
+    ensures writer { fails_by is_write result ≡ false }
+{
+    match table {
+        None => Ok(None),
+        Some(reader) => match read_expected(alloc, reader) {
+            Ok(known) => Ok(Some(known)),
+            Err(fault) => Err(fault),
+        },
+    }
+}
+
+/// Whether the race of a row may be a bug and has no row among those that are expected.
+fn is_new(known: &HuntTable, row: &(Key, RaceRow)) -> bool
+    ensures { result ≡ expect.is_unexpected known.now row.now }
+{
+    may_be_bug(row.1.class) && !known.has(&row.0)
+}
+
+/// Whether one of the rows is such a race.
+fn has_new(known: &HuntTable, rows: &[(Key, RaceRow)]) -> bool
+    ensures { result ≡ expect.has_unexpected known.now rows.now }
+{
+    rows.iter().any(|row| is_new(known, row))
+}
+
+/// Whether there is a race that may be a bug and is not among those that are expected, where some are.
+pub(crate) fn is_unexpected(known: &Option<HuntTable>, rows: &[(Key, RaceRow)]) -> bool
+    ensures { result ≡ merge.is_unexpected known.now rows.now }
+{
+    match known {
+        Some(table) => has_new(table, rows),
+        None => false,
+    }
+}

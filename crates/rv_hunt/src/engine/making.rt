@@ -1,0 +1,225 @@
+//! The runs of a hunt, and the texts of what they saw.
+ghost use Rattle.std.specs.Prelude.{◌≡◌, ◌||◌, All, IfOk, IfSome, is_some};
+ghost use Rattle.rv_engines.specs.Campaigns.{passes};
+ghost use Rattle.rv_hunt.specs.Hunted.{IsHunted};
+ghost use Rattle.rv_sample.specs.Sites.{sites};
+ghost use Rattle.rv_hunt.specs.engine.Asked.{AreLegal, asked, parts};
+ghost use Rattle.rv_hunt.specs.engine.HuntBlocks.{AreBlocks};
+ghost use Rattle.rv_hunt.specs.engine.Hunting as spec;
+ghost use Rattle.rv_hunt.specs.engine.Paged.{IsPaged};
+ghost use Rattle.rv_hunt.specs.engine.Saved.{AreSaved};
+ghost use Rattle.rv_hunt.specs.internal.MakeFault.{fails_by_write};
+ghost use Rattle.rv_hunt.specs.internal.Opened.{HasRace, IsMade, hunt_in, hunting_with};
+
+use crate::engine::blocks::blocks_of;
+use crate::engine::fault::MakeFault;
+use crate::engine::folder::Folder;
+use crate::engine::found::Found;
+use crate::engine::lists::{Lists, is_unexpected};
+use crate::engine::opening::Opened;
+use crate::engine::options::{HuntOptions, LineParts, Shows};
+use crate::engine::paging::page_races;
+use crate::engine::saving::save_races;
+use crate::engine::sites::count_of;
+use crate::engine::texts::{hunt_text, table_notes, table_of};
+use crate::hunt::{Hunt, Watch};
+use crate::hunted::Hunted;
+use crate::laws::hunts_have_one_result;
+use crate::merge::parted::{Parted, part_rows};
+use crate::page::parts::Outcome;
+use crate::page::runs::warnings;
+use crate::row::RaceRow;
+use crate::saying::order::{benign, bugs, told_rows};
+use rv_engines::new_file::NewFile;
+use rv_explain::symbol_table::SymbolTable;
+use rv_memory::store::NoMemory;
+use rv_report::key::Key;
+use rv_sample::Sampler;
+use std::alloc::Global;
+use std::sync::Wait;
+use std::thread::Threads;
+
+/// What was found, the text, and the notes.
+#[derive(Drop)]
+pub(crate) struct Made {
+    pub(crate) found: Found,
+    pub(crate) text: Vec<u8>,
+    pub(crate) notes: Vec<u8>,
+}
+
+/// The blocks of the races that are told.
+fn told_blocks(
+    alloc: Global,
+    hunt: &Hunt,
+    excluded: &[u32],
+    line: &LineParts<'_>,
+    told: &[(Key, RaceRow)],
+) -> Result<Vec<u8>, NoMemory>
+    requires sites { hunt.now.source.sites ≡ sites hunt.now.source.image excluded.now }
+    requires races { All (HasRace hunt.now) told.now }
+    ensures { IfOk result (λ text. AreBlocks (parts line.now) hunt.now 1 told.now text.items) }
+{
+    let symbols = SymbolTable::new(alloc, hunt.image)?;
+    blocks_of(alloc, hunt, &symbols, excluded, line, told)
+}
+
+/// The texts of what a hunt came to. `told` are the races that are told one by one.
+fn texts(
+    alloc: Global,
+    hunt: &Hunt,
+    excluded: &[u32],
+    options: &HuntOptions<'_, '_>,
+    outcome: &Outcome,
+    told: &[(Key, RaceRow)],
+) -> Result<(Vec<u8>, Vec<u8>), NoMemory>
+    requires sites { hunt.now.source.sites ≡ sites hunt.now.source.image excluded.now }
+    requires races { All (HasRace hunt.now) told.now }
+    ensures { IfOk result (λ texts. spec.AreTextsOf (parts options.now.line) options.now.shows hunt.now outcome.now told.now
+        (record { text = texts.0.items; notes = texts.1.items })) }
+{
+    let line = &options.line;
+    match options.shows {
+        Shows::Text => {
+            let blocks = told_blocks(alloc, hunt, excluded, line, told)?;
+            let text = hunt_text(alloc, line, outcome, &blocks)?;
+            Ok((text, warnings(alloc, outcome.sites, outcome.saw)?))
+        }
+        Shows::Table => {
+            let text = table_of(alloc, outcome.rows)?;
+            Ok((text, table_notes(alloc, line, outcome)?))
+        }
+    }
+}
+
+/// The rows of what a hunt saw: those that are told, and those that are ignored.
+fn parted_rows(alloc: Global, hunt: &Hunt, lists: &Lists, saw: &Hunted) -> Result<Parted, NoMemory>
+    ensures told { IfOk result (λ parted. parted.told.items ≡ spec.told_in (hunting_with hunt.now lists.now) saw.now) }
+    ensures ignored { IfOk result (λ parted. parted.ignored.items ≡ spec.ignored_by (hunting_with hunt.now lists.now) saw.now) }
+{
+    let symbols = SymbolTable::new(alloc, hunt.image)?;
+    let rows = saw.table.rows(alloc)?;
+    part_rows(alloc, &symbols, &lists.ignored, &rows)
+}
+
+/// What was found, by the rows of the races that are told.
+fn found_in(lists: &Lists, rows: &[(Key, RaceRow)]) -> Found
+    ensures { result ≡ spec.found_in lists.now.expected rows.now }
+{
+    Found {
+        bugs: bugs(rows),
+        benign: benign(rows),
+        is_unexpected: is_unexpected(&lists.expected, rows),
+    }
+}
+
+/// The texts of what a hunt came to. They are made first, then the schedules of the races that are told are saved, and the
+/// page is made last: what wants memory comes before a file.
+fn texts_and_files<D: Folder, F: NewFile>(
+    alloc: Global,
+    hunt: &Hunt,
+    excluded: &[u32],
+    options: &HuntOptions<'_, '_>,
+    outcome: &Outcome,
+    told: &[(Key, RaceRow)],
+    folder: &mut Option<D>,
+    page: &mut Option<F>,
+) -> Result<(Vec<u8>, Vec<u8>), MakeFault>
+    requires sites { hunt.now.source.sites ≡ sites hunt.now.source.image excluded.now }
+    requires races { All (HasRace hunt.now) told.now }
+    ensures texts { IfOk result (λ texts. spec.AreTextsOf (parts options.now.line) options.now.shows hunt.now outcome.now told.now
+        (record { text = texts.0.items; notes = texts.1.items })) }
+    ensures saved { IfOk result (λ _. IfSome folder.new (λ made. AreSaved hunt.now (D.Holds made) told.now)) }
+    ensures paged { IfOk result (λ _. IfSome page.new (λ file.
+        IsPaged (parts options.now.line) hunt.now outcome.now told.now (F.Holds file))) }
+    ensures wanted { (is_some folder.new ≡ is_some folder.old) × (is_some page.new ≡ is_some page.old) }
+    ensures failed { (passes D.has_failed folder.new || passes F.has_failed page.new)
+        ≡ (passes D.has_failed folder.old || passes F.has_failed page.old || fails_by_write result) }
+{
+    let texts = texts(alloc, hunt, excluded, options, outcome, told)?;
+    save_races(alloc, hunt, excluded, told, folder)?;
+    page_races(alloc, hunt, excluded, &options.line, outcome, told, page)?;
+    Ok(texts)
+}
+
+/// What is told of all that a hunt's runs saw.
+fn told<D: Folder, F: NewFile>(
+    alloc: Global,
+    hunt: &Hunt,
+    excluded: &[u32],
+    options: &HuntOptions<'_, '_>,
+    lists: &Lists,
+    saw: &Hunted,
+    folder: &mut Option<D>,
+    page: &mut Option<F>,
+) -> Result<Made, MakeFault>
+    requires sites { hunt.now.source.sites ≡ sites hunt.now.source.image excluded.now }
+    requires hunted { IsHunted hunt.now saw.now }
+    ensures made { IfOk result (IsMade (parts options.now.line) options.now.shows (hunting_with hunt.now lists.now)
+        (λ rows. IfSome folder.new (λ made. AreSaved hunt.now (D.Holds made) rows))
+        (λ came rows. IfSome page.new (λ file. IsPaged (parts options.now.line) hunt.now came rows (F.Holds file)))) }
+    ensures wanted { (is_some folder.new ≡ is_some folder.old) × (is_some page.new ≡ is_some page.old) }
+    ensures failed { (passes D.has_failed folder.new || passes F.has_failed page.new)
+        ≡ (passes D.has_failed folder.old || passes F.has_failed page.old || fails_by_write result) }
+{
+    hunts_have_one_result();
+    let parted = parted_rows(alloc, hunt, lists, saw)?;
+    let told = told_rows(alloc, &parted.told)?;
+    let outcome = Outcome {
+        sites: count_of(hunt.sampler),
+        saw: &saw.tally,
+        rows: &parted.told,
+        ignored: &parted.ignored,
+    };
+    let (text, notes) = texts_and_files(
+        alloc, hunt, excluded, options, &outcome, &told, folder, page,
+    )?;
+    Ok(Made {
+        found: found_in(lists, &parted.told),
+        text,
+        notes,
+    })
+}
+
+/// Makes the runs of a hunt of what was opened, the schedules of the races that are told, and the texts of what they saw.
+pub(crate) fn make_hunt<T: Threads + Wait + Sync, P: Watch, D: Folder, F: NewFile>(
+    rt: &T,
+    alloc: Global,
+    options: &HuntOptions<'_, '_>,
+    opened: &Opened,
+    lists: &Lists,
+    folder: &mut Option<D>,
+    page: &mut Option<F>,
+    watch: &mut P,
+) -> Result<Made, MakeFault>
+    requires { AreLegal options.now }
+    ensures made { IfOk result (IsMade (parts options.now.line) options.now.shows
+        (hunting_with (hunt_in (asked options.now) opened.now) lists.now)
+        (λ rows. IfSome folder.new (λ made. AreSaved (hunt_in (asked options.now) opened.now) (D.Holds made) rows))
+        (λ came rows. IfSome page.new (λ file.
+        IsPaged (parts options.now.line) (hunt_in (asked options.now) opened.now) came rows (F.Holds file)))) }
+    ensures wanted { (is_some folder.new ≡ is_some folder.old) × (is_some page.new ≡ is_some page.old) }
+    ensures failed { (passes D.has_failed folder.new || passes F.has_failed page.new)
+        ≡ (passes D.has_failed folder.old || passes F.has_failed page.old || fails_by_write result) }
+{
+    let sampler = Sampler::sites(alloc, &opened.image, &opened.lists.excluded)?;
+    let hunt = Hunt {
+        image: &opened.image,
+        seed: u64::from(options.seed),
+        sampler: &sampler,
+        plans: &options.plans,
+        ranges: &opened.lists.ranges,
+        first: options.first,
+        limit: options.limit,
+    };
+    let saw = hunt.hunted(rt, alloc, options.workers, watch)?;
+    told(
+        alloc,
+        &hunt,
+        &opened.lists.excluded,
+        options,
+        lists,
+        &saw,
+        folder,
+        page,
+    )
+}

@@ -1,0 +1,76 @@
+//! What `hunt` reads before it makes a run.
+ghost use Rattle.std.specs.Prelude.{◌≡◌, ◌||◌, false, Ok, IfOk, IfErr, IfSome};
+ghost use Rattle.rv_memory.specs.Flagged as flag;
+ghost use Rattle.rv_engines.specs.CommandFault.{IsTold, refusal, fails_by, is_read, is_thread, is_write};
+ghost use Rattle.rv_hunt.specs.engine.Asked.{asked};
+ghost use Rattle.rv_hunt.specs.engine.Hunting.{hunt_of};
+ghost use Rattle.rv_hunt.specs.internal.Opened.{hunt_by, hunt_in, hunt_with};
+
+use crate::engine::options::HuntOptions;
+use rv_elf::Image;
+use rv_engines::image::read_image;
+use rv_engines::run::fault::CommandFault;
+use rv_engines::run::lists::{read_named, read_skipped};
+use rv_memory::flagged::Flagged;
+use std::alloc::Global;
+use std::io::Read;
+
+/// The addresses that are no sites, and the bytes of the listed names.
+#[derive(Drop)]
+pub struct Listed {
+    pub excluded: Vec<u32>,
+    pub ranges: Vec<(u32, u32)>,
+}
+
+/// An image, and the lists of the line.
+#[derive(Drop)]
+pub struct Opened {
+    pub image: Image,
+    pub lists: Listed,
+}
+
+/// Reads the lists.
+fn read_lists<'a>(
+    alloc: Global,
+    options: &HuntOptions<'a, '_>,
+    image: &Image,
+) -> Result<Listed, CommandFault<'a>>
+    ensures ok { IfOk result (λ lists. hunt_with (asked options.now) image.now ≡ Ok (hunt_by (asked options.now) image.now lists)) }
+    ensures err { IfErr result (λ fault. IsTold (hunt_with (asked options.now) image.now) (refusal fault)) }
+    ensures reader { fails_by is_read result ≡ false }
+    ensures writer { fails_by is_write result ≡ false }
+    ensures thread { fails_by is_thread result ≡ false }
+{
+    let excluded = match read_skipped(alloc, options.skip) {
+        Ok(excluded) => excluded,
+        Err(fault) => return Err(fault),
+    };
+    match read_named(alloc, image, options.named) {
+        Ok(ranges) => Ok(Listed { excluded, ranges }),
+        Err(fault) => Err(fault),
+    }
+}
+
+/// Reads an image, and then the lists.
+pub fn open<'a, R: Read>(
+    alloc: Global,
+    options: &HuntOptions<'a, '_>,
+    image: &mut Flagged<R>,
+) -> Result<Opened, CommandFault<'a>>
+    ensures ok { IfOk result (λ opened. IfSome (R.remaining (flag.device image.old)) (λ bytes.
+        hunt_of (asked options.now) bytes ≡ Ok (hunt_in (asked options.now) opened))) }
+    ensures err { IfErr result (λ fault. IfSome (R.remaining (flag.device image.old)) (λ bytes.
+        IsTold (hunt_of (asked options.now) bytes) (refusal fault))) }
+    ensures reader { flag.has_failed image.new ≡ (flag.has_failed image.old || fails_by is_read result) }
+    ensures writer { fails_by is_write result ≡ false }
+    ensures thread { fails_by is_thread result ≡ false }
+{
+    let image = match read_image(alloc, image) {
+        Ok(image) => image,
+        Err(fault) => return Err(CommandFault::Plain(fault)),
+    };
+    match read_lists(alloc, options, &image) {
+        Ok(lists) => Ok(Opened { image, lists }),
+        Err(fault) => Err(fault),
+    }
+}

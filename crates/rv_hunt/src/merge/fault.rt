@@ -1,0 +1,167 @@
+//! Why a file of a hunt is refused.
+ghost use Rattle.std.specs.Prelude.{◌≡◌};
+ghost use Rattle.rv_hunt.specs.merge.FileFault as spec;
+ghost use Rattle.rv_hunt.specs.merge.FileFaultText as text;
+
+use crate::fault::{ReadFault as TableReadFault, TableFault, TableKind};
+use rv_engines::fault::Fault;
+use rv_engines::run::fault::CommandFault;
+use rv_engines::sentences;
+use rv_memory::flagged::{ReadFault, WriteFault};
+use rv_memory::store::NoMemory;
+use std::fmt;
+
+/// What is wrong with a line of an ignore list.
+#[derive(Clone, Copy, Debug, PartialEq, Eq)]
+pub enum IgnoreKind {
+    /// The line is not two sides.
+    Shape,
+    /// A side is a name that no symbol of the image has.
+    Unknown,
+}
+
+/// The first line of an ignore list with a fault, from 1 on, and its first fault.
+#[derive(Clone, Copy, Debug, PartialEq, Eq)]
+pub struct IgnoreFault {
+    pub line: u64,
+    pub kind: IgnoreKind,
+}
+
+/// Why a file of a hunt is refused, or a device failed.
+#[derive(Clone, Copy, Debug, PartialEq, Eq)]
+pub enum FileFault {
+    /// The file is too long, a device failed, or memory is out.
+    Plain(Fault),
+    /// The file is no table.
+    Table(TableFault),
+    /// The file is no ignore list.
+    Ignore(IgnoreFault),
+}
+
+impl FileFault {
+    /// The exit status of a program that tells the fault: 1 for a refused file, 3 for a device that failed, 4 for want of
+    /// memory.
+    pub fn status(self) -> u8
+        ensures { result ≡ text.status self }
+    {
+        match self {
+            FileFault::Plain(fault) => fault.status(),
+            FileFault::Table(_) | FileFault::Ignore(_) => 1,
+        }
+    }
+}
+
+impl From<ReadFault> for FileFault {
+    ghost from_gives = { λ given made. made ≡ spec.fault_of_read given };
+
+    fn from(given: ReadFault) -> FileFault {
+        FileFault::Plain(Fault::from(given))
+    }
+}
+
+impl From<TableReadFault> for FileFault {
+    ghost from_gives = { λ given made. made ≡ spec.fault_of_table given };
+
+    fn from(given: TableReadFault) -> FileFault {
+        match given {
+            TableReadFault::Malformed(fault) => FileFault::Table(fault),
+            TableReadFault::NoMemory => FileFault::Plain(Fault::NoMemory),
+        }
+    }
+}
+
+impl From<NoMemory> for FileFault {
+    ghost from_gives = { λ _ made. made ≡ spec.no_memory };
+
+    fn from(_: NoMemory) -> FileFault {
+        FileFault::Plain(Fault::NoMemory)
+    }
+}
+
+impl From<WriteFault> for FileFault {
+    ghost from_gives = { λ _ made. made ≡ spec.write_failed };
+
+    fn from(_: WriteFault) -> FileFault {
+        FileFault::Plain(Fault::Write)
+    }
+}
+
+/// The fault's text, after the file's name.
+impl fmt::Display for FileFault {
+    ghost output = { λ told. text.fault_output told };
+
+    fn fmt<W: fmt::Write>(&self, f: &mut fmt::Formatter<W>) -> fmt::Result {
+        match self {
+            FileFault::Plain(fault) => write!(f, "{fault}"),
+            FileFault::Table(fault) => {
+                write!(
+                    f,
+                    "table line {} {}",
+                    fault.line,
+                    table_kind_name(fault.kind)
+                )
+            }
+            FileFault::Ignore(fault) => {
+                write!(
+                    f,
+                    "ignore line {} {}",
+                    fault.line,
+                    ignore_kind_name(fault.kind)
+                )
+            }
+        }
+    }
+}
+
+fn table_kind_name(kind: TableKind) -> &'static str
+    ensures { result.now ≡ text.table_kind_name kind }
+{
+    match kind {
+        TableKind::Shape => "Shape",
+        TableKind::Range => "Range",
+        TableKind::Twice => "Twice",
+        TableKind::End => "End",
+    }
+}
+
+fn ignore_kind_name(kind: IgnoreKind) -> &'static str
+    ensures { result.now ≡ text.ignore_kind_name kind }
+{
+    match kind {
+        IgnoreKind::Shape => "Shape",
+        IgnoreKind::Unknown => "Unknown",
+    }
+}
+
+/// What is wrong, or what to do.
+pub fn sentence(fault: FileFault) -> &'static str
+    ensures { result.now ≡ text.sentence fault }
+{
+    match fault {
+        FileFault::Plain(fault) => sentences::sentence(CommandFault::Plain(fault)),
+        FileFault::Table(fault) => table_sentence(fault.kind),
+        FileFault::Ignore(fault) => ignore_sentence(fault.kind),
+    }
+}
+
+fn table_sentence(kind: TableKind) -> &'static str
+    ensures { result.now ≡ text.table_sentence kind }
+{
+    match kind {
+        TableKind::Shape => "the line is not the row of a race: is this a table of hunt?",
+        TableKind::Range => "a number or an address of the row is out of range",
+        TableKind::Twice => "the race has a row already: use merge to add tables",
+        TableKind::End =>
+            "there are not as many rows as the first line says: was the file cut off?",
+    }
+}
+
+fn ignore_sentence(kind: IgnoreKind) -> &'static str
+    ensures { result.now ≡ text.ignore_sentence kind }
+{
+    match kind {
+        IgnoreKind::Shape =>
+            "a line is two sides, each an address of eight hexadecimal digits, a symbol's name or *",
+        IgnoreKind::Unknown => "the image has no symbol with this name",
+    }
+}

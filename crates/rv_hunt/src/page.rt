@@ -1,0 +1,129 @@
+//! The page that a hunt leaves: one HTML file that stands alone, for whoever looks at a nightly job's results.
+//!
+//! What `page_text` makes is the text of `specs/page/PageText.antt`, a function of the command line, of what the hunt came
+//! to, and of the races that are told. Texts from files stand in it as `rv_markup` has it; pictures stand as they are given,
+//! escaped by their maker.
+ghost use Rattle.std.specs.Prelude.{◌≡◌, IfOk};
+ghost use Rattle.rv_hunt.specs.HuntSays.{summary_line};
+ghost use Rattle.rv_hunt.specs.page.PageText as spec;
+ghost use Rattle.rv_hunt.specs.page.Parts.{parts};
+
+use crate::page::elements::code;
+use crate::page::parts::{Outcome, RacePart};
+use crate::page::pieces::joined;
+use crate::page::races::{races_part, races_shown};
+use crate::page::runs::{aside_part, ended_part, seen_part, warnings_part};
+use crate::page::style::STYLE;
+use crate::saying::lines::write_summary;
+use rv_markup::escaped::escaped;
+use rv_memory::flagged::Flagged;
+use rv_memory::store::NoMemory;
+use std::alloc::Global;
+
+mod elements;
+pub mod parts;
+pub(crate) mod pieces;
+mod races;
+pub(crate) mod runs;
+mod style;
+
+/// The hunt's first line.
+fn summary(alloc: Global, outcome: &Outcome) -> Result<Vec<u8>, NoMemory>
+    ensures { IfOk result (λ line. line.items ≡ summary_line outcome.now.saw outcome.now.rows) }
+{
+    let mut writer = Flagged::new(Vec::new(alloc));
+    match write_summary(&mut writer, outcome.saw, outcome.rows) {
+        Ok(()) => Ok(writer.into_inner()),
+        // Only want of memory refuses a byte.
+        Err(_) => Err(NoMemory),
+    }
+}
+
+const DOCUMENT: &[u8] =
+    b"<!DOCTYPE html>\n<html lang='en'>\n<head>\n<meta charset='utf-8'/>\n<meta name='viewport' content='width=device-width, initial-scale=1'/>\n";
+
+/// What stands before the body.
+#[tactic(auto, unfolding(crate::specs::page::PageText::head_text))]
+fn head_text(alloc: Global, summary: &[u8]) -> Result<Vec<u8>, NoMemory>
+    ensures { IfOk result (λ text. text.items ≡ spec.head_text summary.now) }
+{
+    let title = escaped(alloc, summary)?;
+    joined(
+        alloc,
+        &[
+            DOCUMENT,
+            b"<title>",
+            &title,
+            b"</title>\n<style>\n",
+            STYLE,
+            b"</style>\n</head>\n",
+        ],
+    )
+}
+
+const LINKS: &[u8] =
+    b"<nav><a href='#races'>races</a> <a href='#ended'>how harts ended</a> <a href='#seen'>what was seen</a></nav>\n";
+
+/// What stands above all parts.
+#[tactic(auto, unfolding(crate::specs::page::PageText::top_text))]
+fn top_text(alloc: Global, summary: &[u8], command: &[u8]) -> Result<Vec<u8>, NoMemory>
+    ensures { IfOk result (λ text. text.items ≡ spec.top_text summary.now command.now) }
+{
+    let summary = escaped(alloc, summary)?;
+    let command = code(alloc, command)?;
+    joined(
+        alloc,
+        &[
+            b"<body>\n<h1>",
+            &summary,
+            b"</h1>\n<p>",
+            &command,
+            b"</p>\n",
+            LINKS,
+        ],
+    )
+}
+
+/// All that stands above the races.
+#[tactic(auto, unfolding(crate::specs::page::PageText::front_text))]
+fn front_text(alloc: Global, command: &[u8], outcome: &Outcome) -> Result<Vec<u8>, NoMemory>
+    ensures { IfOk result (λ text. text.items ≡ spec.front_text command.now outcome.now) }
+{
+    let summary = summary(alloc, outcome)?;
+    let head = head_text(alloc, &summary)?;
+    let top = top_text(alloc, &summary, command)?;
+    let warnings = warnings_part(alloc, outcome.sites, outcome.saw)?;
+    joined(alloc, &[&head, &top, &warnings])
+}
+
+/// What stands below them.
+#[tactic(auto, unfolding(crate::specs::page::PageText::runs_text))]
+fn runs_text(alloc: Global, outcome: &Outcome) -> Result<Vec<u8>, NoMemory>
+    ensures { IfOk result (λ text. text.items ≡ spec.runs_text outcome.now) }
+{
+    let aside = aside_part(alloc, outcome)?;
+    let ended = ended_part(alloc, outcome.saw.ended())?;
+    let seen = seen_part(alloc, outcome.sites, outcome.saw)?;
+    joined(alloc, &[&aside, &ended, &seen])
+}
+
+/// The page of what a hunt came to. `races` are those that are told, in their order, and `command` is the command line that
+/// asks for the page.
+#[tactic(auto, unfolding(crate::specs::page::PageText::page_text))]
+pub fn page_text(
+    alloc: Global,
+    command: &[u8],
+    outcome: &Outcome,
+    races: &[RacePart],
+) -> Result<Vec<u8>, NoMemory>
+    ensures { IfOk result (λ text. text.items ≡ spec.page_text command.now outcome.now (parts races.now)) }
+{
+    let front = front_text(alloc, command, outcome)?;
+    let listed = races_part(alloc, races)?;
+    let shown = races_shown(alloc, races)?;
+    let runs = runs_text(alloc, outcome)?;
+    joined(
+        alloc,
+        &[&front, &listed, &shown, &runs, b"</body>\n</html>\n"],
+    )
+}

@@ -1,0 +1,270 @@
+//! What the runs saw, in tables, as `specs/page/RunsShown.antt` has them.
+ghost use Rattle.std.specs.Prelude.{◌≡◌, drop, flat_map, IfOk};
+ghost use Rattle.rv_hunt.specs.EndedText.{end_words};
+ghost use Rattle.rv_hunt.specs.WarningText.{warnings_text};
+ghost use Rattle.rv_hunt.specs.page.RunsShown as spec;
+ghost use Rattle.rv_text.specs.Lines.{lines_of};
+
+use crate::page::elements::{cell, number_cell, number_row, row, table_part, table_part_if};
+use crate::page::parts::Outcome;
+use crate::page::pieces::joined;
+use crate::row::RaceRow;
+use crate::saying::ended::write_end;
+use crate::saying::order::{of_class, reports_of};
+use crate::saying::warnings::write_warnings;
+use rv_explain::block::RaceClass;
+use rv_memory::flagged::Flagged;
+use rv_memory::store::NoMemory;
+use rv_report::key::Key;
+use rv_tally::counts::Counts;
+use rv_tally::end::End;
+use rv_tally::ended::Ended;
+use rv_tally::kinds::{Kind, Kinds};
+use rv_tally::tally::Tally;
+use rv_text::lines::Lines;
+use std::alloc::Global;
+
+/// What stands before each warning of a hunt.
+const WARNING: &[u8] = b"rvcollide: warning: ";
+
+/// The warnings of a hunt, a line each.
+pub(crate) fn warnings(alloc: Global, sites: u32, saw: &Tally) -> Result<Vec<u8>, NoMemory>
+    ensures { IfOk result (λ text. text.items ≡ warnings_text sites saw.now) }
+{
+    let mut writer = Flagged::new(Vec::new(alloc));
+    match write_warnings(&mut writer, sites, saw) {
+        Ok(()) => Ok(writer.into_inner()),
+        // Only want of memory refuses a byte.
+        Err(_) => Err(NoMemory),
+    }
+}
+
+/// What stands behind the first bytes of a line.
+#[tactic(auto, using(std::proofs::lemmas::List::drop_min))]
+fn behind(line: &[u8], len: usize) -> &[u8]
+    ensures { result.now ≡ drop len line.now }
+{
+    &line[len.min(line.len())..]
+}
+
+/// The row of a warning's line.
+#[tactic(auto, unfolding(crate::specs::page::RunsShown::warning_row))]
+fn warning_row(alloc: Global, line: &[u8]) -> Result<Vec<u8>, NoMemory>
+    ensures { IfOk result (λ row. row.items ≡ spec.warning_row line.now) }
+{
+    let words = cell(alloc, behind(line, WARNING.len()))?;
+    row(alloc, &[&words])
+}
+
+/// The rows of the warnings' lines.
+fn warning_rows(alloc: Global, text: &[u8]) -> Result<Vec<u8>, NoMemory>
+    ensures { IfOk result (λ rows. rows.items ≡ flat_map spec.warning_row (lines_of text.now)) }
+{
+    let mut rows = Vec::new(alloc);
+    let mut left = Lines::of(text);
+    while let Some(line) = left.next_line() {
+        rows.extend_from_slice(&warning_row(alloc, line)?)?;
+    }
+    Ok(rows)
+}
+
+/// The warnings, where there are any.
+#[tactic(auto, unfolding(crate::specs::page::RunsShown::warnings_part))]
+pub(crate) fn warnings_part(alloc: Global, sites: u32, saw: &Tally) -> Result<Vec<u8>, NoMemory>
+    ensures { IfOk result (λ part. part.items ≡ spec.warnings_part sites saw.now) }
+{
+    let text = warnings(alloc, sites, saw)?;
+    let rows = warning_rows(alloc, &text)?;
+    table_part_if(alloc, b"warnings", b"Warnings", b"", &rows)
+}
+
+/// The row of races that were counted and not told, where there are any.
+#[tactic(auto, unfolding(crate::specs::page::RunsShown::aside_row))]
+fn aside_row(alloc: Global, word: &[u8], rows: &[(Key, RaceRow)]) -> Result<Vec<u8>, NoMemory>
+    ensures { IfOk result (λ row. row.items ≡ spec.aside_row word.now rows.now) }
+{
+    if rows.is_empty() {
+        return Ok(Vec::new(alloc));
+    }
+    let word = cell(alloc, word)?;
+    let reports = number_cell(alloc, reports_of(rows))?;
+    let races = number_cell(alloc, rows.len() as u64)?;
+    row(alloc, &[&word, &reports, &races])
+}
+
+/// The rows of such races.
+fn aside_rows(alloc: Global, outcome: &Outcome) -> Result<Vec<u8>, NoMemory>
+    ensures { IfOk result (λ rows. rows.items ≡ spec.aside_rows outcome.now) }
+{
+    let named = of_class(alloc, outcome.rows, RaceClass::Named)?;
+    let named = aside_row(alloc, b"named", &named)?;
+    let ignored = aside_row(alloc, b"ignored", outcome.ignored)?;
+    joined(alloc, &[&named, &ignored])
+}
+
+const ASIDE_HEAD: &[u8] =
+    b"<tr><th></th><th class='number'>reports</th><th class='number'>races</th></tr>\n";
+
+/// Such races, where there are any.
+#[tactic(auto, unfolding(crate::specs::page::RunsShown::aside_part))]
+pub(crate) fn aside_part(alloc: Global, outcome: &Outcome) -> Result<Vec<u8>, NoMemory>
+    ensures { IfOk result (λ part. part.items ≡ spec.aside_part outcome.now) }
+{
+    let rows = aside_rows(alloc, outcome)?;
+    table_part_if(alloc, b"aside", b"Counted, not told", ASIDE_HEAD, &rows)
+}
+
+/// In which way a hart ended.
+fn end_text(alloc: Global, end: End) -> Result<Vec<u8>, NoMemory>
+    ensures { IfOk result (λ text. text.items ≡ end_words end) }
+{
+    let mut writer = Flagged::new(Vec::new(alloc));
+    match write_end(&mut writer, end) {
+        Ok(()) => Ok(writer.into_inner()),
+        // Only want of memory refuses a byte.
+        Err(_) => Err(NoMemory),
+    }
+}
+
+/// The row of a kind.
+fn kind_row(alloc: Global, kind: &Kind) -> Result<Vec<u8>, NoMemory>
+    ensures { IfOk result (λ row. row.items ≡ spec.kind_row kind.now) }
+{
+    let name = end_text(alloc, kind.end)?;
+    number_row(alloc, &name, kind.count)
+}
+
+/// A row, where there are any.
+fn row_if(alloc: Global, name: &[u8], number: u64) -> Result<Vec<u8>, NoMemory>
+    ensures { IfOk result (λ row. row.items ≡ spec.row_if name.now number) }
+{
+    if number == 0 {
+        return Ok(Vec::new(alloc));
+    }
+    number_row(alloc, name, number)
+}
+
+/// The rows of kinds.
+fn told_rows(alloc: Global, kinds: &[Kind]) -> Result<Vec<u8>, NoMemory>
+    ensures { IfOk result (λ rows. rows.items ≡ flat_map spec.kind_row kinds.now) }
+{
+    let mut rows = Vec::new(alloc);
+    for kind in kinds {
+        rows.extend_from_slice(&kind_row(alloc, kind)?)?;
+    }
+    Ok(rows)
+}
+
+/// The rows of kinds, and of others.
+#[tactic(auto, unfolding(crate::specs::page::RunsShown::kind_rows))]
+fn kind_rows(alloc: Global, others: &[u8], kinds: &Kinds) -> Result<Vec<u8>, NoMemory>
+    ensures { IfOk result (λ rows. rows.items ≡ spec.kind_rows others.now kinds.now) }
+{
+    let told = told_rows(alloc, kinds.told())?;
+    let rest = row_if(alloc, others, kinds.rest())?;
+    joined(alloc, &[&told, &rest])
+}
+
+/// The rows of how harts ended.
+#[tactic(auto, unfolding(crate::specs::page::RunsShown::ended_rows))]
+fn ended_rows(alloc: Global, ended: &Ended) -> Result<Vec<u8>, NoMemory>
+    ensures { IfOk result (λ rows. rows.items ≡ spec.ended_rows ended.now) }
+{
+    let exits = kind_rows(alloc, b"exited otherwise", ended.exits())?;
+    let stops = kind_rows(alloc, b"stopped otherwise", ended.stops())?;
+    let rest = row_if(alloc, b"out of steps", ended.out_of_steps())?;
+    joined(alloc, &[&exits, &stops, &rest])
+}
+
+const ENDED_HEAD: &[u8] = b"<tr><th></th><th class='number'>harts</th></tr>\n";
+
+/// How harts ended.
+#[tactic(auto, unfolding(crate::specs::page::RunsShown::ended_part))]
+pub(crate) fn ended_part(alloc: Global, ended: &Ended) -> Result<Vec<u8>, NoMemory>
+    ensures { IfOk result (λ part. part.items ≡ spec.ended_part ended.now) }
+{
+    let rows = ended_rows(alloc, ended)?;
+    table_part(alloc, b"ended", b"How harts ended", ENDED_HEAD, &rows)
+}
+
+/// A number, and what it counts.
+#[tactic(auto, unfolding(crate::specs::page::RunsShown::seen_row))]
+fn seen_row(alloc: Global, name: &[u8], number: u64, meaning: &[u8]) -> Result<Vec<u8>, NoMemory>
+    ensures { IfOk result (λ row. row.items ≡ spec.seen_row name.now number meaning.now) }
+{
+    let name = cell(alloc, name)?;
+    let number = number_cell(alloc, number)?;
+    let meaning = cell(alloc, meaning)?;
+    row(alloc, &[&name, &number, &meaning])
+}
+
+/// The rows of the sites.
+#[tactic(auto, unfolding(crate::specs::page::RunsShown::site_rows))]
+fn site_rows(alloc: Global, sites: u64, armed: u64, paused: u64) -> Result<Vec<u8>, NoMemory>
+    ensures { IfOk result (λ rows. rows.items ≡ spec.site_rows sites armed paused) }
+{
+    let all = b"loads and stores that a hart may pause at";
+    let all = seen_row(alloc, b"sites", sites, all)?;
+    let armed = seen_row(alloc, b"armed", armed, b"sites that had a breakpoint")?;
+    let stood = b"sites at which a hart was paused";
+    let paused = seen_row(alloc, b"paused at", paused, stood)?;
+    joined(alloc, &[&all, &armed, &paused])
+}
+
+/// The rows of how the pauses ended.
+#[tactic(auto, unfolding(crate::specs::page::RunsShown::ending_rows))]
+fn ending_rows(alloc: Global, counts: Counts) -> Result<Vec<u8>, NoMemory>
+    ensures { IfOk result (λ rows. rows.items ≡ spec.ending_rows counts) }
+{
+    let none = b"pauses that showed no other access";
+    let quiet = seen_row(alloc, b"quiet", counts.quiet, none)?;
+    let caught = b"pauses that caught another access";
+    let hit = seen_row(alloc, b"hit", counts.hit, caught)?;
+    let others = b"pauses that found other bytes";
+    let changed = seen_row(alloc, b"changed", counts.changed, others)?;
+    joined(alloc, &[&quiet, &hit, &changed])
+}
+
+/// The rows of the pauses.
+#[tactic(auto, unfolding(crate::specs::page::RunsShown::pause_rows))]
+fn pause_rows(alloc: Global, pauses: u64, counts: Counts) -> Result<Vec<u8>, NoMemory>
+    ensures { IfOk result (λ rows. rows.items ≡ spec.pause_rows pauses counts) }
+{
+    let all = seen_row(alloc, b"pauses", pauses, b"how often a hart was paused")?;
+    let endings = ending_rows(alloc, counts)?;
+    let none = b"pauses without a data breakpoint";
+    let unwatched = seen_row(alloc, b"unwatched", counts.unwatched, none)?;
+    joined(alloc, &[&all, &endings, &unwatched])
+}
+
+/// The rows of the runs.
+#[tactic(auto, unfolding(crate::specs::page::RunsShown::run_rows))]
+fn run_rows(alloc: Global, steps: u64, runs: u64) -> Result<Vec<u8>, NoMemory>
+    ensures { IfOk result (λ rows. rows.items ≡ spec.run_rows steps runs) }
+{
+    let steps = seen_row(alloc, b"steps", steps, b"instructions that harts executed")?;
+    let runs = seen_row(alloc, b"runs", runs, b"whole runs of the program")?;
+    joined(alloc, &[&steps, &runs])
+}
+
+/// All of these rows.
+#[tactic(auto, unfolding(crate::specs::page::RunsShown::seen_rows))]
+fn seen_rows(alloc: Global, sites: u32, saw: &Tally) -> Result<Vec<u8>, NoMemory>
+    ensures { IfOk result (λ rows. rows.items ≡ spec.seen_rows sites saw.now) }
+{
+    let counts = saw.counts();
+    let (armed, paused) = (saw.armed().count(), saw.paused().count());
+    let all = site_rows(alloc, u64::from(sites), armed, paused)?;
+    let pauses = pause_rows(alloc, saw.pauses(), counts)?;
+    let runs = run_rows(alloc, counts.steps, saw.runs())?;
+    joined(alloc, &[&all, &pauses, &runs])
+}
+
+/// What was seen.
+#[tactic(auto, unfolding(crate::specs::page::RunsShown::seen_part))]
+pub(crate) fn seen_part(alloc: Global, sites: u32, saw: &Tally) -> Result<Vec<u8>, NoMemory>
+    ensures { IfOk result (λ part. part.items ≡ spec.seen_part sites saw.now) }
+{
+    let rows = seen_rows(alloc, sites, saw)?;
+    table_part(alloc, b"seen", b"What was seen", b"", &rows)
+}

@@ -1,5 +1,0 @@
--- What only private contracts cite: no reader has to believe it.
-pub mod Adding
-pub mod Drawn
-pub mod MakeFault
-pub mod Opened
