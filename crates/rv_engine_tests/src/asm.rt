@@ -1,5 +1,6 @@
 use crate::assertion::{assert_is, assert_tells_each_failing_read};
-use crate::devices::{Endless, Kept};
+use crate::devices::Endless;
+use crate::kept::Kept;
 use crate::list::assert_lists;
 use rv_asm::{AsmFault, AsmKind};
 use rv_engines::asm::run_asm;

@@ -1,17 +1,28 @@
 //! Readers and writers that fail, and what each engine owes them.
 use rv_engines::fault::Fault;
-use rv_engines::new_file::NewFile;
 use rv_memory::buffered::Buffered;
-use rv_memory::flagged::{Flagged, WriteFault};
+use rv_memory::flagged::Flagged;
 use std::alloc::Global;
 use std::io::{self, ErrorKind, Read, Write};
 
-/// A reader of the text, a byte a read, whose read numbered `fails_at` from 1 on fails.
+/// A reader of the text, whose read numbered `fails_at` from 1 on fails.
 #[derive(Drop)]
 pub struct Failing<'t> {
     text: &'t [u8],
+    /// The most bytes that a read gives.
+    most: usize,
     reads: u64,
     fails_at: u64,
+}
+
+/// A reader of the text, so many bytes a read, whose read of that number fails. None does where it is 0.
+pub fn reader_of(text: &[u8], most: usize, fails_at: u64) -> Flagged<Failing<'_>> {
+    Flagged::new(Failing {
+        text,
+        most,
+        reads: 0,
+        fails_at,
+    })
 }
 
 impl Read for Failing<'_> {
@@ -20,14 +31,10 @@ impl Read for Failing<'_> {
         if self.reads == self.fails_at {
             return Err(io::Error::from(ErrorKind::Interrupted));
         }
-        match self.text {
-            [byte, rest @ ..] if !buf.is_empty() => {
-                buf[0] = *byte;
-                self.text = rest;
-                Ok(1)
-            }
-            _ => Ok(0),
-        }
+        let count = self.text.len().min(buf.len()).min(self.most);
+        buf[..count].copy_from_slice(&self.text[..count]);
+        self.text = &self.text[count..];
+        Ok(count)
     }
 }
 
@@ -39,46 +46,6 @@ impl Read for Endless {
     fn read(&mut self, buf: &mut [u8]) -> io::Result<usize> {
         buf.fill(b'0');
         Ok(buf.len())
-    }
-}
-
-/// A file that is kept in memory, or that cannot be made.
-#[derive(Drop)]
-pub struct Kept {
-    pub refuses: bool,
-    pub is_made: bool,
-    pub failed: bool,
-    pub bytes: Vec<u8>,
-}
-
-impl Kept {
-    pub fn new(alloc: Global, refuses: bool) -> Kept {
-        Kept {
-            refuses,
-            is_made: false,
-            failed: false,
-            bytes: Vec::new(alloc),
-        }
-    }
-}
-
-impl NewFile for Kept {
-    ghost use Rattle.std.specs.Prelude.{◌≡◌};
-
-    ghost is_made = { λ file. file.is_made };
-
-    ghost Holds = { λ file bytes. file.bytes.items ≡ bytes };
-
-    ghost has_failed = { λ file. file.failed };
-
-    fn make(&mut self, bytes: &[u8]) -> Result<(), WriteFault> {
-        self.is_made = true;
-        self.bytes.clear();
-        if self.refuses || self.bytes.extend_from_slice(bytes).is_err() {
-            self.failed = true;
-            return Err(WriteFault);
-        }
-        Ok(())
     }
 }
 
@@ -194,11 +161,7 @@ pub fn tells_each_failing_read<F: Fn(&mut Flagged<Failing<'_>>) -> Result<(), Fa
     requires { F.IsAlwaysCallable engine }
 {
     for fails_at in 1..1000 {
-        let mut reader = Flagged::new(Failing {
-            text,
-            reads: 0,
-            fails_at,
-        });
+        let mut reader = reader_of(text, 1, fails_at);
         let outcome = engine(&mut reader);
         let told = outcome_of(outcome, reader.failed(), Fault::Read);
         let reads = reader.into_inner().reads;

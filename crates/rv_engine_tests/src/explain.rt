@@ -1,7 +1,8 @@
+//! The engine of `explain`; and blocks, pictures and symbols that no run comes to.
 use crate::assertion::{assert_is, assert_tells_each_failing_call, assert_tells_each_failing_read};
-use crate::devices::Kept;
 use crate::exhibit::{HIT, ILLEGAL, NO_PLAN, P, QUIET, STORES, long_schedule};
 use crate::images::file_of;
+use crate::kept::Kept;
 use rv_engines::explain::engine::run_explain;
 use rv_engines::explain::options::ExplainOptions;
 use rv_engines::fault::Fault;
@@ -13,6 +14,11 @@ use rv_memory::output::Output;
 use std::alloc::Global;
 use std::io::{Read, Write};
 use std::process::Abort;
+
+mod around;
+mod blocks;
+mod picture;
+mod symbols;
 
 const PLAIN: ExplainOptions<'static> = ExplainOptions {
     named: None,

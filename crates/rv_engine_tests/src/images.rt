@@ -1,10 +1,12 @@
 //! The images that the engines are tried with.
+use crate::parts::zeros;
 use rv_elf::{Image, Symbol, write};
 use rv_memory::region::Region;
 use std::alloc::Global;
 use std::process::Abort;
 
-fn bytes_of(rt: &impl Abort, alloc: Global, words: &[u32]) -> Vec<u8> {
+/// The bytes of words.
+pub fn bytes_of(rt: &impl Abort, alloc: Global, words: &[u32]) -> Vec<u8> {
     let mut bytes = Vec::new(alloc);
     for word in words {
         bytes
@@ -29,22 +31,11 @@ fn code(rt: &impl Abort, alloc: Global, words: &[u32], w: bool) -> Region {
     }
 }
 
-/// 4,096 zero bytes at 00020000, R and W.
-fn data(alloc: Global) -> Region {
-    Region {
-        start: 0x20000,
-        bytes: Vec::new(alloc),
-        len: 4096,
-        r: true,
-        w: true,
-        x: false,
-    }
-}
-
 /// The code of words, and the data.
 fn segments(rt: &impl Abort, alloc: Global, words: &[u32], w: bool) -> Vec<Region> {
     let code = code(rt, alloc, words, w);
-    vec![in alloc; code, data(alloc)].expect(rt, "memory")
+    let data = zeros(alloc, 0x20000, 4096, false);
+    vec![in alloc; code, data].expect(rt, "memory")
 }
 
 /// An image of words that may be written where `w` says so, and of no symbol.
@@ -58,25 +49,30 @@ pub fn file_of(rt: &impl Abort, alloc: Global, words: &[u32], w: bool) -> Vec<u8
     write(alloc, &image_of(rt, alloc, words, w)).expect(rt, "memory")
 }
 
-fn symbol(rt: &impl Abort, alloc: Global, name: &str, value: u32, size: u32) -> Symbol {
-    Symbol {
-        name: String::from_str(alloc, name).expect(rt, "memory"),
-        value,
-        size,
-        kind: 1,
+/// A symbol's name, value, size and type.
+pub type Named = (&'static str, u32, u32, u8);
+
+pub fn symbols_of(rt: &impl Abort, alloc: Global, rows: &[Named]) -> Vec<Symbol> {
+    let mut symbols = Vec::new(alloc);
+    for (name, value, size, kind) in rows {
+        symbols
+            .push(Symbol {
+                name: String::from_str(alloc, name).expect(rt, "memory"),
+                value: *value,
+                size: *size,
+                kind: *kind,
+            })
+            .expect(rt, "memory");
     }
+    symbols
 }
 
-/// The symbol `word` for four bytes at 00020000, and `byte` for another.
-fn symbols(rt: &impl Abort, alloc: Global) -> Vec<Symbol> {
-    let word = symbol(rt, alloc, "word", 0x20000, 4);
-    let byte = symbol(rt, alloc, "byte", 0x20004, 0);
-    vec![in alloc; word, byte].expect(rt, "memory")
-}
+/// Four bytes at 00020000, and another.
+const WORD_AND_BYTE: [Named; 2] = [("word", 0x20000, 4, 1), ("byte", 0x20004, 0, 1)];
 
 fn named_image_of(rt: &impl Abort, alloc: Global, words: &[u32]) -> Image {
     let segments = segments(rt, alloc, words, false);
-    let symbols = symbols(rt, alloc);
+    let symbols = symbols_of(rt, alloc, &WORD_AND_BYTE);
     Image::new(0x10000, segments, symbols).expect(rt, "an image")
 }
 

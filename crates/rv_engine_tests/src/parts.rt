@@ -1,11 +1,19 @@
-//! What the lines of the tests ask for.
-ghost use Rattle.std.specs.Prelude.{◌≡◌};
+//! The memory of the images that are tried.
+ghost use Rattle.std.specs.Prelude.{◌≡◌, [], true};
 
-use rv_tally::plans::Lengths;
+use rv_memory::region::Region;
+use std::alloc::Global;
 
-/// The lengths that a `--plan` of these three numbers gives.
-pub fn lengths(steps: u32, arms: u32, pause: u32) -> Lengths
-    ensures { result ≡ record { steps = steps; arms = arms; pause = pause } }
+/// Zero bytes that may be read and written, and executed where that is said.
+pub fn zeros(alloc: Global, start: u32, len: u32, x: bool) -> Region
+    ensures { result ≡ record { start = start; bytes = []; len = len; r = true; w = true; x = x } }
 {
-    Lengths { steps, arms, pause }
+    Region {
+        start,
+        bytes: Vec::new(alloc),
+        len,
+        r: true,
+        w: true,
+        x,
+    }
 }

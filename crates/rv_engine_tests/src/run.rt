@@ -1,8 +1,8 @@
 ghost use Rattle.std.specs.Prelude.{◌≤◌, ◌<◌};
 
 use crate::assertion::{assert_is, assert_tells_each_failing_call, assert_tells_each_failing_read};
-use crate::devices::Kept;
 use crate::images::named_file_of;
+use crate::kept::Kept;
 use rv_campaign::{CampaignFault, NumberFault};
 use rv_collide::plan::Plan;
 use rv_elf::LoadFault;

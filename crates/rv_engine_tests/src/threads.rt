@@ -1,8 +1,8 @@
 use crate::assertion::{
     assert_is, assert_tells_each_failing_call, assert_tells_each_failing_read, assert_told,
 };
-use crate::devices::Kept;
 use crate::images::named_file_of;
+use crate::kept::Kept;
 use crate::run::{ONE_STORE, assert_is_saved};
 use rv_collide::plan::Plan;
 use rv_elf::LoadFault;

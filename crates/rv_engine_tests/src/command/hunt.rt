@@ -1,6 +1,5 @@
 use crate::assertion::assert_is;
 use crate::command::asserting::{assert_asks, assert_refused};
-use crate::parts::lengths;
 use rv_command::arguments::{FolderPath, IgnorePath, ImagePath, PagePath, TablePath};
 use rv_command::command::hunt::{BUDGET, DEFAULT_BUDGET, DEFAULT_SEED, FIRST, HuntLine, LAST_RUN};
 use rv_command::command::run::MOST_SEED;
@@ -89,11 +88,7 @@ fn reads_the_options(rt: HostRuntime) {
     for (line, wanted) in LINES {
         assert_asks(&rt, rt.alloc(), line, job(*wanted));
     }
-    let given = HuntLine {
-        lengths: Some(lengths(2000, 64, 100)),
-        ..ALL
-    };
-    assert_asks(&rt, rt.alloc(), GIVEN, job(given));
+    assert_asks(&rt, rt.alloc(), GIVEN, job(ALL));
 }
 
 /// One option alone, and what it changes.

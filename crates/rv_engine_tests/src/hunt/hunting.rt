@@ -1,9 +1,10 @@
 //! Hunts whose devices fail at each call in turn.
 use crate::assertion::{assert_is, assert_tells_each_failing_call};
-use crate::engines::folder::FullFolder;
-use crate::engines::readers::{Device, reader_of};
-use crate::images::{Named, file_of};
-use rv_engine_tests::devices::Kept;
+use crate::devices::{Failing, reader_of};
+use crate::hunt::folder::FullFolder;
+use crate::images::Named;
+use crate::kept::Kept;
+use crate::padded::file_of;
 use rv_engines::fault::Fault;
 use rv_engines::run::fault::CommandFault;
 use rv_hunt::engine::fault::HuntFault;
@@ -133,16 +134,16 @@ const LIST: &[u8] = b"# known\nword 00010004\n";
 const TABLE: &[u8] = b"races 0\n";
 
 /// Readers of the three files, of which that of the place fails at the read of that number.
-fn readers<'f>(image: &'f [u8], place: usize, fails_at: u64) -> Inputs<Device<'f>> {
+fn readers<'f>(image: &'f [u8], place: usize, fails_at: u64) -> Inputs<Failing<'f>> {
     let at = |file| if file == place { fails_at } else { 0 };
     Inputs {
-        image: reader_of(image, at(0)),
-        ignored: Some(reader_of(LIST, at(1))),
-        expected: Some(reader_of(TABLE, at(2))),
+        image: reader_of(image, 10, at(0)),
+        ignored: Some(reader_of(LIST, 10, at(1))),
+        expected: Some(reader_of(TABLE, 10, at(2))),
     }
 }
 
-fn has_failed(reader: &Option<Flagged<Device<'_>>>) -> bool {
+fn has_failed(reader: &Option<Flagged<Failing<'_>>>) -> bool {
     match reader {
         Some(reader) => reader.failed(),
         None => false,
@@ -150,7 +151,7 @@ fn has_failed(reader: &Option<Flagged<Device<'_>>>) -> bool {
 }
 
 /// Which of the readers have failed.
-fn failed(inputs: &Inputs<Device<'_>>) -> [bool; 3] {
+fn failed(inputs: &Inputs<Failing<'_>>) -> [bool; 3] {
     [
         inputs.image.failed(),
         has_failed(&inputs.ignored),

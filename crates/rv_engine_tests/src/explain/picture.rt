@@ -1,7 +1,7 @@
 //! The picture of the ring's race, element by element.
 use super::blocks::{RING, ring};
 use crate::assertion::assert_is;
-use crate::images::image;
+use crate::padded::image;
 use rv_explain::block::RaceClass;
 use rv_explain::picture::write_picture;
 use rv_explain::symbol_table::SymbolTable;

@@ -1,4 +1,5 @@
-//! Tables and sums that no command prints.
+//! The engines of `hunt` and `merge`, on devices that fail and a folder that gets full; and tables, sums and pages that no
+//! command makes.
 use crate::assertion::assert_is;
 use rv_explain::block::RaceClass::{self, Counter, Flag, Kept, Named, Ordered};
 use rv_hunt::expected::{is_likely_benign, may_be_bug};
@@ -10,8 +11,15 @@ use rv_report::key::Key;
 use std::alloc::Global;
 use std::process::Abort;
 
+mod faults;
+mod folder;
+mod hunting;
 mod hunts;
+mod ignoring;
+mod merging;
+mod page;
 mod saying;
+mod tallies;
 
 fn text(rt: &impl Abort, alloc: Global, table: &HuntTable) -> Vec<u8> {
     let mut writer = Flagged::new(Vec::new(alloc));

@@ -1,7 +1,7 @@
 //! Hunts by any number of workers, and runs that are made again.
 use super::text;
 use crate::assertion::assert_is;
-use crate::images::image;
+use crate::padded::image;
 use rv_elf::Image;
 use rv_explain::block::RaceClass;
 use rv_hunt::hunt::{Hunt, Watch};

@@ -1,7 +1,8 @@
 //! Ignore lists: which races they fit, and readers that fail.
 use crate::assertion::assert_is;
-use crate::engines::readers::reader_of;
-use crate::images::{Named, image};
+use crate::devices::reader_of;
+use crate::images::Named;
+use crate::padded::image;
 use rv_engines::fault::Fault;
 use rv_explain::block::RaceClass;
 use rv_explain::symbol_table::SymbolTable;
@@ -58,7 +59,7 @@ fn read(
     text: &str,
     fails_at: u64,
 ) -> Result<Ignores, FileFault> {
-    read_ignores(alloc, symbols, &mut reader_of(text.as_bytes(), fails_at))
+    read_ignores(alloc, symbols, &mut reader_of(text.as_bytes(), 10, fails_at))
 }
 
 fn assert_fits(rt: &impl Abort, alloc: Global, symbols: &SymbolTable, row: &Fits) {

@@ -1,6 +1,6 @@
 //! What is said of races and of ends of harts that no hunt of a few runs comes to.
 use crate::assertion::assert_is;
-use crate::tallies::{Ran, add};
+use crate::hunt::tallies::{Ran, add};
 use rv_explain::block::RaceClass::{Counter, Flag, Kept, Named, Ordered};
 use rv_hart::hart::Cause;
 use rv_hunt::row::RaceRow;

@@ -1,7 +1,8 @@
 //! Blocks: the ring's race, a lost update that a Changed report tells of, and the reasons of classes. Names, numbers and marks of the
 //! first are those of another implementation.
 use crate::assertion::assert_is;
-use crate::images::{Named, image};
+use crate::images::Named;
+use crate::padded::image;
 use rv_break::claim::Seen;
 use rv_collide::ending::{Ending, Verdict};
 use rv_collide::entry::Entry::{self, Armed, Disarmed, Paused, Resumed, Stepped};

@@ -1,6 +1,6 @@
 //! Numbers that no command line has.
 use crate::assertion::assert_is;
-use crate::images::image;
+use crate::padded::image;
 use rv_collide::entry::Entry::{self, Armed, Paused, Resumed, Stepped};
 use rv_collide::plan::Plan;
 use rv_debug::session::Session;

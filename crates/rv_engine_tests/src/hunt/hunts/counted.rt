@@ -1,6 +1,6 @@
 //! What is counted of a run.
 use crate::assertion::assert_is;
-use crate::images::image;
+use crate::padded::image;
 use rv_collide::collider::Collider;
 use rv_collide::plan::Plan;
 use rv_hart::hart::Cause;

@@ -1,7 +1,6 @@
 //! Merges whose devices fail at each call in turn.
 use crate::assertion::{assert_is, assert_tells_each_failing_call};
-use crate::engines::readers::{Device, reader_of};
-use rv_engine_tests::devices::Sink;
+use crate::devices::{Failing, Sink, reader_of};
 use rv_engines::fault::Fault;
 use rv_hunt::merge::fault::FileFault;
 use rv_hunt::merge::{MergeFault, run_merge};
@@ -26,8 +25,8 @@ const NONE: &[u8] = b"races 0\n";
 fn outcome<'t>(
     rt: &impl Abort,
     alloc: Global,
-    tables: &mut [Flagged<Device<'t>>],
-    expected: &mut Option<Flagged<Device<'t>>>,
+    tables: &mut [Flagged<Failing<'t>>],
+    expected: &mut Option<Flagged<Failing<'t>>>,
 ) -> Result<Vec<u8>, MergeFault> {
     let mut writer = Buffered::new(alloc, Vec::new(alloc));
     let merged = run_merge(alloc, tables, expected, &mut writer);
@@ -58,8 +57,8 @@ fn merge_failing(
     fails_at: u64,
 ) -> (Result<Vec<u8>, MergeFault>, bool) {
     let at = |place| if file == place { fails_at } else { 0 };
-    let mut tables = [reader_of(EARLIER, at(0)), reader_of(LATER, at(1))];
-    let mut expected = Some(reader_of(NONE, at(2)));
+    let mut tables = [reader_of(EARLIER, 10, at(0)), reader_of(LATER, 10, at(1))];
+    let mut expected = Some(reader_of(NONE, 10, at(2)));
     let outcome = outcome(rt, alloc, &mut tables, &mut expected);
     let failed = tables[0].failed() || tables[1].failed();
     (outcome, failed)
@@ -113,7 +112,7 @@ fn failing_writes_are_told(rt: HostRuntime) {
     for takes_none in [false, true] {
         assert_tells_each_failing_call(&rt, alloc, takes_none, |writer: &mut Buffered<Sink>| {
             writer.put(&GATHERED)?;
-            let mut tables = [reader_of(LATER, 0)];
+            let mut tables = [reader_of(LATER, 10, 0)];
             plain(run_merge(alloc, &mut tables, &mut None, writer))
         });
     }

@@ -1,6 +1,6 @@
 //! The pages of small hunts.
 use crate::assertion::assert_is;
-use crate::tallies::{Ran, add};
+use crate::hunt::tallies::{Ran, add};
 use rv_explain::block::RaceClass::{self, Flag, Kept, Named, Ordered};
 use rv_hunt::page::page_text;
 use rv_hunt::page::parts::{Outcome, RacePart};

@@ -1,5 +1,0 @@
-//! Blocks, pictures and symbols that no run comes to.
-mod around;
-mod blocks;
-mod picture;
-mod symbols;
