@@ -53,7 +53,7 @@ const EITHER: &[(&[u8], &[u8])] = &[
 ];
 
 fn assert_reads(rt: &impl Abort, alloc: Global, said: &[u8], wanted: &[u8]) {
-    let table = read_either(alloc, said).expect(rt, "a table");
+    let table = read_either(alloc, said).ok().expect(rt, "a table");
     let text = text(rt, alloc, &table);
     drop(table);
     assert_is(rt, text.as_slice(), wanted, "either");

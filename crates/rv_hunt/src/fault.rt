@@ -5,7 +5,7 @@ ghost use Rattle.rv_hunt.specs.declared.fault.ReadFault.TheVariants as faults;
 use rv_memory::store::NoMemory;
 
 /// What is wrong with a line of a table.
-#[derive(Clone, Copy, Debug, PartialEq, Eq)]
+#[derive(Clone, Copy)]
 pub enum TableKind {
     /// The line is not `races N`, or no row: a hit with `-`, a changed one with two addresses or of class counter or
     /// ordered is none.
@@ -20,14 +20,14 @@ pub enum TableKind {
 }
 
 /// The first line with a fault, from 1 on, and its first fault.
-#[derive(Clone, Copy, Debug, PartialEq, Eq)]
+#[derive(Clone, Copy)]
 pub struct TableFault {
     pub line: u64,
     pub kind: TableKind,
 }
 
 /// Why there is no table.
-#[derive(Clone, Copy, Debug)]
+#[derive(Clone, Copy)]
 pub enum ReadFault {
     /// The text is none.
     Malformed(TableFault),

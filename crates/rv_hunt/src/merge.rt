@@ -31,7 +31,7 @@ pub mod table_file;
 
 /// Why `merge` does not write its table, and which file is at fault: the number of a table, from 0 on, that of all tables
 /// for the one with the races that are expected, and none for the output.
-#[derive(Clone, Copy, Debug, PartialEq, Eq)]
+#[derive(Clone, Copy)]
 pub struct MergeFault {
     pub file: Option<usize>,
     pub fault: FileFault,

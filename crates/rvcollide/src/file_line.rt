@@ -7,7 +7,7 @@ use rv_hunt::merge::fault::{FileFault, sentence};
 use std::fmt;
 
 /// A file or a folder, or the schedule of a race in a folder.
-#[derive(Clone, Copy, Debug, PartialEq, Eq)]
+#[derive(Clone, Copy)]
 pub struct FilePlace<'a> {
     pub path: &'a str,
     pub race: Option<u64>,
@@ -25,7 +25,7 @@ impl fmt::Display for FilePlace<'_> {
 }
 
 /// A fault with the file that is at fault, where one is, and whether that was to be made and was there already.
-#[derive(Clone, Copy, Debug, PartialEq, Eq)]
+#[derive(Clone, Copy)]
 pub struct FileLine<'a> {
     pub file: Option<FilePlace<'a>>,
     pub stands: bool,

@@ -57,7 +57,7 @@ impl<'a> ScheduleFolder<'a> {
         ensures failed { self.new.failed ≡ (self.old.failed || is_write fault) }
         ensures used { self.new.is_used ≡ self.old.is_used }
     {
-        if fault == FolderFault::Write {
+        if matches!(fault, FolderFault::Write) {
             self.failed = true;
             self.at = race;
         }

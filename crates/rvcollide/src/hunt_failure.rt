@@ -14,7 +14,7 @@ use rv_hunt::merge::fault::FileFault;
 const WRITE: FileFault = FileFault::Plain(Fault::Write);
 
 /// What of a folder is at fault.
-#[derive(Clone, Copy, Debug, PartialEq, Eq)]
+#[derive(Clone, Copy)]
 pub enum AtFault {
     Nothing,
     Folder,
@@ -25,7 +25,7 @@ pub enum AtFault {
 }
 
 /// Which of a hunt's files have failed. The others' faults name their file.
-#[derive(Clone, Copy, Debug, PartialEq, Eq)]
+#[derive(Clone, Copy)]
 pub struct Failed {
     pub image: bool,
     pub folder: AtFault,

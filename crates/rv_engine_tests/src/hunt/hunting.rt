@@ -64,6 +64,18 @@ fn options(rt: &impl Abort) -> HuntOptions<'static, 'static> {
     }
 }
 
+/// The file of a fault, 0 for the image, and the fault where it is one that any command may tell.
+type DeviceFault = (usize, Option<Fault>);
+
+fn of_device(fault: HuntFault<'_>) -> DeviceFault {
+    match fault {
+        HuntFault::Command(CommandFault::Plain(fault)) => (0, Some(fault)),
+        HuntFault::Ignored(FileFault::Plain(fault)) => (1, Some(fault)),
+        HuntFault::Expected(FileFault::Plain(fault)) => (2, Some(fault)),
+        _ => (0, None),
+    }
+}
+
 /// What the hunt of some files answers to devices.
 fn told<R: Read, W: Write, E: Write>(
     rt: &(impl Threads + Wait + Sync),
@@ -73,9 +85,9 @@ fn told<R: Read, W: Write, E: Write>(
     folder: &mut Option<FullFolder>,
     writer: &mut Buffered<W>,
     notes: &mut Buffered<E>,
-) -> Result<(), HuntFault<'static>> {
+) -> Result<(), DeviceFault> {
     if !asked.is_legal() {
-        return Err(HuntFault::Command(CommandFault::NoRace));
+        return Err((0, None));
     }
     let mut page: Option<Kept> = None;
     let outcome = run_hunt(
@@ -92,7 +104,7 @@ fn told<R: Read, W: Write, E: Write>(
     drop(page);
     match outcome {
         Ok(_) => Ok(()),
-        Err(fault) => Err(fault),
+        Err(fault) => Err(of_device(fault)),
     }
 }
 
@@ -124,7 +136,7 @@ fn told_of<W: Write, E: Write>(
         notes,
     ) {
         Ok(()) => Ok(()),
-        Err(HuntFault::Command(CommandFault::Plain(fault))) => Err(fault),
+        Err((0, Some(fault))) => Err(fault),
         Err(_) => Err(Fault::TooLong),
     }
 }
@@ -159,13 +171,6 @@ fn failed(inputs: &Inputs<Failing<'_>>) -> [bool; 3] {
     ]
 }
 
-/// The faults of the three files' readers.
-const FAULTS: [HuntFault; 3] = [
-    HuntFault::Command(CommandFault::Plain(Fault::Read)),
-    HuntFault::Ignored(FileFault::Plain(Fault::Read)),
-    HuntFault::Expected(FileFault::Plain(Fault::Read)),
-];
-
 /// What the hunt answers where a reader of the place fails at the read of that number, and which have failed. It writes
 /// nothing where it is refused.
 fn told_reading(
@@ -174,7 +179,7 @@ fn told_reading(
     image: &[u8],
     place: usize,
     fails_at: u64,
-) -> (Result<(), HuntFault<'static>>, [bool; 3]) {
+) -> (Result<(), DeviceFault>, [bool; 3]) {
     let asked = options(rt);
     let mut inputs = readers(image, place, fails_at);
     let mut writer = Buffered::new(alloc, Vec::new(alloc));
@@ -199,7 +204,6 @@ fn reads_of(
     alloc: Global,
     image: &[u8],
     place: usize,
-    fault: HuntFault<'static>,
 ) -> u64 {
     let only = [place == 0, place == 1, place == 2];
     for fails_at in 1..100 {
@@ -208,7 +212,7 @@ fn reads_of(
             assert_is(rt, failed, [false; 3], "none has failed");
             return fails_at - 1;
         }
-        assert_is(rt, outcome, Err(fault), "the fault");
+        assert_is(rt, outcome, Err((place, Some(Fault::Read))), "the fault");
         assert_is(rt, failed, only, "that reader alone has failed");
     }
     0
@@ -225,7 +229,7 @@ fn tells_readers_that_fail(rt: HostRuntime) {
     let file = file_of(&rt, alloc, &P, &WORD);
     let wanted = [reads_in(&file), reads_in(LIST), reads_in(TABLE)];
     for place in 0..3 {
-        let found = reads_of(&rt, alloc, &file, place, FAULTS[place]);
+        let found = reads_of(&rt, alloc, &file, place);
         assert_is(&rt, found, wanted[place], "the reads");
     }
 }
@@ -262,7 +266,7 @@ fn tells_notes_that_fail(rt: HostRuntime) {
     });
 }
 
-const WRITE: HuntFault = HuntFault::Command(CommandFault::Plain(Fault::Write));
+const WRITE: DeviceFault = (0, Some(Fault::Write));
 
 /// A folder that gets full keeps what it took, and nothing is written.
 fn assert_full(

@@ -52,14 +52,22 @@ const FITS: &[Fits] = &[
     ("\n  \n#\n* 00010ffc\nmain *\n", 0x10024, None, true),
 ];
 
-/// The list of a text, whose read of that number fails.
+/// The list of a text, whose read of that number fails; or the fault, where it is one of the device.
 fn read(
     alloc: Global,
     symbols: &SymbolTable,
     text: &str,
     fails_at: u64,
-) -> Result<Ignores, FileFault> {
-    read_ignores(alloc, symbols, &mut reader_of(text.as_bytes(), 10, fails_at))
+) -> Result<Ignores, Option<Fault>> {
+    match read_ignores(
+        alloc,
+        symbols,
+        &mut reader_of(text.as_bytes(), 10, fails_at),
+    ) {
+        Ok(ignores) => Ok(ignores),
+        Err(FileFault::Plain(fault)) => Err(Some(fault)),
+        Err(_) => Err(None),
+    }
 }
 
 fn assert_fits(rt: &impl Abort, alloc: Global, symbols: &SymbolTable, row: &Fits) {
@@ -125,7 +133,7 @@ fn assert_parts(rt: &impl Abort, alloc: Global, symbols: &SymbolTable) {
 fn assert_tells_failing_reads(rt: &impl Abort, alloc: Global, symbols: &SymbolTable) {
     for fails_at in 1..5 {
         let found = read(alloc, symbols, "main *\n* inner\n", fails_at).err();
-        let wanted = (fails_at < 4).then_some(FileFault::Plain(Fault::Read));
+        let wanted = (fails_at < 4).then_some(Some(Fault::Read));
         assert_is(rt, found, wanted, "a read");
     }
 }

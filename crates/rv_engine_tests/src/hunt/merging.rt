@@ -21,13 +21,23 @@ const LATER: &[u8] = b"races 3\n\
 
 const NONE: &[u8] = b"races 0\n";
 
+/// The fault of a file's device, with the file, or None.
+type DeviceFault = (Option<usize>, Option<Fault>);
+
+fn of_device(merge: MergeFault) -> DeviceFault {
+    match merge.fault {
+        FileFault::Plain(fault) => (merge.file, Some(fault)),
+        _ => (merge.file, None),
+    }
+}
+
 /// What the merge of some tables comes to: the table, or the fault. Where it is refused, nothing may be written.
 fn outcome<'t>(
     rt: &impl Abort,
     alloc: Global,
     tables: &mut [Flagged<Failing<'t>>],
     expected: &mut Option<Flagged<Failing<'t>>>,
-) -> Result<Vec<u8>, MergeFault> {
+) -> Result<Vec<u8>, DeviceFault> {
     let mut writer = Buffered::new(alloc, Vec::new(alloc));
     let merged = run_merge(alloc, tables, expected, &mut writer);
     assert_is(rt, writer.failed(), false, "the writer failed");
@@ -36,7 +46,7 @@ fn outcome<'t>(
         Ok(_) => Ok(written),
         Err(fault) => {
             assert_is(rt, written.len(), 0, "bytes");
-            Err(fault)
+            Err(of_device(fault))
         }
     }
 }
@@ -55,7 +65,7 @@ fn merge_failing(
     alloc: Global,
     file: usize,
     fails_at: u64,
-) -> (Result<Vec<u8>, MergeFault>, bool) {
+) -> (Result<Vec<u8>, DeviceFault>, bool) {
     let at = |place| if file == place { fails_at } else { 0 };
     let mut tables = [reader_of(EARLIER, 10, at(0)), reader_of(LATER, 10, at(1))];
     let mut expected = Some(reader_of(NONE, 10, at(2)));
@@ -66,10 +76,7 @@ fn merge_failing(
 
 /// Each read of a file fails in turn, the one at its end too.
 fn assert_tells_failing_reads(rt: &impl Abort, alloc: Global, file: usize) {
-    let wanted = MergeFault {
-        file: Some(file),
-        fault: FileFault::Plain(Fault::Read),
-    };
+    let wanted = (Some(file), Some(Fault::Read));
     for fails_at in 1..100 {
         let (outcome, failed) = merge_failing(rt, alloc, file, fails_at);
         assert_is(rt, failed && file == 2, false, "a table");

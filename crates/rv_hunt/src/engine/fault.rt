@@ -12,7 +12,7 @@ use rv_memory::flagged::WriteFault;
 use rv_memory::store::NoMemory;
 
 /// Why `hunt` writes nothing, or not all.
-#[derive(Clone, Copy, Debug, PartialEq, Eq)]
+#[derive(Clone, Copy)]
 pub enum HuntFault<'a> {
     /// The image or a list of the command line is refused, the runs cannot be made, or a device failed.
     Command(CommandFault<'a>),

@@ -3,7 +3,7 @@ ghost use Rattle.std.specs.Prelude.{◌≡◌, ◌≢◌, ◌||◌, List, OnOk, 
 ghost use Rattle.rv_hunt.specs.engine.FolderFault.{fails_by_write};
 
 /// Why a folder takes no file.
-#[derive(Clone, Copy, PartialEq, Eq)]
+#[derive(Clone, Copy)]
 pub enum FolderFault {
     NoMemory,
     /// The folder is not there, a file is there already, or it cannot be written.

@@ -2,7 +2,7 @@
 
 /// How many races may be a bug, how many are likely benign, and whether one that may be a bug is not among those that are
 /// expected. Those of listed names, and those that are ignored, are not asked.
-#[derive(Clone, Copy, Debug, PartialEq, Eq)]
+#[derive(Clone, Copy)]
 pub struct Found {
     pub bugs: u64,
     pub benign: u64,

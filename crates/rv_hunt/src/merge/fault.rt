@@ -12,7 +12,7 @@ use rv_memory::store::NoMemory;
 use std::fmt;
 
 /// What is wrong with a line of an ignore list.
-#[derive(Clone, Copy, Debug, PartialEq, Eq)]
+#[derive(Clone, Copy)]
 pub enum IgnoreKind {
     /// The line is not two sides.
     Shape,
@@ -21,14 +21,14 @@ pub enum IgnoreKind {
 }
 
 /// The first line of an ignore list with a fault, from 1 on, and its first fault.
-#[derive(Clone, Copy, Debug, PartialEq, Eq)]
+#[derive(Clone, Copy)]
 pub struct IgnoreFault {
     pub line: u64,
     pub kind: IgnoreKind,
 }
 
 /// Why a file of a hunt is refused, or a device failed.
-#[derive(Clone, Copy, Debug, PartialEq, Eq)]
+#[derive(Clone, Copy)]
 pub enum FileFault {
     /// The file is too long, a device failed, or memory is out.
     Plain(Fault),
