@@ -10,10 +10,13 @@ use Rattle.rv_collide.specs.StateAt.{state_at}
 use Rattle.rv_collide.specs.Stored.{Stored, setting_of}
 use Rattle.rv_collide.specs.declared.entry.Entry.{Entry}
 use Rattle.rv_collide.specs.declared.entry.Entry.TheVariants.{Stepped, Paused}
+use Rattle.rv_hart.specs.Common.{NotesKept}
 use Rattle.rv_hart.specs.NextAccess.{accessed, access_of_step, at_plain, next_access, next_plain}
 use Rattle.rv_hart.specs.State.{State, is_running}
 use Rattle.rv_hart.specs.Step.{action_at, event_of, reserves, step_by, step_of, step_of_hart}
 use Rattle.rv_hart.specs.declared.access.Access.{Access}
+use Rattle.rv_hart.specs.declared.access.Common.{Common}
+use Rattle.rv_hart.specs.declared.access.Noted.{Noted}
 use Rattle.rv_hart.specs.declared.action.Action.{Action}
 use Rattle.rv_hart.specs.declared.action.Action.TheVariants.{Trap, Set, Load, Store, Reserve, Conditional, Replace, Print, Exit}
 use Rattle.rv_hart.specs.declared.hart.Hart.{Hart}
@@ -100,3 +103,16 @@ pub armed_turn : (c : Stored) (h : ℕ) (a : Access) → IsArmedAccess c h a →
 armed_turn c h a is =
     ap (turn_entry (setting_of c) c.entries h) is.is_plain
     ∙ ap (λ b. cond b (Paused h (least_free c.plan.slots c.entries)) (Stepped h)) is.is_armed
+
+-- the plain access that the hart would make, at an armed address
+pub plain_armed : (c : Stored) (s : State) (h : ℕ) (a : Access) → state_at (setting_of c).start c.entries (length c.entries) ≡ Some s → plain (setting_of c).start c.entries (length c.entries) h ≡ Some a → contains (armed (setting_of c).start c.entries) a.pc ≡ true → IsArmedAccess c h a
+plain_armed c s h a at is in_set =
+    record {
+      is_plain = is;
+      is_next = next_now (setting_of c).start s c.entries (length c.entries) h at ∙ plain_next s h a (sym (plain_now (setting_of c).start s c.entries (length c.entries) h at) ∙ is);
+      is_armed = in_set;
+    }
+
+-- a plain access that a step was kept back from is the one that the hart would make
+pub kept_plain : (c : Stored) (s : State) (h : ℕ) (common : Common) (before after : Noted) → state_at (setting_of c).start c.entries (length c.entries) ≡ Some s → before.is_kept_back ≡ false → NotesKept s h common before after → after.is_kept_back ≡ true → plain (setting_of c).start c.entries (length c.entries) h ≡ Some after.access
+kept_plain c s h common before after at free kept noted = plain_now (setting_of c).start s c.entries (length c.entries) h at ∙ (kept free noted).1

@@ -1,5 +1,5 @@
 -- The endings after one more entry.
-use Rattle.std.proofs.Common.{◌≡◌, ℕ, ◌≤◌, ◌<◌, List, [], ◌∷◌, ◌++◌, length, take, Option, Some, None, map, refl, sym, ap, subst, ◌∙◌, arith}
+use Rattle.std.proofs.Common.{◌≡◌, ℕ, ◌-◌, ◌≤◌, ◌<◌, List, [], ◌∷◌, ◌++◌, length, take, Option, Some, None, map, refl, sym, ap, subst, ◌∙◌, arith, length-append}
 use Rattle.std.specs.Prelude.{◌==◌, filter_map, slice_get, option_and_then, option_map}
 use Rattle.std.specs.List.{cons_option}
 use Rattle.std.proofs.lemmas.List.{append-nil, take-append-le, length-take}
@@ -10,6 +10,7 @@ use Rattle.rv_collide.specs.First.{paused_access}
 use Rattle.rv_collide.specs.Next.{next}
 use Rattle.rv_collide.specs.Pause.{Pause, Opening, ended, opening_of, openings, pause_ended, resumed_hart}
 use Rattle.rv_collide.specs.Verdict.{ending, ending_at, endings}
+use Rattle.rv_collide.specs.declared.ending.Ending.{Ending}
 use Rattle.rv_collide.specs.declared.entry.Entry.{Entry}
 use Rattle.rv_collide.specs.declared.entry.Entry.TheVariants.{Resumed}
 use Rattle.rv_hart.specs.State.{State}
@@ -107,3 +108,27 @@ ending_now start xs h o access found would =
 pub endings_resume : (start : State) (xs : List Entry) (h : ℕ) (o : Opening) (access : Access) → opening_of xs h ≡ Some o → next start xs o.place o.hart ≡ Some access → endings start (xs ++ Resumed h ∷ []) ≡ endings start xs ++ ending start xs (ended (length xs) o) access ∷ []
 endings_resume start xs h o access found would =
     endings_push start xs (Resumed h) ∙ ap (λ e. endings start xs ++ cons_option e []) (ending_now start xs h o access found would)
+
+at_end : (es : List Ending) (e : Ending) → slice_get (es ++ e ∷ []) (length es) ≡ Some e
+at_end [] e = refl
+at_end (first ∷ es) e = at_end es e
+
+last_got : (es : List Ending) (e : Ending) → slice_get (es ++ e ∷ []) (length (es ++ e ∷ []) - 1) ≡ Some e
+last_got es e =
+    let many = length-append es (e ∷ []) in
+    let place : length (es ++ e ∷ []) - 1 ≡ length es = omega (arith, many) in
+    ap (slice_get (es ++ e ∷ [])) place ∙ at_end es e
+
+not_none : (es : List Ending) (e : Ending) → 0 < length (es ++ e ∷ [])
+not_none es e = let many = length-append es (e ∷ []) in omega (arith, many)
+
+-- a resumption's ending is the last
+pub told_last : (start : State) (xs : List Entry) (h : ℕ) (o : Opening) (access : Access) → opening_of xs h ≡ Some o → next start xs o.place o.hart ≡ Some access → ending_at start (xs ++ Resumed h ∷ []) (length xs) ≡ slice_get (endings start (xs ++ Resumed h ∷ [])) (length (endings start (xs ++ Resumed h ∷ [])) - 1)
+told_last start xs h o access found would =
+    let told = ending start xs (ended (length xs) o) access in
+    ending_now start xs h o access found would
+    ∙ sym (ap (λ (es : List Ending). slice_get es (length es - 1)) (endings_resume start xs h o access found would) ∙ last_got (endings start xs) told)
+
+pub some_told : (start : State) (xs : List Entry) (h : ℕ) (o : Opening) (access : Access) → opening_of xs h ≡ Some o → next start xs o.place o.hart ≡ Some access → 0 < length (endings start (xs ++ Resumed h ∷ []))
+some_told start xs h o access found would =
+    subst (λ (es : List Ending). 0 < length es) (sym (endings_resume start xs h o access found would)) (not_none (endings start xs) (ending start xs (ended (length xs) o) access))

@@ -1,14 +1,14 @@
 -- A turn that is accepted, and a step after which its hart runs on.
-use Rattle.std.proofs.Common.{◌≡◌, ℕ, ◌<◌, Bool, true, false, cond, List, [], ◌∷◌, ◌++◌, length, Option, Some, None, Result, Ok, Err, refl, sym, ap, subst, ◌∙◌, arith}
-use Rattle.std.specs.Prelude.{nat_lt, is_ok, is_some, option_and_then, slice_get, IfSome}
+use Rattle.std.proofs.Common.{◌≡◌, ℕ, ◌+◌, ◌<◌, Bool, true, false, cond, List, [], ◌∷◌, ◌++◌, length, Option, Some, None, Result, Ok, Err, refl, sym, ap, subst, ◌∙◌, arith}
+use Rattle.std.specs.Prelude.{◌==◌, find, nat_lt, is_ok, is_some, option_and_then, slice_get, IfSome}
 use Rattle.std.specs.FinSet.{contains}
 use Rattle.std.proofs.lemmas.Bool.Decides.{nat_tests}
-use Rattle.rv_collide.specs.Answers.{IsEvent, IsWord, StepsOn}
+use Rattle.rv_collide.specs.Answers.{Adds, IsArmedAccess, IsEvent, IsWord, MayPause, StepsOn}
 use Rattle.rv_collide.specs.Entries.{steps}
 use Rattle.rv_collide.specs.Armed.{armed}
 use Rattle.rv_collide.specs.Forced.{Setting, Turn, forced, least_free, turn_entry}
 use Rattle.rv_collide.specs.Next.{plain, runs_at}
-use Rattle.rv_collide.specs.Pause.{opening_of}
+use Rattle.rv_collide.specs.Pause.{Opening, opening_of, openings, openings_from}
 use Rattle.rv_collide.specs.Stored.{Stored, added, setting_of}
 use Rattle.rv_collide.specs.declared.entry.Entry.{Entry}
 use Rattle.rv_collide.specs.declared.entry.Entry.TheVariants.{Paused, Stepped}
@@ -16,7 +16,7 @@ use Rattle.rv_collide.specs.declared.refused.Refused.{Refused}
 use Rattle.rv_collide.specs.StateAt.{state_at}
 use Rattle.rv_hart.specs.Fetched.{IsWordOf}
 use Rattle.rv_hart.specs.State.{State}
-use Rattle.rv_hart.specs.Common.{event_of_common}
+use Rattle.rv_hart.specs.Common.{NotesKept, event_of_common}
 use Rattle.rv_collide.specs.internal.GoesOn.{GoesOn}
 use Rattle.rv_hart.specs.NextAccess.{access_of_step, accessed, at_plain, next_access, next_plain}
 use Rattle.rv_hart.specs.Step.{step_of}
@@ -25,10 +25,14 @@ use Rattle.rv_hart.specs.declared.access.Access.{Access}
 use Rattle.rv_hart.specs.declared.access.Common.{Common}
 use Rattle.rv_hart.specs.declared.access.Common.TheVariants.{Untaken, Silent, Accessed}
 use Rattle.rv_hart.specs.declared.access.Event.{Event}
+use Rattle.rv_hart.specs.declared.access.Noted.{Noted}
 use Rattle.rv_hart.specs.declared.access.Event.TheVariants.{Moved}
+use Rattle.rv_collide.proofs.ArmedAccesses.{armed_turn}
+use Rattle.rv_collide.proofs.Calls.{turn_ok}
 use Rattle.rv_collide.proofs.GoesOn.{runs_there}
 use Rattle.rv_collide.proofs.Growth.{turn_parts}
 use Rattle.rv_collide.proofs.LawLemmas.{wanted}
+use Rattle.rv_collide.proofs.Openings.{openings_push}
 use Rattle.rv_collide.proofs.Prefix.{state_step}
 
 -- ---- what an accepted turn says of its hart
@@ -123,3 +127,55 @@ same_state same = cc
 pub word_found : (c : Stored) (s : State) (h : ℕ) (found : Option ℕ) → state_at (setting_of c).start c.entries (length c.entries) ≡ Some s → IfSome found (IsWordOf s h) → IfSome found (IsWord c h)
 word_found c s h None at is = tt
 word_found c s h (Some word) at is = record { state = s; reached = at; word_is = is }
+
+-- ---- a plain access that is kept back
+
+is_kept : (b : Bool) → (b ≡ true → ⊥) → b ≡ false
+is_kept true never = absurd (never refl)
+is_kept false never = refl
+
+-- a step that was made keeps none back
+pub not_kept : (s : State) (h : ℕ) (common : Common) (before after : Noted) → before.is_kept_back ≡ false → NotesKept s h common before after → (common ≡ Untaken → ⊥) → after.is_kept_back ≡ false
+not_kept s h common before after free kept taken = is_kept after.is_kept_back (λ noted. taken (kept free noted).0)
+
+-- the turn of a hart that would make a plain access at an armed address is its pause
+pub may_pause : (c : Stored) (h : ℕ) (a : Access) → is_ok (forced (setting_of c) c.entries (Turn h)) ≡ true → IsArmedAccess c h a → forced (setting_of c) c.entries (Turn h) ≡ Ok (Paused h (least_free c.plan.slots c.entries))
+may_pause c h a ok is =
+    let may = may_turn (setting_of c) c.entries h ok in
+    turn_ok (setting_of c) c.entries h (lt_is h c.plan.harts may.within) may.runs may.free may.left ∙ ap Ok (armed_turn c h a is)
+
+own : (h : ℕ) → (h == h) ≡ true
+own h = grind (arith, nat_tests)
+
+differ : true ≡ false → ⊥
+differ h = cc
+
+found_last : (p : Opening → Bool) (os : List Opening) (o : Opening) → p o ≡ true → is_some (find p (os ++ o ∷ [])) ≡ true
+found_last p [] o passes = ap (λ b. is_some (cond b (Some o) None)) passes
+found_last p (first ∷ os) o passes =
+    elim (p first) as (λ b. is_some (cond b (Some first) (find p (os ++ o ∷ []))) ≡ true) [
+      | true ↦ refl
+      | false ↦ found_last p os o passes
+    ]
+
+-- a hart that was just paused is paused
+pub paused_now : (xs : List Entry) (h : ℕ) (slot : Option ℕ) → is_some (opening_of (xs ++ Paused h slot ∷ []) h) ≡ true
+unfolding opening_of openings
+paused_now xs h slot =
+    let last : Opening = record { hart = h; slot = slot; place = 0 + length xs } in
+    ap (λ (os : List Opening). is_some (find (λ (o : Opening). o.hart == h) os)) (openings_push 0 xs (Paused h slot) (λ _. refl))
+    ∙ found_last (λ (o : Opening). o.hart == h) (openings_from 0 xs) last (own h)
+
+-- where the turn was the hart's pause
+pub was_paused : (old new : Stored) (h : ℕ) → Adds old new (Turn h) (Paused h (least_free old.plan.slots old.entries)) → MayPause old new h
+was_paused old new h adds =
+    let slot = least_free old.plan.slots old.entries in
+    let now = ap (λ (v : Stored). is_some (opening_of v.entries h)) adds.is_added ∙ paused_now old.entries h slot in
+    record { paused = λ _. adds; still = λ closed. absurd (differ (sym now ∙ closed)) }
+
+-- where nothing was done and the hart is not paused
+pub was_still : (old new : Stored) (h : ℕ) → is_ok (forced (setting_of old) old.entries (Turn h)) ≡ true → new ≡ old → MayPause old new h
+was_still old new h ok same =
+    let free = (may_turn (setting_of old) old.entries h ok).free in
+    let now = ap (λ (v : Stored). is_some (opening_of v.entries h)) same ∙ free in
+    record { paused = λ held. absurd (differ (sym held ∙ now)); still = λ _. same }

@@ -1,10 +1,10 @@
 -- What the calls of a core answer.
-use Rattle.std.specs.Prelude.{◌≡◌, ◌↔◌, ℕ, ◌≤◌, true, ◌⊎◌, Bool, IsTrue, IsSome, Some, IsSomeAnd, List, length, Ok, Err}
-use Rattle.rv_collide.specs.Forced.{Call, Turn, Resume, forced}
+use Rattle.std.specs.Prelude.{◌≡◌, ◌↔◌, ℕ, ◌≤◌, true, false, ◌⊎◌, Bool, IsTrue, IsSome, Some, is_some, IsSomeAnd, List, length, Ok, Err}
+use Rattle.rv_collide.specs.Forced.{Call, Turn, Resume, forced, least_free}
 use Rattle.rv_collide.specs.Held.{Held}
 use Rattle.rv_collide.specs.Laws.{Reported}
 use Rattle.rv_collide.specs.Legal.{IsLegal}
-use Rattle.rv_collide.specs.Pause.{Pause}
+use Rattle.rv_collide.specs.Pause.{Pause, opening_of}
 use Rattle.rv_collide.specs.Plan.{most_entries}
 use Rattle.rv_collide.specs.StateAt.{state_at}
 use Rattle.rv_collide.specs.Stored.{Stored, added, setting_of}
@@ -89,3 +89,8 @@ pub record IsArmedAccess (c : Stored) (h : ℕ) (access : Access) : Type 0 where
   pub is_plain : plain (setting_of c).start c.entries (length c.entries) h ≡ Some access
   pub is_next : next (setting_of c).start c.entries (length c.entries) h ≡ Some access
   pub is_armed : contains (armed (setting_of c).start c.entries) access.pc ≡ true
+
+-- the hart's turn was its pause, and it is paused now; or it is not paused, and nothing has changed
+pub record MayPause (old new : Stored) (h : ℕ) : Type 0 where
+  pub paused : is_some (opening_of new.entries h) ≡ true → Adds old new (Turn h) (Paused h (least_free old.plan.slots old.entries))
+  pub still : is_some (opening_of new.entries h) ≡ false → new ≡ old

@@ -10,9 +10,9 @@ ghost use Rattle.rv_collide.specs.Numbers.{numbers};
 ghost use Rattle.rv_collide.specs.Pause.{opening_of, openings};
 ghost use Rattle.rv_collide.specs.StateAt.{state_at};
 ghost use Rattle.rv_collide.specs.Stored.{added, setting_of, Stored, stored};
-ghost use Rattle.rv_collide.specs.Verdict.{ending_at, endings, verdict_of};
+ghost use Rattle.rv_collide.specs.Verdict.{endings, verdict_of};
 ghost use Rattle.rv_collide.specs.Answers as answer;
-ghost use Rattle.rv_collide.specs.internal.Core.{IsUntil, slots_freed, slots_seen};
+ghost use Rattle.rv_collide.specs.internal.Core.{IsToldLast, IsUntil, slots_freed, slots_seen};
 ghost use Rattle.rv_collide.specs.internal.GoesOn.{GoesOn};
 ghost use Rattle.rv_break.specs.Slots as break_slots;
 ghost use Rattle.rv_hart.specs.NextAccess.{accessed};
@@ -30,7 +30,7 @@ use crate::refused::Refused;
 use rv_break::breakpoints::Breakpoints;
 use rv_break::claim::{ARMED_LIMIT, Seen};
 use rv_elf::Image;
-use rv_hart::access::{Access, Event};
+use rv_hart::access::{Access, Event, Noted};
 use rv_hart::laws::{reservations_and_accesses, what_no_step_does};
 use rv_hart::machine::Machine;
 use rv_memory::store::{ByteStore, MemFault, NoMemory};
@@ -65,8 +65,8 @@ pub struct Collider<S: ByteStore> {
     arms: u32,
     /// Up to which step each turn is a step that no claim is shown, or 0 where that is not known.
     until: u32,
-    /// The access of the last common step, if it made one.
-    noted: Access,
+    /// The access of the last common step, if it made one. None is kept back between the calls.
+    noted: Noted,
 }
 
 /// What a run leaves.
@@ -79,6 +79,7 @@ pub struct Finished {
 }
 
 impl<S: ByteStore> Model for Collider<S> {
+    ghost use Rattle.std.specs.Prelude.{◌≡◌, false};
     ghost use Rattle.rv_collide.specs.Numbers.{numbers};
     ghost use Rattle.rv_collide.specs.Stored.{Stored, stored, setting_of};
     ghost use Rattle.rv_collide.specs.internal.Core.{IsCore, IsRoomy, IsUntil};
@@ -92,7 +93,8 @@ impl<S: ByteStore> Model for Collider<S> {
         c.machine c.breaks c.openings.items c.endings.items c.steps c.arms
         × IsRoomy (setting_of (stored c.image.value (numbers c.plan) c.entries.items)) c.entries
         c.openings c.endings
-        × IsUntil c.plan.steps c.breaks c.openings.items c.until };
+        × IsUntil c.plan.steps c.breaks c.openings.items c.until
+        × (c.noted.is_kept_back ≡ false) };
 }
 
 impl<S: ByteStore> Collider<S> {
@@ -117,7 +119,7 @@ impl<S: ByteStore> Collider<S> {
             steps: 0,
             arms: 0,
             until: plan.steps,
-            noted: Access::of_no_bytes(),
+            noted: Noted::nothing(),
         })
     }
 
@@ -163,7 +165,11 @@ impl<S: ByteStore> Collider<S> {
         }
         match self.opening_place(h) {
             None => Err(Refused::NotPaused),
-            Some(place) => Ok(self.end(h, place)),
+            Some(place) => {
+                self.end(h, place);
+                let last = self.endings.len() - 1;
+                Ok(self.endings[last])
+            }
         }
     }
 
@@ -328,9 +334,8 @@ impl<S: ByteStore> Collider<S> {
         }
     }
 
-    /// Pauses a hart that would make the access.
-    #[cold]
-    #[inline(never)]
+    /// Pauses a hart that would make the access. It is compiled into its two callers, which are called seldom.
+    #[inline(always)]
     fn pause(&mut self, h: u8, access: Access) -> Option<u8>
         requires armed { answer.IsArmedAccess self.old h access }
         requires forced { forced (setting_of self.old) self.old.entries (Turn h) ≡ Ok (Entry.Paused h (least_free self.old.plan.slots self.old.entries)) }
@@ -503,13 +508,14 @@ impl<S: ByteStore> Collider<S> {
         self.until = until(self.plan, &self.breaks, &self.openings);
     }
 
-    /// Ends the open pause of a hart, which stands at a place among the open ones.
+    /// Ends the open pause of a hart, which stands at a place among the open ones. Its ending is the last one then; it is not
+    /// answered, since not each caller wants the copy.
     #[cold]
     #[inline(never)]
-    fn end(&mut self, h: u8, place: usize) -> Ending
+    fn end(&mut self, h: u8, place: usize)
         requires forced { forced (setting_of self.old) self.old.entries (Resume h) ≡ Ok (Entry.Resumed h) }
         requires placed { position (λ o. o.hart == h) (openings self.old.entries) ≡ Some place }
-        ensures ending { ending_at (setting_of self.new).start self.new.entries (length self.old.entries) ≡ Some result }
+        ensures told { IsToldLast self.old self.new }
         ensures after { self.new ≡ added self.old (Entry.Resumed h) }
     {
         reservations_and_accesses();
@@ -520,7 +526,6 @@ impl<S: ByteStore> Collider<S> {
         self.entries.push_reserved(Entry::Resumed(h));
         self.endings.push_reserved(ending);
         self.until = until(self.plan, &self.breaks, &self.openings);
-        ending
     }
 }
 

@@ -1,6 +1,6 @@
 -- Turns in a row, one more.
-use Rattle.std.proofs.Common.{◌≡◌, ℕ, suc, ◌+◌, ◌-◌, ◌^◌, ◌<◌, true, List, [], ◌∷◌, ◌++◌, length, Some, None, refl, sym, ap, subst, ◌∙◌, arith, length-append, get_or}
-use Rattle.std.specs.Prelude.{◌%◌, slice_get}
+use Rattle.std.proofs.Common.{◌≡◌, ℕ, suc, ◌+◌, ◌-◌, ◌^◌, ◌<◌, ◌≤◌, false, true, List, [], ◌∷◌, ◌++◌, length, Some, None, refl, sym, ap, subst, ◌∙◌, arith, length-append, get_or}
+use Rattle.std.specs.Prelude.{◌%◌, ◌==◌, filter, is_some, not, set, slice_get, vec_capacity}
 use Rattle.std.proofs.lemmas.List.{append_assoc, append-nil}
 use Rattle.std.proofs.lemmas.Option.{slice_get_read}
 use Rattle.std.proofs.Math.Nat.{mod-lt}
@@ -8,12 +8,17 @@ use Rattle.rv_drive.specs.Able.{able, due, is_able}
 use Rattle.rv_drive.specs.Drawn.{picked_hart}
 use Rattle.rv_drive.specs.Turns.{ArePickedTurns, IsPickedTurn, TakesTurns}
 use Rattle.rv_drive.specs.declared.ahead.Ahead.{Ahead}
-use Rattle.rv_drive.specs.internal.Kept.{IsAhead, IsInRow, StaysAhead}
+use Rattle.rv_drive.specs.internal.Kept.{AddsTurn, IsAhead, IsInRow, IsOwed, IsTurnOf, IsUnstepped, StaysAhead}
 use Rattle.rv_drive.specs.DriverLaws.{PausesGoOn}
+use Rattle.rv_collide.specs.ListLaws.{OthersStayOpen}
+use Rattle.rv_drive.proofs.KeptLemmas.{is_ready}
+use Rattle.rv_drive.proofs.NotingLemmas.{held_ahead}
 use Rattle.rv_drive.proofs.AheadLemmas.{driver_step, none_due, nth_able, nth_hart}
 use Rattle.rv_collide.specs.Answers.{Adds, StepsOn, Turns}
-use Rattle.rv_collide.specs.Forced.{Setting, Turn}
+use Rattle.rv_collide.specs.Forced.{Setting, Turn, least_free}
 use Rattle.rv_collide.specs.Next.{runs_at}
+use Rattle.rv_collide.specs.Pause.{opening_of}
+use Rattle.rv_hart.specs.declared.machine.TheConstants.{MOST_HARTS}
 use Rattle.rv_collide.specs.Stored.{Stored, added, setting_of}
 use Rattle.rv_collide.specs.declared.collider.Turned.{Turned}
 use Rattle.rv_collide.specs.declared.collider.Turned.TheVariants as turned
@@ -190,3 +195,86 @@ row_ends_same old new before words d e hart left t row same turns =
     let now = still old before words d e hart left row same in
     let later = now.later in
     and_turned old e.collider new (word_at before.seed before.stream) before.taken (words.taken - 1) words.taken hart t now.so_far now.undue now.picked turns (omega arith)
+
+pub row_turned : (old new : Stored) (before words : Given) (d : Ahead) (hart left : ℕ) → IsInRow old before d words hart left → IsTurnOf d.collider new hart → TakesTurns old new (word_at before.seed before.stream) before.taken words.taken
+row_turned old new before words d hart left row turns =
+    let later = row.later in
+    and_one old d.collider new (word_at before.seed before.stream) before.taken (words.taken - 1) words.taken hart turns.entry row.so_far row.undue row.picked turns.adds (omega arith)
+
+-- a turn of a row is owed
+pub row_owed : (old : Stored) (before words : Given) (d e : Ahead) (hart left : ℕ) → IsInRow old before d words hart left → IsUnstepped d e hart → IsOwed e hart
+row_owed old before words d e hart left row was =
+    record {
+      before = d;
+      ahead = row.ahead;
+      within = row_within old before words d hart left row;
+      is_able = row_able old before words d hart left row;
+      unstepped = was;
+    }
+
+-- ---- the end of a row by no step
+
+-- where the hart is not paused nothing has changed
+pub unstepped_same : (d e : Ahead) (h : ℕ) → IsUnstepped d e h → is_some (opening_of e.collider.entries h) ≡ false → e ≡ d
+unstepped_same d e h was closed = was.same_rest ∙ ap (λ (c : Stored). record d { collider = c }) (was.may_pause.still closed)
+
+differ : true ≡ false → ⊥
+differ h = cc
+
+-- nor where nothing was tried, since an able hart is not paused
+pub untried : (d : Ahead) (h : ℕ) → is_able (setting_of d.collider) d.collider.entries h ≡ true → IsUnstepped d d h
+untried d h is =
+    let free = (is_ready (setting_of d.collider) d.collider.entries h is).free in
+    record {
+      same_rest = refl;
+      may_pause = record { paused = λ held. absurd (differ (sym held ∙ free)); still = λ _. refl };
+    }
+
+-- what it is to note a pause
+pub record Notes (e f : Ahead) (h : ℕ) : Type 0 where
+  pub made_at : f.made_at ≡ set e.made_at h e.made
+  pub able_are : f.able.items ≡ filter (λ k. not (k == h)) e.able.items
+  pub room : vec_capacity f.able ≡ vec_capacity e.able
+  pub sooner : f.earliest ≤ e.earliest
+  pub end : f.earliest ≤ e.made + e.collider.plan.pause
+  pub core : f.collider ≡ e.collider
+  pub made : f.made ≡ e.made
+
+pub unstepped_harts : (d e : Ahead) (h : ℕ) → IsAhead d → IsUnstepped d e h → length e.made_at ≡ MOST_HARTS
+unstepped_harts d e h ahead was = ap (λ (x : Ahead). length x.made_at) was.same_rest ∙ ahead.kept.harts
+
+-- where it is, its pause is noted
+pub paused_ahead : PausesGoOn → OthersStayOpen → (d e f : Ahead) (h : ℕ) → h < 16 → IsAhead d → is_able (setting_of d.collider) d.collider.entries h ≡ true → IsUnstepped d e h → is_some (opening_of e.collider.entries h) ≡ true → Notes e f h → IsAhead f
+paused_ahead law stay d e f h below ahead is was held notes =
+    let adds = was.may_pause.paused held in
+    let slot = least_free d.collider.plan.slots d.collider.entries in
+    let noted : Notes (record d { collider = e.collider }) f h = subst (λ (x : Ahead). Notes x f h) was.same_rest notes in
+    let end : f.earliest ≤ d.made + d.collider.plan.pause = subst (λ (s : Stored). f.earliest ≤ d.made + s.plan.pause) adds.is_added noted.end in
+    held_ahead law stay d f h slot below (is_ready (setting_of d.collider) d.collider.entries h is).free ahead
+    (noted.core ∙ adds.is_added) noted.made noted.made_at noted.able_are noted.room noted.sooner end
+
+pub turn_of : (old new : Stored) (h : ℕ) (t : Turned) → Turns old new h t → IsTurnOf old new h
+turn_of old new h (turned.Stepped event) turns = record { entry = Stepped h; adds = turns.0 }
+turn_of old new h (turned.Paused slot) turns = record { entry = Paused h slot; adds = turns }
+
+-- the owed turn, told of what was before it
+pub owed_turn : (e : Ahead) (new : Ahead) (h : ℕ) (t : Turned) → is_some (opening_of e.collider.entries h) ≡ false → Turns e.collider new.collider h t → AddsTurn e new h
+owed_turn e new h t closed turns = λ before was.
+    let same = unstepped_same before e h was closed in
+    turn_of before.collider new.collider h t (subst (λ (x : Ahead). Turns x.collider new.collider h t) same turns)
+
+pub owed_pause : (e f : Ahead) (h : ℕ) → is_some (opening_of e.collider.entries h) ≡ true → f.collider ≡ e.collider → AddsTurn e f h
+owed_pause e f h held same = λ before was.
+    let adds = was.may_pause.paused held in
+    record {
+      entry = Paused h (least_free before.collider.plan.slots before.collider.entries);
+      adds = record { is_forced = adds.is_forced; is_added = same ∙ adds.is_added };
+    }
+
+-- its core has the same plan
+pub owed_plan : (e : Ahead) (h : ℕ) (owed : IsOwed e h) → owed.before.collider.plan ≡ e.collider.plan
+owed_plan e h owed =
+    elim (is_some (opening_of e.collider.entries h)) as (λ b. is_some (opening_of e.collider.entries h) ≡ b → owed.before.collider.plan ≡ e.collider.plan) [
+      | true ↦ λ held. sym (ap (λ (c : Stored). c.plan) (owed.unstepped.may_pause.paused held).is_added)
+      | false ↦ λ closed. sym (ap (λ (c : Stored). c.plan) (owed.unstepped.may_pause.still closed))
+    ] refl

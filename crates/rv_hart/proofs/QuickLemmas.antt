@@ -4,13 +4,19 @@ use Rattle.std.specs.Prelude.{◌==◌, ◌||◌, ⊤, is_some, slice_get, IfSom
 use Rattle.std.proofs.lemmas.List.{append-nil, get_or-set_same, length-set, map-set, set-get_or, set-set}
 use Rattle.std.proofs.lemmas.Option.{slice_get-get_or, slice_get_within}
 use Rattle.rv_hart.specs.Act.{action_of}
+use Rattle.rv_hart.specs.Common.{NotesKept}
 use Rattle.rv_hart.specs.Fetched.{IsWordAt}
+use Rattle.rv_hart.specs.State.{State}
 use Rattle.rv_hart.specs.Refusals.{is_print, is_running_hart}
 use Rattle.rv_hart.specs.Step.{action_at_word, allowed, hart_after, kept, loaded_by, memory_after, reserves, seen_by, write, written_by}
 use Rattle.rv_hart.specs.Arithmetic.{combined}
 use Rattle.rv_hart.specs.declared.access.Access.{Access}
+use Rattle.rv_hart.specs.declared.access.AccessKind.TheVariants as kind
+use Rattle.rv_hart.specs.declared.access.Common.{Common}
+use Rattle.rv_hart.specs.declared.access.Common.TheVariants.{Untaken}
 use Rattle.rv_hart.specs.declared.access.Event.{Event}
 use Rattle.rv_hart.specs.declared.access.Event.TheVariants.{Moved}
+use Rattle.rv_hart.specs.declared.access.Noted.{Noted}
 use Rattle.rv_hart.specs.declared.action.Action.{Action}
 use Rattle.rv_hart.specs.declared.action.Action.TheVariants.{Set, Load, Store, Reserve, Conditional, Replace}
 use Rattle.rv_hart.specs.declared.action.Combine.{Combine}
@@ -20,11 +26,13 @@ use Rattle.rv_hart.specs.declared.quick.Attempt.{Attempt}
 use Rattle.rv_hart.specs.declared.quick.Attempt.TheVariants as attempt
 use Rattle.rv_hart.specs.declared.write.Write.{Write}
 use Rattle.rv_hart.specs.internal.Able.{HasSize}
+use Rattle.rv_hart.specs.internal.HartAccess.{hart_plain, plain_access}
 use Rattle.rv_hart.specs.internal.Harts.{HartsAfter, Sees, any_holds, holds, write_of_access}
 use Rattle.rv_hart.specs.internal.Machine.{RunsTo}
-use Rattle.rv_hart.specs.internal.Quick.{Begins, Fetches, IsQuick, Moves, Tried, TriedAt, event_of_attempt, is_reserving, over, write_of}
+use Rattle.rv_hart.specs.internal.Quick.{Begins, BeginsPlain, Fetches, IsQuick, KeepsBack, KeepsBackAt, Moves, Tried, TriedAt, event_of_attempt, is_reserving, over, write_of}
 use Rattle.rv_hart.proofs.AbleLemmas.{fetched_word, sized_fetched}
 use Rattle.rv_hart.proofs.HartsLemmas.{none_seen}
+use Rattle.rv_hart.proofs.NextLemmas.{next_plain_is}
 use Rattle.rv_hart.proofs.StepLemmas.{harts_count, step_made}
 use Rattle.rv_isa.specs.Decoded.{decoded}
 use Rattle.rv_isa.specs.declared.instr.Instr.{Instr}
@@ -87,6 +95,44 @@ conditional_allowed m rd address value aligned permitted = rw (aligned, permitte
 conditional_runs : (m : Memory) (hart : Hart) (rd address value : ℕ) → Begins m (Conditional rd address value) hart → (address % 4 == 0) ≡ true → permits m address 4 need.Write ≡ true → RunsTo m hart (Conditional rd address value)
 conditional_runs m hart rd address value b aligned permitted =
     record { running = b.running; next = sym (conditional_allowed m rd address value aligned permitted) ∙ ap (allowed m) b.action_is }
+
+-- ---- a plain access that is kept back
+
+plain_next : (m : Memory) (hart : Hart) (action : Action) → RunsTo m hart action → hart_plain m hart ≡ plain_access hart action
+plain_next m hart action r = rw r.running (ap (plain_access hart) (sym r.next))
+
+pub plain_load : (m : Memory) (hart : Hart) (rd address size : ℕ) (signed : Bool) → Begins m (Load rd address size signed) hart → (address % size == 0) ≡ true → BeginsPlain m hart address size kind.Load
+plain_load m hart rd address size signed b aligned permitted =
+    plain_next m hart (Load rd address size signed) (load_runs m hart rd address size signed b aligned permitted)
+
+pub plain_store : (m : Memory) (hart : Hart) (address size value : ℕ) → Begins m (Store address size value) hart → (address % size == 0) ≡ true → BeginsPlain m hart address size kind.Store
+plain_store m hart address size value b aligned permitted =
+    plain_next m hart (Store address size value) (store_runs m hart address size value b aligned permitted)
+
+-- what is said of a hart is said of the one at its place
+pub keeps_there : (harts : List Hart) (m : Memory) (h : ℕ) (default : Hart) (made known : Attempt) (before after : Noted) → made ≡ known → h < length harts → KeepsBack m (get_or harts h default) made before after → KeepsBackAt m harts h known before after
+keeps_there harts m h default made known before after is within kept hart found free noted =
+    let there = slice_get-get_or harts h default within in
+    let same : get_or harts h default ≡ hart = cc in
+    let k = kept free noted in
+    (sym is ∙ k.0, subst (λ (x : Hart). hart_plain m x ≡ Some after.access) same k.1)
+
+pub not_silent : (made : Attempt) (common : Common) → made ≡ attempt.Nothing → made ≡ attempt.Silent → common ≡ Untaken
+not_silent made common none silent = cc
+
+pub not_accessed : (made : Attempt) (common : Common) → made ≡ attempt.Nothing → (made ≡ attempt.Accessed) ⊎ (made ≡ attempt.Reserved) → common ≡ Untaken
+not_accessed made common none (inl accessed) = cc
+not_accessed made common none (inr reserved) = cc
+
+notes_of : (s : State) (h : ℕ) (found : Option Hart) (made : Attempt) (common : Common) (before after : Noted) → slice_get s.harts h ≡ found → is_running_hart found ≡ true → KeepsBackAt s.memory s.harts h made before after → (made ≡ attempt.Nothing → common ≡ Untaken) → NotesKept s h common before after
+notes_of s h None made common before after is runs kept same free noted = cc
+notes_of s h (Some hart) made common before after is runs kept same free noted =
+    let k = kept hart is free noted in
+    (same k.0, next_plain_is s h hart is ∙ k.1)
+
+-- a hart that runs is there, and its next access is the machine's
+pub notes_kept : (s : State) (h : ℕ) (made : Attempt) (common : Common) (before after : Noted) → is_running_hart (slice_get s.harts h) ≡ true → KeepsBackAt s.memory s.harts h made before after → (made ≡ attempt.Nothing → common ≡ Untaken) → NotesKept s h common before after
+notes_kept s h made common before after runs kept same = notes_of s h (slice_get s.harts h) made common before after refl runs kept same
 
 -- ---- a hart's own part of a step
 

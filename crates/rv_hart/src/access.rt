@@ -1,6 +1,7 @@
 ghost use Rattle.std.specs.Prelude.{◌≡◌, ◌↔◌, IsTrue, false};
 
 use crate::hart::Cause;
+use rv_memory::store::Need;
 
 /// An access to memory that an instruction makes: the instruction's address, the first of `size` bytes
 /// (1, 2 or 4), and whether it reads and writes them.
@@ -20,6 +21,26 @@ pub enum Event {
     Moved(Option<Access>),
     Exited(u32),
     Stopped(Cause),
+}
+
+/// What a common step notes of an access: of the one that it made, or of a plain one that it was kept back from. Whoever has taken
+/// note of the latter says that it is kept back no more.
+#[derive(Clone, Copy)]
+pub struct Noted {
+    pub access: Access,
+    pub is_kept_back: bool,
+}
+
+impl Noted {
+    /// Nothing yet.
+    pub fn nothing() -> Noted
+        ensures { result.is_kept_back ≡ false }
+    {
+        Noted {
+            access: Access::of_no_bytes(),
+            is_kept_back: false,
+        }
+    }
 }
 
 /// What a common step was: none was made; it made no access; or it made the access that was noted.
@@ -58,6 +79,18 @@ impl AccessKind {
         match self {
             AccessKind::Store | AccessKind::Both => true,
             AccessKind::Load => false,
+        }
+    }
+
+    /// What its bytes are needed for.
+    #[inline(always)]
+    pub(crate) fn need(self) -> Need
+        ensures { result ≡ spec.need_of self }
+    {
+        match self {
+            AccessKind::Load => Need::Read,
+            AccessKind::Store => Need::Write,
+            AccessKind::Both => Need::ReadWrite,
         }
     }
 }

@@ -2,7 +2,7 @@ ghost use Rattle.std.specs.Prelude.{◌≡◌, true, ◌^◌, ◌≢◌, ℕ, �
 ghost use Rattle.rv_hart.specs.internal.Able.{IsAble};
 ghost use Rattle.rv_hart.specs.internal.Machine as machine;
 ghost use Rattle.rv_hart.specs.internal.HartAccess as own;
-ghost use Rattle.rv_hart.specs.Common.{event_of_common};
+ghost use Rattle.rv_hart.specs.Common.{NotesKept, event_of_common};
 ghost use Rattle.rv_hart.specs.Fetched.{IsWordOf};
 ghost use Rattle.rv_hart.specs.NextAccess as next;
 ghost use Rattle.rv_hart.specs.Refusals as refusals;
@@ -14,7 +14,7 @@ ghost use Rattle.rv_hart.specs.StepAnswer.{AnswersStep};
 ghost use Rattle.rv_memory.specs.Extent.{IsExtent};
 ghost use Rattle.rv_memory.specs.Memory as memory;
 
-use crate::access::{Access, Common, Event};
+use crate::access::{Access, Common, Event, Noted};
 use crate::act::register;
 use crate::action::Action;
 use crate::effect::{
@@ -60,7 +60,7 @@ pub struct Machine<S: ByteStore> {
     /// Whether a hart may hold a reservation: where none does, a write ends none.
     reserved: bool,
     /// The access that the last common step of `step` made, if it made one: a place that stays, so that no step makes one.
-    noted: Access,
+    noted: Noted,
 }
 
 impl<S: ByteStore> Model for Machine<S> {
@@ -113,7 +113,7 @@ impl<S: ByteStore> Machine<S> {
             output,
             limit: out_limit,
             reserved: false,
-            noted: Access::of_no_bytes(),
+            noted: Noted::nothing(),
         })
     }
 
@@ -249,19 +249,20 @@ impl<S: ByteStore> Machine<S> {
         &mut self,
         h: u8,
         word: u32,
-        noted: &mut Access,
+        noted: &mut Noted,
         stops: &P,
     ) -> Common
         requires running { refusals.is_running_hart (slice_get self.old.state.harts h) ≡ true }
         requires word { IsWordOf self.old.state h word }
-        ensures step { IfSome (event_of_common result noted.new) (λ event.
+        ensures step { IfSome (event_of_common result noted.new.access) (λ event.
             step_of self.old.state h ≡ Some (event, self.new.state)) }
-        ensures passed { IfSome (event_of_common result noted.new) (λ event.
+        ensures passed { IfSome (event_of_common result noted.new.access) (λ event.
             IfSome (next.accessed event) (λ access. P.passes stops.now access.pc)) }
-        ensures silent { IsSome (event_of_common result noted.new)
+        ensures silent { IsSome (event_of_common result noted.new.access)
             → refusals.prints self.old.state.memory (slice_get self.old.state.harts h) ≡ false }
         ensures harts { length self.new.state.harts ≡ length self.old.state.harts }
         ensures limit { self.new.limit ≡ self.old.limit }
+        ensures kept { NotesKept self.old.state h result noted.old noted.new }
         ensures same { (result ≡ Common.Untaken) → self.new ≡ self.old }
     {
         let attempt = tried::<PLACE, S, P>(
@@ -316,12 +317,12 @@ impl<S: ByteStore> Machine<S> {
             return Some(Event::Moved(None));
         }
         if let Attempt::Accessed = attempt {
-            return Some(Event::Moved(Some(self.noted)));
+            return Some(Event::Moved(Some(self.noted.access)));
         }
         match attempt {
             Attempt::Nothing => None,
             Attempt::Silent => Some(Event::Moved(None)),
-            Attempt::Accessed | Attempt::Reserved => Some(Event::Moved(Some(self.noted))),
+            Attempt::Accessed | Attempt::Reserved => Some(Event::Moved(Some(self.noted.access))),
         }
     }
 

@@ -6,9 +6,9 @@ ghost use Rattle.rv_hart.specs.Refusals.{is_running_hart};
 ghost use Rattle.rv_hart.specs.internal.Able.{HasSize};
 ghost use Rattle.rv_hart.specs.internal.AccessKind.{access_of_kind};
 ghost use Rattle.rv_hart.specs.internal.Harts.{Sees, any_holds, write_of_access};
-ghost use Rattle.rv_hart.specs.internal.Quick.{Begins, Fetches, Tried, TriedAt, attempt_of_access, event_of_attempt, is_reserving};
+ghost use Rattle.rv_hart.specs.internal.Quick.{Begins, BeginsPlain, Fetches, KeepsBack, KeepsBackAt, Tried, TriedAt, attempt_of_access, event_of_attempt, is_reserving};
 
-use crate::access::{Access, AccessKind};
+use crate::access::{Access, AccessKind, Noted};
 use crate::act::{act, combined};
 use crate::action::Action;
 use crate::effect::{advance, is_aligned, reserves, see_access};
@@ -42,23 +42,24 @@ pub fn tried<const PLACE: u8, S: ByteStore, P: Stops>(
     reserved: &mut bool,
     h: u8,
     word: u32,
-    access: &mut Access,
+    noted: &mut Noted,
     stops: &P,
 ) -> Attempt
     requires running { is_running_hart (slice_get harts.old.items h) ≡ true }
     requires fetches { IsWordAt harts.old.items (S.memory store.old) h word }
     requires held { reserved.old ≡ false → any_holds harts.old.items ≡ false }
-    ensures tried { TriedAt (P.passes stops.now) harts.old.items harts.new.items (S.memory store.old) (S.memory store.new) h (event_of_attempt result access.new) (is_reserving result) }
+    ensures tried { TriedAt (P.passes stops.now) harts.old.items harts.new.items (S.memory store.old) (S.memory store.new) h (event_of_attempt result noted.new.access) (is_reserving result) }
+    ensures kept { KeepsBackAt (S.memory store.old) harts.old.items h result noted.old noted.new }
     ensures held { reserved.new ≡ false → any_holds harts.new.items ≡ false }
     ensures len { vec_len harts.new ≡ vec_len harts.old }
 {
-    let attempt = moved_from::<PLACE, S, P>(store, &mut harts[h as usize], access, word, stops);
+    let attempt = moved_from::<PLACE, S, P>(store, &mut harts[h as usize], noted, word, stops);
     if let Attempt::Silent = attempt {
         return Attempt::Silent;
     }
     if let Attempt::Accessed = attempt {
-        if *reserved && access.write {
-            settle(harts, reserved, h, access);
+        if *reserved && noted.access.write {
+            settle(harts, reserved, h, &noted.access);
         }
         return Attempt::Accessed;
     }
@@ -86,17 +87,18 @@ fn settle(harts: &mut Vec<Hart>, reserved: &mut bool, h: u8, access: &Access)
 fn moved_from<const PLACE: u8, S: ByteStore, P: Stops>(
     store: &mut S,
     hart: &mut Hart,
-    access: &mut Access,
+    noted: &mut Noted,
     word: u32,
     stops: &P,
 ) -> Attempt
     requires fetches { Fetches (S.memory store.old) word hart.old }
-    ensures { Tried (P.passes stops.now) hart.old hart.new (S.memory store.old) (S.memory store.new) (event_of_attempt result access.new) (is_reserving result) }
+    ensures tried { Tried (P.passes stops.now) hart.old hart.new (S.memory store.old) (S.memory store.new) (event_of_attempt result noted.new.access) (is_reserving result) }
+    ensures kept { KeepsBack (S.memory store.old) hart.old result noted.old noted.new }
 {
     if PLACE == 0 {
-        moved_apart(store, hart, access, word, stops)
+        moved_apart(store, hart, noted, word, stops)
     } else {
-        dispatched::<PLACE, S, P>(store, hart, access, word, stops)
+        dispatched::<PLACE, S, P>(store, hart, noted, word, stops)
     }
 }
 
@@ -105,14 +107,15 @@ fn moved_from<const PLACE: u8, S: ByteStore, P: Stops>(
 fn moved_apart<S: ByteStore, P: Stops>(
     store: &mut S,
     hart: &mut Hart,
-    access: &mut Access,
+    noted: &mut Noted,
     word: u32,
     stops: &P,
 ) -> Attempt
     requires fetches { Fetches (S.memory store.old) word hart.old }
-    ensures { Tried (P.passes stops.now) hart.old hart.new (S.memory store.old) (S.memory store.new) (event_of_attempt result access.new) (is_reserving result) }
+    ensures tried { Tried (P.passes stops.now) hart.old hart.new (S.memory store.old) (S.memory store.new) (event_of_attempt result noted.new.access) (is_reserving result) }
+    ensures kept { KeepsBack (S.memory store.old) hart.old result noted.old noted.new }
 {
-    dispatched::<0, S, P>(store, hart, access, word, stops)
+    dispatched::<0, S, P>(store, hart, noted, word, stops)
 }
 
 /// Takes the step of a word, by one jump over the opcode's five upper bits and funct3: each number stands for itself,
@@ -126,117 +129,118 @@ fn moved_apart<S: ByteStore, P: Stops>(
 fn dispatched<const PLACE: u8, S: ByteStore, P: Stops>(
     store: &mut S,
     hart: &mut Hart,
-    access: &mut Access,
+    noted: &mut Noted,
     word: u32,
     stops: &P,
 ) -> Attempt
     requires fetches { Fetches (S.memory store.old) word hart.old }
-    ensures { Tried (P.passes stops.now) hart.old hart.new (S.memory store.old) (S.memory store.new) (event_of_attempt result access.new) (is_reserving result) }
+    ensures tried { Tried (P.passes stops.now) hart.old hart.new (S.memory store.old) (S.memory store.new) (event_of_attempt result noted.new.access) (is_reserving result) }
+    ensures kept { KeepsBack (S.memory store.old) hart.old result noted.old noted.new }
 {
     let is_plain = (word >> 25) % 128 == 0;
     let is_product = word & 0x0200_0000 != 0;
     match (word >> 2) % 32 * 8 + (word >> 12) % 8 {
-        0x00 => of_access(load_apart::<operations::Lb, S, P>(store, hart, access, word, stops)),
-        0x01 => of_access(load_apart::<operations::Lh, S, P>(store, hart, access, word, stops)),
-        0x02 => of_access(load_apart::<operations::Lw, S, P>(store, hart, access, word, stops)),
-        0x04 => of_access(load_apart::<operations::Lbu, S, P>(store, hart, access, word, stops)),
-        0x05 => of_access(load_apart::<operations::Lhu, S, P>(store, hart, access, word, stops)),
+        0x00 => of_access(load_apart::<operations::Lb, S, P>(store, hart, noted, word, stops)),
+        0x01 => of_access(load_apart::<operations::Lh, S, P>(store, hart, noted, word, stops)),
+        0x02 => of_access(load_apart::<operations::Lw, S, P>(store, hart, noted, word, stops)),
+        0x04 => of_access(load_apart::<operations::Lbu, S, P>(store, hart, noted, word, stops)),
+        0x05 => of_access(load_apart::<operations::Lhu, S, P>(store, hart, noted, word, stops)),
         0x18 | 0x19 | 0x1a | 0x1b | 0x1c | 0x1d | 0x1e | 0x1f => set_by(
             store,
             hart,
             Op::Fence,
-            access,
+            noted,
             word,
             stops,
         ),
-        0x20 => set_by(store, hart, Op::Addi, access, word, stops),
-        0x21 => set_by(store, hart, Op::Slli, access, word, stops),
-        0x22 => set_by(store, hart, Op::Slti, access, word, stops),
-        0x23 => set_by(store, hart, Op::Sltiu, access, word, stops),
-        0x24 => set_by(store, hart, Op::Xori, access, word, stops),
+        0x20 => set_by(store, hart, Op::Addi, noted, word, stops),
+        0x21 => set_by(store, hart, Op::Slli, noted, word, stops),
+        0x22 => set_by(store, hart, Op::Slti, noted, word, stops),
+        0x23 => set_by(store, hart, Op::Sltiu, noted, word, stops),
+        0x24 => set_by(store, hart, Op::Xori, noted, word, stops),
         0x25 => if is_plain {
-            set_by(store, hart, Op::Srli, access, word, stops)
+            set_by(store, hart, Op::Srli, noted, word, stops)
         } else {
-            set_by(store, hart, Op::Srai, access, word, stops)
+            set_by(store, hart, Op::Srai, noted, word, stops)
         },
-        0x26 => set_by(store, hart, Op::Ori, access, word, stops),
-        0x27 => set_by(store, hart, Op::Andi, access, word, stops),
+        0x26 => set_by(store, hart, Op::Ori, noted, word, stops),
+        0x27 => set_by(store, hart, Op::Andi, noted, word, stops),
         0x28 | 0x29 | 0x2a | 0x2b | 0x2c | 0x2d | 0x2e | 0x2f => set_by(
             store,
             hart,
             Op::Auipc,
-            access,
+            noted,
             word,
             stops,
         ),
-        0x40 => of_access(store_apart::<operations::Sb, S, P>(store, hart, access, word, stops)),
-        0x41 => of_access(store_apart::<operations::Sh, S, P>(store, hart, access, word, stops)),
-        0x42 => of_access(store_apart::<operations::Sw, S, P>(store, hart, access, word, stops)),
-        0x5a => exchanged(store, hart, access, word, stops),
+        0x40 => of_access(store_apart::<operations::Sb, S, P>(store, hart, noted, word, stops)),
+        0x41 => of_access(store_apart::<operations::Sh, S, P>(store, hart, noted, word, stops)),
+        0x42 => of_access(store_apart::<operations::Sw, S, P>(store, hart, noted, word, stops)),
+        0x5a => exchanged(store, hart, noted, word, stops),
         0x60 => if is_plain {
-            set_by(store, hart, Op::Add, access, word, stops)
+            set_by(store, hart, Op::Add, noted, word, stops)
         } else if is_product {
-            multiplied(store, hart, access, word, stops)
+            multiplied(store, hart, noted, word, stops)
         } else {
-            set_by(store, hart, Op::Sub, access, word, stops)
+            set_by(store, hart, Op::Sub, noted, word, stops)
         },
         0x61 => if is_product {
-            multiplied(store, hart, access, word, stops)
+            multiplied(store, hart, noted, word, stops)
         } else {
-            set_by(store, hart, Op::Sll, access, word, stops)
+            set_by(store, hart, Op::Sll, noted, word, stops)
         },
         0x62 => if is_product {
-            multiplied(store, hart, access, word, stops)
+            multiplied(store, hart, noted, word, stops)
         } else {
-            set_by(store, hart, Op::Slt, access, word, stops)
+            set_by(store, hart, Op::Slt, noted, word, stops)
         },
         0x63 => if is_product {
-            multiplied(store, hart, access, word, stops)
+            multiplied(store, hart, noted, word, stops)
         } else {
-            set_by(store, hart, Op::Sltu, access, word, stops)
+            set_by(store, hart, Op::Sltu, noted, word, stops)
         },
         0x64 => if is_product {
-            multiplied(store, hart, access, word, stops)
+            multiplied(store, hart, noted, word, stops)
         } else {
-            set_by(store, hart, Op::Xor, access, word, stops)
+            set_by(store, hart, Op::Xor, noted, word, stops)
         },
         0x65 => if is_plain {
-            set_by(store, hart, Op::Srl, access, word, stops)
+            set_by(store, hart, Op::Srl, noted, word, stops)
         } else if is_product {
-            multiplied(store, hart, access, word, stops)
+            multiplied(store, hart, noted, word, stops)
         } else {
-            set_by(store, hart, Op::Sra, access, word, stops)
+            set_by(store, hart, Op::Sra, noted, word, stops)
         },
         0x66 => if is_product {
-            multiplied(store, hart, access, word, stops)
+            multiplied(store, hart, noted, word, stops)
         } else {
-            set_by(store, hart, Op::Or, access, word, stops)
+            set_by(store, hart, Op::Or, noted, word, stops)
         },
         0x67 => if is_product {
-            multiplied(store, hart, access, word, stops)
+            multiplied(store, hart, noted, word, stops)
         } else {
-            set_by(store, hart, Op::And, access, word, stops)
+            set_by(store, hart, Op::And, noted, word, stops)
         },
         0x68 | 0x69 | 0x6a | 0x6b | 0x6c | 0x6d | 0x6e | 0x6f => set_by(
             store,
             hart,
             Op::Lui,
-            access,
+            noted,
             word,
             stops,
         ),
-        0xc0 => set_by(store, hart, Op::Beq, access, word, stops),
-        0xc1 => set_by(store, hart, Op::Bne, access, word, stops),
-        0xc4 => set_by(store, hart, Op::Blt, access, word, stops),
-        0xc5 => set_by(store, hart, Op::Bge, access, word, stops),
-        0xc6 => set_by(store, hart, Op::Bltu, access, word, stops),
-        0xc7 => set_by(store, hart, Op::Bgeu, access, word, stops),
-        0xc8 => set_by(store, hart, Op::Jalr, access, word, stops),
+        0xc0 => set_by(store, hart, Op::Beq, noted, word, stops),
+        0xc1 => set_by(store, hart, Op::Bne, noted, word, stops),
+        0xc4 => set_by(store, hart, Op::Blt, noted, word, stops),
+        0xc5 => set_by(store, hart, Op::Bge, noted, word, stops),
+        0xc6 => set_by(store, hart, Op::Bltu, noted, word, stops),
+        0xc7 => set_by(store, hart, Op::Bgeu, noted, word, stops),
+        0xc8 => set_by(store, hart, Op::Jalr, noted, word, stops),
         0xd8 | 0xd9 | 0xda | 0xdb | 0xdc | 0xdd | 0xde | 0xdf => set_by(
             store,
             hart,
             Op::Jal,
-            access,
+            noted,
             word,
             stops,
         ),
@@ -249,42 +253,43 @@ fn dispatched<const PLACE: u8, S: ByteStore, P: Stops>(
 fn exchanged<S: ByteStore, P: Stops>(
     store: &mut S,
     hart: &mut Hart,
-    access: &mut Access,
+    noted: &mut Noted,
     word: u32,
     stops: &P,
 ) -> Attempt
     requires fetches { Fetches (S.memory store.old) word hart.old }
-    ensures { Tried (P.passes stops.now) hart.old hart.new (S.memory store.old) (S.memory store.new) (event_of_attempt result access.new) (is_reserving result) }
+    ensures tried { Tried (P.passes stops.now) hart.old hart.new (S.memory store.old) (S.memory store.new) (event_of_attempt result noted.new.access) (is_reserving result) }
+    ensures kept { KeepsBack (S.memory store.old) hart.old result noted.old noted.new }
 {
     match (word >> 27) % 32 {
         0x00 => of_access(exchange_apart::<operations::AmoaddW, S, P>(
-            store, hart, access, word, stops,
+            store, hart, noted, word, stops,
         )),
         0x01 => of_access(exchange_apart::<operations::AmoswapW, S, P>(
-            store, hart, access, word, stops,
+            store, hart, noted, word, stops,
         )),
-        0x02 => reserve_apart(store, hart, access, word, stops),
-        0x03 => conditional_apart(store, hart, access, word, stops),
+        0x02 => reserve_apart(store, hart, noted, word, stops),
+        0x03 => conditional_apart(store, hart, noted, word, stops),
         0x04 => of_access(exchange_apart::<operations::AmoxorW, S, P>(
-            store, hart, access, word, stops,
+            store, hart, noted, word, stops,
         )),
         0x08 => of_access(exchange_apart::<operations::AmoorW, S, P>(
-            store, hart, access, word, stops,
+            store, hart, noted, word, stops,
         )),
         0x0c => of_access(exchange_apart::<operations::AmoandW, S, P>(
-            store, hart, access, word, stops,
+            store, hart, noted, word, stops,
         )),
         0x10 => of_access(exchange_apart::<operations::AmominW, S, P>(
-            store, hart, access, word, stops,
+            store, hart, noted, word, stops,
         )),
         0x14 => of_access(exchange_apart::<operations::AmomaxW, S, P>(
-            store, hart, access, word, stops,
+            store, hart, noted, word, stops,
         )),
         0x18 => of_access(exchange_apart::<operations::AmominuW, S, P>(
-            store, hart, access, word, stops,
+            store, hart, noted, word, stops,
         )),
         0x1c => of_access(exchange_apart::<operations::AmomaxuW, S, P>(
-            store, hart, access, word, stops,
+            store, hart, noted, word, stops,
         )),
         _ => Attempt::Nothing,
     }
@@ -321,15 +326,16 @@ fn set_by<S: ByteStore, P: Stops>(
     store: &mut S,
     hart: &mut Hart,
     op: Op,
-    access: &mut Access,
+    noted: &mut Noted,
     word: u32,
     stops: &P,
 ) -> Attempt
     requires fetches { Fetches (S.memory store.old) word hart.old }
-    ensures { Tried (P.passes stops.now) hart.old hart.new (S.memory store.old) (S.memory store.new) (event_of_attempt result access.new) (is_reserving result) }
+    ensures tried { Tried (P.passes stops.now) hart.old hart.new (S.memory store.old) (S.memory store.new) (event_of_attempt result noted.new.access) (is_reserving result) }
+    ensures kept { KeepsBack (S.memory store.old) hart.old result noted.old noted.new }
 {
     match begun(store, hart, op, word) {
-        Some(action) => set(store, hart, action, access, stops),
+        Some(action) => set(store, hart, action, noted, stops),
         None => Attempt::Nothing,
     }
 }
@@ -339,22 +345,23 @@ fn set_by<S: ByteStore, P: Stops>(
 fn multiplied<S: ByteStore, P: Stops>(
     store: &mut S,
     hart: &mut Hart,
-    access: &mut Access,
+    noted: &mut Noted,
     word: u32,
     stops: &P,
 ) -> Attempt
     requires fetches { Fetches (S.memory store.old) word hart.old }
-    ensures { Tried (P.passes stops.now) hart.old hart.new (S.memory store.old) (S.memory store.new) (event_of_attempt result access.new) (is_reserving result) }
+    ensures tried { Tried (P.passes stops.now) hart.old hart.new (S.memory store.old) (S.memory store.new) (event_of_attempt result noted.new.access) (is_reserving result) }
+    ensures kept { KeepsBack (S.memory store.old) hart.old result noted.old noted.new }
 {
     match (word >> 12) % 8 {
-        0 => set_by(store, hart, Op::Mul, access, word, stops),
-        1 => set_by(store, hart, Op::Mulh, access, word, stops),
-        2 => set_by(store, hart, Op::Mulhsu, access, word, stops),
-        3 => set_by(store, hart, Op::Mulhu, access, word, stops),
-        4 => set_by(store, hart, Op::Div, access, word, stops),
-        5 => set_by(store, hart, Op::Divu, access, word, stops),
-        6 => set_by(store, hart, Op::Rem, access, word, stops),
-        _ => set_by(store, hart, Op::Remu, access, word, stops),
+        0 => set_by(store, hart, Op::Mul, noted, word, stops),
+        1 => set_by(store, hart, Op::Mulh, noted, word, stops),
+        2 => set_by(store, hart, Op::Mulhsu, noted, word, stops),
+        3 => set_by(store, hart, Op::Mulhu, noted, word, stops),
+        4 => set_by(store, hart, Op::Div, noted, word, stops),
+        5 => set_by(store, hart, Op::Divu, noted, word, stops),
+        6 => set_by(store, hart, Op::Rem, noted, word, stops),
+        _ => set_by(store, hart, Op::Remu, noted, word, stops),
     }
 }
 
@@ -363,15 +370,16 @@ fn multiplied<S: ByteStore, P: Stops>(
 fn load_apart<O: Operation, S: ByteStore, P: Stops>(
     store: &mut S,
     hart: &mut Hart,
-    access: &mut Access,
+    noted: &mut Noted,
     word: u32,
     stops: &P,
 ) -> bool
     requires fetches { Fetches (S.memory store.old) word hart.old }
-    ensures { Tried (P.passes stops.now) hart.old hart.new (S.memory store.old) (S.memory store.new) (event_of_attempt (attempt_of_access result) access.new) (is_reserving (attempt_of_access result)) }
+    ensures tried { Tried (P.passes stops.now) hart.old hart.new (S.memory store.old) (S.memory store.new) (event_of_attempt (attempt_of_access result) noted.new.access) (is_reserving (attempt_of_access result)) }
+    ensures kept { KeepsBack (S.memory store.old) hart.old (attempt_of_access result) noted.old noted.new }
 {
     match begun(store, hart, O::op(), word) {
-        Some(action) => loaded(store, hart, action, access, stops),
+        Some(action) => loaded(store, hart, action, noted, stops),
         None => false,
     }
 }
@@ -381,15 +389,16 @@ fn load_apart<O: Operation, S: ByteStore, P: Stops>(
 fn store_apart<O: Operation, S: ByteStore, P: Stops>(
     store: &mut S,
     hart: &mut Hart,
-    access: &mut Access,
+    noted: &mut Noted,
     word: u32,
     stops: &P,
 ) -> bool
     requires fetches { Fetches (S.memory store.old) word hart.old }
-    ensures { Tried (P.passes stops.now) hart.old hart.new (S.memory store.old) (S.memory store.new) (event_of_attempt (attempt_of_access result) access.new) (is_reserving (attempt_of_access result)) }
+    ensures tried { Tried (P.passes stops.now) hart.old hart.new (S.memory store.old) (S.memory store.new) (event_of_attempt (attempt_of_access result) noted.new.access) (is_reserving (attempt_of_access result)) }
+    ensures kept { KeepsBack (S.memory store.old) hart.old (attempt_of_access result) noted.old noted.new }
 {
     match begun(store, hart, O::op(), word) {
-        Some(action) => stored(store, hart, action, access, stops),
+        Some(action) => stored(store, hart, action, noted, stops),
         None => false,
     }
 }
@@ -399,15 +408,16 @@ fn store_apart<O: Operation, S: ByteStore, P: Stops>(
 fn exchange_apart<O: Operation, S: ByteStore, P: Stops>(
     store: &mut S,
     hart: &mut Hart,
-    access: &mut Access,
+    noted: &mut Noted,
     word: u32,
     stops: &P,
 ) -> bool
     requires fetches { Fetches (S.memory store.old) word hart.old }
-    ensures { Tried (P.passes stops.now) hart.old hart.new (S.memory store.old) (S.memory store.new) (event_of_attempt (attempt_of_access result) access.new) (is_reserving (attempt_of_access result)) }
+    ensures tried { Tried (P.passes stops.now) hart.old hart.new (S.memory store.old) (S.memory store.new) (event_of_attempt (attempt_of_access result) noted.new.access) (is_reserving (attempt_of_access result)) }
+    ensures kept { KeepsBack (S.memory store.old) hart.old (attempt_of_access result) noted.old noted.new }
 {
     match begun(store, hart, O::op(), word) {
-        Some(action) => replaced(store, hart, action, access, stops),
+        Some(action) => replaced(store, hart, action, noted, stops),
         None => false,
     }
 }
@@ -417,15 +427,16 @@ fn exchange_apart<O: Operation, S: ByteStore, P: Stops>(
 fn reserve_apart<S: ByteStore, P: Stops>(
     store: &mut S,
     hart: &mut Hart,
-    access: &mut Access,
+    noted: &mut Noted,
     word: u32,
     stops: &P,
 ) -> Attempt
     requires fetches { Fetches (S.memory store.old) word hart.old }
-    ensures { Tried (P.passes stops.now) hart.old hart.new (S.memory store.old) (S.memory store.new) (event_of_attempt result access.new) (is_reserving result) }
+    ensures tried { Tried (P.passes stops.now) hart.old hart.new (S.memory store.old) (S.memory store.new) (event_of_attempt result noted.new.access) (is_reserving result) }
+    ensures kept { KeepsBack (S.memory store.old) hart.old result noted.old noted.new }
 {
     match begun(store, hart, Op::LrW, word) {
-        Some(action) => reserved(store, hart, action, access, stops),
+        Some(action) => reserved(store, hart, action, noted, stops),
         None => Attempt::Nothing,
     }
 }
@@ -435,15 +446,16 @@ fn reserve_apart<S: ByteStore, P: Stops>(
 fn conditional_apart<S: ByteStore, P: Stops>(
     store: &mut S,
     hart: &mut Hart,
-    access: &mut Access,
+    noted: &mut Noted,
     word: u32,
     stops: &P,
 ) -> Attempt
     requires fetches { Fetches (S.memory store.old) word hart.old }
-    ensures { Tried (P.passes stops.now) hart.old hart.new (S.memory store.old) (S.memory store.new) (event_of_attempt result access.new) (is_reserving result) }
+    ensures tried { Tried (P.passes stops.now) hart.old hart.new (S.memory store.old) (S.memory store.new) (event_of_attempt result noted.new.access) (is_reserving result) }
+    ensures kept { KeepsBack (S.memory store.old) hart.old result noted.old noted.new }
 {
     match begun(store, hart, Op::ScW, word) {
-        Some(action) => stored_if_reserved(store, hart, action, access, stops),
+        Some(action) => stored_if_reserved(store, hart, action, noted, stops),
         None => Attempt::Nothing,
     }
 }
@@ -454,11 +466,12 @@ fn set<S: ByteStore, P: Stops>(
     _store: &mut S,
     hart: &mut Hart,
     action: Action,
-    _access: &mut Access,
+    _noted: &mut Noted,
     _stops: &P,
 ) -> Attempt
     requires begins { Begins (S.memory _store.old) action hart.old }
-    ensures { Tried (P.passes _stops.now) hart.old hart.new (S.memory _store.old) (S.memory _store.new) (event_of_attempt result _access.new) (is_reserving result) }
+    ensures tried { Tried (P.passes _stops.now) hart.old hart.new (S.memory _store.old) (S.memory _store.new) (event_of_attempt result _noted.new.access) (is_reserving result) }
+    ensures kept { KeepsBack (S.memory _store.old) hart.old result _noted.old _noted.new }
 {
     let Action::Set { .. } = action else {
         return Attempt::Nothing;
@@ -473,23 +486,28 @@ fn loaded<S: ByteStore, P: Stops>(
     store: &mut S,
     hart: &mut Hart,
     action: Action,
-    access: &mut Access,
+    noted: &mut Noted,
     stops: &P,
 ) -> bool
     requires sized { HasSize action }
     requires begins { Begins (S.memory store.old) action hart.old }
-    ensures { Tried (P.passes stops.now) hart.old hart.new (S.memory store.old) (S.memory store.new) (event_of_attempt (attempt_of_access result) access.new) (is_reserving (attempt_of_access result)) }
+    ensures tried { Tried (P.passes stops.now) hart.old hart.new (S.memory store.old) (S.memory store.new) (event_of_attempt (attempt_of_access result) noted.new.access) (is_reserving (attempt_of_access result)) }
+    ensures kept { KeepsBack (S.memory store.old) hart.old (attempt_of_access result) noted.old noted.new }
 {
     let Action::Load { address, size, .. } = action else {
         return false;
     };
-    if !is_aligned(address, size) || !stops.lets_by(hart.pc) {
+    if !is_aligned(address, size) {
+        return false;
+    }
+    if !stops.lets_by(hart.pc) {
+        keep_back(store, hart, noted, address, size, AccessKind::Load);
         return false;
     }
     let Some(loaded) = store.load_permitted(address, size, Need::Read) else {
         return false;
     };
-    note(access, hart, address, size, AccessKind::Load);
+    note(noted, hart, address, size, AccessKind::Load);
     advance(hart, loaded, action);
     true
 }
@@ -500,12 +518,13 @@ fn stored<S: ByteStore, P: Stops>(
     store: &mut S,
     hart: &mut Hart,
     action: Action,
-    access: &mut Access,
+    noted: &mut Noted,
     stops: &P,
 ) -> bool
     requires sized { HasSize action }
     requires begins { Begins (S.memory store.old) action hart.old }
-    ensures { Tried (P.passes stops.now) hart.old hart.new (S.memory store.old) (S.memory store.new) (event_of_attempt (attempt_of_access result) access.new) (is_reserving (attempt_of_access result)) }
+    ensures tried { Tried (P.passes stops.now) hart.old hart.new (S.memory store.old) (S.memory store.new) (event_of_attempt (attempt_of_access result) noted.new.access) (is_reserving (attempt_of_access result)) }
+    ensures kept { KeepsBack (S.memory store.old) hart.old (attempt_of_access result) noted.old noted.new }
 {
     memory_is_sound();
     let Action::Store {
@@ -516,13 +535,17 @@ fn stored<S: ByteStore, P: Stops>(
     else {
         return false;
     };
-    if !stops.lets_by(hart.pc) || !is_aligned(address, size) {
+    if !is_aligned(address, size) {
+        return false;
+    }
+    if !stops.lets_by(hart.pc) {
+        keep_back(store, hart, noted, address, size, AccessKind::Store);
         return false;
     }
     if !store.store_permitted(address, size, value, Need::Write) {
         return false;
     }
-    note(access, hart, address, size, AccessKind::Store);
+    note(noted, hart, address, size, AccessKind::Store);
     advance(hart, 0, action);
     true
 }
@@ -533,11 +556,12 @@ fn replaced<S: ByteStore, P: Stops>(
     store: &mut S,
     hart: &mut Hart,
     action: Action,
-    access: &mut Access,
+    noted: &mut Noted,
     stops: &P,
 ) -> bool
     requires begins { Begins (S.memory store.old) action hart.old }
-    ensures { Tried (P.passes stops.now) hart.old hart.new (S.memory store.old) (S.memory store.new) (event_of_attempt (attempt_of_access result) access.new) (is_reserving (attempt_of_access result)) }
+    ensures tried { Tried (P.passes stops.now) hart.old hart.new (S.memory store.old) (S.memory store.new) (event_of_attempt (attempt_of_access result) noted.new.access) (is_reserving (attempt_of_access result)) }
+    ensures kept { KeepsBack (S.memory store.old) hart.old (attempt_of_access result) noted.old noted.new }
 {
     memory_is_sound();
     let Action::Replace {
@@ -559,7 +583,7 @@ fn replaced<S: ByteStore, P: Stops>(
     if !store.store_permitted(address, 4, stored, Need::Write) {
         return false;
     }
-    note(access, hart, address, 4, AccessKind::Both);
+    note(noted, hart, address, 4, AccessKind::Both);
     advance(hart, loaded, action);
     true
 }
@@ -570,11 +594,12 @@ fn reserved<S: ByteStore, P: Stops>(
     store: &mut S,
     hart: &mut Hart,
     action: Action,
-    access: &mut Access,
+    noted: &mut Noted,
     stops: &P,
 ) -> Attempt
     requires begins { Begins (S.memory store.old) action hart.old }
-    ensures { Tried (P.passes stops.now) hart.old hart.new (S.memory store.old) (S.memory store.new) (event_of_attempt result access.new) (is_reserving result) }
+    ensures tried { Tried (P.passes stops.now) hart.old hart.new (S.memory store.old) (S.memory store.new) (event_of_attempt result noted.new.access) (is_reserving result) }
+    ensures kept { KeepsBack (S.memory store.old) hart.old result noted.old noted.new }
 {
     let Action::Reserve { address, .. } = action else {
         return Attempt::Nothing;
@@ -585,7 +610,7 @@ fn reserved<S: ByteStore, P: Stops>(
     let Some(loaded) = store.load_permitted(address, 4, Need::Read) else {
         return Attempt::Nothing;
     };
-    note(access, hart, address, 4, AccessKind::Load);
+    note(noted, hart, address, 4, AccessKind::Load);
     advance(hart, loaded, action);
     Attempt::Reserved
 }
@@ -596,11 +621,12 @@ fn stored_if_reserved<S: ByteStore, P: Stops>(
     store: &mut S,
     hart: &mut Hart,
     action: Action,
-    access: &mut Access,
+    noted: &mut Noted,
     stops: &P,
 ) -> Attempt
     requires begins { Begins (S.memory store.old) action hart.old }
-    ensures { Tried (P.passes stops.now) hart.old hart.new (S.memory store.old) (S.memory store.new) (event_of_attempt result access.new) (is_reserving result) }
+    ensures tried { Tried (P.passes stops.now) hart.old hart.new (S.memory store.old) (S.memory store.new) (event_of_attempt result noted.new.access) (is_reserving result) }
+    ensures kept { KeepsBack (S.memory store.old) hart.old result noted.old noted.new }
 {
     memory_is_sound();
     let Action::Conditional { address, value, .. } = action else {
@@ -619,19 +645,41 @@ fn stored_if_reserved<S: ByteStore, P: Stops>(
     if !stops.lets_by(hart.pc) || !store.store_permitted(address, 4, value, Need::Write) {
         return Attempt::Nothing;
     }
-    note(access, hart, address, 4, AccessKind::Store);
+    note(noted, hart, address, 4, AccessKind::Store);
     advance(hart, 0, action);
     Attempt::Accessed
 }
 
+/// Notes the access of a plain load or store that is kept back, if it is permitted, so that who takes the hart's pause need not
+/// decode it again.
+#[cold]
+#[inline(never)]
+fn keep_back<S: ByteStore>(
+    store: &S,
+    hart: &Hart,
+    noted: &mut Noted,
+    first: u32,
+    size: u8,
+    kind: AccessKind,
+)
+    requires { BeginsPlain (S.memory store.now) hart.now first size kind }
+    ensures { KeepsBack (S.memory store.now) hart.now Attempt.Nothing noted.old noted.new }
+{
+    if store.permits(first, size, kind.need()) {
+        note(noted, hart, first, size, kind);
+        noted.is_kept_back = true;
+    }
+}
+
 /// Notes an access that the hart makes.
 #[inline(always)]
-fn note(access: &mut Access, hart: &Hart, first: u32, size: u8, kind: AccessKind)
-    ensures { access.new ≡ access_of_kind kind hart.now first size }
+fn note(noted: &mut Noted, hart: &Hart, first: u32, size: u8, kind: AccessKind)
+    ensures access { noted.new.access ≡ access_of_kind kind hart.now first size }
+    ensures kept { noted.new.is_kept_back ≡ noted.old.is_kept_back }
 {
-    access.pc = hart.pc;
-    access.first = first;
-    access.size = size;
-    access.read = kind.reads();
-    access.write = kind.writes();
+    noted.access.pc = hart.pc;
+    noted.access.first = first;
+    noted.access.size = size;
+    noted.access.read = kind.reads();
+    noted.access.write = kind.writes();
 }

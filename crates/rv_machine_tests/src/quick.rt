@@ -3,7 +3,7 @@ use crate::assertion::assert_is;
 use crate::machines::machine;
 use crate::parts::access;
 use rv_break::breakpoints::Breakpoints;
-use rv_hart::access::{Access, Common, Event};
+use rv_hart::access::{Common, Event, Noted};
 use rv_hart::machine::Machine;
 use rv_hart::stops::{NoStops, Stops};
 use rv_memory::flat::Flat;
@@ -15,24 +15,24 @@ const STORES: [u32; 3] = [0x0002_0337, 0x00a3_2023, 0x0000_0073];
 
 /// A common step of a hart, at a place of its own, where there is such a hart and it runs.
 fn quick<const PLACE: u8>(machine: &mut Machine<Flat>, h: u8) -> Option<Event> {
-    quick_past::<PLACE, NoStops>(machine, h, &NoStops)
+    quick_past::<PLACE, NoStops>(machine, h, &NoStops, &mut Noted::nothing())
 }
 
-/// The same, of which some accesses are kept back.
+/// The same, of which some accesses are kept back; then it is noted.
 fn quick_past<const PLACE: u8, P: Stops>(
     machine: &mut Machine<Flat>,
     h: u8,
     stops: &P,
+    noted: &mut Noted,
 ) -> Option<Event> {
     if h >= machine.harts() || !machine.runs(h) {
         return None;
     }
     let word = machine.fetched(h)?;
-    let mut noted = Access::of_no_bytes();
-    match machine.step_quick::<PLACE, P>(h, word, &mut noted, stops) {
+    match machine.step_quick::<PLACE, P>(h, word, noted, stops) {
         Common::Untaken => None,
         Common::Silent => Some(Event::Moved(None)),
-        Common::Accessed => Some(Event::Moved(Some(noted))),
+        Common::Accessed => Some(Event::Moved(Some(noted.access))),
     }
 }
 
@@ -59,19 +59,24 @@ fn common_steps_are_made(rt: HostRuntime) {
     assert_stores_at::<1>(&rt, rt.alloc());
 }
 
-/// The LUI at an armed address makes no access, so it is made. The store at one is not, until its address is disarmed.
+/// The LUI at an armed address makes no access, so it is made. The store at one is noted and not made, until its address is
+/// disarmed.
 fn assert_keeps_back(rt: &impl Abort, machine: &mut Machine<Flat>, breaks: &mut Breakpoints) {
     let stored = access(0x10004, 0x20000, 4, true);
     let armed = (breaks.arm(0x10000), breaks.arm(0x10004));
     assert_is(rt, armed, (true, true), "armed");
-    let set = quick_past::<1, Breakpoints>(machine, 0, breaks);
+    let mut noted = Noted::nothing();
+    let set = quick_past::<1, Breakpoints>(machine, 0, breaks, &mut noted);
     assert_is(rt, set, Some(Event::Moved(None)), "lui");
-    let kept = quick_past::<1, Breakpoints>(machine, 0, breaks);
+    assert_is(rt, noted.is_kept_back, false, "no access to keep back");
+    let kept = quick_past::<1, Breakpoints>(machine, 0, breaks, &mut noted);
     assert_is(rt, kept, None, "kept back");
+    assert_is(rt, noted.is_kept_back, true, "noted");
+    assert_is(rt, noted.access, stored, "the access that is kept back");
     assert_is(rt, machine.number(0x20000, 4), Some(0), "not stored");
     let was_armed = breaks.disarm(0x10004);
     assert_is(rt, was_armed, true, "disarmed");
-    let store = quick_past::<1, Breakpoints>(machine, 0, breaks);
+    let store = quick_past::<1, Breakpoints>(machine, 0, breaks, &mut noted);
     assert_is(rt, store, Some(Event::Moved(Some(stored))), "sw");
 }
 

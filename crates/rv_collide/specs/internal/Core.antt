@@ -1,5 +1,5 @@
 -- What the core keeps beside its stored schedule, and how that follows from it.
-use Rattle.std.specs.Prelude.{◌≡◌, ℕ, ◌+◌, ◌*◌, ◌<◌, ◌≤◌, ◌==◌, ◌⊎◌, Bool, true, false, Option, Some, None, option_map, option_and_then, IfSome, ⊤, List, [], ◌∷◌, map, length, count_by, find, slice_set, Vec, vec_capacity}
+use Rattle.std.specs.Prelude.{◌≡◌, ℕ, ◌+◌, ◌-◌, ◌*◌, ◌<◌, ◌≤◌, ◌==◌, ◌⊎◌, Bool, true, false, Option, Some, None, option_map, option_and_then, IfSome, ⊤, List, [], ◌∷◌, map, length, count_by, find, slice_get, slice_set, Vec, vec_capacity}
 use Rattle.std.specs.FinSet.{len}
 use Rattle.std.specs.List.{list_any, range_with_len}
 use Rattle.std.specs.Option.{option_map_or}
@@ -16,7 +16,8 @@ use Rattle.rv_collide.specs.Legal.{IsLegal}
 use Rattle.rv_collide.specs.Next.{next}
 use Rattle.rv_collide.specs.Pause.{Opening, ended, openings}
 use Rattle.rv_collide.specs.StateAt.{state_at}
-use Rattle.rv_collide.specs.Verdict.{bytes_at, endings}
+use Rattle.rv_collide.specs.Stored.{Stored, setting_of}
+use Rattle.rv_collide.specs.Verdict.{bytes_at, ending_at, endings}
 use Rattle.rv_collide.specs.declared.ending.Ending.{Ending}
 use Rattle.rv_collide.specs.declared.entry.Entry.{Entry}
 use Rattle.rv_collide.specs.declared.open_pause.OpenPause.{OpenPause}
@@ -109,3 +110,8 @@ pub record IsRoomy (setting : Setting) (entries : Vec Entry Global) (opened : Ve
 -- step which no claim is shown
 abbrev pub IsUntil : ℕ → Breaks → List OpenPause → ℕ → Type 0
 IsUntil most breaks opened until = (until ≡ 0) ⊎ ((until ≡ most) × (opened ≡ []) × ((len breaks.armed == 0) ≡ true))
+
+-- the ending that the next entry made is the last one
+pub record IsToldLast (old new : Stored) : Type 0 where
+  pub some : 0 < length (endings (setting_of new).start new.entries)
+  pub last : ending_at (setting_of new).start new.entries (length old.entries) ≡ slice_get (endings (setting_of new).start new.entries) (length (endings (setting_of new).start new.entries) - 1)

@@ -86,7 +86,7 @@ impl<S: ByteStore> Collider<S> {
         }
         match self.fetched(h) {
             None => false,
-            Some(word) => self.step_on::<PLACE>(h, word, is_watched),
+            Some(word) => self.step_on::<PLACE>(h, word, is_watched, false),
         }
     }
 

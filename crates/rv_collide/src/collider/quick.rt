@@ -1,15 +1,16 @@
 //! Speed: the turn that is nearly each turn, a common step of a hart that may take a turn. `turn` is its twin: where
 //! this makes a step `turn` would make the same, and where it makes none nothing has changed.
-ghost use Rattle.std.specs.Prelude.{◌≡◌, ◌<◌, [], IfSome, Some, false, is_ok, length, option_and_then, option_map, slice_get, true};
+ghost use Rattle.std.specs.Prelude.{◌≡◌, ◌≢◌, ◌<◌, [], IfSome, Some, false, is_ok, length, option_and_then, option_map, slice_get, true};
 ghost use Rattle.std.specs.FinSet as set;
 ghost use Rattle.rv_break.specs.Slots as slots;
 ghost use Rattle.rv_collide.specs.Answers as answer;
 ghost use Rattle.rv_collide.specs.Forced.{Turn, forced};
+ghost use Rattle.rv_collide.specs.Next.{plain};
 ghost use Rattle.rv_collide.specs.Pause.{openings};
 ghost use Rattle.rv_collide.specs.Stored.{setting_of};
 ghost use Rattle.rv_collide.specs.internal.Core.{slots_seen};
 ghost use Rattle.rv_collide.specs.internal.GoesOn.{GoesOn};
-ghost use Rattle.rv_hart.specs.Common.{event_of_common};
+ghost use Rattle.rv_hart.specs.Common.{NotesKept, event_of_common};
 ghost use Rattle.rv_hart.specs.Fetched.{IsWordOf};
 ghost use Rattle.rv_hart.specs.NextAccess.{accessed};
 ghost use Rattle.rv_hart.specs.Refusals.{is_running_hart};
@@ -19,7 +20,7 @@ use super::Collider;
 use crate::entry::Entry;
 use rv_break::breakpoints::Breakpoints;
 use rv_break::claim::Seen;
-use rv_hart::access::{Access, Common};
+use rv_hart::access::{Access, Common, Noted};
 use rv_hart::laws::{reservations_and_accesses, what_no_step_does};
 use rv_hart::machine::Machine;
 use rv_hart::stops::NoStops;
@@ -36,32 +37,41 @@ impl<S: ByteStore> Collider<S> {
         self.machine.fetched(h)
     }
 
-    /// A step of a hart that may take a turn and whose word was fetched, where the step is a common one and makes no access at
-    /// an armed address, as far as one look tells. The hart runs on. Else nothing has changed.
+    /// A turn of a hart that may take one and whose word was fetched: true after its step, where that is a common one, and then
+    /// the hart runs on. Else the hart may be paused, where it would make a plain access at an armed address; or nothing
+    /// has changed.
     #[inline(always)]
     pub fn turn_quick(&mut self, h: u8, word: u32) -> bool
         requires accepted { is_ok (forced (setting_of self.old) self.old.entries (Turn h)) ≡ true }
         requires word { answer.IsWord self.old h word }
         ensures steps { result ≡ true → answer.StepsOn self.old self.new h }
-        ensures same { result ≡ false → self.new ≡ self.old }
+        ensures other { result ≡ false → answer.MayPause self.old self.new h }
     {
         // Two places, each with a step compiled into it: one that is shown to no claim stays in registers.
         if self.is_unhindered() {
-            return self.step_on::<1>(h, word, false);
+            return self.step_on::<1>(h, word, false, true);
         }
-        self.step_on::<2>(h, word, true)
+        self.step_on::<2>(h, word, true, true)
     }
 
     /// Lets a hart that may take a turn make a common step. Where addresses may be armed or pauses open, its access is kept
-    /// back at an armed address, and shown to the claims. `PLACE` is that of `Machine::step_quick`.
+    /// back at an armed address, and shown to the claims; a plain one pauses the hart where `may_pause` says so. `PLACE` is
+    /// that of `Machine::step_quick`.
     #[inline(always)]
-    pub(super) fn step_on<const PLACE: u8>(&mut self, h: u8, word: u32, is_watched: bool) -> bool
+    pub(super) fn step_on<const PLACE: u8>(
+        &mut self,
+        h: u8,
+        word: u32,
+        is_watched: bool,
+        may_pause: bool,
+    ) -> bool
         requires accepted { is_ok (forced (setting_of self.old) self.old.entries (Turn h)) ≡ true }
         requires goes_on { is_watched ≡ false → GoesOn self.old h }
         requires unwatched { is_watched ≡ false → openings self.old.entries ≡ [] }
         requires word { answer.IsWord self.old h word }
         ensures steps { result ≡ true → answer.StepsOn self.old self.new h }
-        ensures same { result ≡ false → self.new ≡ self.old }
+        ensures other { result ≡ false → answer.MayPause self.old self.new h }
+        ensures same { result ≡ false → may_pause ≡ false → self.new ≡ self.old }
     {
         reservations_and_accesses();
         what_no_step_does();
@@ -74,13 +84,56 @@ impl<S: ByteStore> Collider<S> {
             &mut self.noted,
         );
         if let Common::Untaken = common {
+            if self.noted.is_kept_back {
+                // by its parts, since a copy would be made at each step
+                let Access {
+                    pc,
+                    first,
+                    size,
+                    read,
+                    write,
+                } = self.noted.access;
+                self.noted.is_kept_back = false;
+                if may_pause {
+                    self.pause_kept(h, pc, first, size, read, write);
+                }
+            }
             return false;
         }
         let place = self.entries.len() as u32;
-        show_noted(&mut self.breaks, is_watched, place, h, common, &self.noted);
+        show_noted(
+            &mut self.breaks,
+            is_watched,
+            place,
+            h,
+            common,
+            &self.noted.access,
+        );
         self.steps += 1;
         self.entries.push_reserved(Entry::Stepped(h));
         true
+    }
+
+    /// Pauses a hart that may take a turn and would make this plain access, if its address is armed.
+    #[cold]
+    #[inline(never)]
+    fn pause_kept(&mut self, h: u8, pc: u32, first: u32, size: u8, read: bool, write: bool)
+        requires accepted { is_ok (forced (setting_of self.old) self.old.entries (Turn h)) ≡ true }
+        requires plain { plain (setting_of self.old).start self.old.entries (length self.old.entries) h
+            ≡ Some (record { pc = pc; first = first; size = size; read = read; write = write }) }
+        ensures { answer.MayPause self.old self.new h }
+    {
+        if !self.breaks.is_armed(pc) {
+            return;
+        }
+        let access = Access {
+            pc,
+            first,
+            size,
+            read,
+            write,
+        };
+        let _slot = self.pause(h, access);
     }
 }
 
@@ -93,14 +146,15 @@ fn common_step<const PLACE: u8, S: ByteStore>(
     is_watched: bool,
     h: u8,
     word: u32,
-    noted: &mut Access,
+    noted: &mut Noted,
 ) -> Common
     requires running { is_running_hart (slice_get machine.old.state.harts h) ≡ true }
     requires word { IsWordOf machine.old.state h word }
-    ensures step { IfSome (event_of_common result noted.new) (λ event.
+    ensures step { IfSome (event_of_common result noted.new.access) (λ event.
         step_of machine.old.state h ≡ Some (event, machine.new.state)) }
-    ensures passed { is_watched ≡ true → IfSome (event_of_common result noted.new) (λ event.
+    ensures passed { is_watched ≡ true → IfSome (event_of_common result noted.new.access) (λ event.
         IfSome (accessed event) (λ access. set.contains breaks.now.armed access.pc ≡ false)) }
+    ensures kept { NotesKept machine.old.state h result noted.old noted.new }
     ensures harts { length machine.new.state.harts ≡ length machine.old.state.harts }
     ensures limit { machine.new.limit ≡ machine.old.limit }
     ensures same { (result ≡ Common.Untaken) → machine.new ≡ machine.old }

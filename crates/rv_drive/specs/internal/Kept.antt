@@ -1,13 +1,13 @@
 -- What a driver keeps beside its core: the steps made, for each hart how many were made when it was paused, the able
 -- harts, and before how many steps no pause has lasted.
-use Rattle.std.specs.Prelude.{◌≡◌, ℕ, ◌+◌, ◌-◌, ◌^◌, ◌<◌, ◌≤◌, Some, None, List, filter, length, slice_index, vec_capacity}
+use Rattle.std.specs.Prelude.{◌≡◌, true, ℕ, ◌+◌, ◌-◌, ◌^◌, ◌<◌, ◌≤◌, Some, None, List, filter, length, slice_index, vec_capacity}
 use Rattle.std.specs.List.{range_with_len}
 use Rattle.rv_drive.specs.declared.ahead.Ahead.{Ahead}
 use Rattle.rv_hart.specs.declared.machine.TheConstants.{MOST_HARTS}
 use Rattle.rv_drive.specs.Able.{able, due, is_able, others_steps}
 use Rattle.rv_drive.specs.Drawn.{picked_hart}
 use Rattle.rv_drive.specs.Turns.{TakesTurns}
-use Rattle.rv_collide.specs.Answers.{Adds}
+use Rattle.rv_collide.specs.Answers.{Adds, MayPause}
 use Rattle.rv_collide.specs.Entries.{steps}
 use Rattle.rv_collide.specs.Forced.{Setting, Turn}
 use Rattle.rv_collide.specs.Pause.{Opening, opening_of}
@@ -60,3 +60,25 @@ pub record StaysAhead (old new : Ahead) (h : ℕ) : Type 0 where
   pub one_more : new.made ≡ old.made + 1
   pub same_end : new.earliest ≡ old.earliest
   pub same_able : new.able.items ≡ old.able.items
+
+-- no step was made of hart h: it may have been paused, and nothing else has changed
+pub record IsUnstepped (old new : Ahead) (h : ℕ) : Type 0 where
+  pub same_rest : new ≡ record old { collider = new.collider }
+  pub may_pause : MayPause old.collider new.collider h
+
+-- a turn of an able hart is owed, of which no step was made
+pub record IsOwed (e : Ahead) (h : ℕ) : Type 0 where
+  pub before : Ahead
+  pub ahead : IsAhead before
+  pub within : h < before.collider.plan.harts
+  pub is_able : is_able (setting_of before.collider) before.collider.entries h ≡ true
+  pub unstepped : IsUnstepped before e h
+
+-- a turn of hart h was taken, whatever it was
+pub record IsTurnOf (old new : Stored) (h : ℕ) : Type 0 where
+  pub entry : Entry
+  pub adds : Adds old new (Turn h) entry
+
+-- the turn that was owed is taken now
+abbrev pub AddsTurn : Ahead → Ahead → ℕ → Type 0
+AddsTurn e new h = (before : Ahead) → IsUnstepped before e h → IsTurnOf before.collider new.collider h

@@ -4,13 +4,14 @@ ghost use Rattle.std.specs.Prelude.{◌≡◌, ◌+◌, ◌<◌, ◌≤◌, ◌^
 ghost use Rattle.rv_drive.specs.Able.{due, is_able};
 ghost use Rattle.rv_drive.specs.Drawn.{picked_hart};
 ghost use Rattle.rv_drive.specs.Turns.{TakesTurns};
-ghost use Rattle.rv_drive.specs.internal.Kept.{IsAhead, StaysAhead};
+ghost use Rattle.rv_drive.specs.internal.Kept.{AddsTurn, IsAhead, IsOwed, IsUnstepped, StaysAhead};
 ghost use Rattle.rv_collide.specs.Stored.{setting_of};
 ghost use Rattle.rv_sample.specs.Generator.{word_at};
 
 use super::Ahead;
 use super::picker::Picker;
 use crate::driver_laws::{accepted_calls, open_pauses};
+use rv_collide::list_laws::longer_lists;
 use rv_hart::laws::what_no_step_does;
 use rv_sample::Generator;
 
@@ -52,7 +53,26 @@ impl Ahead {
             h = next;
             let _taken = words.next();
         }
-        self.turn(h);
+        self.end_turn(h);
+    }
+
+    /// What is left of a turn that was no common step: its pause is noted, or it is taken. It is a call of its own, since what it
+    /// looks up is not to be held in registers by the turns of a row.
+    #[cold]
+    #[inline(never)]
+    fn end_turn(&mut self, h: u8)
+        requires owed { IsOwed self.old h }
+        ensures driver { IsAhead self.new }
+        ensures turns { AddsTurn self.old self.new h }
+    {
+        open_pauses();
+        longer_lists();
+        let _plan = self.collider.plan();
+        if self.is_open(h) {
+            self.hold(h);
+        } else {
+            self.turn(h);
+        }
     }
 
     /// After how many steps more no pause is due yet and steps are left, if a hart is able.
@@ -79,9 +99,9 @@ impl Ahead {
     }
 
     /// A turn of an able hart that is a common step, after which no pause is due and steps are left: the same harts stay
-    /// able. Else nothing has changed. It answers the hart that the next word picks, which is picked after the hart's own
+    /// able. It answers the hart that the next word picks, which is picked after the hart's own
     /// word was asked for and before its step is made: a processor can't foresee to which instruction a step jumps, and what
-    /// is picked is there when it has jumped.
+    /// is picked is there when it has jumped. Else the hart may be paused, which is not noted yet; or nothing has changed.
     #[inline(always)]
     fn turn_quick(&mut self, h: u8, left: u32, words: &Generator, picker: &Picker) -> Option<u8>
         requires driver { IsAhead self.old }
@@ -94,7 +114,7 @@ impl Ahead {
         ensures steps { IsSome result → StaysAhead self.old self.new h }
         ensures next { IfSome result (λ next. picked_hart (setting_of self.old.collider) self.old.collider.entries
             (word_at words.now.seed words.now.stream words.now.taken) ≡ Some next) }
-        ensures same { IfNone result (self.new ≡ self.old) }
+        ensures other { IfNone result (IsUnstepped self.old self.new h) }
     {
         open_pauses();
         accepted_calls();
@@ -103,7 +123,9 @@ impl Ahead {
         if left == 0 {
             return None;
         }
-        let word = self.collider.fetched(h)?;
+        let Some(word) = self.collider.fetched(h) else {
+            return None;
+        };
         let next = self.picked(words, picker);
         if !self.collider.turn_quick(h, word) {
             return None;

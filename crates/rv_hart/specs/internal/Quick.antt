@@ -5,15 +5,19 @@ use Rattle.rv_hart.specs.State.{State, is_running}
 use Rattle.rv_hart.specs.Step.{event_of, fetched, hart_after, loaded_by, memory_after, printed, seen_by, step_of, written_by}
 use Rattle.rv_hart.specs.declared.access.Access.{Access}
 use Rattle.rv_hart.specs.declared.access.Event.{Event}
+use Rattle.rv_hart.specs.declared.access.AccessKind.{AccessKind}
 use Rattle.rv_hart.specs.declared.access.Event.TheVariants as event
+use Rattle.rv_hart.specs.declared.access.Noted.{Noted}
 use Rattle.rv_hart.specs.declared.action.Action.{Action}
 use Rattle.rv_hart.specs.declared.hart.Hart.{Hart}
 use Rattle.rv_hart.specs.declared.quick.Attempt.{Attempt}
 use Rattle.rv_hart.specs.declared.quick.Attempt.TheVariants as attempt
 use Rattle.rv_hart.specs.declared.write.Write.{Write}
+use Rattle.rv_hart.specs.internal.AccessKind.{access_of_kind, need_of}
+use Rattle.rv_hart.specs.internal.HartAccess.{hart_plain}
 use Rattle.rv_hart.specs.internal.Harts.{any_holds, holds, write_of_access}
 use Rattle.rv_hart.specs.internal.Machine.{RunsTo}
-use Rattle.rv_memory.specs.Memory.{Memory, load_permitted}
+use Rattle.rv_memory.specs.Memory.{Memory, load_permitted, permits}
 use Rattle.rv_memory.specs.Sound.{IsSound}
 use Rattle.rv_memory.specs.declared.store.Need.TheVariants.{Execute}
 
@@ -91,3 +95,17 @@ is_reserving attempt.Nothing = false
 is_reserving attempt.Silent = false
 is_reserving attempt.Accessed = false
 is_reserving attempt.Reserved = true
+
+-- the hart's next access is this plain one, if the memory permits it
+abbrev pub BeginsPlain : Memory → Hart → ℕ → ℕ → AccessKind → Type 0
+BeginsPlain memory hart first size kind =
+    permits memory first size (need_of kind) ≡ true → hart_plain memory hart ≡ Some (access_of_kind kind hart first size)
+
+-- where an attempt notes that a plain access was kept back, nothing was done, and it is the hart's next access
+abbrev pub KeepsBack : Memory → Hart → Attempt → Noted → Noted → Type 0
+KeepsBack memory hart made before after =
+    before.is_kept_back ≡ false → after.is_kept_back ≡ true → (made ≡ attempt.Nothing) × (hart_plain memory hart ≡ Some after.access)
+
+-- the same of hart h
+abbrev pub KeepsBackAt : Memory → List Hart → ℕ → Attempt → Noted → Noted → Type 0
+KeepsBackAt memory harts h made before after = (hart : Hart) → slice_get harts h ≡ Some hart → KeepsBack memory hart made before after

@@ -30,4 +30,5 @@ invariant_of-self-2 g c =
         for_endings = c.self.invariant.1.for_endings;
       },
       inl refl,
+      c.self.invariant.3,
     )

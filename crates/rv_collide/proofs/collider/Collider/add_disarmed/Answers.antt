@@ -33,4 +33,5 @@ invariant_of-self g c =
         for_endings = c.self.invariant.1.for_endings;
       },
       subst (λ (ps : List OpenPause). IsUntil c.self.inside.plan.steps c.disarm-was_armed.new.self ps c.until-self-inside.result) c.deref.ensures.value c.until-self-inside.ensures,
+      c.self.invariant.3,
     )

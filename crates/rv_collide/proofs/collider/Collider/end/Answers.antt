@@ -1,5 +1,5 @@
-use Rattle.std.proofs.Common.{◌≡◌, ◌+◌, ◌*◌, ◌≤◌, ℕ, List, ◌++◌, [], ◌∷◌, length, Some, Ok, refl, sym, ap, subst, ◌∙◌, arith}
-use Rattle.std.specs.Prelude.{◌==◌, ◌<◌, option_and_then, option_map, position, IfSome}
+use Rattle.std.proofs.Common.{◌≡◌, ◌+◌, ◌-◌, ◌*◌, ◌≤◌, ℕ, List, ◌++◌, [], ◌∷◌, length, Some, Ok, refl, sym, ap, subst, ◌∙◌, arith}
+use Rattle.std.specs.Prelude.{◌==◌, ◌<◌, option_and_then, option_map, position, slice_get, IfSome}
 use Rattle.std.specs.Vec.{vec_capacity}
 use Rattle.rv_break.specs.Breakpoints.{Breaks}
 use Rattle.rv_break.specs.Slots.{Slots, IsClaimed, seen_at}
@@ -7,13 +7,13 @@ use Rattle.rv_collide.specs.Forced.{Resume, forced}
 use Rattle.rv_collide.specs.Numbers.{numbers}
 use Rattle.rv_collide.specs.Pause.{Opening, openings}
 use Rattle.rv_collide.specs.Stored.{Stored, setting_of, stored}
-use Rattle.rv_collide.specs.Verdict.{ending_at}
+use Rattle.rv_collide.specs.Verdict.{ending_at, endings}
 use Rattle.rv_collide.specs.declared.ending.Ending.{Ending}
 use Rattle.rv_collide.specs.declared.entry.Entry.{Entry}
 use Rattle.rv_collide.specs.declared.entry.Entry.TheVariants.{Resumed}
 use Rattle.rv_collide.specs.declared.open_pause.OpenPause.{OpenPause}
 use Rattle.rv_collide.specs.internal.Core.{IsCore, IsUntil, opening}
-use Rattle.rv_collide.proofs.Endings.{ending_now}
+use Rattle.rv_collide.proofs.Endings.{some_told, told_last}
 use Rattle.rv_collide.proofs.Growth.{core_resume, kept_found, opening_kept}
 use Rattle.rv_collide.proofs.OpenPauses.{bytes_now, size_of, slot_claimed, slot_seen, told}
 use Rattle.rv_collide.proofs.Rooms.{room_to_end, room_to_resume}
@@ -83,21 +83,20 @@ invariant_of-self g c =
         for_endings = subst (λ (n : ℕ). s.plan.arms ≤ n) (sym c.push_reserved-2.ensures.capacity) c.self.invariant.1.for_endings;
       },
       subst (λ (ps : List OpenPause). IsUntil c.self.inside.plan.steps c.released-seen.new.breaks ps c.until-self-inside.result) c.deref.ensures.value c.until-self-inside.ensures,
+      c.self.invariant.3,
     )
 
-pub returns-clause-ending : goal.returns-clause-ending
-returns-clause-ending g c =
+pub returns-clause-told : goal.returns-clause-told
+returns-clause-told g c =
     let s = setting_of (stored c.self.inside.image.value (numbers c.self.inside.plan) c.self.inside.entries.items) in
     let t = taken c.self.inside.entries.items c.self.inside.openings.items c.remove-open.new.self.items c.args.h c.args.place c.remove-open.result c.self.invariant.0.openings_are c.self.invariant.0.apart (subst (λ (u : Stored). position (λ (o : Opening). o.hart == c.args.h) (openings u.entries) ≡ Some c.args.place) (sym c.self.view_is) c.requires.placed) c.remove-open.ensures.value c.remove-open.ensures.items in
     let of_h = opening_kept c.self.inside.entries.items c.self.inside.openings.items c.args.h c.self.invariant.0.openings_are ∙ ap (option_map opening) t.pause in
     let k = kept_found s.plan.slots s.start c.self.inside.entries.items (λ (q : OpenPause). q.hart == c.args.h) c.self.inside.openings.items c.remove-open.result c.self.invariant.0.kept t.pause in
-    let seen = c.released-seen.ensures.seen
-    ∙ ap (λ (xs : Slots). option_and_then (seen_at xs) c.remove-open.result.slot) c.self.invariant.0.slots_are
-    ∙ slot_seen s.start c.self.inside.entries.items c.args.h (opening c.remove-open.result) c.remove-open.result.access c.self.invariant.0.apart of_h k.access s.plan.slots c.remove-open.result.slot refl k.within in
-    let told_is = c.ending_of-ending.ensures ∙ told s.start c.self.inside.entries.items c.remove-open.result c.released-seen.result c.len.result c.number_at-new.result k.old seen
-    (c.len.ensures ∙ c.self.inside.entries.ok.0)
-    (c.number_at-new.ensures ∙ bytes_now s.start c.self.inside.machine.state c.self.inside.entries.items (length c.self.inside.entries.items) c.remove-open.result.access c.self.invariant.0.now) in
-    ap (λ (ys : List Entry). ending_at s.start ys (length c.args.self.now.entries)) c.push_reserved.ensures.items
-    ∙ ap (λ (u : Stored). ending_at s.start (c.self.inside.entries.items ++ Resumed c.args.h ∷ []) (length u.entries)) (sym c.self.view_is)
-    ∙ ending_now s.start c.self.inside.entries.items c.args.h (opening c.remove-open.result) c.remove-open.result.access of_h k.access
-    ∙ ap Some (sym told_is)
+    let xs = c.self.inside.entries.items in
+    record {
+      some = subst (λ (ys : List Entry). 0 < length (endings s.start ys)) (sym c.push_reserved.ensures.items)
+          (some_told s.start xs c.args.h (opening c.remove-open.result) c.remove-open.result.access of_h k.access);
+      last = subst (λ (ys : List Entry). ending_at s.start ys (length c.args.self.now.entries) ≡ slice_get (endings s.start ys) (length (endings s.start ys) - 1)) (sym c.push_reserved.ensures.items)
+          (subst (λ (u : Stored). ending_at s.start (xs ++ Resumed c.args.h ∷ []) (length u.entries) ≡ slice_get (endings s.start (xs ++ Resumed c.args.h ∷ [])) (length (endings s.start (xs ++ Resumed c.args.h ∷ [])) - 1)) c.self.view_is
+          (told_last s.start xs c.args.h (opening c.remove-open.result) c.remove-open.result.access of_h k.access));
+    }

@@ -69,4 +69,5 @@ invariant_of-self g c =
         for_endings = c.self.invariant.1.for_endings;
       },
       inl refl,
+      c.self.invariant.3,
     )

@@ -63,6 +63,7 @@ invariant_of-self-2 g c =
         for_endings = c.self.invariant.1.for_endings;
       },
       until_kept c.self.inside.plan.steps c.self.inside.until c.self.inside.breaks c.show.new.breaks c.self.inside.openings.items (ap (λ (b : Breaks). b.armed) c.show.ensures) c.self.invariant.2,
+      c.self.invariant.3,
     )
 
 pub returns-clause-forced : goal.returns-clause-forced

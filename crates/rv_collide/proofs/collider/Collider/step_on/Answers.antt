@@ -19,9 +19,10 @@ use Rattle.rv_collide.specs.declared.entry.Entry.TheVariants.{Stepped}
 use Rattle.rv_collide.specs.internal.Core.{IsCore, slots_seen}
 use Rattle.rv_collide.specs.Pause.{openings}
 use Rattle.rv_collide.specs.internal.GoesOn.{GoesOn}
+use Rattle.rv_collide.proofs.ArmedAccesses.{kept_plain}
 use Rattle.rv_collide.proofs.GoesOn.{step_forced}
 use Rattle.rv_collide.proofs.Until.{until_kept}
-use Rattle.rv_collide.proofs.QuickTurns.{goes_on, made, may_turn, same_state, steps_on}
+use Rattle.rv_collide.proofs.QuickTurns.{goes_on, made, may_turn, not_kept, same_state, steps_on, was_still}
 use Rattle.rv_collide.proofs.Growth.{core_step, turn_parts}
 use Rattle.rv_collide.proofs.LawLemmas.{runs_in}
 use Rattle.rv_collide.proofs.Rooms.{room_to_step}
@@ -48,7 +49,7 @@ show_noted-requires g c =
 pub push_reserved-requires : goal.push_reserved-requires
 push_reserved-requires g c =
     let s = setting_of (stored c.self.inside.image.value (numbers c.self.inside.plan) c.self.inside.entries.items) in
-    let event = made c.common_step-common.result c.common_step-common.new.noted c.in_default.not-Untaken in
+    let event = made c.common_step-common.result c.common_step-common.new.noted.access c.in_default.not-Untaken in
     let step : step_of c.self.inside.machine.state c.args.h ≡ Some (event.event, c.common_step-common.new.machine.state) =
     subst (λ (o : Option Event). IfSome o (λ e. step_of c.self.inside.machine.state c.args.h ≡ Some (e, c.common_step-common.new.machine.state))) event.event_is c.common_step-common.ensures.step in
     let armed_are = c.self.invariant.0.armed_are in
@@ -66,7 +67,7 @@ push_reserved-requires g c =
 pub invariant_of-self-2 : goal.invariant_of-self-2
 invariant_of-self-2 g c =
     let s = setting_of (stored c.self.inside.image.value (numbers c.self.inside.plan) c.self.inside.entries.items) in
-    let event = made c.common_step-common.result c.common_step-common.new.noted c.in_default.not-Untaken in
+    let event = made c.common_step-common.result c.common_step-common.new.noted.access c.in_default.not-Untaken in
     let step : step_of c.self.inside.machine.state c.args.h ≡ Some (event.event, c.common_step-common.new.machine.state) =
     subst (λ (o : Option Event). IfSome o (λ e. step_of c.self.inside.machine.state c.args.h ≡ Some (e, c.common_step-common.new.machine.state))) event.event_is c.common_step-common.ensures.step in
     let armed_are = c.self.invariant.0.armed_are in
@@ -89,13 +90,14 @@ invariant_of-self-2 g c =
         for_endings = c.self.invariant.1.for_endings;
       },
       until_kept c.self.inside.plan.steps c.self.inside.until c.self.inside.breaks c.show_noted.new.breaks c.self.inside.openings.items (ap (λ (b : Breaks). b.armed) c.show_noted.ensures) c.self.invariant.2,
+      not_kept c.self.inside.machine.state c.args.h c.common_step-common.result c.self.inside.noted c.common_step-common.new.noted c.self.invariant.3 c.common_step-common.ensures.kept c.in_default.not-Untaken,
     )
 
 pub returns-clause-steps : goal.returns-clause-steps
 returns-clause-steps g c = λ _.
     let s = setting_of (stored c.self.inside.image.value (numbers c.self.inside.plan) c.self.inside.entries.items) in
     let was = stored c.self.inside.image.value (numbers c.self.inside.plan) c.self.inside.entries.items in
-    let event = made c.common_step-common.result c.common_step-common.new.noted c.in_default.not-Untaken in
+    let event = made c.common_step-common.result c.common_step-common.new.noted.access c.in_default.not-Untaken in
     let step : step_of c.self.inside.machine.state c.args.h ≡ Some (event.event, c.common_step-common.new.machine.state) =
     subst (λ (o : Option Event). IfSome o (λ e. step_of c.self.inside.machine.state c.args.h ≡ Some (e, c.common_step-common.new.machine.state))) event.event_is c.common_step-common.ensures.step in
     let armed_are = c.self.invariant.0.armed_are in
@@ -110,3 +112,15 @@ returns-clause-steps g c = λ _.
     let more = ap (λ ys. stored c.self.inside.image.value (numbers c.self.inside.plan) ys) c.push_reserved.ensures.items in
     subst (λ (v : Stored). StepsOn v (stored c.self.inside.image.value (numbers c.self.inside.plan) c.push_reserved.new.self.items) c.args.h) c.self.view_is
     (steps_on c.what_no_step_does.ensures.moves was _ c.args.h event.event ok is more event.moved)
+
+pub pause_kept-requires-clause-plain : goal.pause_kept-requires-clause-plain
+pause_kept-requires-clause-plain g c =
+    kept_plain (stored c.self.inside.image.value (numbers c.self.inside.plan) c.self.inside.entries.items) c.self.inside.machine.state c.args.h c.common_step-common.result c.self.inside.noted c.common_step-common.new.noted c.self.invariant.0.now c.self.invariant.3 c.common_step-common.ensures.kept c.if-self.true
+
+pub returns-else-may_pause-clause-other : goal.returns-else-may_pause-clause-other
+returns-else-may_pause-clause-other g c = λ _.
+    was_still c.args.self.now (stored c.self.inside.image.value (numbers c.self.inside.plan) c.self.inside.entries.items) c.args.h c.requires.accepted c.self.view_is
+
+pub returns-else-self-clause-other : goal.returns-else-self-clause-other
+returns-else-self-clause-other g c = λ _.
+    was_still c.args.self.now (stored c.self.inside.image.value (numbers c.self.inside.plan) c.self.inside.entries.items) c.args.h c.requires.accepted c.self.view_is

@@ -1,5 +1,5 @@
 use Rattle.std.proofs.Common.{length, ap, refl, sym, ◌∙◌}
-use Rattle.rv_drive.proofs.TurnsLemmas.{picks_the_same, row_able, row_able_same, row_begins, row_ends_same, row_goes_on, row_within, row_within_same}
+use Rattle.rv_drive.proofs.TurnsLemmas.{picks_the_same, row_able, row_begins, row_goes_on, row_owed, row_turned, row_within}
 use Rattle.rv_sample.specs.Generator.{word_at}
 use Rattle.rv_drive.proofs.ahead.Ahead.row.Goals as goal
 
@@ -22,14 +22,10 @@ loop-next-preserved c =
       c.loop-next.invariant.1 ∙ ap length (sym stays.same_able),
     )
 
-pub turn-requires-clause-hart : goal.turn-requires-clause-hart
-turn-requires-clause-hart c =
-    row_within_same c.args.self.now.collider c.args.words.now c.loop-next.words c.loop-next.self c.turn_quick.new.self c.loop-next.h c.loop-next.left c.loop-next.invariant.0 c.in_default.ensures.same
-
-pub turn-requires-clause-able : goal.turn-requires-clause-able
-turn-requires-clause-able c =
-    row_able_same c.args.self.now.collider c.args.words.now c.loop-next.words c.loop-next.self c.turn_quick.new.self c.loop-next.h c.loop-next.left c.loop-next.invariant.0 c.in_default.ensures.same
+pub end_turn-requires : goal.end_turn-requires
+end_turn-requires c =
+    record { owed = row_owed c.args.self.now.collider c.args.words.now c.loop-next.words c.loop-next.self c.turn_quick.new.self c.loop-next.h c.loop-next.left c.loop-next.invariant.0 c.in_default.ensures.other }
 
 pub returns-clause-turns : goal.returns-clause-turns
 returns-clause-turns c =
-    row_ends_same c.args.self.now.collider c.turn.new.self.collider c.args.words.now c.loop-next.words c.loop-next.self c.turn_quick.new.self c.loop-next.h c.loop-next.left c.turn.result c.loop-next.invariant.0 c.in_default.ensures.same c.turn.ensures.turns
+    row_turned c.args.self.now.collider c.end_turn.new.self.collider c.args.words.now c.loop-next.words c.loop-next.self c.loop-next.h c.loop-next.left c.loop-next.invariant.0 (c.end_turn.ensures.turns c.loop-next.self c.in_default.ensures.other)
