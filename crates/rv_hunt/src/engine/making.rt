@@ -77,18 +77,42 @@ fn texts(
     ensures { IfOk result (λ texts. spec.AreTextsOf (parts options.now.line) options.now.shows hunt.now outcome.now told.now
         (record { text = texts.0.items; notes = texts.1.items })) }
 {
-    let line = &options.line;
     match options.shows {
-        Shows::Text => {
-            let blocks = told_blocks(alloc, hunt, excluded, line, told)?;
-            let text = hunt_text(alloc, line, outcome, &blocks)?;
-            Ok((text, warnings(alloc, outcome.sites, outcome.saw)?))
-        }
-        Shows::Table => {
-            let text = table_of(alloc, outcome.rows)?;
-            Ok((text, table_notes(alloc, line, outcome)?))
-        }
+        Shows::Text => texts_one_by_one(alloc, hunt, excluded, &options.line, outcome, told),
+        Shows::Table => texts_as_table(alloc, &options.line, outcome),
     }
+}
+
+/// The same where the races are told one by one.
+fn texts_one_by_one(
+    alloc: Global,
+    hunt: &Hunt,
+    excluded: &[u32],
+    line: &LineParts<'_>,
+    outcome: &Outcome,
+    told: &[(Key, RaceRow)],
+) -> Result<(Vec<u8>, Vec<u8>), NoMemory>
+    requires sites { hunt.now.source.sites ≡ sites hunt.now.source.image excluded.now }
+    requires races { All (HasRace hunt.now) told.now }
+    ensures { IfOk result (λ texts. spec.AreTextsOf (parts line.now) Shows.Text hunt.now outcome.now told.now
+        (record { text = texts.0.items; notes = texts.1.items })) }
+{
+    let blocks = told_blocks(alloc, hunt, excluded, line, told)?;
+    let text = hunt_text(alloc, line, outcome, &blocks)?;
+    Ok((text, warnings(alloc, outcome.sites, outcome.saw)?))
+}
+
+/// The same as a table.
+fn texts_as_table(
+    alloc: Global,
+    line: &LineParts<'_>,
+    outcome: &Outcome,
+) -> Result<(Vec<u8>, Vec<u8>), NoMemory>
+    ensures { IfOk result (λ texts. record { text = texts.0.items; notes = texts.1.items }
+        ≡ spec.told_as_table (parts line.now) outcome.now) }
+{
+    let text = table_of(alloc, outcome.rows)?;
+    Ok((text, table_notes(alloc, line, outcome)?))
 }
 
 /// The rows of what a hunt saw: those that are told, and those that are ignored.

@@ -1,7 +1,7 @@
 use Rattle.rv_memory.specs.Flagged as flag
 use Rattle.rv_hunt.specs.merge.Merge as merge
 use Rattle.rv_hunt.proofs.BoolLemmas.{second_failed, third_failed}
-use Rattle.rv_hunt.proofs.FileLemmas.{expected_told}
+use Rattle.rv_hunt.proofs.FileLemmas.{expected_told, hunting_known, ignored_told}
 use Rattle.rv_hunt.specs.engine.Asked.{asked}
 use Rattle.rv_hunt.specs.internal.Opened.{hunt_in}
 use Rattle.rv_hunt.proofs.engine.read.Goals as goal
@@ -9,6 +9,20 @@ use Rattle.rv_hunt.proofs.engine.read.Goals as goal
 pub returns-in-Err-clause-readers : goal.returns-in-Err-clause-readers
 returns-in-Err-clause-readers g c =
     second_failed _ _ _ _ _ _ c.in_ok-opened.ensures.reader c.in-Err.ensures.reader
+
+pub returns-in-Err-clause-err : goal.returns-in-Err-clause-err
+returns-in-Err-clause-err g c =
+    ignored_told (g.R.Read.remaining (flag.device c.args.inputs.now.image)) (merge.bytes_if g.R.Read.remaining c.args.inputs.now.ignored) (merge.bytes_if g.R.Read.remaining c.args.inputs.now.expected) (asked c.args.options.now)
+    (hunt_in (asked c.args.options.now) c.in_ok-opened.opened) c.in-Err.fault c.in_ok-opened.ensures.ok c.in-Err.ensures.err
+
+pub returns-in-Ok-read_known-clause-ok : goal.returns-in-Ok-read_known-clause-ok
+returns-in-Ok-read_known-clause-ok g c =
+    hunting_known (g.R.Read.remaining (flag.device c.args.inputs.now.image)) (merge.bytes_if g.R.Read.remaining c.args.inputs.now.ignored) (merge.bytes_if g.R.Read.remaining c.args.inputs.now.expected) (asked c.args.options.now)
+    _ c.in_ok-opened.ensures.ok c.in-Ok.ensures.ok c.in-Ok-read_known.ensures.ok
+
+pub returns-in-Ok-read_known-clause-readers : goal.returns-in-Ok-read_known-clause-readers
+returns-in-Ok-read_known-clause-readers g c =
+    third_failed _ _ _ _ _ _ _ c.in_ok-opened.ensures.reader c.in-Ok.ensures.reader c.in-Ok-read_known.ensures.reader
 
 pub returns-clause-err : goal.returns-clause-err
 returns-clause-err g c =
