@@ -9,6 +9,7 @@ use Rattle.std.proofs.lemmas.Bool.Decides.{nat_tests}
 use Rattle.std.proofs.lemmas.List.{length-append}
 use Rattle.std.proofs.lemmas.List.Folds.{list_any-append}
 use Rattle.std.proofs.lemmas.List.FromFn.{map-range_with_len_more}
+use Rattle.rv_break.specs.Breakpoints.{Breaks}
 use Rattle.rv_collide.specs.Armed.{Mention, mention_by, mention_at, mentions, is_of, last_armed, armed}
 use Rattle.rv_collide.specs.Entries.{places}
 use Rattle.rv_collide.specs.declared.entry.Entry.{Entry}
@@ -165,3 +166,21 @@ armed_push start xs e =
       | None ↦ ap (λ (ys : List ℕ). from_list {R = nat_cmp} ys) (none_more (mentions start xs))
       | Some m ↦ armed_mention (mentions start xs) m
     ]
+
+-- ---- an address that is not armed
+
+out_of : (held is : Bool) → (is ≡ true → held ≡ false) → held ≡ (not is && held)
+out_of held true absent = absent refl
+out_of held false absent = refl
+
+same_address : (q a : ℕ) → (q == a) ≡ true → q ≡ a
+same_address q a h = grind (arith, nat_tests)
+
+-- nothing is taken where it is not armed
+pub nothing_taken : (b after : Breaks) (a : ℕ) → contains b.armed a ≡ false → after ≡ record b { armed = remove b.armed a } → after ≡ b
+nothing_taken b after a absent is =
+    is
+    ∙ ap (λ (s : FinSet nat_cmp). record b { armed = s })
+    (sym (same_set nat_cmp_total nat_cmp-IsAntisymmetric b.armed (remove b.armed a)
+    (λ q. out_of (contains b.armed q) (eq_by_cmp nat_cmp q a) (λ h. ap (contains b.armed) (same_address q a (sym (unsigned_tied q a) ∙ h)) ∙ absent)
+    ∙ sym (contains-remove nat_cmp_total b.armed a q))))

@@ -1,5 +1,5 @@
 -- A turn that is accepted, and a step after which its hart runs on.
-use Rattle.std.proofs.Common.{◌≡◌, ℕ, ◌+◌, ◌<◌, Bool, true, false, cond, List, [], ◌∷◌, ◌++◌, length, Option, Some, None, Result, Ok, Err, refl, sym, ap, subst, ◌∙◌, arith}
+use Rattle.std.proofs.Common.{IfNone, ◌≡◌, ℕ, ◌+◌, ◌<◌, Bool, true, false, cond, List, [], ◌∷◌, ◌++◌, length, Option, Some, None, Result, Ok, Err, refl, sym, ap, subst, ◌∙◌, arith}
 use Rattle.std.specs.Prelude.{◌==◌, find, nat_lt, is_ok, is_some, option_and_then, slice_get, IfSome}
 use Rattle.std.specs.FinSet.{contains}
 use Rattle.std.proofs.lemmas.Bool.Decides.{nat_tests}
@@ -147,7 +147,7 @@ may_pause c h a ok is =
 own : (h : ℕ) → (h == h) ≡ true
 own h = grind (arith, nat_tests)
 
-differ : true ≡ false → ⊥
+pub differ : true ≡ false → ⊥
 differ h = cc
 
 found_last : (p : Opening → Bool) (os : List Opening) (o : Opening) → p o ≡ true → is_some (find p (os ++ o ∷ [])) ≡ true
@@ -179,3 +179,12 @@ was_still old new h ok same =
     let free = (may_turn (setting_of old) old.entries h ok).free in
     let now = ap (λ (v : Stored). is_some (opening_of v.entries h)) same ∙ free in
     record { paused = λ held. absurd (differ (sym held ∙ now)); still = λ _. same }
+
+-- the hart was paused, or nothing was done
+pub may_pause_now : (old new : Stored) (h : ℕ) (paused : Option (Option ℕ)) → is_ok (forced (setting_of old) old.entries (Turn h)) ≡ true → IfSome paused (λ slot. slot ≡ least_free old.plan.slots old.entries) → IfSome paused (λ slot. forced (setting_of old) old.entries (Turn h) ≡ Ok (Paused h slot)) → IfSome paused (λ slot. new ≡ added old (Paused h slot)) → IfNone paused (new ≡ old) → MayPause old new h
+may_pause_now old new h None ok least is_forced after same = was_still old new h ok same
+may_pause_now old new h (Some slot) ok least is_forced after same =
+    was_paused old new h (record {
+      is_forced = is_forced ∙ ap (λ (s : Option ℕ). Ok (Paused h s)) least;
+      is_added = after ∙ ap (λ (s : Option ℕ). added old (Paused h s)) least;
+    })

@@ -5,7 +5,7 @@ use Rattle.std.specs.FinSet.{FinSet, len}
 use Rattle.std.specs.Ordering.{nat_cmp}
 use Rattle.std.proofs.lemmas.Bool.{cases_eq}
 use Rattle.std.proofs.lemmas.Bool.Decides.{nat_tests}
-use Rattle.rv_collide.specs.Answers.{StepsOn}
+use Rattle.rv_collide.specs.Answers.{IsFree, StepsOn}
 use Rattle.rv_collide.specs.Armed.{armed}
 use Rattle.rv_collide.specs.Entries.{steps}
 use Rattle.rv_collide.specs.Forced.{Turn, forced}
@@ -15,7 +15,7 @@ use Rattle.rv_collide.specs.Stored.{Stored, added, setting_of}
 use Rattle.rv_collide.specs.declared.entry.Entry.{Entry}
 use Rattle.rv_collide.specs.declared.entry.Entry.TheVariants.{Stepped}
 use Rattle.rv_collide.specs.internal.GoesOn.{GoesOn}
-use Rattle.rv_collide.specs.internal.Row.{AreAble, IsAble, IsFree, IsInRow, StepsAgain}
+use Rattle.rv_collide.specs.internal.Row.{AreAble, IsAble, IsInRow, StepsAgain}
 use Rattle.rv_hart.specs.Refusals.{is_running_hart}
 use Rattle.rv_hart.specs.State.{State, is_running}
 use Rattle.rv_hart.specs.Step.{step_of}
@@ -45,6 +45,22 @@ opening_stays : (xs : List Entry) (h k : ℕ) → opening_of (xs ++ Stepped h �
 unfolding opening_of
 opening_stays xs h k = ap (find (λ (o : Opening). o.hart == k)) (quiet_openings xs (Stepped h) (λ j. refl) (λ place. refl))
 
+-- ---- no pause is opened and no address armed by a step
+
+module _ (old new : Stored) (h : ℕ) (on : StepsOn old new h) where
+  still_unwatched : openings old.entries ≡ [] → openings new.entries ≡ []
+  still_unwatched none =
+      subst (λ (c : Stored). openings c.entries ≡ []) (sym on.turns.0.is_added)
+      (quiet_openings old.entries (Stepped h) (λ j. refl) (λ place. refl) ∙ none)
+
+  pub still_free : IsFree old → IsFree new
+  still_free free =
+      let same : armed (setting_of old).start (old.entries ++ Stepped h ∷ []) ≡ armed (setting_of old).start old.entries = armed_push (setting_of old).start old.entries (Stepped h) in
+      record {
+        unwatched = still_unwatched free.unwatched;
+        unarmed = subst (λ (c : Stored). (len (armed (setting_of c).start c.entries) == 0) ≡ true) (sym on.turns.0.is_added) (ap (λ (s : FinSet nat_cmp). len s == 0) same ∙ free.unarmed);
+      }
+
 module _ (law : OtherHartsStay) (old new : Stored) (h : ℕ) (on : StepsOn old new h) where
   other_runs : (k : ℕ) → k ≢ h → runs_at (setting_of old).start old.entries (length old.entries) k ≡ true → runs_at (setting_of (added old (Stepped h))).start (old.entries ++ Stepped h ∷ []) (length (old.entries ++ Stepped h ∷ [])) k ≡ true
   other_runs k ne runs =
@@ -67,19 +83,6 @@ module _ (law : OtherHartsStay) (old new : Stored) (h : ℕ) (on : StepsOn old n
     runs = still_runs k able.runs;
     free = subst (λ (c : Stored). is_some (opening_of c.entries k) ≡ false) (sym on.turns.0.is_added) (ap is_some (opening_stays old.entries h k) ∙ able.free);
   }
-
-  still_unwatched : openings old.entries ≡ [] → openings new.entries ≡ []
-  still_unwatched none =
-      subst (λ (c : Stored). openings c.entries ≡ []) (sym on.turns.0.is_added)
-      (quiet_openings old.entries (Stepped h) (λ j. refl) (λ place. refl) ∙ none)
-
-  still_free : IsFree old → IsFree new
-  still_free free =
-      let same : armed (setting_of old).start (old.entries ++ Stepped h ∷ []) ≡ armed (setting_of old).start old.entries = armed_push (setting_of old).start old.entries (Stepped h) in
-      record {
-        unwatched = still_unwatched free.unwatched;
-        unarmed = subst (λ (c : Stored). (len (armed (setting_of c).start c.entries) == 0) ≡ true) (sym on.turns.0.is_added) (ap (λ (s : FinSet nat_cmp). len s == 0) same ∙ free.unarmed);
-      }
 
   one_step_more : length (steps new.entries) ≡ length (steps old.entries) + 1
   one_step_more =
@@ -116,8 +119,11 @@ one_more_mark c marks i h mark same are one k marked =
 lt_is : (a b : ℕ) → a < b → nat_lt a b ≡ true
 lt_is a b h = grind (arith, nat_tests)
 
+pub free_turn : (c : Stored) (h : ℕ) → is_some (opening_of c.entries h) ≡ false → nat_lt (length (steps c.entries)) c.plan.steps ≡ true → IsFree c → GoesOn c h
+free_turn c h closed left free = record { free = closed; left = left; passes = unarmed c h free.unarmed }
+
 pub free_goes : (c : Stored) (h : ℕ) → IsAble c h → nat_lt (length (steps c.entries)) c.plan.steps ≡ true → IsFree c → GoesOn c h
-free_goes c h able left free = record { free = able.free; left = left; passes = unarmed c h free.unarmed }
+free_goes c h able left free = free_turn c h able.free left free
 
 pub accepted : (c : Stored) (h : ℕ) → IsAble c h → nat_lt (length (steps c.entries)) c.plan.steps ≡ true → is_ok (forced (setting_of c) c.entries (Turn h)) ≡ true
 accepted c h able left = ap is_ok (turn_ok (setting_of c) c.entries h (lt_is h c.plan.harts able.within) able.runs able.free left)
@@ -139,5 +145,5 @@ row_goes_on law old now new entries marks is_watched place end entry row there a
       told = one_more old.image old.plan entries place (Stepped again.hart) now row.told there new on.turns.0;
       left = omega (arith, left, more, plan);
       able = λ h marked. still_able law now new again.hart on h (row.able h marked);
-      free = λ is. still_free law now new again.hart on (row.free is);
+      free = λ is. still_free now new again.hart on (row.free is);
     }

@@ -26,11 +26,6 @@ until_kept most until b after opened same (inr is) = inr (is.0, is.1, ap (λ (s 
 never : (n until : ℕ) → until ≡ 0 → nat_lt n until ≡ true → ⊥
 never n until zero lt = grind (arith, nat_tests)
 
--- where that is known, it is as long as steps are left
-pub until_steps : (most until n : ℕ) (b : Breaks) (opened : List OpenPause) → IsUntil most b opened until → nat_lt 0 until ≡ true → nat_lt n most ≡ true → nat_lt n until ≡ true
-until_steps most until n b opened (inl zero) some left = absurd (never 0 until zero some)
-until_steps most until n b opened (inr is) some left = ap (nat_lt n) is.0 ∙ left
-
 none_opened : (xs : List Entry) (opened : List OpenPause) → map opening opened ≡ openings xs → opened ≡ [] → openings xs ≡ []
 none_opened xs opened are none = sym are ∙ ap (map opening) none
 

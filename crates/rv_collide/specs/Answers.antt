@@ -1,10 +1,10 @@
 -- What the calls of a core answer.
-use Rattle.std.specs.Prelude.{◌≡◌, ◌↔◌, ℕ, ◌≤◌, true, false, ◌⊎◌, Bool, IsTrue, IsSome, Some, is_some, IsSomeAnd, List, length, Ok, Err}
+use Rattle.std.specs.Prelude.{◌≡◌, ◌↔◌, ◌==◌, [], ℕ, ◌≤◌, true, false, ◌⊎◌, Bool, IsTrue, IsSome, Some, is_some, IsSomeAnd, List, length, Ok, Err}
 use Rattle.rv_collide.specs.Forced.{Call, Turn, Resume, forced, least_free}
 use Rattle.rv_collide.specs.Held.{Held}
 use Rattle.rv_collide.specs.Laws.{Reported}
 use Rattle.rv_collide.specs.Legal.{IsLegal}
-use Rattle.rv_collide.specs.Pause.{Pause, opening_of}
+use Rattle.rv_collide.specs.Pause.{Pause, opening_of, openings}
 use Rattle.rv_collide.specs.Plan.{most_entries}
 use Rattle.rv_collide.specs.StateAt.{state_at}
 use Rattle.rv_collide.specs.Stored.{Stored, added, setting_of}
@@ -17,7 +17,7 @@ use Rattle.rv_collide.specs.declared.entry.Entry.{Entry}
 use Rattle.rv_collide.specs.declared.entry.Entry.TheVariants.{Stepped, Paused, Resumed}
 use Rattle.rv_collide.specs.declared.refused.Refused.{Refused}
 use Rattle.rv_collide.specs.declared.refused.Refused.TheVariants.{NoMemory}
-use Rattle.std.specs.FinSet.{contains}
+use Rattle.std.specs.FinSet.{contains, len}
 use Rattle.rv_collide.specs.Armed.{armed}
 use Rattle.rv_collide.specs.Next.{next, plain, runs_at}
 use Rattle.rv_break.specs.declared.claim.Seen.{Seen}
@@ -69,6 +69,11 @@ pub record StepsOn (old new : Stored) (h : ℕ) : Type 0 where
   pub event : Event
   pub turns : Turns old new h (turned.Stepped event)
   pub runs : runs_at (setting_of new).start new.entries (length new.entries) h ≡ true
+
+-- no pause is open and no address armed
+pub record IsFree (c : Stored) : Type 0 where
+  pub unwatched : openings c.entries ≡ []
+  pub unarmed : (len (armed (setting_of c).start c.entries) == 0) ≡ true
 
 -- a turn is refused as it is forced to be, or for want of memory, which comes last
 abbrev pub IsRefusedTurn : Stored → ℕ → Refused → Bool → Type 0

@@ -48,6 +48,12 @@ openings entries = openings_from 0 entries
 unfoldable pub opening_of : List Entry → ℕ → Option Opening
 opening_of entries hart = find (λ (o : Opening). o.hart == hart) (openings entries)
 
+-- the hart of the one open pause, where no other is open
+abbrev pub only_hart : List Opening → Option ℕ
+only_hart [] = None
+only_hart (o ∷ []) = Some o.hart
+only_hart (o ∷ other ∷ others) = None
+
 -- the pause as it is if it ends at a place
 abbrev pub ended : ℕ → Opening → Pause
 ended place o = record { hart = o.hart; slot = o.slot; paused_at = o.place; resumed_at = place }

@@ -1,5 +1,5 @@
 //! The core: one machine, its breakpoints, and the stored schedule of the calls that it accepted.
-ghost use Rattle.std.specs.Prelude.{◌≡◌, ℕ, ◌<◌, ◌+◌, ◌*◌, [], ◌==◌, nat_lt, Ok, Err, Some, None, IfOk, IfErr, OnErr, IfSome, IfNone, if◌then◌else◌, count_by, ◌%◌, false, true, IsTrue, length, slice_get, option_and_then, option_map, is_some, position};
+ghost use Rattle.std.specs.Prelude.{◌≡◌, ℕ, ◌<◌, ◌+◌, ◌*◌, [], is_ok, ◌==◌, nat_lt, Ok, Err, Some, None, IfOk, IfErr, OnErr, IfSome, IfNone, if◌then◌else◌, count_by, ◌%◌, false, true, IsTrue, length, slice_get, option_and_then, option_map, is_some, position, remove, slice_index_or, vec_capacity, vec_len};
 ghost use Rattle.std.specs.FinSet as set;
 ghost use Rattle.std.specs.List.{list_any};
 ghost use Rattle.rv_collide.specs.Armed.{armed, arms};
@@ -7,7 +7,7 @@ ghost use Rattle.rv_collide.specs.Entries.{steps};
 ghost use Rattle.rv_collide.specs.Forced.{forced, Turn, Resume, Arm, Disarm, turn_entry, least_free};
 ghost use Rattle.rv_collide.specs.Next.{plain, runs_at};
 ghost use Rattle.rv_collide.specs.Numbers.{numbers};
-ghost use Rattle.rv_collide.specs.Pause.{opening_of, openings};
+ghost use Rattle.rv_collide.specs.Pause.{only_hart, opening_of, openings};
 ghost use Rattle.rv_collide.specs.StateAt.{state_at};
 ghost use Rattle.rv_collide.specs.Stored.{added, setting_of, Stored, stored};
 ghost use Rattle.rv_collide.specs.Verdict.{endings, verdict_of};
@@ -251,6 +251,34 @@ impl<S: ByteStore> Collider<S> {
         self.endings[n as usize]
     }
 
+    /// Whether a hart runs.
+    #[inline(always)]
+    pub fn runs(&self, h: u8) -> bool
+        requires { h < self.now.plan.harts }
+        ensures { result ≡ runs_at (setting_of self.now).start self.now.entries (length self.now.entries) h }
+    {
+        self.machine.status(h).is_running()
+    }
+
+    /// Whether no hart is paused.
+    #[inline(always)]
+    pub fn none_paused(&self) -> bool
+        ensures { result ≡ (length (openings self.now.entries) == 0) }
+    {
+        self.openings.is_empty()
+    }
+
+    /// The hart that is paused, where one is and no other.
+    #[inline(always)]
+    pub fn only_paused(&self) -> Option<u8>
+        ensures { result ≡ only_hart (openings self.now.entries) }
+    {
+        match self.openings.as_slice() {
+            [only] => Some(only.hart),
+            _ => None,
+        }
+    }
+
     /// The place of a hart's open pause.
     pub fn paused(&self, h: u8) -> Option<u32>
         ensures { result ≡ option_map (λ o. o.place) (opening_of self.now.entries h) }
@@ -293,14 +321,6 @@ impl<S: ByteStore> Collider<S> {
 
 /// The parts of the calls.
 impl<S: ByteStore> Collider<S> {
-    /// Whether a hart runs.
-    fn runs(&self, h: u8) -> bool
-        requires { h < self.now.plan.harts }
-        ensures { result ≡ runs_at (setting_of self.now).start self.now.entries (length self.now.entries) h }
-    {
-        self.machine.status(h).is_running()
-    }
-
     /// Where the open pause of a hart stands among the open ones.
     fn opening_place(&self, h: u8) -> Option<usize>
         ensures { result ≡ position (λ o. o.hart == h) (openings self.now.entries) }
@@ -334,16 +354,24 @@ impl<S: ByteStore> Collider<S> {
         }
     }
 
-    /// Pauses a hart that would make the access. It is compiled into its two callers, which are called seldom.
+    /// Pauses a hart that may take a turn and would make this plain access, if its address is armed; which slot watches it,
+    /// if one was free. It is compiled into its two callers, which are called seldom.
     #[inline(always)]
-    fn pause(&mut self, h: u8, access: Access) -> Option<u8>
-        requires armed { answer.IsArmedAccess self.old h access }
-        requires forced { forced (setting_of self.old) self.old.entries (Turn h) ≡ Ok (Entry.Paused h (least_free self.old.plan.slots self.old.entries)) }
-        ensures slot { result ≡ least_free self.old.plan.slots self.old.entries }
-        ensures after { self.new ≡ added self.old (Entry.Paused h result) }
+    fn pause(&mut self, h: u8, access: Access) -> Option<Option<u8>>
+        requires accepted { is_ok (forced (setting_of self.old) self.old.entries (Turn h)) ≡ true }
+        requires plain { plain (setting_of self.old).start self.old.entries (length self.old.entries) h ≡ Some access }
+        ensures slot { IfSome result (λ slot. slot ≡ least_free self.old.plan.slots self.old.entries) }
+        ensures forced { IfSome result (λ slot.
+            forced (setting_of self.old) self.old.entries (Turn h) ≡ Ok (Entry.Paused h slot)) }
+        ensures after { IfSome result (λ slot. self.new ≡ added self.old (Entry.Paused h slot)) }
+        ensures same { IfNone result (self.new ≡ self.old) }
+        ensures unarmed { IfNone result
+            (set.contains (armed (setting_of self.old).start self.old.entries) access.pc ≡ false) }
     {
         reservations_and_accesses();
-        let _was_armed = self.breaks.take_code(access.pc);
+        if !self.breaks.take_code(access.pc) {
+            return None;
+        }
         let slot = self.breaks.claim(h, access);
         let old = number_at(&self.machine, access.first, access.size);
         self.openings.push_reserved(OpenPause {
@@ -355,7 +383,7 @@ impl<S: ByteStore> Collider<S> {
         });
         self.entries.push_reserved(Entry::Paused(h, slot));
         self.until = 0;
-        slot
+        Some(slot)
     }
 
     /// The same, whose answer has a place of its own here, so that the event of a step stays in registers.
@@ -390,7 +418,10 @@ impl<S: ByteStore> Collider<S> {
             return Err(Refused::StepsSpent);
         }
         match self.armed_access(h) {
-            Some(access) => Ok(Turned::Paused(self.pause(h, access))),
+            Some(access) => match self.pause(h, access) {
+                Some(slot) => Ok(Turned::Paused(slot)),
+                None => unreachable!(),
+            },
             None => match self.step(h, true) {
                 Some(event) => Ok(Turned::Stepped(event)),
                 None => Err(Refused::NoMemory),
@@ -405,15 +436,6 @@ impl<S: ByteStore> Collider<S> {
         ensures goes_on { result ≡ true → (h : ℕ) → GoesOn self.now h }
     {
         self.steps < self.until
-    }
-
-    /// The same where steps are left, by one number alone.
-    #[inline(always)]
-    fn is_unhindered(&self) -> bool
-        ensures unwatched { result ≡ true → nat_lt (length (steps self.now.entries)) self.now.plan.steps ≡ true → openings self.now.entries ≡ [] }
-        ensures goes_on { result ≡ true → nat_lt (length (steps self.now.entries)) self.now.plan.steps ≡ true → (h : ℕ) → GoesOn self.now h }
-    {
-        0 < self.until
     }
 
     /// Whether no pause is open, as none is where each turn is free.
@@ -519,9 +541,9 @@ impl<S: ByteStore> Collider<S> {
         ensures after { self.new ≡ added self.old (Entry.Resumed h) }
     {
         reservations_and_accesses();
-        let open = self.openings.remove(place);
-        let seen = released(&mut self.breaks, open.slot);
+        let open = taken_out(&mut self.openings, place);
         let new = number_at(&self.machine, open.access.first, open.access.size);
+        let seen = released(&mut self.breaks, open.slot);
         let ending = ending_of(open, self.entries.len() as u32, seen, new);
         self.entries.push_reserved(Entry::Resumed(h));
         self.endings.push_reserved(ending);
@@ -606,6 +628,7 @@ fn is_one_of(openings: &[OpenPause], h: u8) -> bool
 {
     match openings {
         [] => false,
+        [only] => only.hart == h,
         [a, b, c, d] => a.hart == h || b.hart == h || c.hart == h || d.hart == h,
         _ => openings.iter().any(|p| p.hart == h),
     }
@@ -616,6 +639,21 @@ fn place_among(openings: &[OpenPause], h: u8) -> Option<usize>
     ensures { result ≡ position (λ p. p.hart == h) openings.now }
 {
     openings.iter().position(|p| p.hart == h)
+}
+
+/// Takes out the open pause at a place. The last one, as it mostly is, leaves by itself.
+fn taken_out(openings: &mut Vec<OpenPause>, place: usize) -> OpenPause
+    requires { place < vec_len openings.old }
+    ensures value { result ≡ slice_index_or openings.old.items place result }
+    ensures items { openings.new.items ≡ remove openings.old.items place }
+    ensures capacity { vec_capacity openings.new ≡ vec_capacity openings.old }
+{
+    if place + 1 == openings.len() {
+        if let Some(last) = openings.pop() {
+            return last;
+        }
+    }
+    openings.remove(place)
 }
 
 /// Frees the data breakpoint of a pause, if one watched it; what it has seen.

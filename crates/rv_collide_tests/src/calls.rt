@@ -150,11 +150,40 @@ fn tells_places(rt: HostRuntime) {
     see_places(&rt, &told(&rt, rt.alloc(), P, plan, HIT));
 }
 
-fn see_armed(rt: &impl Abort, c: &Collider<Flat>) {
-    assert_is(rt, c.is_armed(0x10004), true, "is armed");
+/// Both harts are paused at their stores, and then one.
+const BOTH_PAUSED: &[Entry] = &[
+    Stepped(0),
+    Stepped(1),
+    Armed(0x10004),
+    Paused(1, Some(0)),
+    Armed(0x10004),
+    Paused(0, Some(1)),
+    Resumed(1),
+];
+
+/// Asserts whether no hart is paused, and which is alone, after these entries.
+fn assert_alone(rt: &impl Abort, alloc: Global, entries: &[Entry], wanted: (bool, Option<u8>)) {
+    let plan = plan(rt, 2, 100, 8);
+    let c = told(rt, alloc, P, plan, entries);
+    let paused = (c.none_paused(), c.only_paused());
+    assert_is(rt, paused, wanted, "which is paused");
 }
 
-/// An access that traps leaves its address armed.
+#[test]
+fn tells_which_hart_alone_is_paused(rt: HostRuntime) {
+    assert_alone(&rt, rt.alloc(), &BOTH_PAUSED[..3], (true, None));
+    assert_alone(&rt, rt.alloc(), &BOTH_PAUSED[..4], (false, Some(1)));
+    assert_alone(&rt, rt.alloc(), &BOTH_PAUSED[..6], (false, None));
+    assert_alone(&rt, rt.alloc(), BOTH_PAUSED, (false, Some(0)));
+}
+
+fn see_armed(rt: &impl Abort, c: &Collider<Flat>) {
+    assert_is(rt, c.is_armed(0x10004), true, "is armed");
+    assert!(rt; 0 < c.plan().harts);
+    assert_is(rt, c.runs(0), false, "runs");
+}
+
+/// An access that traps leaves its address armed, and stops the hart.
 #[test]
 fn tells_what_is_armed(rt: HostRuntime) {
     let plan = plan(&rt, 1, 100, 8);

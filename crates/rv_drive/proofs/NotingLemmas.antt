@@ -240,3 +240,39 @@ all_noted d h k all = record {
   lasts = λ hart o below is. k.lasts hart o (omega arith) is;
   room = k.room;
 }
+
+-- ---- where no pause is open
+
+no_opening : (xs : List Entry) (hart : ℕ) → openings xs ≡ [] → is_some (opening_of xs hart) ≡ false
+unfolding opening_of
+no_opening xs hart none = ap (λ (os : List Opening). is_some (find (λ (o : Opening). o.hart == hart) os)) none
+
+alone : (b : Bool) → b ≡ (b && not false && true)
+alone true = refl
+alone false = refl
+
+-- a hart that runs is able, where steps are left
+pub running_able : (setting : Setting) (xs : List Entry) (hart : ℕ) (runs : Bool) → openings xs ≡ [] → nat_lt (length (steps xs)) setting.plan.steps ≡ true → runs ≡ runs_at setting.start xs (length xs) hart → runs ≡ is_able setting xs hart
+running_able setting xs hart runs none left is =
+    alone runs ∙ able_when setting xs hart (length (steps xs)) false runs true (sym (no_opening xs hart none)) is (sym left) refl
+
+never_zero : (n : ℕ) → (suc n == 0) ≡ false
+never_zero n = grind (arith, nat_tests)
+
+both_ways : false ≡ true → ⊥
+both_ways h = cc
+
+of_length : (os : List Opening) → (length os == 0) ≡ true → os ≡ []
+of_length [] h = refl
+of_length (o ∷ os) h = absurd (both_ways (sym (never_zero (length os)) ∙ h))
+
+pub unpaused_ahead : (d : Ahead) → openings d.collider.entries ≡ [] → IsKept d.collider.entries d.made d.made_at → d.able.items ≡ able (setting_of d.collider) d.collider.entries → 16 ≤ vec_capacity d.able → IsAhead d
+unpaused_ahead d none kept are room = record {
+  kept = kept;
+  able_are = are;
+  lasts = λ hart o below is. absurd (both_ways (sym (no_opening d.collider.entries hart none) ∙ ap is_some is));
+  room = room;
+}
+
+pub no_pauses : (xs : List Entry) → (length (openings xs) == 0) ≡ true → openings xs ≡ []
+no_pauses xs h = of_length (openings xs) h

@@ -258,10 +258,13 @@ turn_of old new h (turned.Stepped event) turns = record { entry = Stepped h; add
 turn_of old new h (turned.Paused slot) turns = record { entry = Paused h slot; adds = turns }
 
 -- the owed turn, told of what was before it
-pub owed_turn : (e : Ahead) (new : Ahead) (h : ℕ) (t : Turned) → is_some (opening_of e.collider.entries h) ≡ false → Turns e.collider new.collider h t → AddsTurn e new h
-owed_turn e new h t closed turns = λ before was.
+pub owed_full : (e new : Ahead) (h : ℕ) → is_some (opening_of e.collider.entries h) ≡ false → IsTurnOf e.collider new.collider h → AddsTurn e new h
+owed_full e new h closed turns = λ before was.
     let same = unstepped_same before e h was closed in
-    turn_of before.collider new.collider h t (subst (λ (x : Ahead). Turns x.collider new.collider h t) same turns)
+    subst (λ (x : Ahead). IsTurnOf x.collider new.collider h) same turns
+
+pub step_turn : (d e : Ahead) (h : ℕ) → StaysAhead d e h → IsTurnOf d.collider e.collider h
+step_turn d e h stays = record { entry = Stepped h; adds = stays.adds }
 
 pub owed_pause : (e f : Ahead) (h : ℕ) → is_some (opening_of e.collider.entries h) ≡ true → f.collider ≡ e.collider → AddsTurn e f h
 owed_pause e f h held same = λ before was.

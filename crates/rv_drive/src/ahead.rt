@@ -5,10 +5,12 @@
 ghost use Rattle.std.specs.Prelude.{◌≡◌, ◌+◌, ◌<◌, ◌≤◌, ◌==◌, ◌^◌, [], ◌∷◌, ◌++◌, filter, length, nat_lt, not, set, slice_get, slice_index, true, is_some, if◌then◌else◌, Ok, Some, IfOk, IfSome, vec_capacity};
 ghost use Rattle.rv_drive.specs.Sampling.{drew, sampling_of};
 ghost use Rattle.rv_drive.specs.internal.Kept.{IsAhead, IsKept};
+ghost use Rattle.rv_drive.specs.Able as spec;
 ghost use Rattle.rv_drive.specs.Able.{able, due, is_able, is_due};
+ghost use Rattle.rv_collide.specs.Entries.{steps};
 ghost use Rattle.rv_collide.specs.Answers.{Resumes, Turns};
 ghost use Rattle.rv_collide.specs.Next.{runs_at};
-ghost use Rattle.rv_collide.specs.Pause.{opening_of};
+ghost use Rattle.rv_collide.specs.Pause.{opening_of, openings};
 ghost use Rattle.rv_collide.specs.Stored.{setting_of};
 
 use crate::driver_laws::{accepted_calls, open_pauses};
@@ -67,6 +69,10 @@ impl Ahead {
         let are_left = self.made < plan.steps;
         self.able.clear();
         self.earliest = u32::MAX;
+        if are_left && self.collider.none_paused() {
+            note_running(&mut self.able, &self.collider, plan.harts);
+            return;
+        }
         for h in 0..plan.harts {
             self.note(h, are_left);
         }
@@ -77,6 +83,7 @@ impl Ahead {
     fn note(&mut self, h: u8, are_left: bool)
         requires kept { IsKept self.old.collider.entries self.old.made self.old.made_at }
         requires hart { h < MOST_HARTS }
+        requires within { h < self.old.collider.plan.harts }
         requires left { are_left ≡ nat_lt self.old.made self.old.collider.plan.steps }
         requires room { length self.old.able.items < vec_capacity self.old.able }
         ensures able { self.new.able.items ≡ self.old.able.items
@@ -89,7 +96,7 @@ impl Ahead {
     {
         if self.is_open(h) {
             self.earliest = self.earliest.min(self.end(h));
-        } else if are_left && self.runs(h) {
+        } else if are_left && self.collider.runs(h) {
             self.able.push_reserved(h);
         }
     }
@@ -197,10 +204,26 @@ impl Ahead {
         self.first_due()
     }
 
+    /// The same, where the paused harts are asked. Mostly one is paused and no other.
+    #[inline(always)]
+    fn first_due(&self) -> Option<u8>
+        requires { IsAhead self.now }
+        ensures value { result ≡ due (setting_of self.now.collider) self.now.collider.entries }
+        ensures hart { IfSome result (λ h. h < self.now.collider.plan.harts) }
+        ensures due { IfSome result (λ h. is_due (setting_of self.now.collider) self.now.collider.entries h ≡ true) }
+    {
+        if let Some(h) = self.collider.only_paused() {
+            if h < self.collider.plan().harts {
+                return if self.is_due(h) { Some(h) } else { None };
+            }
+        }
+        self.lowest_due()
+    }
+
     /// The same, where every hart is asked.
     #[cold]
     #[inline(never)]
-    fn first_due(&self) -> Option<u8>
+    fn lowest_due(&self) -> Option<u8>
         requires { IsAhead self.now }
         ensures value { result ≡ due (setting_of self.now.collider) self.now.collider.entries }
         ensures hart { IfSome result (λ h. h < self.now.collider.plan.harts) }
@@ -247,7 +270,7 @@ impl Ahead {
         match self.collider.turn(h) {
             Ok(Turned::Stepped(event)) => {
                 self.made += 1;
-                if self.made >= plan.steps || !self.runs(h) {
+                if self.made >= plan.steps || !self.collider.runs(h) {
                     self.look();
                 }
                 Turned::Stepped(event)
@@ -275,6 +298,24 @@ impl Ahead {
                 ending
             }
             Err(_) => unreachable!(),
+        }
+    }
+}
+
+/// Notes the harts that run, of so many, where no hart is paused and steps are left: these are able then.
+fn note_running(able: &mut Vec<u8>, collider: &Collider<Flat>, harts: u8)
+    requires empty { able.old.items ≡ [] }
+    requires room { MOST_HARTS ≤ vec_capacity able.old }
+    requires harts { harts ≡ collider.now.plan.harts }
+    requires few { harts ≤ MOST_HARTS }
+    requires unpaused { openings collider.now.entries ≡ [] }
+    requires left { nat_lt (length (steps collider.now.entries)) collider.now.plan.steps ≡ true }
+    ensures able { able.new.items ≡ spec.able (setting_of collider.now) collider.now.entries }
+    ensures room { vec_capacity able.new ≡ vec_capacity able.old }
+{
+    for h in 0..harts {
+        if collider.runs(h) {
+            able.push_reserved(h);
         }
     }
 }

@@ -1,11 +1,9 @@
 -- Steps that are told again in a row.
-use Rattle.std.specs.Prelude.{◌≡◌, ℕ, ◌+◌, ◌<◌, ◌≤◌, ◌==◌, Bool, true, false, is_some, List, [], length, slice_index_or, take}
-use Rattle.std.specs.FinSet.{len}
-use Rattle.rv_collide.specs.Answers.{StepsOn}
-use Rattle.rv_collide.specs.Armed.{armed}
+use Rattle.std.specs.Prelude.{◌≡◌, ℕ, ◌+◌, ◌<◌, ◌≤◌, Bool, true, false, is_some, List, length, slice_index_or, take}
+use Rattle.rv_collide.specs.Answers.{IsFree, StepsOn}
 use Rattle.rv_collide.specs.Entries.{steps}
 use Rattle.rv_collide.specs.Next.{runs_at}
-use Rattle.rv_collide.specs.Pause.{opening_of, openings}
+use Rattle.rv_collide.specs.Pause.{opening_of}
 use Rattle.rv_collide.specs.Stored.{Stored, setting_of, stored}
 use Rattle.rv_collide.specs.declared.entry.Entry.{Entry}
 use Rattle.rv_collide.specs.declared.entry.Entry.TheVariants.{Stepped}
@@ -19,11 +17,6 @@ pub record IsAble (c : Stored) (h : ℕ) : Type 0 where
 -- each hart that is marked is able
 abbrev pub AreAble : Stored → List Bool → Type 0
 AreAble c marks = (h : ℕ) → slice_index_or marks h false ≡ true → IsAble c h
-
--- no pause is open and no address armed
-pub record IsFree (c : Stored) : Type 0 where
-  pub unwatched : openings c.entries ≡ []
-  pub unarmed : (len (armed (setting_of c).start c.entries) == 0) ≡ true
 
 -- the entry is the step that was made
 pub record StepsAgain (old new : Stored) (entry : Entry) : Type 0 where

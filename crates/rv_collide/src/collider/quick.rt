@@ -39,19 +39,33 @@ impl<S: ByteStore> Collider<S> {
 
     /// A turn of a hart that may take one and whose word was fetched: true after its step, where that is a common one, and then
     /// the hart runs on. Else the hart may be paused, where it would make a plain access at an armed address; or nothing
-    /// has changed.
+    /// has changed. Where it is not watched, no pause is open and no address armed, and so it stays; neither is asked then. `PLACE`
+    /// is that of `Machine::step_quick`.
     #[inline(always)]
-    pub fn turn_quick(&mut self, h: u8, word: u32) -> bool
+    pub fn turn_quick<const PLACE: u8>(&mut self, h: u8, word: u32, is_watched: bool) -> bool
         requires accepted { is_ok (forced (setting_of self.old) self.old.entries (Turn h)) ≡ true }
         requires word { answer.IsWord self.old h word }
+        requires free { is_watched ≡ false → answer.IsFree self.old }
         ensures steps { result ≡ true → answer.StepsOn self.old self.new h }
         ensures other { result ≡ false → answer.MayPause self.old self.new h }
+        ensures free { result ≡ true → answer.IsFree self.old → answer.IsFree self.new }
     {
-        // Two places, each with a step compiled into it: one that is shown to no claim stays in registers.
-        if self.is_unhindered() {
-            return self.step_on::<1>(h, word, false, true);
+        self.step_on::<PLACE>(h, word, is_watched, true)
+    }
+
+    /// The step that a turn of a hart is, where it is a common one; its word is fetched here. Else nothing has changed: a hart is
+    /// not paused by this. It is for a turn now and then: the step is a call, and not compiled into its caller.
+    #[inline(always)]
+    pub fn step_quick(&mut self, h: u8) -> bool
+        requires hart { h < self.old.plan.harts }
+        requires accepted { is_ok (forced (setting_of self.old) self.old.entries (Turn h)) ≡ true }
+        ensures steps { result ≡ true → answer.StepsOn self.old self.new h }
+        ensures same { result ≡ false → self.new ≡ self.old }
+    {
+        match self.fetched(h) {
+            None => false,
+            Some(word) => self.step_on::<0>(h, word, true, false),
         }
-        self.step_on::<2>(h, word, true, true)
     }
 
     /// Lets a hart that may take a turn make a common step. Where addresses may be armed or pauses open, its access is kept
@@ -123,9 +137,6 @@ impl<S: ByteStore> Collider<S> {
             ≡ Some (record { pc = pc; first = first; size = size; read = read; write = write }) }
         ensures { answer.MayPause self.old self.new h }
     {
-        if !self.breaks.is_armed(pc) {
-            return;
-        }
         let access = Access {
             pc,
             first,
@@ -133,7 +144,7 @@ impl<S: ByteStore> Collider<S> {
             read,
             write,
         };
-        let _slot = self.pause(h, access);
+        let _paused = self.pause(h, access);
     }
 }
 

@@ -4,7 +4,7 @@ use Rattle.rv_collide.specs.Stored.{setting_of}
 use Rattle.rv_drive.specs.Able.{is_able}
 use Rattle.rv_drive.specs.declared.ahead.Ahead.{Ahead}
 use Rattle.rv_drive.specs.internal.Kept.{IsAhead}
-use Rattle.rv_drive.proofs.TurnsLemmas.{owed_pause, owed_plan, owed_turn, paused_ahead, unstepped_harts, unstepped_same}
+use Rattle.rv_drive.proofs.TurnsLemmas.{owed_full, owed_pause, owed_plan, paused_ahead, unstepped_harts, unstepped_same}
 use Rattle.rv_drive.proofs.ahead.Ahead.end_turn.Goals as goal
 
 pub hold-requires-clause-hart : goal.hold-requires-clause-hart
@@ -43,18 +43,18 @@ pub returns-then-is_open-clause-turns : goal.returns-then-is_open-clause-turns
 returns-then-is_open-clause-turns c =
     owed_pause c.args.self.now c.hold.new.self c.args.h (sym c.is_open.ensures ∙ c.if-is_open.true) (ap (λ (d : Ahead). d.collider) c.hold.ensures.others)
 
-pub turn-requires-clause-driver : goal.turn-requires-clause-driver
-turn-requires-clause-driver c =
+pub turn_in_full-requires-clause-driver : goal.turn_in_full-requires-clause-driver
+turn_in_full-requires-clause-driver c =
     subst IsAhead (sym (unstepped_same c.requires.owed.before c.args.self.now c.args.h c.requires.owed.unstepped (sym c.is_open.ensures ∙ c.if-is_open.false))) c.requires.owed.ahead
 
-pub turn-requires-clause-hart : goal.turn-requires-clause-hart
-turn-requires-clause-hart c =
+pub turn_in_full-requires-clause-hart : goal.turn_in_full-requires-clause-hart
+turn_in_full-requires-clause-hart c =
     subst (λ (d : Ahead). c.args.h < d.collider.plan.harts) (sym (unstepped_same c.requires.owed.before c.args.self.now c.args.h c.requires.owed.unstepped (sym c.is_open.ensures ∙ c.if-is_open.false))) c.requires.owed.within
 
-pub turn-requires-clause-able : goal.turn-requires-clause-able
-turn-requires-clause-able c =
+pub turn_in_full-requires-clause-able : goal.turn_in_full-requires-clause-able
+turn_in_full-requires-clause-able c =
     subst (λ (d : Ahead). is_able (setting_of d.collider) d.collider.entries c.args.h ≡ true) (sym (unstepped_same c.requires.owed.before c.args.self.now c.args.h c.requires.owed.unstepped (sym c.is_open.ensures ∙ c.if-is_open.false))) c.requires.owed.is_able
 
 pub returns-else-is_open-clause-turns : goal.returns-else-is_open-clause-turns
 returns-else-is_open-clause-turns c =
-    owed_turn c.args.self.now c.turn.new.self c.args.h c.turn.result (sym c.is_open.ensures ∙ c.if-is_open.false) c.turn.ensures.turns
+    owed_full c.args.self.now c.turn_in_full.new.self c.args.h (sym c.is_open.ensures ∙ c.if-is_open.false) c.turn_in_full.ensures.turns

@@ -5,7 +5,7 @@ use Rattle.rv_collide.specs.Stored.{Stored, setting_of}
 use Rattle.rv_drive.specs.Able.{is_able}
 use Rattle.rv_drive.proofs.RowLemmas.{count_bound}
 use Rattle.rv_drive.specs.declared.ahead.Ahead.{Ahead}
-use Rattle.rv_drive.proofs.NotingLemmas.{all_noted, noted_more}
+use Rattle.rv_drive.proofs.NotingLemmas.{all_noted, no_pauses, noted_more, unpaused_ahead}
 use Rattle.rv_drive.proofs.ahead.Ahead.look.Goals as goal
 
 pub note-requires-clause-room : goal.note-requires-clause-room
@@ -32,3 +32,13 @@ returns-clause-driver c =
     let done = c.loop-h-test.false in
     let last = c.loop-h.auto.h-end in
     all_noted c.loop-h.self c.loop-h.h c.loop-h.invariant.noted (omega arith)
+
+pub returns-then-none_paused-clause-driver : goal.returns-then-none_paused-clause-driver
+returns-then-none_paused-clause-driver c =
+    let room = c.requires.room in
+    let cleared = c.clear.ensures.capacity in
+    let noted = c.note_running.ensures.room in
+    unpaused_ahead _ (no_pauses c.args.self.now.collider.entries (sym c.none_paused.ensures ∙ c.if-none_paused.true)) c.requires.kept c.note_running.ensures.able (omega (arith, room, cleared, noted))
+
+pub note_running-requires-clause-unpaused : goal.note_running-requires-clause-unpaused
+note_running-requires-clause-unpaused c = no_pauses c.args.self.now.collider.entries (sym c.none_paused.ensures ∙ c.if-none_paused.true)
