@@ -1,6 +1,6 @@
 -- The blocks of rows, row by row.
-use Rattle.std.proofs.Common.{◌≡◌, ℕ, ◌+◌, ◌<◌, ◌≤◌, true, false, List, [], ◌∷◌, ◌++◌, get_or, length, take, Option, Some, None, refl, ap, sym, subst, ◌∙◌, arith, append_assoc, append-nil}
-use Rattle.std.specs.Prelude.{All, find, is_some, option_map, slice_get}
+use Rattle.std.proofs.Common.{◌≡◌, ℕ, ◌+◌, ◌<◌, ◌≤◌, List, [], ◌∷◌, ◌++◌, get_or, length, take, Option, Some, None, refl, ap, sym, subst, ◌∙◌, arith, append_assoc, append-nil}
+use Rattle.std.specs.Prelude.{All, find, option_map, slice_get}
 use Rattle.std.proofs.lemmas.List.{length-take-le, take_more}
 use Rattle.std.proofs.lemmas.List.Elements.{All-append, All-filter}
 use Rattle.std.proofs.lemmas.Option.{slice_get-get_or}
@@ -61,9 +61,6 @@ pub race_is_told : (image : Contents) (ranges : List (ℕ × ℕ)) (row : Row) (
 unfolding race_in
 race_is_told image ranges row ended race made =
     with_report ended row (find (is_told_by row) (reports_of image ranges ended (length ended))) race (found_is_ending (is_told_by row) image ranges ended) made
-
-pub no_race : {P : Type 0} (o : Option Race) → o ≡ None → is_some o ≡ true → P
-no_race o none some = (let no : false ≡ true = rw none at some in cc)
 
 -- ---- the rows that are told have races
 

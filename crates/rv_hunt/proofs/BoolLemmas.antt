@@ -52,10 +52,6 @@ or_or : (a b x : Bool) → (a || (b || x)) ≡ ((a || b) || x)
 or_or true b x = refl
 or_or false b x = refl
 
--- one of the two writers failed
-pub writer_failed : (q a w x b : Bool) → a ≡ (q || false) → w ≡ (b || x) → (a || w) ≡ ((q || b) || x)
-writer_failed q a w x b first next = rw (first, next, or_false q) (or_or q b x)
-
 -- a folder or a page failed, where the folder was looked at before
 pub later_file : (d p l a x : Bool) → l ≡ (d || false) → a ≡ ((l || p) || x) → a ≡ ((d || p) || x)
 later_file d p l a x looked first = first ∙ ap (λ k. (k || p) || x) (looked ∙ or_false d)

@@ -1,14 +1,12 @@
 -- What is asked by the files of a hunt, and why one of them is refused.
-use Rattle.std.proofs.Common.{◌≡◌, ℕ, List, Option, Some, None, Result, Ok, sym, subst, ◌∙◌, true, false}
+use Rattle.std.proofs.Common.{◌≡◌, ℕ, List, Option, Some, None, Result, Ok, sym, subst, true, false}
 use Rattle.std.specs.Prelude.{IfSome, IsOkAnd, option_and_then, option_map}
 use Rattle.std.specs.Result.{IsOk}
-use Rattle.rv_engines.specs.CommandFault as command
-use Rattle.rv_engines.specs.declared.run.fault.CommandFault.{CommandFault}
 use Rattle.rv_hunt.specs.Hunted.{Hunt}
 use Rattle.rv_hunt.specs.engine.Asked.{Asked}
 use Rattle.rv_hunt.specs.engine.HuntFault.{IsTold}
 use Rattle.rv_hunt.specs.engine.Hunting.{Files, Hunting, IsHuntingOf, expected_in, hunt_of, ignored_in}
-use Rattle.rv_hunt.specs.declared.engine.fault.HuntFault.TheVariants.{Command, Ignored, Expected}
+use Rattle.rv_hunt.specs.declared.engine.fault.HuntFault.TheVariants.{Ignored, Expected}
 use Rattle.rv_hunt.specs.merge.FileFault as file
 use Rattle.rv_hunt.specs.declared.merge.fault.FileFault.{FileFault}
 use Rattle.rv_hunt.specs.declared.merge.ignore.Line.{Line}
@@ -27,13 +25,6 @@ hunting_known (Some i) (Some l) (Some t) asked hunting h g e = record { hunt_is 
 
 never : {P : Type 0} → true ≡ false → P
 never h = cc
-
-pub command_told : (image : Option (List ℕ)) (ignored expected : Option (Option (List ℕ))) (asked : Asked) (fault : CommandFault) → command.is_thread (command.refusal fault) ≡ false
-    → IfSome image (λ bytes. command.IsTold (hunt_of asked bytes) (command.refusal fault)) → IfSome (files_in image ignored expected) (λ files. IsTold asked files (Command fault))
-command_told None ignored expected asked fault other h = tt
-command_told (Some i) None expected asked fault other h = tt
-command_told (Some i) (Some l) None asked fault other h = tt
-command_told (Some i) (Some l) (Some t) asked fault other h = (h, λ thread. never (sym thread ∙ other))
 
 and_ok : {A B : Type 0} (r : Result A B) (a : A) (Fact : A → Type 0) → r ≡ Ok a → Fact a → IsOkAnd r Fact
 and_ok {A = A} {B = B} r a Fact is fact = subst (λ (o : Result A B). IsOkAnd o Fact) (sym is) fact

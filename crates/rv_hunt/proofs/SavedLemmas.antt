@@ -60,9 +60,6 @@ saved_next hunt Holds After rows n number row d before count there keeps is plac
           (subst (λ (m : ℕ). IsSaved hunt (After m) row) (count ∙ ap (λ m. m + 1) (sym last)) is)
     ]
 
-pub none_saved : (hunt : Hunt) (Holds : ℕ → List ℕ → Type 0) (rows : List Row) → SoFar hunt Holds rows 0
-none_saved hunt Holds rows place row below found = absurd (omega arith)
-
 pub all_saved : (hunt : Hunt) (Holds : ℕ → List ℕ → Type 0) (rows : List Row) (n : ℕ) → length rows ≤ n → SoFar hunt Holds rows n → AreSaved hunt Holds rows
 all_saved hunt Holds rows n all so_far place row found = so_far place row (inside (slice_get_cases rows place).1) found
   where
