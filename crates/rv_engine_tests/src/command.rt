@@ -1,9 +1,8 @@
-//! The command line.
+//! The command line. That of `merge` is tried on the built program, in `tests/hunts`.
 mod asserting;
 mod explain;
 mod help;
 mod hunt;
 mod lines;
-mod merge;
 mod run;
 mod threads;

@@ -1,25 +1,22 @@
-//! The engines of `hunt` and `merge`, on devices that fail and a folder that gets full; and tables, sums and pages that no
-//! command makes.
+//! The engines of `hunt` and `merge`, on devices that fail and a folder that gets full; what of hunts and tables the built
+//! program can't show. What it can is in `tests/hunts`.
 use crate::assertion::assert_is;
 use rv_explain::block::RaceClass::{self, Counter, Flag, Kept, Named, Ordered};
 use rv_hunt::expected::{is_likely_benign, may_be_bug};
 use rv_hunt::reading::read_either;
-use rv_hunt::row::RaceRow;
 use rv_hunt::table::HuntTable;
+use rv_markup::escaped::escaped;
 use rv_memory::flagged::Flagged;
-use rv_report::key::Key;
 use std::alloc::Global;
 use std::process::Abort;
 
-mod faults;
+mod counted;
 mod folder;
 mod hunting;
-mod hunts;
 mod ignoring;
 mod merging;
-mod page;
+mod remade;
 mod saying;
-mod tallies;
 
 fn text(rt: &impl Abort, alloc: Global, table: &HuntTable) -> Vec<u8> {
     let mut writer = Flagged::new(Vec::new(alloc));
@@ -38,19 +35,9 @@ const AS_KEPT: &[u8] = b"races 2\n\
     0001000c - count 1 run 0 entry 64 changed old 00000000 new 00000040 kept\n";
 
 /// A table of `hunt`.
-const OF_HUNT: &[u8] = b"races 4\n\
-    00010054 00010074 count 16 run 1 entry 9 hit old 00000000 new 00000009 kept\n\
+const OF_HUNT: &[u8] = b"races 2\n\
     0001000c - count 18446744073709551615 run 0 entry 64 changed old 00000000 new 00000040 flag\n\
-    00010054 - count 7 run 4294967295 entry 4 changed old 00000000 new 00000004 named\n\
-    00010054 00010078 count 1 run 5 entry 6 hit old 00000000 new 00000006 counter\n";
-
-/// Texts, and those of the tables that they are read as.
-const EITHER: &[(&[u8], &[u8])] = &[
-    (OF_RUN, AS_KEPT),
-    (AS_KEPT, AS_KEPT),
-    (OF_HUNT, OF_HUNT),
-    (b"races 0\npruned named 0 flag 0 counter 0\n", b"races 0\n"),
-];
+    00010054 00010078 count 1 run 4294967295 entry 6 hit old 00000000 new 00000006 counter\n";
 
 fn assert_reads(rt: &impl Abort, alloc: Global, said: &[u8], wanted: &[u8]) {
     let table = read_either(alloc, said).ok().expect(rt, "a table");
@@ -61,9 +48,8 @@ fn assert_reads(rt: &impl Abort, alloc: Global, said: &[u8], wanted: &[u8]) {
 
 #[test]
 fn a_table_of_run_is_taken(rt: HostRuntime) {
-    for (said, wanted) in EITHER {
-        assert_reads(&rt, rt.alloc(), said, wanted);
-    }
+    assert_reads(&rt, rt.alloc(), OF_RUN, AS_KEPT);
+    assert_reads(&rt, rt.alloc(), OF_HUNT, OF_HUNT);
 }
 
 /// Classes, whether a race of it may be a bug, and whether it is likely benign.
@@ -81,4 +67,12 @@ fn which_classes_are_counted(rt: HostRuntime) {
         let found = (may_be_bug(*class), is_likely_benign(*class));
         assert_is(&rt, found, (*bug, *benign), "a class");
     }
+}
+
+/// What HTML may read as markup, and bytes that aren't shown: no command shows one of these.
+#[test]
+fn escapes_texts(rt: HostRuntime) {
+    let text = escaped(rt.alloc(), b"a '\"&<>\x1b\xc3\xa9\\\t\n\x7f").expect(&rt, "memory");
+    let wanted: &[u8] = b"a &#39;&quot;&amp;&lt;&gt;\\x1b\\xc3\\xa9\\\\x09\n\\x7f";
+    assert_is(&rt, text.as_slice(), wanted, "the text");
 }

@@ -4,12 +4,9 @@ use crate::devices::reader_of;
 use crate::images::Named;
 use crate::padded::image;
 use rv_engines::fault::Fault;
-use rv_explain::block::RaceClass;
 use rv_explain::symbol_table::SymbolTable;
 use rv_hunt::merge::fault::FileFault;
 use rv_hunt::merge::ignore::{Ignores, read_ignores};
-use rv_hunt::merge::parted::part_rows;
-use rv_hunt::row::RaceRow;
 use rv_report::key::Key;
 use std::alloc::Global;
 use std::process::Abort;
@@ -43,8 +40,6 @@ const FITS: &[Fits] = &[
     ("00010020 inner # known\n", 0x10020, Some(0x10034), true),
     ("00010020 inner\n", 0x10024, Some(0x10034), false),
     ("inner   00010020#", 0x10020, Some(0x10034), true),
-    ("00010020 00010020\n", 0x10020, None, false),
-    ("* *\n", 0x10ffc, Some(0x10ffc), true),
     ("* *\n", 0x10ffc, None, true),
     ("_start *\n", 0x1001c, None, true),
     ("a\\\\\\x20b *\n", 0x10100, None, true),
@@ -77,58 +72,6 @@ fn assert_fits(rt: &impl Abort, alloc: Global, symbols: &SymbolTable, row: &Fits
     assert_is(rt, found, wanted, list);
 }
 
-fn row(first: u32, second: Option<u32>, run: u32) -> (Key, RaceRow) {
-    let row = RaceRow {
-        count: 1,
-        class: RaceClass::Kept,
-        run,
-        entry: 0,
-        old: 0,
-        new: 1,
-    };
-    (Key { first, second }, row)
-}
-
-fn assert_runs(rt: &impl Abort, rows: &[(Key, RaceRow)], wanted: &[u32]) {
-    assert_is(rt, rows.len(), wanted.len(), "how many");
-    for (row, run) in rows.iter().zip(wanted) {
-        assert_is(rt, row.1.run, *run, "a row");
-    }
-}
-
-/// Of which runs the rows are told, and of which they are ignored.
-fn assert_parted(
-    rt: &impl Abort,
-    alloc: Global,
-    symbols: &SymbolTable,
-    ignores: &Ignores,
-    told: &[u32],
-    ignored: &[u32],
-) {
-    let rows = [
-        row(0x10020, None, 0),
-        row(0x10000, None, 1),
-        row(0x10000, Some(0x10034), 2),
-        row(0x10100, None, 3),
-    ];
-    let parted = part_rows(alloc, symbols, ignores, &rows).expect(rt, "memory");
-    assert_runs(rt, &parted.told, told);
-    assert_runs(rt, &parted.ignored, ignored);
-}
-
-fn assert_parts(rt: &impl Abort, alloc: Global, symbols: &SymbolTable) {
-    let ignores = read(alloc, symbols, "main *", 0).expect(rt, "a list");
-    assert_parted(rt, alloc, symbols, &ignores, &[1, 3], &[0, 2]);
-    assert_parted(
-        rt,
-        alloc,
-        symbols,
-        &Ignores::none(alloc),
-        &[0, 1, 2, 3],
-        &[],
-    );
-}
-
 /// A list is read in three reads.
 fn assert_tells_failing_reads(rt: &impl Abort, alloc: Global, symbols: &SymbolTable) {
     for fails_at in 1..5 {
@@ -139,13 +82,12 @@ fn assert_tells_failing_reads(rt: &impl Abort, alloc: Global, symbols: &SymbolTa
 }
 
 #[test]
-fn lists_fit_races_and_part_rows(rt: HostRuntime) {
+fn lists_fit_races(rt: HostRuntime) {
     let alloc = rt.alloc();
     let image = image(&rt, alloc, &[], &SYMBOLS);
     let symbols = SymbolTable::new(alloc, &image).expect(&rt, "memory");
     for row in FITS {
         assert_fits(&rt, alloc, &symbols, row);
     }
-    assert_parts(&rt, alloc, &symbols);
     assert_tells_failing_reads(&rt, alloc, &symbols);
 }
