@@ -71,6 +71,8 @@ pub(crate) fn core_sampled(
     draws_owed();
     let mut words = Generator::new(seed, u64::from(run));
     let mut driver = Driver::open(alloc, image, plan, sampler, &mut words)?;
+    // Speed: what was lent to a call stays in memory, and what was not may stay in registers.
+    let mut words = words;
     while go_on(&mut driver, &mut words, sampler) {}
     Ok(driver.into_collider())
 }

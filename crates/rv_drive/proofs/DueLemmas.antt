@@ -41,6 +41,9 @@ le_not a b h = grind (arith, nat_tests)
 apart : (a b : ℕ) → (a ≡ b → ⊥) → (a == b) ≡ false
 apart a b other = grind (arith, nat_tests)
 
+equal : (a b : ℕ) → a ≡ b → (a == b) ≡ true
+equal a b same = grind (arith, nat_tests)
+
 same_hart : (a h : ℕ) → Some a ≡ Some h → a ≡ h
 same_hart a h e = cc
 
@@ -50,6 +53,15 @@ unpaused : (os : List Opening) (h k : ℕ) → only_hart os ≡ Some h → (k �
 unpaused [] h k only other = cc
 unpaused (o ∷ []) h k only other = ap (λ b. is_some (cond b (Some o) None)) (apart o.hart k (λ same. other (sym same ∙ same_hart o.hart h only)))
 unpaused (o ∷ p ∷ os) h k only other = cc
+
+one_open : (os : List Opening) (h : ℕ) → only_hart os ≡ Some h → is_some (find (λ (o : Opening). o.hart == h) os) ≡ true
+one_open [] h only = cc
+one_open (o ∷ []) h only = ap (λ b. is_some (cond b (Some o) None)) (equal o.hart h (same_hart o.hart h only))
+one_open (o ∷ p ∷ os) h only = cc
+
+pub only_open : (entries : List Entry) (h : ℕ) → only_hart (openings entries) ≡ Some h → is_some (opening_of entries h) ≡ true
+unfolding opening_of
+only_open entries h only = one_open (openings entries) h only
 
 not_others : (setting : Setting) (entries : List Entry) (h k : ℕ) → only_hart (openings entries) ≡ Some h → (k ≡ h → ⊥) → is_due setting entries k ≡ false
 unfolding opening_of

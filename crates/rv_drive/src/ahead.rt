@@ -178,7 +178,7 @@ impl Ahead {
         self.able.get(index as usize).copied()
     }
 
-    /// Whether the pause of a hart is due to end. A paused hart is not able, so each able one is another.
+    /// Whether the pause of a hart is due to end.
     pub fn is_due(&self, h: u8) -> bool
         requires driver { IsAhead self.now }
         requires hart { h < MOST_HARTS }
@@ -187,6 +187,17 @@ impl Ahead {
         if !self.is_open(h) {
             return false;
         }
+        self.has_lasted(h)
+    }
+
+    /// The same of a paused hart. It is not able, so each able one is another.
+    #[inline(always)]
+    fn has_lasted(&self, h: u8) -> bool
+        requires driver { IsAhead self.now }
+        requires hart { h < MOST_HARTS }
+        requires paused { is_some (opening_of self.now.collider.entries h) ≡ true }
+        ensures { result ≡ is_due (setting_of self.now.collider) self.now.collider.entries h }
+    {
         let since = self.made.saturating_sub(self.made_at[usize::from(h)]);
         self.collider.plan().pause <= since || self.able.is_empty()
     }
@@ -214,7 +225,7 @@ impl Ahead {
     {
         if let Some(h) = self.collider.only_paused() {
             if h < self.collider.plan().harts {
-                return if self.is_due(h) { Some(h) } else { None };
+                return if self.has_lasted(h) { Some(h) } else { None };
             }
         }
         self.lowest_due()

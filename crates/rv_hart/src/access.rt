@@ -34,7 +34,8 @@ pub struct Noted {
 impl Noted {
     /// Nothing yet.
     pub fn nothing() -> Noted
-        ensures { result.is_kept_back ≡ false }
+        ensures access { result.access ≡ record { pc = 0; first = 0; size = 0; read = false; write = false } }
+        ensures flag { result.is_kept_back ≡ false }
     {
         Noted {
             access: Access::of_no_bytes(),

@@ -1,7 +1,7 @@
 //! Speed: steps of a stored schedule told again in a row. What is asked before each turn elsewhere is asked here once:
 //! only steps are made, so a hart that runs and is not paused stays so, and what is armed stays armed. An entry that is
 //! not made here is for the call itself, which has changed nothing then.
-ghost use Rattle.std.specs.Prelude.{◌≡◌, ℕ, ◌+◌, ◌<◌, ◌≤◌, false, length, nat_lt, slice_index_or, take, true};
+ghost use Rattle.std.specs.Prelude.{◌≡◌, ◌↔◌, ℕ, ◌+◌, ◌<◌, ◌≤◌, false, length, nat_lt, slice_index_or, take, true};
 ghost use Rattle.rv_collide.specs.Answers.{IsFree};
 ghost use Rattle.rv_collide.specs.Entries.{steps};
 ghost use Rattle.rv_collide.specs.Stored.{stored};
@@ -111,7 +111,7 @@ impl<S: ByteStore> Collider<S> {
 
     /// Whether no pause is open and no address armed.
     pub fn is_free_of_breaks(&self) -> bool
-        ensures { result ≡ true → IsFree self.now }
+        ensures { (result ≡ true) ↔ IsFree self.now }
     {
         self.openings.is_empty() && self.breaks.is_unarmed()
     }

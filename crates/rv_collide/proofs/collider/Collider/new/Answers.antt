@@ -32,5 +32,5 @@ invariant_of-result g c =
         for_endings = omega (arith, c.in_ok-endings.ensures.capacity);
       },
       until_new c.args.plan.steps c.args.plan.slots c.in_ok-breaks.breaks c.in_ok-openings.openings.items c.in_ok-breaks.ensures c.in_ok-openings.ensures.items,
-      c.nothing.ensures,
+      c.nothing.ensures.flag,
     )
