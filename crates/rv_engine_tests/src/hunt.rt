@@ -10,12 +10,10 @@ use rv_memory::flagged::Flagged;
 use std::alloc::Global;
 use std::process::Abort;
 
-mod counted;
 mod folder;
 mod hunting;
 mod ignoring;
 mod merging;
-mod remade;
 mod saying;
 
 fn text(rt: &impl Abort, alloc: Global, table: &HuntTable) -> Vec<u8> {
