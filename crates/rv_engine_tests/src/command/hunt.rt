@@ -32,6 +32,12 @@ const MOST_RUNS: HuntLine = HuntLine {
     ..PLAIN
 };
 
+/// The same of the most steps.
+const MOST_STEPS: HuntLine = HuntLine {
+    limit: Limit::Budget(1_000_000_000_000_000),
+    ..PLAIN
+};
+
 const LENGTHS: Lengths = Lengths {
     steps: 2000,
     arms: 64,
@@ -66,11 +72,12 @@ fn job<'a>(line: HuntLine<'a>) -> Option<Job<'a>> {
     })
 }
 
-/// Lines that give no option, one that gives the most runs, and one that gives each option.
+/// Lines that give no option, two that give the most runs and steps, and one that gives each option.
 const LINES: &[(&str, HuntLine)] = &[
     ("rvcollide hunt a.elf", PLAIN),
     ("rvcollide hunt -- a.elf", PLAIN),
     ("rvcollide hunt a.elf --runs 4294967296", MOST_RUNS),
+    ("rvcollide hunt a.elf --budget 1000000000000000", MOST_STEPS),
     (
         "rvcollide hunt --quiet --expect=t.txt --check-all --check --table \
 --page=p.html --save-to=d --ignore=i.txt --skip=00010000,x --named=a,,b --slots=8 --plan=02000,064,100 --workers=6 --runs=3 \
