@@ -8,6 +8,25 @@ import tempfile
 TOP = pathlib.Path(__file__).resolve().parent.parent
 BUILT = TOP / "crates/rvcollide/out/rvcollide"
 
+# What is told of a file that cannot be read, and of one that cannot be written.
+READ = "read: cannot read the input: does it exist, and is it a file?"
+WRITE = "write: cannot write the output: is there space, and does the folder exist?"
+
+# The table of a hunt that saw no race, and the sentences of a table's faults.
+NO_RACES = "races 0\n"
+TABLE_SENTENCES = {
+    "Shape": "the line is not the row of a race: is this a table of hunt?",
+    "Range": "a number or an address of the row is out of range",
+    "Twice": "the race has a row already: use merge to add tables",
+    "End": "there are not as many rows as the first line says: was the file cut off?",
+}
+
+
+def table_fault(name, line, kind):
+    """What is told of a file that is no table."""
+    return f"{name}: table line {line} {kind}: {TABLE_SENTENCES[kind]}"
+
+
 
 def programs():
     """The program that is named, or what `rt ci` leaves: as LLVM builds it and, where it is there, as Rattle's own compiler does."""
