@@ -634,14 +634,18 @@ fn is_one_of(openings: &[OpenPause], h: u8) -> bool
     }
 }
 
-/// Where the open pause of a hart stands.
+/// Where the open pause of a hart stands. Mostly one is open and no other.
 fn place_among(openings: &[OpenPause], h: u8) -> Option<usize>
     ensures { result ≡ position (λ p. p.hart == h) openings.now }
 {
-    openings.iter().position(|p| p.hart == h)
+    match openings {
+        [only] if only.hart == h => Some(0),
+        _ => openings.iter().position(|p| p.hart == h),
+    }
 }
 
 /// Takes out the open pause at a place. The last one, as it mostly is, leaves by itself.
+#[inline(always)]
 fn taken_out(openings: &mut Vec<OpenPause>, place: usize) -> OpenPause
     requires { place < vec_len openings.old }
     ensures value { result ≡ slice_index_or openings.old.items place result }
@@ -653,6 +657,18 @@ fn taken_out(openings: &mut Vec<OpenPause>, place: usize) -> OpenPause
             return last;
         }
     }
+    removed(openings, place)
+}
+
+/// The same, wherever it stands. It is a call of its own, since it is rare and long.
+#[cold]
+#[inline(never)]
+fn removed(openings: &mut Vec<OpenPause>, place: usize) -> OpenPause
+    requires { place < vec_len openings.old }
+    ensures value { result ≡ slice_index_or openings.old.items place result }
+    ensures items { openings.new.items ≡ remove openings.old.items place }
+    ensures capacity { vec_capacity openings.new ≡ vec_capacity openings.old }
+{
     openings.remove(place)
 }
 
