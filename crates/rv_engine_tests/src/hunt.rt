@@ -4,7 +4,7 @@ use crate::assertion::assert_is;
 use rv_explain::block::RaceClass::{self, Counter, Flag, Kept, Named, Ordered};
 use rv_hunt::expected::{is_likely_benign, may_be_bug};
 use rv_hunt::reading::read_either;
-use rv_hunt::table::HuntTable;
+use rv_hunt::table::{HuntTable, write_table};
 use rv_markup::escaped::escaped;
 use rv_memory::flagged::Flagged;
 use std::alloc::Global;
@@ -18,7 +18,8 @@ mod saying;
 
 fn text(rt: &impl Abort, alloc: Global, table: &HuntTable) -> Vec<u8> {
     let mut writer = Flagged::new(Vec::new(alloc));
-    table.write_table(&mut writer).expect(rt, "a table");
+    let rows = table.rows(alloc).expect(rt, "memory");
+    write_table(&mut writer, &rows).expect(rt, "a table");
     writer.into_inner()
 }
 

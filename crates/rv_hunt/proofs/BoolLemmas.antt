@@ -1,5 +1,5 @@
 -- Which of several devices have failed.
-use Rattle.std.proofs.Common.{◌≡◌, Bool, true, false, ap, refl, sym, ◌∙◌}
+use Rattle.std.proofs.Common.{◌≡◌, Bool, true, false, refl, sym}
 use Rattle.std.specs.Prelude.{◌||◌}
 
 pub none_more : (a x : Bool) → x ≡ false → a ≡ (a || x)
@@ -44,14 +44,6 @@ files false false false false false = refl
 pub file_failed : (d p n v a x : Bool) → a ≡ ((d || p) || x) → (a || (n || v)) ≡ (((d || p) || (n || v)) || x)
 file_failed d p n v a x first = rw first (files d p n v x)
 
-or_false : (a : Bool) → (a || false) ≡ a
-or_false true = refl
-or_false false = refl
-
 or_or : (a b x : Bool) → (a || (b || x)) ≡ ((a || b) || x)
 or_or true b x = refl
 or_or false b x = refl
-
--- a folder or a page failed, where the folder was looked at before
-pub later_file : (d p l a x : Bool) → l ≡ (d || false) → a ≡ ((l || p) || x) → a ≡ ((d || p) || x)
-later_file d p l a x looked first = first ∙ ap (λ k. (k || p) || x) (looked ∙ or_false d)

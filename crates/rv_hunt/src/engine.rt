@@ -7,7 +7,6 @@ ghost use Rattle.std.specs.Io.KnownBytes.{Appends, Keeps};
 ghost use Rattle.rv_memory.specs.Buffered as buffer;
 ghost use Rattle.rv_engines.specs.Campaigns.{passes};
 ghost use Rattle.rv_hunt.specs.engine.Asked.{AreLegal, asked, parts};
-ghost use Rattle.rv_hunt.specs.engine.FolderFault.{fails_by_write};
 ghost use Rattle.rv_hunt.specs.engine.HuntFault.{IsTold, fails_by, is_of_files, is_read, is_write};
 ghost use Rattle.rv_hunt.specs.engine.Hunting as spec;
 ghost use Rattle.rv_hunt.specs.engine.Paged.{IsPaged};
@@ -15,7 +14,7 @@ ghost use Rattle.rv_hunt.specs.engine.Saved.{AreSaved};
 ghost use Rattle.rv_hunt.specs.internal.Opened.{IsMade, hunt_in, hunting_with};
 
 use crate::engine::fault::HuntFault;
-use crate::engine::folder::{Folder, FolderFault};
+use crate::engine::folder::Folder;
 use crate::engine::found::Found;
 use crate::engine::inputs::Inputs;
 use crate::engine::lists::{Lists, read_ignored, read_known};
@@ -91,18 +90,6 @@ fn read<'a, R: Read>(
     }
 }
 
-/// Looks at the folder, where one is given.
-fn look<D: Folder>(folder: &mut Option<D>) -> Result<(), FolderFault>
-    ensures used { passes D.is_used folder.new ≡ passes D.is_used folder.old }
-    ensures wanted { is_some folder.new ≡ is_some folder.old }
-    ensures failed { passes D.has_failed folder.new ≡ (passes D.has_failed folder.old || fails_by_write result) }
-{
-    match folder {
-        None => Ok(()),
-        Some(folder) => folder.look(),
-    }
-}
-
 /// Reads the image and the lists, looks at the folder, and makes the runs of a hunt, the schedules of the races that are told,
 /// the page, and the texts of what the runs saw.
 fn make<'a, T: Threads + Wait + Sync, R: Read, D: Folder, F: NewFile, P: Watch>(
@@ -132,15 +119,15 @@ fn make<'a, T: Threads + Wait + Sync, R: Read, D: Folder, F: NewFile, P: Watch>(
     ensures writers { (passes D.has_failed folder.new || passes F.has_failed page.new)
         ≡ ((passes D.has_failed folder.old || passes F.has_failed page.old) || fails_by is_write result) }
 {
-    let (opened, lists) = match read(alloc, options, inputs) {
+    let read = match read(alloc, options, inputs) {
         Ok(read) => read,
         Err(fault) => return Err(fault),
     };
-    match look(folder) {
-        Ok(()) => {}
-        Err(fault) => return Err(HuntFault::from(fault)),
-    }
-    match make_hunt(rt, alloc, options, &opened, &lists, folder, page, watch) {
+    let (opened, lists) = &read;
+    let made = make_hunt(rt, alloc, options, opened, lists, folder, page, watch);
+    // Let go here, once for both outcomes.
+    drop(read);
+    match made {
         Ok(made) => Ok(made),
         Err(fault) => Err(HuntFault::Command(fault.as_command())),
     }

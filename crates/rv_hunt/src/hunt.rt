@@ -1,5 +1,5 @@
 //! Hunts: runs of consecutive numbers, as many as a limit allows.
-ghost use Rattle.std.specs.Prelude.{◌≡◌, ◌↔◌, ◌<◌, ◌≤◌, ◌+◌, ◌^◌, true, length, IfOk, OnOk};
+ghost use Rattle.std.specs.Prelude.{◌≡◌, ◌<◌, ◌≤◌, ◌+◌, ◌^◌, true, length, IfOk, OnOk};
 ghost use Rattle.rv_hunt.specs.Hunted as spec;
 ghost use Rattle.rv_hunt.specs.internal.Lots as internal;
 ghost use Rattle.rv_tally.specs.GoesOn as going;
@@ -80,16 +80,6 @@ fn plans_from(alloc: Global, plans: &Plans, next: u32, count: u32) -> Result<Vec
 }
 
 impl Hunt<'_> {
-    /// Whether there can be such a hunt: the budget is at most `MOST_BUDGET`, or the numbers of the runs have 32 bits.
-    pub fn is_legal(&self) -> bool
-        ensures { (result ≡ true) ↔ spec.IsHunt self.now }
-    {
-        match self.limit {
-            Limit::Runs(runs) => runs <= (1 << 32) - u64::from(self.first),
-            Limit::Budget(steps) => steps <= MOST_BUDGET,
-        }
-    }
-
     /// Whether one more run is made.
     fn goes_on(&self, hunted: &Hunted) -> bool
         requires { spec.IsHunt self.now }

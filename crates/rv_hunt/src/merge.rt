@@ -15,11 +15,15 @@ ghost use Rattle.rv_hunt.specs.merge.FileFault.{is_read, is_write, no_memory, wr
 ghost use Rattle.rv_hunt.specs.merge.Merge as spec;
 ghost use Rattle.rv_hunt.specs.internal.Adding as internal;
 
+use crate::expected::is_unexpected;
 use crate::merge::fault::FileFault;
 use crate::merge::table_file::{read_expected, read_hunt_table};
-use crate::table::HuntTable;
+use crate::row::RaceRow;
+use crate::table::{HuntTable, write_table};
 use rv_memory::buffered::Buffered;
 use rv_memory::flagged::{Flagged, WriteFault};
+use rv_memory::store::NoMemory;
+use rv_report::key::Key;
 use std::alloc::Global;
 use std::io::{Read, Write};
 
@@ -30,7 +34,7 @@ mod spelled;
 pub mod table_file;
 
 /// Why `merge` does not write its table, and which file is at fault: the number of a table, from 0 on, that of all tables
-/// for the one with the races that are expected, and none for the output.
+/// for the one with the races that are expected, and none for the output and for want of memory between the files and it.
 #[derive(Clone, Copy)]
 pub struct MergeFault {
     pub file: Option<usize>,
@@ -45,6 +49,17 @@ impl MergeFault {
         MergeFault {
             file: Some(number),
             fault,
+        }
+    }
+}
+
+impl From<NoMemory> for MergeFault {
+    ghost from_gives = { λ _ made. made ≡ record { file = None; fault = no_memory } };
+
+    fn from(given: NoMemory) -> MergeFault {
+        MergeFault {
+            file: None,
+            fault: FileFault::from(given),
         }
     }
 }
@@ -126,24 +141,15 @@ fn expected_file<R: Read>(
     }
 }
 
-/// Whether the table has a race that may be a bug and is not among those that are expected, where some are.
-fn is_unexpected(expected: Option<HuntTable>, table: &HuntTable) -> bool
-    ensures { result ≡ spec.is_unexpected expected table.now }
-{
-    match &expected {
-        Some(rows) => table.has_unexpected(rows),
-        None => false,
-    }
-}
-
-/// Reads all files: what they are merged to, and whether that has a race that may be a bug and is not expected.
+/// Reads all files: the rows that they are merged to, and whether there is a race among them that may be a bug and is not
+/// expected.
 fn merge_files<R: Read>(
     alloc: Global,
     tables: &mut [Flagged<R>],
     expected: &mut Option<Flagged<R>>,
-) -> Result<(HuntTable, bool), MergeFault>
+) -> Result<(Vec<(Key, RaceRow)>, bool), MergeFault>
     ensures ok { IfOk result (λ found. IfSome (spec.files_of R.remaining tables.old expected.old) (λ files.
-        spec.merge_of files ≡ Ok (record { table = found.0; is_unexpected = found.1 }))) }
+        spec.merge_of files ≡ Ok (record { table = found.0.items; is_unexpected = found.1 }))) }
     ensures err { IfErr result (λ fault. IfSome (spec.files_of R.remaining tables.old expected.old) (λ files.
         spec.IsTold (spec.merge_of files) fault)) }
     ensures readers { spec.any_failed tables.new expected.new
@@ -151,19 +157,20 @@ fn merge_files<R: Read>(
     ensures writer { spec.fails_by is_write result ≡ false }
 {
     let table = merged_files(alloc, tables)?;
+    let rows = table.into_rows(alloc)?;
     let expected = expected_file(alloc, tables.len(), expected)?;
-    let found = is_unexpected(expected, &table);
-    Ok((table, found))
+    let found = is_unexpected(&expected, &rows);
+    Ok((rows, found))
 }
 
 /// Writes the table, to the last byte.
-fn publish<W: Write>(table: &HuntTable, writer: &mut Buffered<W>) -> Result<(), MergeFault>
+fn publish<W: Write>(rows: &[(Key, RaceRow)], writer: &mut Buffered<W>) -> Result<(), MergeFault>
     ensures text { OnOk result (Appends (buffer.written W.contents writer.old) (buffer.sent W.contents writer.new)
-        (table_text table.now)) }
+        (table_text rows.now)) }
     ensures refused { IfErr result (λ fault. fault ≡ record { file = None; fault = write_failed }) }
     ensures writer { buffer.has_failed writer.new ≡ (buffer.has_failed writer.old || spec.fails_by is_write result) }
 {
-    table.write_table(writer)?;
+    write_table(writer, rows)?;
     writer.finish()?;
     Ok(())
 }
@@ -190,7 +197,7 @@ pub fn run_merge<R: Read, W: Write>(
         ≡ (spec.any_failed tables.old expected.old || spec.fails_by is_read result) }
     ensures writer { buffer.has_failed writer.new ≡ (buffer.has_failed writer.old || spec.fails_by is_write result) }
 {
-    let (table, found) = merge_files(alloc, tables, expected)?;
-    publish(&table, writer)?;
+    let (rows, found) = merge_files(alloc, tables, expected)?;
+    publish(&rows, writer)?;
     Ok(found)
 }

@@ -1,14 +1,12 @@
 //! The hunt table.
 ghost use Rattle.std.specs.Prelude.{◌≡◌, ◌<◌, ◌^◌, ◌∷◌, [], ◌||◌, length, is_err, IfOk, OnOk, OnErr};
 ghost use Rattle.std.specs.Io.KnownBytes.{Appends};
-ghost use Rattle.rv_hunt.specs.Expected as expect;
 ghost use Rattle.rv_hunt.specs.HuntText as text;
 ghost use Rattle.rv_hunt.specs.Rows as spec;
 ghost use Rattle.rv_hunt.specs.internal.Lookup as internal;
 
-use crate::expected::may_be_bug;
 use crate::row::{RaceRow, joined};
-use crate::texts::{write_listed, write_rows};
+use crate::texts::write_rows;
 use indexmap::IndexMap;
 use rv_memory::flagged::WriteFault;
 use rv_memory::output::Output;
@@ -106,43 +104,21 @@ impl HuntTable {
         Ok(rows.collect(alloc)?)
     }
 
-    /// Whether a race may be a bug, and this table has no row of it.
-    fn lacks(&self, key: &Key, row: &RaceRow) -> bool
-        ensures { result ≡ expect.is_unexpected self.now (key.now, row.now) }
+    /// The rows in their order, in place of the table.
+    pub fn into_rows(self, alloc: Global) -> Result<Vec<(Key, RaceRow)>, NoMemory>
+        ensures { IfOk result (λ rows. rows.items ≡ self) }
     {
-        may_be_bug(row.class) && !self.has(key)
-    }
-
-    /// Whether there is a race that may be a bug and has no row in the table of those that are expected, of whatever
-    /// class.
-    pub fn has_unexpected(&self, expected: &HuntTable) -> bool
-        ensures { result ≡ expect.has_unexpected expected.now self.now }
-    {
-        self.rows.iter().any(|(key, row)| expected.lacks(key, row))
-    }
-
-    /// Writes the table: `races N`, and a line of each row. It takes no memory.
-    #[tactic(auto, unfolding(crate::specs::HuntText::table_text))]
-    pub fn write_table<O: Output>(&self, writer: &mut O) -> Result<(), WriteFault>
-        ensures ok { OnOk result (Appends (O.written writer.old) (O.written writer.new)
-            (text.table_text self.now)) }
-        ensures failed { O.has_failed writer.new ≡ (O.has_failed writer.old || is_err result) }
-    {
-        write_races(writer, self.rows.len() as u64)?;
-        write_rows(writer, &self.rows)
+        self.rows(alloc)
     }
 }
 
 /// Writes a table of these rows: `races N`, and a line of each. It takes no memory.
 #[tactic(auto, unfolding(crate::specs::HuntText::table_text))]
-pub fn write_listed_table<O: Output>(
-    writer: &mut O,
-    rows: &[(Key, RaceRow)],
-) -> Result<(), WriteFault>
+pub fn write_table<O: Output>(writer: &mut O, rows: &[(Key, RaceRow)]) -> Result<(), WriteFault>
     ensures ok { OnOk result (Appends (O.written writer.old) (O.written writer.new)
         (text.table_text rows.now)) }
     ensures failed { O.has_failed writer.new ≡ (O.has_failed writer.old || is_err result) }
 {
     write_races(writer, rows.len() as u64)?;
-    write_listed(writer, rows)
+    write_rows(writer, rows)
 }

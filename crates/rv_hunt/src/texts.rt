@@ -6,7 +6,6 @@ ghost use Rattle.rv_hunt.specs.HuntText as spec;
 ghost use Rattle.rv_text.specs.Lines.{text_of_lines};
 
 use crate::row::RaceRow;
-use indexmap::IndexMap;
 use rv_explain::block::RaceClass;
 use rv_explain::blocks::class_word;
 use rv_memory::flagged::WriteFault;
@@ -69,21 +68,6 @@ fn write_row<O: Output>(writer: &mut O, key: &Key, row: &RaceRow) -> Result<(), 
 
 /// Writes a line of each row.
 pub(crate) fn write_rows<O: Output>(
-    writer: &mut O,
-    rows: &IndexMap<Key, RaceRow>,
-) -> Result<(), WriteFault>
-    ensures ok { OnOk result (Appends (O.written writer.old) (O.written writer.new)
-        (text_of_lines (map spec.row_line rows.now.entries))) }
-    ensures failed { O.has_failed writer.new ≡ (O.has_failed writer.old || is_err result) }
-{
-    for (key, row) in rows.iter() {
-        write_row(writer, key, row)?;
-    }
-    Ok(())
-}
-
-/// Writes a line of each of the listed rows.
-pub(crate) fn write_listed<O: Output>(
     writer: &mut O,
     rows: &[(Key, RaceRow)],
 ) -> Result<(), WriteFault>

@@ -8,8 +8,6 @@ use Rattle.rv_engines.specs.declared.run.fault.CommandFault.TheVariants.{Plain, 
 use Rattle.rv_hunt.specs.Hunted.{Hunt}
 use Rattle.rv_hunt.specs.engine.Asked.{Asked}
 use Rattle.rv_hunt.specs.engine.Hunting.{Files, Hunting, IsHuntingOf, expected_in, hunt_of, ignored_in}
-use Rattle.rv_hunt.specs.declared.engine.folder.FolderFault.{FolderFault}
-use Rattle.rv_hunt.specs.declared.engine.folder.FolderFault.TheVariants as folder
 use Rattle.rv_hunt.specs.declared.engine.fault.HuntFault.{HuntFault}
 use Rattle.rv_hunt.specs.declared.engine.fault.HuntFault.TheVariants.{Command, Ignored, Expected}
 use Rattle.rv_hunt.specs.merge.FileFault as file
@@ -24,10 +22,6 @@ is_plain_refusal given = true
 
 abbrev pub of_command : CommandFault → HuntFault
 of_command given = Command given
-
-abbrev pub of_folder : FolderFault → HuntFault
-of_folder folder.NoMemory = Command (Plain fault.NoMemory)
-of_folder folder.Write = Command (Plain fault.Write)
 
 abbrev pub write_failed : HuntFault
 write_failed = Command (Plain fault.Write)

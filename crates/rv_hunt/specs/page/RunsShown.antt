@@ -6,13 +6,13 @@ use Rattle.rv_hunt.specs.EndedText.{end_words}
 use Rattle.rv_hunt.specs.HuntSays.{Outcome}
 use Rattle.rv_hunt.specs.ToldOrder.{of_class, reports_of}
 use Rattle.rv_hunt.specs.WarningText.{warnings_text}
+use Rattle.rv_hunt.specs.declared.page.runs.Seen.{Seen}
 use Rattle.rv_hunt.specs.declared.row.RaceRow.{RaceRow}
 use Rattle.rv_hunt.specs.page.Elements.{cell, number_cell, number_row, row, table_part, table_part_if}
 use Rattle.rv_report.specs.declared.key.Key.{Key}
 use Rattle.rv_collide.specs.Counts.{saturated}
 use Rattle.rv_tally.specs.Kinds.{Kinds}
 use Rattle.rv_tally.specs.Tally.{Ended, Tally, pauses}
-use Rattle.rv_tally.specs.declared.counts.Counts.{Counts}
 use Rattle.rv_tally.specs.declared.end.End.TheVariants.{OutOfSteps}
 use Rattle.rv_tally.specs.declared.kinds.Kind.{Kind}
 use Rattle.rv_text.specs.Lines.{lines_of}
@@ -77,30 +77,22 @@ ended_part ended = table_part (codes "ended") (codes "How harts ended") ended_he
 unfoldable pub seen_row : List ℕ → ℕ → List ℕ → List ℕ
 seen_row name n meaning = row (cell name ∷ number_cell n ∷ cell meaning ∷ [])
 
-unfoldable pub site_rows : ℕ → ℕ → ℕ → List ℕ
-site_rows sites armed paused =
-    joined (seen_row (codes "sites") sites (codes "loads and stores that a hart may pause at") ∷ seen_row (codes "armed") armed (codes "sites that had a breakpoint")
-    ∷ seen_row (codes "paused at") paused (codes "sites at which a hart was paused") ∷ [])
+abbrev pub row_of : Seen → List ℕ
+row_of seen = seen_row seen.name.now seen.number seen.meaning.now
 
--- how the pauses ended
-unfoldable pub ending_rows : Counts → List ℕ
-ending_rows counts =
-    joined (seen_row (codes "quiet") counts.quiet (codes "pauses that showed no other access")
-    ∷ seen_row (codes "hit") counts.hit (codes "pauses that caught another access")
-    ∷ seen_row (codes "changed") counts.changed (codes "pauses that found other bytes") ∷ [])
-
-unfoldable pub pause_rows : ℕ → Counts → List ℕ
-pause_rows n counts =
-    joined (seen_row (codes "pauses") n (codes "how often a hart was paused") ∷ ending_rows counts
-    ∷ seen_row (codes "unwatched") counts.unwatched (codes "pauses without a data breakpoint") ∷ [])
-
-unfoldable pub run_rows : ℕ → ℕ → List ℕ
-run_rows steps runs =
-    joined (seen_row (codes "steps") steps (codes "instructions that harts executed") ∷ seen_row (codes "runs") runs (codes "whole runs of the program") ∷ [])
-
+-- the sites, how the pauses ended, and the runs
 unfoldable pub seen_rows : ℕ → Tally → List ℕ
 seen_rows sites saw =
-    joined (site_rows sites (length saw.armed) (length saw.paused) ∷ pause_rows (saturated (pauses saw)) saw.counts ∷ run_rows saw.counts.steps saw.runs ∷ [])
+    joined (seen_row (codes "sites") sites (codes "loads and stores that a hart may pause at")
+    ∷ seen_row (codes "armed") (length saw.armed) (codes "sites that had a breakpoint")
+    ∷ seen_row (codes "paused at") (length saw.paused) (codes "sites at which a hart was paused")
+    ∷ seen_row (codes "pauses") (saturated (pauses saw)) (codes "how often a hart was paused")
+    ∷ seen_row (codes "quiet") saw.counts.quiet (codes "pauses that showed no other access")
+    ∷ seen_row (codes "hit") saw.counts.hit (codes "pauses that caught another access")
+    ∷ seen_row (codes "changed") saw.counts.changed (codes "pauses that found other bytes")
+    ∷ seen_row (codes "unwatched") saw.counts.unwatched (codes "pauses without a data breakpoint")
+    ∷ seen_row (codes "steps") saw.counts.steps (codes "instructions that harts executed")
+    ∷ seen_row (codes "runs") saw.runs (codes "whole runs of the program") ∷ [])
 
 unfoldable pub seen_part : ℕ → Tally → List ℕ
 seen_part sites saw = table_part (codes "seen") (codes "What was seen") [] (seen_rows sites saw)

@@ -38,17 +38,6 @@ impl<'a> From<WriteFault> for HuntFault<'a> {
     }
 }
 
-impl<'a> From<FolderFault> for HuntFault<'a> {
-    ghost from_gives = { λ given fault. fault ≡ spec.of_folder given };
-
-    fn from(given: FolderFault) -> HuntFault<'a> {
-        match given {
-            FolderFault::NoMemory => HuntFault::Command(CommandFault::Plain(Fault::NoMemory)),
-            FolderFault::Write => HuntFault::Command(CommandFault::Plain(Fault::Write)),
-        }
-    }
-}
-
 /// Why the runs of a hunt, or what is told of them, were not made.
 #[derive(Clone, Copy)]
 pub(crate) enum MakeFault {

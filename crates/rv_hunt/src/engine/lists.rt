@@ -2,21 +2,17 @@
 ghost use Rattle.std.specs.Prelude.{◌≡◌, ◌||◌, false, Ok, IfOk, IfErr, IfSome};
 ghost use Rattle.std.specs.Option.{option_map_or};
 ghost use Rattle.rv_memory.specs.Flagged as flag;
-ghost use Rattle.rv_hunt.specs.Expected as expect;
 ghost use Rattle.rv_hunt.specs.engine.Hunting as spec;
 ghost use Rattle.rv_hunt.specs.merge.FileFault.{IsTold, fails_by, is_read, is_write};
 ghost use Rattle.rv_hunt.specs.merge.Merge as merge;
 
-use crate::expected::may_be_bug;
 use crate::merge::fault::FileFault;
 use crate::merge::ignore::{Ignores, read_ignores};
 use crate::merge::table_file::read_expected;
-use crate::row::RaceRow;
 use crate::table::HuntTable;
 use rv_elf::Image;
 use rv_explain::symbol_table::SymbolTable;
 use rv_memory::flagged::Flagged;
-use rv_report::key::Key;
 use std::alloc::Global;
 use std::io::Read;
 
@@ -69,29 +65,5 @@ pub(crate) fn read_known<R: Read>(
             Ok(known) => Ok(Some(known)),
             Err(fault) => Err(fault),
         },
-    }
-}
-
-/// Whether the race of a row may be a bug and has no row among those that are expected.
-fn is_new(known: &HuntTable, row: &(Key, RaceRow)) -> bool
-    ensures { result ≡ expect.is_unexpected known.now row.now }
-{
-    may_be_bug(row.1.class) && !known.has(&row.0)
-}
-
-/// Whether one of the rows is such a race.
-fn has_new(known: &HuntTable, rows: &[(Key, RaceRow)]) -> bool
-    ensures { result ≡ expect.has_unexpected known.now rows.now }
-{
-    rows.iter().any(|row| is_new(known, row))
-}
-
-/// Whether there is a race that may be a bug and is not among those that are expected, where some are.
-pub(crate) fn is_unexpected(known: &Option<HuntTable>, rows: &[(Key, RaceRow)]) -> bool
-    ensures { result ≡ merge.is_unexpected known.now rows.now }
-{
-    match known {
-        Some(table) => has_new(table, rows),
-        None => false,
     }
 }

@@ -4,6 +4,7 @@ ghost use Rattle.rv_engines.specs.Campaigns.{passes};
 ghost use Rattle.rv_hunt.specs.Hunted.{IsHunted};
 ghost use Rattle.rv_sample.specs.Sites.{sites};
 ghost use Rattle.rv_hunt.specs.engine.Asked.{AreLegal, asked, parts};
+ghost use Rattle.rv_hunt.specs.engine.FolderFault as looking;
 ghost use Rattle.rv_hunt.specs.engine.HuntBlocks.{AreBlocks};
 ghost use Rattle.rv_hunt.specs.engine.Hunting as spec;
 ghost use Rattle.rv_hunt.specs.engine.Paged.{IsPaged};
@@ -13,15 +14,16 @@ ghost use Rattle.rv_hunt.specs.internal.Opened.{HasRace, IsMade, hunt_in, huntin
 
 use crate::engine::blocks::blocks_of;
 use crate::engine::fault::MakeFault;
-use crate::engine::folder::Folder;
+use crate::engine::folder::{Folder, FolderFault};
 use crate::engine::found::Found;
-use crate::engine::lists::{Lists, is_unexpected};
+use crate::engine::lists::Lists;
 use crate::engine::opening::Opened;
 use crate::engine::options::{HuntOptions, LineParts, Shows};
 use crate::engine::paging::page_races;
 use crate::engine::saving::save_races;
 use crate::engine::sites::count_of;
 use crate::engine::texts::{hunt_text, table_notes, table_of};
+use crate::expected::is_unexpected;
 use crate::hunt::{Hunt, Watch};
 use crate::hunted::Hunted;
 use crate::laws::hunts_have_one_result;
@@ -204,7 +206,20 @@ fn told<D: Folder, F: NewFile>(
     })
 }
 
-/// Makes the runs of a hunt of what was opened, the schedules of the races that are told, and the texts of what they saw.
+/// Looks at the folder, where one is given.
+fn look<D: Folder>(folder: &mut Option<D>) -> Result<(), FolderFault>
+    ensures used { passes D.is_used folder.new ≡ passes D.is_used folder.old }
+    ensures wanted { is_some folder.new ≡ is_some folder.old }
+    ensures failed { passes D.has_failed folder.new ≡ (passes D.has_failed folder.old || looking.fails_by_write result) }
+{
+    match folder {
+        None => Ok(()),
+        Some(folder) => folder.look(),
+    }
+}
+
+/// Looks at the folder, and makes the runs of a hunt of what was opened, the schedules of the races that are told, and the
+/// texts of what they saw.
 pub(crate) fn make_hunt<T: Threads + Wait + Sync, P: Watch, D: Folder, F: NewFile>(
     rt: &T,
     alloc: Global,
@@ -225,6 +240,7 @@ pub(crate) fn make_hunt<T: Threads + Wait + Sync, P: Watch, D: Folder, F: NewFil
     ensures failed { (passes D.has_failed folder.new || passes F.has_failed page.new)
         ≡ (passes D.has_failed folder.old || passes F.has_failed page.old || fails_by_write result) }
 {
+    look(folder)?;
     let sampler = Sampler::sites(alloc, &opened.image, &opened.lists.excluded)?;
     let hunt = Hunt {
         image: &opened.image,
@@ -236,7 +252,7 @@ pub(crate) fn make_hunt<T: Threads + Wait + Sync, P: Watch, D: Folder, F: NewFil
         limit: options.limit,
     };
     let saw = hunt.hunted(rt, alloc, options.workers, watch)?;
-    told(
+    let made = told(
         alloc,
         &hunt,
         &opened.lists.excluded,
@@ -245,5 +261,8 @@ pub(crate) fn make_hunt<T: Threads + Wait + Sync, P: Watch, D: Folder, F: NewFil
         &saw,
         folder,
         page,
-    )
+    );
+    // It has many parts, which are let go by one call.
+    drop(saw);
+    made
 }

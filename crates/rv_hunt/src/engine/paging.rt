@@ -97,7 +97,25 @@ fn parts_of(
     Ok(found)
 }
 
-/// Makes a file of the page of what a hunt came to, with the races of these rows.
+/// The page of what a hunt came to, with the races of these rows.
+fn page_of(
+    alloc: Global,
+    hunt: &Hunt,
+    excluded: &[u32],
+    line: &LineParts<'_>,
+    outcome: &Outcome,
+    rows: &[(Key, RaceRow)],
+) -> Result<Vec<u8>, NoMemory>
+    requires sites { hunt.now.source.sites ≡ sites hunt.now.source.image excluded.now }
+    requires races { All (HasRace hunt.now) rows.now }
+    ensures { IfOk result (λ text. spec.IsPaged (parts line.now) hunt.now outcome.now rows.now (λ bytes. bytes ≡ text.items)) }
+{
+    let symbols = SymbolTable::new(alloc, hunt.image)?;
+    let races = parts_of(alloc, hunt, &symbols, excluded, line, rows)?;
+    page_text(alloc, line.command.as_bytes(), outcome, &races)
+}
+
+/// Makes a file of that page.
 fn page_in<F: NewFile>(
     alloc: Global,
     hunt: &Hunt,
@@ -112,9 +130,7 @@ fn page_in<F: NewFile>(
     ensures paged { OnOk result (spec.IsPaged (parts line.now) hunt.now outcome.now rows.now (F.Holds file.new)) }
     ensures failed { F.has_failed file.new ≡ (F.has_failed file.old || fails_by_write result) }
 {
-    let symbols = SymbolTable::new(alloc, hunt.image)?;
-    let races = parts_of(alloc, hunt, &symbols, excluded, line, rows)?;
-    let text = page_text(alloc, line.command.as_bytes(), outcome, &races)?;
+    let text = page_of(alloc, hunt, excluded, line, outcome, rows)?;
     file.make(&text)?;
     Ok(())
 }

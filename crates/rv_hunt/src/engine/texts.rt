@@ -16,7 +16,7 @@ use crate::page::runs::warnings;
 use crate::row::RaceRow;
 use crate::saying::lines::{write_apart, write_saw, write_summary};
 use crate::saying::order::of_class;
-use crate::table::write_listed_table;
+use crate::table::write_table;
 use rv_explain::block::RaceClass;
 use rv_memory::flagged::{Flagged, WriteFault};
 use rv_memory::output::{Output, put_pieces};
@@ -133,7 +133,7 @@ pub(crate) fn table_of(alloc: Global, rows: &[(Key, RaceRow)]) -> Result<Vec<u8>
     ensures { IfOk result (λ text. text.items ≡ table_text rows.now) }
 {
     let mut writer = Flagged::new(Vec::new(alloc));
-    match write_listed_table(&mut writer, rows) {
+    match write_table(&mut writer, rows) {
         Ok(()) => Ok(writer.into_inner()),
         // Only want of memory refuses a byte.
         Err(_) => Err(NoMemory),

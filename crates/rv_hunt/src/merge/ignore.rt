@@ -318,18 +318,6 @@ fn read_lines(alloc: Global, symbols: &SymbolTable, text: &[u8]) -> Result<Ignor
     Ok(Ignores { lines })
 }
 
-/// The list of the bytes of a file, which are not too many.
-#[tactic(auto, unfolding(crate::specs::merge::Ignore::ignores_of))]
-fn ignores_of(alloc: Global, symbols: &SymbolTable, bytes: &[u8]) -> Result<Ignores, FileFault>
-    requires { length bytes.now ≤ INPUT_LIMIT }
-    ensures ok { IfOk result (λ lines. spec.ignores_of symbols.now bytes.now ≡ Ok lines) }
-    ensures err { IfErr result (IsTold (spec.ignores_of symbols.now bytes.now)) }
-    ensures reader { fails_by is_read result ≡ false }
-    ensures writer { fails_by is_write result ≡ false }
-{
-    read_lines(alloc, symbols, bytes)
-}
-
 /// Reads a list of races that are to be ignored. The symbols are those of the image that is hunted.
 #[tactic(auto, unfolding(crate::specs::merge::Ignore::ignores_of))]
 pub fn read_ignores<R: Read>(
@@ -345,5 +333,5 @@ pub fn read_ignores<R: Read>(
     ensures writer { fails_by is_write result ≡ false }
 {
     let bytes = read_whole(alloc, reader, INPUT_LIMIT)?;
-    ignores_of(alloc, symbols, &bytes)
+    read_lines(alloc, symbols, &bytes)
 }

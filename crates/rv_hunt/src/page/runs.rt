@@ -16,7 +16,6 @@ use rv_explain::block::RaceClass;
 use rv_memory::flagged::Flagged;
 use rv_memory::store::NoMemory;
 use rv_report::key::Key;
-use rv_tally::counts::Counts;
 use rv_tally::end::End;
 use rv_tally::ended::Ended;
 use rv_tally::kinds::{Kind, Kinds};
@@ -187,77 +186,95 @@ pub(crate) fn ended_part(alloc: Global, ended: &Ended) -> Result<Vec<u8>, NoMemo
     table_part(alloc, b"ended", b"How harts ended", ENDED_HEAD, &rows)
 }
 
-/// A number, and what it counts.
+/// A number of what was seen: its name, and what it counts.
+#[derive(Clone, Copy)]
+pub(crate) struct Seen<'a> {
+    pub(crate) name: &'a [u8],
+    pub(crate) number: u64,
+    pub(crate) meaning: &'a [u8],
+}
+
+/// The row of a number.
 #[tactic(auto, unfolding(crate::specs::page::RunsShown::seen_row))]
-fn seen_row(alloc: Global, name: &[u8], number: u64, meaning: &[u8]) -> Result<Vec<u8>, NoMemory>
-    ensures { IfOk result (λ row. row.items ≡ spec.seen_row name.now number meaning.now) }
+fn seen_row(alloc: Global, seen: &Seen<'_>) -> Result<Vec<u8>, NoMemory>
+    ensures { IfOk result (λ row. row.items ≡ spec.row_of seen.now) }
 {
-    let name = cell(alloc, name)?;
-    let number = number_cell(alloc, number)?;
-    let meaning = cell(alloc, meaning)?;
+    let name = cell(alloc, seen.name)?;
+    let number = number_cell(alloc, seen.number)?;
+    let meaning = cell(alloc, seen.meaning)?;
     row(alloc, &[&name, &number, &meaning])
 }
 
-/// The rows of the sites.
-#[tactic(auto, unfolding(crate::specs::page::RunsShown::site_rows))]
-fn site_rows(alloc: Global, sites: u64, armed: u64, paused: u64) -> Result<Vec<u8>, NoMemory>
-    ensures { IfOk result (λ rows. rows.items ≡ spec.site_rows sites armed paused) }
+/// The rows of numbers.
+fn rows_of(alloc: Global, numbers: &[Seen<'_>]) -> Result<Vec<u8>, NoMemory>
+    ensures { IfOk result (λ rows. rows.items ≡ flat_map spec.row_of numbers.now) }
 {
-    let all = b"loads and stores that a hart may pause at";
-    let all = seen_row(alloc, b"sites", sites, all)?;
-    let armed = seen_row(alloc, b"armed", armed, b"sites that had a breakpoint")?;
-    let stood = b"sites at which a hart was paused";
-    let paused = seen_row(alloc, b"paused at", paused, stood)?;
-    joined(alloc, &[&all, &armed, &paused])
+    let mut rows = Vec::new(alloc);
+    for seen in numbers {
+        rows.extend_from_slice(&seen_row(alloc, seen)?)?;
+    }
+    Ok(rows)
 }
 
-/// The rows of how the pauses ended.
-#[tactic(auto, unfolding(crate::specs::page::RunsShown::ending_rows))]
-fn ending_rows(alloc: Global, counts: Counts) -> Result<Vec<u8>, NoMemory>
-    ensures { IfOk result (λ rows. rows.items ≡ spec.ending_rows counts) }
-{
-    let none = b"pauses that showed no other access";
-    let quiet = seen_row(alloc, b"quiet", counts.quiet, none)?;
-    let caught = b"pauses that caught another access";
-    let hit = seen_row(alloc, b"hit", counts.hit, caught)?;
-    let others = b"pauses that found other bytes";
-    let changed = seen_row(alloc, b"changed", counts.changed, others)?;
-    joined(alloc, &[&quiet, &hit, &changed])
-}
-
-/// The rows of the pauses.
-#[tactic(auto, unfolding(crate::specs::page::RunsShown::pause_rows))]
-fn pause_rows(alloc: Global, pauses: u64, counts: Counts) -> Result<Vec<u8>, NoMemory>
-    ensures { IfOk result (λ rows. rows.items ≡ spec.pause_rows pauses counts) }
-{
-    let all = seen_row(alloc, b"pauses", pauses, b"how often a hart was paused")?;
-    let endings = ending_rows(alloc, counts)?;
-    let none = b"pauses without a data breakpoint";
-    let unwatched = seen_row(alloc, b"unwatched", counts.unwatched, none)?;
-    joined(alloc, &[&all, &endings, &unwatched])
-}
-
-/// The rows of the runs.
-#[tactic(auto, unfolding(crate::specs::page::RunsShown::run_rows))]
-fn run_rows(alloc: Global, steps: u64, runs: u64) -> Result<Vec<u8>, NoMemory>
-    ensures { IfOk result (λ rows. rows.items ≡ spec.run_rows steps runs) }
-{
-    let steps = seen_row(alloc, b"steps", steps, b"instructions that harts executed")?;
-    let runs = seen_row(alloc, b"runs", runs, b"whole runs of the program")?;
-    joined(alloc, &[&steps, &runs])
-}
-
-/// All of these rows.
+/// The rows of the sites, of the pauses and of the runs.
 #[tactic(auto, unfolding(crate::specs::page::RunsShown::seen_rows))]
 fn seen_rows(alloc: Global, sites: u32, saw: &Tally) -> Result<Vec<u8>, NoMemory>
     ensures { IfOk result (λ rows. rows.items ≡ spec.seen_rows sites saw.now) }
 {
     let counts = saw.counts();
-    let (armed, paused) = (saw.armed().count(), saw.paused().count());
-    let all = site_rows(alloc, u64::from(sites), armed, paused)?;
-    let pauses = pause_rows(alloc, saw.pauses(), counts)?;
-    let runs = run_rows(alloc, counts.steps, saw.runs())?;
-    joined(alloc, &[&all, &pauses, &runs])
+    let numbers = [
+        Seen {
+            name: b"sites",
+            number: u64::from(sites),
+            meaning: b"loads and stores that a hart may pause at",
+        },
+        Seen {
+            name: b"armed",
+            number: saw.armed().count(),
+            meaning: b"sites that had a breakpoint",
+        },
+        Seen {
+            name: b"paused at",
+            number: saw.paused().count(),
+            meaning: b"sites at which a hart was paused",
+        },
+        Seen {
+            name: b"pauses",
+            number: saw.pauses(),
+            meaning: b"how often a hart was paused",
+        },
+        Seen {
+            name: b"quiet",
+            number: counts.quiet,
+            meaning: b"pauses that showed no other access",
+        },
+        Seen {
+            name: b"hit",
+            number: counts.hit,
+            meaning: b"pauses that caught another access",
+        },
+        Seen {
+            name: b"changed",
+            number: counts.changed,
+            meaning: b"pauses that found other bytes",
+        },
+        Seen {
+            name: b"unwatched",
+            number: counts.unwatched,
+            meaning: b"pauses without a data breakpoint",
+        },
+        Seen {
+            name: b"steps",
+            number: counts.steps,
+            meaning: b"instructions that harts executed",
+        },
+        Seen {
+            name: b"runs",
+            number: saw.runs(),
+            meaning: b"whole runs of the program",
+        },
+    ];
+    rows_of(alloc, &numbers)
 }
 
 /// What was seen.
