@@ -1,5 +1,5 @@
-//! The engines of `hunt` and `merge`, on devices that fail and a folder that gets full; what of hunts and tables the built
-//! program can't show. What it can is in `tests/hunts`.
+//! The engines of `hunt` and `merge`, on devices that fail; what of hunts and tables the built program can't show. What it can
+//! is in `tests/hunts`.
 use crate::assertion::assert_is;
 use rv_explain::block::RaceClass::{self, Counter, Flag, Kept, Named, Ordered};
 use rv_hunt::expected::{is_likely_benign, may_be_bug};

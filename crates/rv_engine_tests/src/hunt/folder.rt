@@ -1,34 +1,24 @@
-//! A folder that gets full.
+//! The folder of a hunt that saves no schedule. One that gets full is tried in `tests/hunts`.
 use rv_hunt::engine::folder::{Folder, FolderFault};
 
-/// A folder that takes so many files, and counts them.
+/// A folder that takes nothing. No hunt of these tests has one.
 #[derive(Drop)]
-pub struct FullFolder {
-    pub takes: usize,
-    pub made: usize,
-    pub failed: bool,
-}
+pub struct NoFolder;
 
-impl Folder for FullFolder {
-    ghost use Rattle.std.specs.Prelude.{⊤, ◌||◌, nat_lt};
+impl Folder for NoFolder {
+    ghost use Rattle.std.specs.Prelude.{true};
 
-    ghost is_used = { λ folder. nat_lt 0 folder.made || folder.failed };
+    ghost is_used = { λ folder. true };
 
-    // No test reads a file again.
-    ghost Holds = { λ folder number bytes. ⊤ };
+    ghost Holds = { λ folder number bytes. ⊥ };
 
-    ghost has_failed = { λ folder. folder.failed };
+    ghost has_failed = { λ folder. true };
 
     fn look(&mut self) -> Result<(), FolderFault> {
-        Ok(())
+        Err(FolderFault::Write)
     }
 
     fn make(&mut self, _: u64, _: &[u8]) -> Result<(), FolderFault> {
-        if self.made >= self.takes {
-            self.failed = true;
-            return Err(FolderFault::Write);
-        }
-        self.made = self.made.saturating_add(1);
-        Ok(())
+        Err(FolderFault::Write)
     }
 }

@@ -1,7 +1,7 @@
 //! Hunts whose devices fail at each call in turn.
 use crate::assertion::{assert_is, assert_tells_each_failing_call};
-use crate::devices::{Failing, reader_of};
-use crate::hunt::folder::FullFolder;
+use crate::devices::{Failing, Sink, reader_of};
+use crate::hunt::folder::NoFolder;
 use crate::images::Named;
 use crate::kept::Kept;
 use crate::padded::file_of;
@@ -82,20 +82,20 @@ fn told<R: Read, W: Write, E: Write>(
     alloc: Global,
     asked: &HuntOptions<'static, 'static>,
     inputs: &mut Inputs<R>,
-    folder: &mut Option<FullFolder>,
     writer: &mut Buffered<W>,
     notes: &mut Buffered<E>,
 ) -> Result<(), DeviceFault> {
     if !asked.is_legal() {
         return Err((0, None));
     }
+    let mut folder: Option<NoFolder> = None;
     let mut page: Option<Kept> = None;
     let outcome = run_hunt(
         rt,
         alloc,
         asked,
         inputs,
-        folder,
+        &mut folder,
         &mut page,
         writer,
         notes,
@@ -126,15 +126,7 @@ fn told_of<W: Write, E: Write>(
     writer: &mut Buffered<W>,
     notes: &mut Buffered<E>,
 ) -> Result<(), Fault> {
-    match told(
-        rt,
-        alloc,
-        asked,
-        &mut alone(image),
-        &mut None,
-        writer,
-        notes,
-    ) {
+    match told(rt, alloc, asked, &mut alone(image), writer, notes) {
         Ok(()) => Ok(()),
         Err((0, Some(fault))) => Err(fault),
         Err(_) => Err(Fault::TooLong),
@@ -184,15 +176,7 @@ fn told_reading(
     let mut inputs = readers(image, place, fails_at);
     let mut writer = Buffered::new(alloc, Vec::new(alloc));
     let mut notes = Buffered::new(alloc, Vec::new(alloc));
-    let outcome = told(
-        rt,
-        alloc,
-        &asked,
-        &mut inputs,
-        &mut None,
-        &mut writer,
-        &mut notes,
-    );
+    let outcome = told(rt, alloc, &asked, &mut inputs, &mut writer, &mut notes);
     let is_written = !writer.into_inner().is_empty();
     assert_is(rt, is_written, outcome.is_ok(), "what is written");
     (outcome, failed(&inputs))
@@ -237,75 +221,38 @@ fn tells_readers_that_fail(rt: HostRuntime) {
 /// So many bytes that what follows goes to the device by itself.
 const GATHERED: [u8; MOST_PENDING] = [b'-'; MOST_PENDING];
 
-#[test]
-fn tells_a_writer_that_fails(rt: HostRuntime) {
-    let alloc = rt.alloc();
-    let asked = options(&rt);
-    let file = file_of(&rt, alloc, &P, &WORD);
-    assert_tells_each_failing_call(&rt, alloc, false, |writer| {
-        writer.put(&GATHERED)?;
-        let mut notes = Buffered::new(alloc, Vec::new(alloc));
-        told_of(&rt, alloc, &asked, &file, writer, &mut notes)
-    });
-}
-
-/// Where the notes fail no byte of the text is written.
-#[test]
-fn tells_notes_that_fail(rt: HostRuntime) {
-    let alloc = rt.alloc();
-    let asked = options(&rt);
-    let file = file_of(&rt, alloc, &P, &WORD);
-    assert_tells_each_failing_call(&rt, alloc, true, |notes| {
-        notes.put(&GATHERED)?;
-        let mut writer = Buffered::new(alloc, Vec::new(alloc));
-        let outcome = told_of(&rt, alloc, &asked, &file, &mut writer, notes);
-        if outcome.is_err() && !writer.into_inner().is_empty() {
-            return Err(Fault::TooLong);
-        }
-        outcome
-    });
-}
-
-const WRITE: DeviceFault = (0, Some(Fault::Write));
-
-/// A folder that gets full keeps what it took, and nothing is written.
-fn assert_full(
-    rt: &(impl Abort + Threads + Wait + Sync),
+/// What the hunt of an image answers where a device is that of the notes, or of the text. Where the notes fail no byte of the
+/// text is written.
+fn told_by(
+    rt: &(impl Threads + Wait + Sync),
     alloc: Global,
+    asked: &HuntOptions<'static, 'static>,
     image: &[u8],
-    takes: usize,
-) {
-    let asked = options(rt);
-    let mut folder = Some(FullFolder {
-        takes,
-        made: 0,
-        failed: false,
-    });
-    let mut writer = Buffered::new(alloc, Vec::new(alloc));
-    let mut notes = Buffered::new(alloc, Vec::new(alloc));
-    let outcome = told(
-        rt,
-        alloc,
-        &asked,
-        &mut alone(image),
-        &mut folder,
-        &mut writer,
-        &mut notes,
-    );
-    let written = (writer.into_inner().len(), notes.into_inner().len());
-    assert_is(rt, outcome, Err(WRITE), "the fault");
-    assert_is(rt, written, (0, 0), "nothing is written");
-    let made = match folder {
-        Some(folder) => folder.made,
-        None => 9,
+    is_notes: bool,
+    device: &mut Buffered<Sink>,
+) -> Result<(), Fault> {
+    let mut other = Buffered::new(alloc, Vec::new(alloc));
+    let outcome = if is_notes {
+        told_of(rt, alloc, asked, image, &mut other, device)
+    } else {
+        told_of(rt, alloc, asked, image, device, &mut other)
     };
-    assert_is(rt, made, takes, "what was taken");
+    let is_written = !other.into_inner().is_empty();
+    if is_notes && is_written && outcome.is_err() {
+        return Err(Fault::TooLong);
+    }
+    outcome
 }
 
 #[test]
-fn tells_a_folder_that_gets_full(rt: HostRuntime) {
-    let file = file_of(&rt, rt.alloc(), &P, &WORD);
-    for takes in 0..2 {
-        assert_full(&rt, rt.alloc(), &file, takes);
+fn tells_writers_that_fail(rt: HostRuntime) {
+    let alloc = rt.alloc();
+    let asked = options(&rt);
+    let file = file_of(&rt, alloc, &P, &WORD);
+    for is_notes in [false, true] {
+        assert_tells_each_failing_call(&rt, alloc, is_notes, |device| {
+            device.put(&GATHERED)?;
+            told_by(&rt, alloc, &asked, &file, is_notes, device)
+        });
     }
 }

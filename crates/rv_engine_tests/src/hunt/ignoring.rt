@@ -1,12 +1,10 @@
-//! Ignore lists: which races they fit, and readers that fail.
+//! Ignore lists: which races they fit.
 use crate::assertion::assert_is;
-use crate::devices::reader_of;
 use crate::images::Named;
 use crate::padded::image;
-use rv_engines::fault::Fault;
 use rv_explain::symbol_table::SymbolTable;
-use rv_hunt::merge::fault::FileFault;
-use rv_hunt::merge::ignore::{Ignores, read_ignores};
+use rv_hunt::merge::ignore::read_ignores;
+use rv_memory::flagged::Flagged;
 use rv_report::key::Key;
 use std::alloc::Global;
 use std::process::Abort;
@@ -47,38 +45,13 @@ const FITS: &[Fits] = &[
     ("\n  \n#\n* 00010ffc\nmain *\n", 0x10024, None, true),
 ];
 
-/// The list of a text, whose read of that number fails; or the fault, where it is one of the device.
-fn read(
-    alloc: Global,
-    symbols: &SymbolTable,
-    text: &str,
-    fails_at: u64,
-) -> Result<Ignores, Option<Fault>> {
-    match read_ignores(
-        alloc,
-        symbols,
-        &mut reader_of(text.as_bytes(), 10, fails_at),
-    ) {
-        Ok(ignores) => Ok(ignores),
-        Err(FileFault::Plain(fault)) => Err(Some(fault)),
-        Err(_) => Err(None),
-    }
-}
-
 fn assert_fits(rt: &impl Abort, alloc: Global, symbols: &SymbolTable, row: &Fits) {
     let (list, first, second, wanted) = *row;
-    let ignores = read(alloc, symbols, list, 0).expect(rt, "a list");
+    let ignores = read_ignores(alloc, symbols, &mut Flagged::new(list.as_bytes()))
+        .ok()
+        .expect(rt, list);
     let found = ignores.fits(symbols, &Key { first, second });
     assert_is(rt, found, wanted, list);
-}
-
-/// A list is read in three reads.
-fn assert_tells_failing_reads(rt: &impl Abort, alloc: Global, symbols: &SymbolTable) {
-    for fails_at in 1..5 {
-        let found = read(alloc, symbols, "main *\n* inner\n", fails_at).err();
-        let wanted = (fails_at < 4).then_some(Some(Fault::Read));
-        assert_is(rt, found, wanted, "a read");
-    }
 }
 
 #[test]
@@ -89,5 +62,4 @@ fn lists_fit_races(rt: HostRuntime) {
     for row in FITS {
         assert_fits(&rt, alloc, &symbols, row);
     }
-    assert_tells_failing_reads(&rt, alloc, &symbols);
 }

@@ -5,7 +5,6 @@ use rv_engines::fault::Fault;
 use rv_hunt::merge::fault::FileFault;
 use rv_hunt::merge::{MergeFault, run_merge};
 use rv_memory::buffered::{Buffered, MOST_PENDING};
-use rv_memory::flagged::Flagged;
 use rv_memory::output::Output;
 use std::alloc::Global;
 use std::process::Abort;
@@ -31,61 +30,40 @@ fn of_device(merge: MergeFault) -> DeviceFault {
     }
 }
 
-/// What the merge of some tables comes to: the table, or the fault. Where it is refused, nothing may be written.
-fn outcome<'t>(
-    rt: &impl Abort,
-    alloc: Global,
-    tables: &mut [Flagged<Failing<'t>>],
-    expected: &mut Option<Flagged<Failing<'t>>>,
-) -> Result<Vec<u8>, DeviceFault> {
-    let mut writer = Buffered::new(alloc, Vec::new(alloc));
-    let merged = run_merge(alloc, tables, expected, &mut writer);
-    assert_is(rt, writer.failed(), false, "the writer failed");
-    let written = writer.into_inner();
-    match merged {
-        Ok(_) => Ok(written),
-        Err(fault) => {
-            assert_is(rt, written.len(), 0, "bytes");
-            Err(of_device(fault))
-        }
-    }
-}
-
-/// No command line has no table.
-#[test]
-fn no_tables_are_merged(rt: HostRuntime) {
-    let text = outcome(&rt, rt.alloc(), &mut [], &mut None).expect(&rt, "a table");
-    assert_is(&rt, text.as_slice(), NONE, "the table");
-}
-
-/// Merges two tables, where the file of that number fails at a read of its own. It tells the outcome, and whether one of
-/// the tables' devices failed.
+/// Merges two tables, where the file of that number fails at a read of its own: the fault, and whether one of the tables'
+/// devices failed. Where the merge is refused nothing is written.
 fn merge_failing(
     rt: &impl Abort,
     alloc: Global,
     file: usize,
     fails_at: u64,
-) -> (Result<Vec<u8>, DeviceFault>, bool) {
+) -> (Option<DeviceFault>, bool) {
     let at = |place| if file == place { fails_at } else { 0 };
     let mut tables = [reader_of(EARLIER, 10, at(0)), reader_of(LATER, 10, at(1))];
     let mut expected = Some(reader_of(NONE, 10, at(2)));
-    let outcome = outcome(rt, alloc, &mut tables, &mut expected);
+    let mut writer = Buffered::new(alloc, Vec::new(alloc));
+    let merged = run_merge(alloc, &mut tables, &mut expected, &mut writer);
+    let is_written = !writer.into_inner().is_empty();
+    assert_is(rt, is_written, merged.is_ok(), "what is written");
     let failed = tables[0].failed() || tables[1].failed();
-    (outcome, failed)
+    match merged {
+        Ok(_) => (None, failed),
+        Err(fault) => (Some(of_device(fault)), failed),
+    }
 }
 
 /// Each read of a file fails in turn, the one at its end too.
 fn assert_tells_failing_reads(rt: &impl Abort, alloc: Global, file: usize) {
     let wanted = (Some(file), Some(Fault::Read));
     for fails_at in 1..100 {
-        let (outcome, failed) = merge_failing(rt, alloc, file, fails_at);
+        let (fault, failed) = merge_failing(rt, alloc, file, fails_at);
         assert_is(rt, failed && file == 2, false, "a table");
-        if outcome.is_ok() {
+        if fault.is_none() {
             assert_is(rt, fails_at > 2, true, "a read and the end");
             assert_is(rt, failed, false, "no device failed");
             return;
         }
-        assert_is(rt, outcome.err(), Some(wanted), "a read");
+        assert_is(rt, fault, Some(wanted), "a read");
     }
 }
 

@@ -38,9 +38,8 @@ fn tells_races_in_their_order(rt: HostRuntime) {
         row(0x10018, Ordered),
     ];
     let told = told_rows(rt.alloc(), &rows).expect(&rt, "memory");
-    let mut firsts = Vec::new(rt.alloc());
-    for row in &told {
-        firsts.push(row.0.first).expect(&rt, "memory");
+    assert_is(&rt, told.len(), ORDER.len(), "how many");
+    for (row, first) in told.iter().zip(ORDER) {
+        assert_is(&rt, row.0.first, *first, "the order");
     }
-    assert_is(&rt, firsts.as_slice(), ORDER, "the order");
 }
