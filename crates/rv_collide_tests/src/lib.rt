@@ -1,5 +1,5 @@
-//! The tests of the core and of what stands on it alone: rv_collide; rv_drive, rv_locked and rv_campaign; rv_prune,
-//! rv_report and rv_tally; and rv_debug.
+//! The tests of the core and of what stands on it alone: rv_collide; rv_drive, rv_locked and rv_campaign; rv_prune and
+//! rv_report; and rv_debug.
 //!
 //! They stand in a crate of their own, so that these are not proved a second time with their tests.
 #![tactic(auto)]

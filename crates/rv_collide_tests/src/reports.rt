@@ -1,5 +1,4 @@
-//! Classes, race tables, exhibits, and what a hunt has seen.
+//! Classes, race tables and exhibits.
 mod images;
 mod prune;
 mod report;
-mod tally;

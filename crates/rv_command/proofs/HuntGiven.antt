@@ -3,6 +3,7 @@ use Rattle.std.proofs.Common.{◌≡◌, ℕ, refl, true, false, List, Option, S
 use Rattle.std.specs.Prelude.{◌⊎◌, Contains, IfSome}
 use Rattle.clap.specs.Walk.{Row, Text, first_of, rows_after}
 use Rattle.clap.proofs.OnLiterals.{clap_on_literals}
+use Rattle.rv_tally.specs.declared.limit.TheConstants.{MOST_BUDGET}
 use Rattle.rv_tally.specs.declared.plans.Lengths.{Lengths}
 use Rattle.rv_campaign.specs.declared.runs.TheConstants.{MOST_WORKERS}
 use Rattle.rv_collide.specs.declared.plan.TheConstants.{DEFAULT_SLOTS}
@@ -15,7 +16,7 @@ use Rattle.rv_command.proofs.RunGiven.{given_holds, line_given, map_holds, numbe
 use Rattle.rv_command.specs.Command.{Asked, IsGiven, hunt_of, options_job}
 use Rattle.rv_command.specs.HuntLine.{GivesLengths, Hunting, IsFlagGiven, IsHuntGiven, IsLimitGiven, flag_at, hunting_at, lengths_at, lengths_in, limit_at, limit_by, runs_from}
 use Rattle.rv_command.specs.RunLine.{Gives, GivesNumber, number_if, number_or}
-use Rattle.rv_command.specs.declared.command.hunt.TheConstants.{DEFAULT_BUDGET, DEFAULT_SEED, LAST_RUN, MOST_BUDGET}
+use Rattle.rv_command.specs.declared.command.hunt.TheConstants.{DEFAULT_BUDGET, DEFAULT_SEED, LAST_RUN}
 use Rattle.rv_command.specs.declared.command.run.TheConstants.{MOST_SEED}
 
 -- ---- the arguments of `hunt`

@@ -6,6 +6,7 @@ use Rattle.clap.specs.Words.{Row, Text, first_of}
 use Rattle.rv_text.specs.Pieces.{pieces_of}
 use Rattle.rv_tally.specs.declared.limit.Limit.{Limit}
 use Rattle.rv_tally.specs.declared.limit.Limit.TheVariants.{Runs, Budget}
+use Rattle.rv_tally.specs.declared.limit.TheConstants.{MOST_BUDGET}
 use Rattle.rv_tally.specs.declared.plans.Lengths.{Lengths}
 use Rattle.rv_campaign.specs.declared.runs.TheConstants.{MOST_WORKERS}
 use Rattle.rv_collide.specs.declared.plan.TheConstants.{DEFAULT_SLOTS, MOST_ARMS, MOST_PAUSE, MOST_STEPS}
@@ -13,7 +14,7 @@ use Rattle.rv_break.specs.declared.claim.TheConstants.{MOST_SLOTS}
 use Rattle.rv_hart.specs.declared.machine.TheConstants.{MOST_HARTS}
 use Rattle.rv_command.specs.RunLine.{Gives, GivesNumber, if_given, number_in, number_if, number_or}
 use Rattle.rv_command.specs.declared.command.hunt.HuntLine.{HuntLine}
-use Rattle.rv_command.specs.declared.command.hunt.TheConstants.{DEFAULT_BUDGET, DEFAULT_SEED, LAST_RUN, MOST_BUDGET}
+use Rattle.rv_command.specs.declared.command.hunt.TheConstants.{DEFAULT_BUDGET, DEFAULT_SEED, LAST_RUN}
 use Rattle.rv_command.specs.declared.command.run.TheConstants.{MOST_SEED}
 
 -- What a line of `hunt` asks for, beside its image.

@@ -15,6 +15,7 @@ mod hunting;
 mod ignoring;
 mod merging;
 mod saying;
+mod tally;
 
 fn text(rt: &impl Abort, alloc: Global, table: &HuntTable) -> Vec<u8> {
     let mut writer = Flagged::new(Vec::new(alloc));

@@ -14,7 +14,7 @@ pub mod fault;
 mod lines;
 pub mod names;
 pub mod picture;
-mod pieces;
+pub mod pieces;
 pub mod race_block;
 pub mod races;
 pub mod row;

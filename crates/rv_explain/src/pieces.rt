@@ -7,7 +7,7 @@ use rv_memory::store::NoMemory;
 use std::alloc::Global;
 
 /// The pieces, one after another.
-pub(crate) fn joined(alloc: Global, pieces: &[&[u8]]) -> Result<Vec<u8>, NoMemory>
+pub fn joined(alloc: Global, pieces: &[&[u8]]) -> Result<Vec<u8>, NoMemory>
     ensures { IfOk result (λ text. text.items ≡ flat_map (λ piece. piece.now) pieces.now) }
 {
     let mut text = Vec::new(alloc);

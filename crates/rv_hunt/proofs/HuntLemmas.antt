@@ -12,7 +12,7 @@ use Rattle.rv_collide.specs.Numbers.{numbers}
 use Rattle.rv_collide.specs.Plan.{Numbers}
 use Rattle.rv_collide.specs.Stored.{Stored}
 use Rattle.rv_collide.specs.declared.plan.Plan.{Plan}
-use Rattle.rv_hunt.specs.Hunted.{AreNumbers, AreRuns, Hunt, IsHunt, IsOfRun, IsSoFar, rows_from, rows_of, seen_in, summed}
+use Rattle.rv_hunt.specs.Hunted.{AreNumbers, AreRuns, Hunt, IsHunt, IsOfRun, IsSoFar, is_due, rows_from, rows_of, seen_in, summed}
 use Rattle.rv_hunt.specs.KeptRun.{IsKeptRun}
 use Rattle.rv_hunt.specs.Rows as rows
 use Rattle.rv_hunt.specs.declared.hunted.Hunted.{Hunted}
@@ -20,13 +20,13 @@ use Rattle.rv_hunt.specs.declared.kept_run.KeptRun.{KeptRun}
 use Rattle.rv_hunt.specs.declared.row.RaceRow.{RaceRow}
 use Rattle.rv_hunt.specs.internal.Lots.{ArePlans, IsLot, with_run}
 use Rattle.rv_report.specs.declared.key.Key.{Key}
-use Rattle.rv_tally.specs.GoesOn.{cost, goes_on, is_hopeless}
+use Rattle.rv_tally.specs.GoesOn.{goes_on}
 use Rattle.rv_collide.specs.Counts.{saturated}
 use Rattle.rv_tally.specs.Plans.{plan_of}
-use Rattle.rv_tally.specs.Tally.{Tally, added, nothing, tally_of}
+use Rattle.rv_hunt.specs.Tally.{Tally, added, cost, is_hopeless, nothing, reached, tally_of}
 use Rattle.rv_tally.specs.declared.limit.Limit.{Limit}
 use Rattle.rv_tally.specs.declared.limit.Limit.TheVariants.{Runs, Budget}
-use Rattle.rv_tally.specs.declared.summary.Summary.{Summary}
+use Rattle.rv_hunt.specs.declared.summary.Summary.{Summary}
 
 -- ---- how many runs there were
 
@@ -88,7 +88,7 @@ seen_next first runs kept = same_hunted (summed_next runs kept) (table_next firs
 -- ---- which runs are made
 
 -- the next run's number has 32 bits
-pub next_fits : (limit : Limit) (first : ℕ) (t : Tally) → AreNumbers first limit → goes_on limit first t ≡ true → first + t.runs < 2 ^ 32
+pub next_fits : (limit : Limit) (first : ℕ) (t : Tally) → AreNumbers first limit → goes_on limit first (reached t) ≡ true → first + t.runs < 2 ^ 32
 next_fits (Runs runs) first t legal goes = grind (arith, nat_tests)
 next_fits (Budget steps) first t legal goes =
     let front = and_parts (nat_le (first + t.runs) 4_294_967_295 && nat_lt (cost t) steps) (not (is_hopeless t)) goes in
@@ -121,24 +121,24 @@ each_next hunt runs kept before here place one there =
           (subst (λ (k : KeptRun). IsOfRun hunt (hunt.first + length runs) k) both.1 here)
     ]
 
-due_next : (hunt : Hunt) (runs : List KeptRun) (kept : KeptRun) → AreRuns hunt runs → goes_on hunt.limit hunt.first (summed runs) ≡ true → (place : ℕ) → place < length (runs ++ kept ∷ []) → goes_on hunt.limit hunt.first (summed (take place (runs ++ kept ∷ []))) ≡ true
+due_next : (hunt : Hunt) (runs : List KeptRun) (kept : KeptRun) → AreRuns hunt runs → is_due hunt (summed runs) ≡ true → (place : ℕ) → place < length (runs ++ kept ∷ []) → is_due hunt (summed (take place (runs ++ kept ∷ []))) ≡ true
 due_next hunt runs kept before goes place within =
     let long = length-append runs (kept ∷ []) in
     let few : place ≤ length runs = omega (arith, long, within) in
-    ap (λ (rs : List KeptRun). goes_on hunt.limit hunt.first (summed rs)) (take-append-le place runs (kept ∷ []) few)
+    ap (λ (rs : List KeptRun). is_due hunt (summed rs)) (take-append-le place runs (kept ∷ []) few)
     ∙ elim (cases_eq place (length runs)) [
       | inl last ↦
-          ap (λ (rs : List KeptRun). goes_on hunt.limit hunt.first (summed rs)) (take_all place runs (omega (arith, last))) ∙ goes
+          ap (λ (rs : List KeptRun). is_due hunt (summed rs)) (take_all place runs (omega (arith, last))) ∙ goes
       | inr other ↦ before.due place (omega (arith, few, other))
     ]
 
-pub one_more : (hunt : Hunt) (hunted after : Hunted) (run : ℕ) (kept : KeptRun) → IsHunt hunt → IsSoFar hunt hunted → goes_on hunt.limit hunt.first hunted.tally ≡ true → run ≡ hunt.first + hunted.tally.runs → IsOfRun hunt run kept → after ≡ with_run hunted run kept → IsSoFar hunt after
+pub one_more : (hunt : Hunt) (hunted after : Hunted) (run : ℕ) (kept : KeptRun) → IsHunt hunt → IsSoFar hunt hunted → is_due hunt hunted.tally ≡ true → run ≡ hunt.first + hunted.tally.runs → IsOfRun hunt run kept → after ≡ with_run hunted run kept → IsSoFar hunt after
 unfolding seen_in
 one_more hunt hunted after run kept legal so_far goes is here with =
     let few : hunted.tally.runs < 2 ^ 32 = (let fits = next_fits hunt.limit hunt.first hunted.tally legal.numbers goes in omega (arith, fits)) in
     let count = count_of hunt hunted so_far.runs so_far.seen few in
     let number : run ≡ hunt.first + length so_far.runs = omega (arith, is, count) in
-    let going = ap (λ (h : Hunted). goes_on hunt.limit hunt.first h.tally) (sym so_far.seen) ∙ goes in
+    let going = ap (λ (h : Hunted). is_due hunt h.tally) (sym so_far.seen) ∙ goes in
     record {
       runs = so_far.runs ++ kept ∷ [];
       are_runs = record {
@@ -151,7 +151,7 @@ one_more hunt hunted after run kept legal so_far goes is here with =
           ∙ sym (seen_next hunt.first so_far.runs kept);
     }
 
-pub one_more_counted : (hunt : Hunt) (hunted after : Hunted) (run : ℕ) (kept : KeptRun) → IsHunt hunt → goes_on hunt.limit hunt.first hunted.tally ≡ true → after ≡ with_run hunted run kept → after.tally.runs ≡ hunted.tally.runs + 1
+pub one_more_counted : (hunt : Hunt) (hunted after : Hunted) (run : ℕ) (kept : KeptRun) → IsHunt hunt → is_due hunt hunted.tally ≡ true → after ≡ with_run hunted run kept → after.tally.runs ≡ hunted.tally.runs + 1
 unfolding with_run
 one_more_counted hunt hunted after run kept legal goes with =
     let fits = next_fits hunt.limit hunt.first hunted.tally legal.numbers goes in

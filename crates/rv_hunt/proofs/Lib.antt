@@ -4,10 +4,11 @@ pub mod Counted
 pub mod DrawnLemmas
 pub mod EngineLemmas
 pub mod FileLemmas
+pub mod FilterLemmas
+pub mod FoldLemmas
 pub mod HuntLemmas
 pub mod IgnoreLemmas
 pub mod IgnoredRowLemmas
-pub mod JoinedLemmas
 pub mod KeptLemmas
 pub mod MadeLemmas
 pub mod MergeLemmas
@@ -22,7 +23,6 @@ pub mod ReportLemmas
 pub mod ResultLemmas
 pub mod Rows
 pub mod SavedLemmas
-pub mod Says
 pub mod SiteLemmas
 pub mod SpelledLemmas
 pub mod SummaryLemmas

@@ -14,7 +14,7 @@ use Rattle.rv_hunt.specs.declared.engine.options.Shows.{Shows}
 use Rattle.rv_hunt.specs.internal.Opened.{HasRace, IsMade, texts_of}
 use Rattle.rv_hunt.specs.merge.Ignore.{is_told}
 use Rattle.rv_report.specs.declared.key.Key.{Key}
-use Rattle.rv_tally.specs.Tally.{Tally}
+use Rattle.rv_hunt.specs.Tally.{Tally}
 
 abbrev Row : Type 0
 Row = Key × RaceRow

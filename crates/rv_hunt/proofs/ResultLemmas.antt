@@ -1,7 +1,7 @@
 -- A hunt has one result, and those of its pieces make it.
 use Rattle.std.proofs.Common.{◌≡◌, ℕ, zero, suc, ◌+◌, ◌-◌, ◌<◌, ◌≤◌, ◌^◌, ◌⊎◌, inl, inr, true, false, List, [], ◌∷◌, ◌++◌, length, length-append, map, take, Some, refl, sym, ap, subst, ◌∙◌, arith, append_assoc}
-use Rattle.std.specs.Prelude.{slice_get, nat_lt, count_by}
-use Rattle.std.specs.List.{fold, list_all, list_any}
+use Rattle.std.specs.Prelude.{slice_get, nat_le, nat_lt, ◌==◌}
+use Rattle.std.specs.List.{fold}
 use Rattle.std.proofs.lemmas.Bool.{cases_lt}
 use Rattle.std.proofs.lemmas.Bool.Decides.{nat_tests}
 use Rattle.std.proofs.lemmas.List.{length-take-le, take_all, take_more}
@@ -15,7 +15,7 @@ use Rattle.rv_drive.specs.Sampling.{sampling_of}
 use Rattle.rv_elf.specs.Contents.{Contents}
 use Rattle.rv_hunt.proofs.HuntLemmas.{how_many, same_hunted, seen_next, there_is}
 use Rattle.rv_hunt.proofs.MergeLemmas.{two_merged}
-use Rattle.rv_hunt.specs.Hunted.{AreRuns, Hunt, IsHunted, IsOfRun, rows_from, rows_of, seen_in, summed}
+use Rattle.rv_hunt.specs.Hunted.{AreRuns, Hunt, IsHunted, IsOfRun, is_due, rows_from, rows_of, seen_in, summed}
 use Rattle.rv_hunt.specs.HuntedLaws.{OneResult, PiecesAreWhole, piece}
 use Rattle.rv_hunt.specs.KeptRun.{IsKeptRun}
 use Rattle.rv_hunt.specs.Rows as rows
@@ -24,14 +24,13 @@ use Rattle.rv_hunt.specs.declared.kept_run.KeptRun.{KeptRun}
 use Rattle.rv_hunt.specs.declared.row.RaceRow.{RaceRow}
 use Rattle.rv_hunt.specs.internal.Lots.{with_run}
 use Rattle.rv_report.specs.declared.key.Key.{Key}
-use Rattle.rv_tally.specs.GoesOn.{goes_on}
 use Rattle.rv_collide.specs.Counts.{saturated}
 use Rattle.rv_tally.specs.Plans.{plan_of}
-use Rattle.rv_hunt.specs.Summary.{AreCounts, IsSummary}
-use Rattle.rv_tally.specs.Tally.{Tally, added, all_ended, is_exit, is_stop, longest_with, one_if, sum, with_addresses}
-use Rattle.rv_tally.specs.declared.counts.Counts.{Counts}
+use Rattle.rv_hunt.specs.Summary.{IsSummary}
+use Rattle.rv_hunt.specs.Tally.{Tally, added, all_ended, exits, longest_with, one_if, sum, traps, with_addresses}
+use Rattle.rv_hunt.specs.declared.tally.counts.Counts.{Counts}
 use Rattle.rv_tally.specs.declared.end.End.{End}
-use Rattle.rv_tally.specs.declared.summary.Summary.{Summary}
+use Rattle.rv_hunt.specs.declared.summary.Summary.{Summary}
 
 -- ---- what is kept of a run, but for how its lists lie in memory
 
@@ -44,23 +43,6 @@ same_core once source plan run one other a b =
     (a.image_is ∙ sym b.image_is) (a.plan_is ∙ sym b.plan_is)
     (once (setting_of (stored source.image plan [])) (sampling_of source.sites source.seed run) one.entries other.entries a.drawn b.drawn)
 
-abbrev counts_of : ℕ → ℕ → ℕ → ℕ → ℕ → ℕ → Counts
-counts_of steps quiet hit changed unwatched passed = record {
-  steps = steps;
-  quiet = quiet;
-  hit = hit;
-  changed = changed;
-  unwatched = unwatched;
-  passed = passed;
-}
-
-same_numbers : {s s' q q' h h' c c' u u' p p' : ℕ} → s ≡ s' → q ≡ q' → h ≡ h' → c ≡ c' → u ≡ u' → p ≡ p' → counts_of s q h c u p ≡ counts_of s' q' h' c' u' p'
-same_numbers steps quiet hit changed unwatched passed = cc
-
-same_counts : (core : Stored) (one other : Counts) → AreCounts core one → AreCounts core other → one ≡ other
-same_counts core one other a b =
-    same_numbers (a.steps ∙ sym b.steps) (a.quiet ∙ sym b.quiet) (a.hit ∙ sym b.hit) (a.changed ∙ sym b.changed) (a.unwatched ∙ sym b.unwatched) (a.passed ∙ sym b.passed)
-
 -- a run added by what is told of it
 added_by : Tally → ℕ → List End → List ℕ → List ℕ → Counts → Tally
 added_by t most ends armed paused counts = record {
@@ -69,9 +51,9 @@ added_by t most ends armed paused counts = record {
   armed = with_addresses t.armed armed;
   paused = with_addresses t.paused paused;
   counts = sum t.counts counts;
-  some_stopped = saturated (t.some_stopped + one_if (list_any is_stop ends));
-  each_stopped = saturated (t.each_stopped + one_if (list_all is_stop ends));
-  longest = longest_with t.longest most (count_by is_exit ends);
+  some_stopped = saturated (t.some_stopped + one_if (nat_le 1 (traps ends)));
+  each_stopped = saturated (t.each_stopped + one_if (traps ends == length ends));
+  longest = longest_with t.longest most (exits ends);
 }
 
 added_is : (t : Tally) (s : Summary) → added t s ≡ added_by t s.most_steps s.ends.items s.armed.items s.paused.items s.counts
@@ -84,7 +66,7 @@ same_parts t most ends armed paused counts = cc
 same_added : (t : Tally) (core : Stored) (one other : Summary) → IsSummary core one → IsSummary core other → added t one ≡ added t other
 same_added t core one other a b =
     added_is t one
-    ∙ same_parts t (a.most_steps ∙ sym b.most_steps) (a.ends_are ∙ sym b.ends_are) (a.armed_are ∙ sym b.armed_are) (a.paused_are ∙ sym b.paused_are) (same_counts core one.counts other.counts a.counts b.counts)
+    ∙ same_parts t (a.most_steps ∙ sym b.most_steps) (a.ends_are ∙ sym b.ends_are) (a.armed_are ∙ sym b.armed_are) (a.paused_are ∙ sym b.paused_are) (a.counts_are ∙ sym b.counts_are)
     ∙ sym (added_is t other)
 
 same_with : (hunted : Hunted) (run : ℕ) (ranges : List (ℕ × ℕ)) (core : Stored) (one other : KeptRun) → IsKeptRun ranges core one → IsKeptRun ranges core other → with_run hunted run one ≡ with_run hunted run other
@@ -129,7 +111,7 @@ tally_seen : (first : ℕ) (runs : List KeptRun) → (seen_in first runs).tally 
 unfolding seen_in
 tally_seen first runs = refl
 
-no_longer : OneRunAtMost → (hunt : Hunt) (xs ys : List KeptRun) → AreRuns hunt xs → AreRuns hunt ys → goes_on hunt.limit hunt.first (summed xs) ≡ false → length xs < length ys → ⊥
+no_longer : OneRunAtMost → (hunt : Hunt) (xs ys : List KeptRun) → AreRuns hunt xs → AreRuns hunt ys → is_due hunt (summed xs) ≡ false → length xs < length ys → ⊥
 no_longer once hunt xs ys a b over longer =
     let n = length xs in
     let same = alike once hunt xs ys a b n (omega arith) (omega (arith, longer)) in
@@ -137,15 +119,15 @@ no_longer once hunt xs ys a b over longer =
     let tallies : summed xs ≡ summed (take n ys) =
     sym (tally_seen hunt.first xs) ∙ ap (λ (rs : List KeptRun). (seen_in hunt.first rs).tally) (sym all)
     ∙ ap (λ (h : Hunted). h.tally) same ∙ tally_seen hunt.first (take n ys) in
-    let goes = ap (goes_on hunt.limit hunt.first) tallies ∙ b.due n longer in
+    let goes = ap (is_due hunt) tallies ∙ b.due n longer in
     differ (sym goes ∙ over)
   where
     differ : true ≡ false → ⊥
     differ h = cc
 
-over_of : (hunt : Hunt) (hunted : Hunted) (h : IsHunted hunt hunted) → goes_on hunt.limit hunt.first (summed h.so_far.runs) ≡ false
+over_of : (hunt : Hunt) (hunted : Hunted) (h : IsHunted hunt hunted) → is_due hunt (summed h.so_far.runs) ≡ false
 over_of hunt hunted h =
-    ap (goes_on hunt.limit hunt.first) (sym (ap (λ (x : Hunted). x.tally) h.so_far.seen ∙ tally_seen hunt.first h.so_far.runs)) ∙ h.is_over
+    ap (is_due hunt) (sym (ap (λ (x : Hunted). x.tally) h.so_far.seen ∙ tally_seen hunt.first h.so_far.runs)) ∙ h.is_over
 
 pub one_result : OneRunAtMost → OneResult
 one_result once hunt one other a b =

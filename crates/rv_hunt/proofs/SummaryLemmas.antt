@@ -1,18 +1,25 @@
 -- What is counted of a run, entry by entry.
-use Rattle.std.proofs.Common.{◌≡◌, ℕ, zero, suc, ◌+◌, ◌<◌, ◌≤◌, inl, inr, Bool, true, false, List, [], ◌∷◌, ◌++◌, length, take, map, Option, None, Some, refl, sym, ap, ◌∙◌, arith, length-append}
-use Rattle.std.specs.Prelude.{filter_map, IsSomeAnd, slice_get, ◌||◌}
+use Rattle.std.proofs.Common.{◌≡◌, ℕ, zero, suc, ◌+◌, ◌<◌, ◌≤◌, ◌^◌, get_or, inl, inr, Bool, true, false, List, [], ◌∷◌, ◌++◌, length, take, map, Option, None, Some, refl, sym, ap, ◌∙◌, arith, length-append}
+use Rattle.std.specs.Prelude.{count_by, filter_map, IsSomeAnd, slice_get, ◌||◌}
 use Rattle.std.specs.List.{cons_option, list_any, range_with_len}
 use Rattle.std.specs.Option.{option_map_or, option_to_list}
 use Rattle.std.proofs.lemmas.Bool.{cases_eq}
-use Rattle.std.proofs.lemmas.List.{map-append, take_all, take_more}
+use Rattle.std.proofs.lemmas.List.{length-take-le, map-append, take_all, take_more}
 use Rattle.std.proofs.lemmas.List.Elements.{filter_map-append}
+use Rattle.std.proofs.lemmas.List.Sums.{count_by-le-length, count_by_more_no, count_by_more_yes}
 use Rattle.std.proofs.lemmas.Option.{get_or_from_slice_get, slice_get_within}
+use Rattle.rv_collide.specs.Counts.{saturated}
 use Rattle.rv_collide.specs.StateAt.{state_at}
 use Rattle.rv_collide.specs.Stored.{Stored, setting_of}
+use Rattle.rv_collide.specs.declared.ending.Ending.{Ending}
+use Rattle.rv_collide.specs.declared.entry.Entry.{Entry}
 use Rattle.rv_hart.specs.State.{State}
 use Rattle.rv_hart.specs.declared.hart.Hart.{Hart}
 use Rattle.rv_hart.specs.declared.hart.Status.{Status}
-use Rattle.rv_hunt.specs.Summary.{end_of, end_with, ends}
+use Rattle.rv_hunt.specs.Summary.{counts_of, end_of, end_with, ends, has_step_within, is_changed, is_hit, is_quiet, is_unwatched}
+use Rattle.rv_hunt.specs.Tally.{one_if}
+use Rattle.rv_hunt.specs.declared.tally.counts.Counts.{Counts}
+use Rattle.rv_hunt.specs.internal.Counting.{with_ending}
 use Rattle.rv_tally.specs.declared.end.End.{End}
 
 -- ---- one more of a list
@@ -24,7 +31,7 @@ take_next xs n x there =
 pub pushed : {X : Type 0} (xs ys all : List X) (n : ℕ) (x : X) → all ≡ ys ++ x ∷ [] → ys ≡ take n xs → slice_get xs n ≡ Some x → all ≡ take (n + 1) xs
 pushed xs ys all n x is so_far there = is ∙ ap (λ zs. zs ++ x ∷ []) so_far ∙ sym (take_next xs n x there)
 
-mapped : {X Y : Type 0} (f : X → Y) (xs : List X) (ys all : List Y) (n : ℕ) (x : X) (y : Y) → all ≡ ys ++ y ∷ [] → ys ≡ map f (take n xs) → slice_get xs n ≡ Some x → y ≡ f x → all ≡ map f (take (n + 1) xs)
+pub mapped : {X Y : Type 0} (f : X → Y) (xs : List X) (ys all : List Y) (n : ℕ) (x : X) (y : Y) → all ≡ ys ++ y ∷ [] → ys ≡ map f (take n xs) → slice_get xs n ≡ Some x → y ≡ f x → all ≡ map f (take (n + 1) xs)
 mapped f xs ys all n x y is so_far there same =
     is ∙ ap (λ zs. zs ++ y ∷ []) so_far ∙ ap (λ z. map f (take n xs) ++ z ∷ []) same
     ∙ sym (map-append f (take n xs) (x ∷ [])) ∙ ap (map f) (sym (take_next xs n x there))
@@ -59,6 +66,48 @@ pub all_ended : (core : Stored) (s : State) (told : List End) (h : ℕ) → stat
 unfolding ends
 all_ended core s told h there is all =
     is ∙ ap (map end_of) (take_all h s.harts all) ∙ sym (ap (λ o. option_map_or (λ (s : State). map end_of s.harts) o []) there)
+
+-- ---- how pauses ended
+
+abbrev numbers_of : ℕ → ℕ → ℕ → ℕ → ℕ → ℕ → Counts
+numbers_of steps quiet hit changed unwatched passed = record {
+  steps = steps;
+  quiet = quiet;
+  hit = hit;
+  changed = changed;
+  unwatched = unwatched;
+  passed = passed;
+}
+
+same_numbers : {s s' q q' h h' c c' u u' p p' : ℕ} → s ≡ s' → q ≡ q' → h ≡ h' → c ≡ c' → u ≡ u' → p ≡ p' → numbers_of s q h c u p ≡ numbers_of s' q' h' c' u' p'
+same_numbers steps quiet hit changed unwatched passed = cc
+
+one_more : {X : Type 0} (p : X → Bool) (xs : List X) (n : ℕ) (x : X) (passes : Bool) → n < length xs → p (get_or xs n x) ≡ passes → count_by p (take (n + 1) xs) ≡ count_by p (take n xs) + one_if passes
+one_more p xs n x true within is = count_by_more_yes p xs n x within is
+one_more p xs n x false within is = count_by_more_no p xs n x within is ∙ omega arith
+
+one_at_most : (b : Bool) → one_if b ≤ 1
+one_at_most true = omega arith
+one_at_most false = omega arith
+
+raised_is : {X : Type 0} (p : X → Bool) (xs : List X) (n before : ℕ) (x : X) → before ≡ count_by p (take n xs) → slice_get xs n ≡ Some x → n < 2 ^ 32 → saturated (before + one_if (p x)) ≡ count_by p (take (n + 1) xs)
+raised_is p xs n before x so_far there few =
+    let within = slice_get_within xs n x there in
+    let more = one_more p xs n x (p x) within (ap p (get_or_from_slice_get xs n x x there)) in
+    let few_so_far = count_by-le-length p (take n xs) in
+    let long = length-take-le n xs (omega (arith, within)) in
+    let one = one_at_most (p x) in
+    omega (arith, so_far, more, few_so_far, long, one, few)
+
+pub counted_next : (entries : List Entry) (steps : ℕ) (xs : List Ending) (before after : Counts) (n : ℕ) (e : Ending) → after ≡ with_ending entries before e → before ≡ counts_of entries steps (take n xs) → slice_get xs n ≡ Some e → n < 2 ^ 32 → after ≡ counts_of entries steps (take (n + 1) xs)
+counted_next entries steps xs before after n e is so_far there few =
+    is
+    ∙ same_numbers (ap (λ (c : Counts). c.steps) so_far)
+    (raised_is (λ (e : Ending). is_quiet e.verdict) xs n before.quiet e (ap (λ (c : Counts). c.quiet) so_far) there few)
+    (raised_is (λ (e : Ending). is_hit e.verdict) xs n before.hit e (ap (λ (c : Counts). c.hit) so_far) there few)
+    (raised_is (λ (e : Ending). is_changed e.verdict) xs n before.changed e (ap (λ (c : Counts). c.changed) so_far) there few)
+    (raised_is (λ (e : Ending). is_unwatched e.slot) xs n before.unwatched e (ap (λ (c : Counts). c.unwatched) so_far) there few)
+    (raised_is (has_step_within entries) xs n before.passed e (ap (λ (c : Counts). c.passed) so_far) there few)
 
 -- ---- a step within a pause
 

@@ -1,13 +1,14 @@
 -- How the harts of all runs ended, a line for each kind.
-use Rattle.std.specs.Prelude.{ℕ, ◌==◌, if◌then◌else◌, List, [], ◌++◌, codes, flat_map}
+use Rattle.std.specs.Prelude.{ℕ, ◌==◌, if◌then◌else◌, List, [], ◌∷◌, codes, flat_map}
 use Rattle.std.specs.Fmt.{decimal}
+use Rattle.rv_explain.specs.Pieces.{joined}
 use Rattle.rv_hart.specs.declared.hart.Cause.{Cause}
 use Rattle.rv_hart.specs.declared.hart.Cause.TheVariants.{TargetMisaligned, FetchFault, Illegal, Breakpoint, LoadMisaligned, LoadFault, StoreMisaligned, StoreFault, UnknownCall}
-use Rattle.rv_tally.specs.Kinds.{Kinds}
-use Rattle.rv_tally.specs.Tally.{Ended}
+use Rattle.rv_hunt.specs.Kinds.{Kinds}
+use Rattle.rv_hunt.specs.Tally.{Ended}
+use Rattle.rv_hunt.specs.declared.tally.kinds.Kind.{Kind}
 use Rattle.rv_tally.specs.declared.end.End.{End}
 use Rattle.rv_tally.specs.declared.end.End.TheVariants.{Exited, Stopped, OutOfSteps}
-use Rattle.rv_tally.specs.declared.kinds.Kind.{Kind}
 use Rattle.rv_text.specs.Hexadecimal.{word_digits}
 
 -- a cause in the words of the privileged architecture's table of exceptions
@@ -24,16 +25,13 @@ cause_words UnknownCall = codes "environment call"
 
 -- `exited CODE`, `stopped by CAUSE at ADDR`, or `out of steps`
 abbrev pub end_words : End → List ℕ
-end_words (Exited code) = codes "exited " ++ word_digits code
-end_words (Stopped cause pc) = codes "stopped by " ++ (cause_words cause ++ (codes " at " ++ word_digits pc))
+end_words (Exited code) = joined (codes "exited " ∷ word_digits code ∷ [])
+end_words (Stopped cause pc) = joined (codes "stopped by " ∷ cause_words cause ∷ codes " at " ∷ word_digits pc ∷ [])
 end_words OutOfSteps = codes "out of steps"
 
-abbrev pub count_text : ℕ → List ℕ
-count_text count = codes ": " ++ (decimal count ++ codes "\n")
-
 -- `ended KIND: COUNT`
-abbrev pub ended_line : List ℕ → ℕ → List ℕ
-ended_line kind count = codes "ended " ++ (kind ++ count_text count)
+unfoldable pub ended_line : List ℕ → ℕ → List ℕ
+ended_line kind count = joined (codes "ended " ∷ kind ∷ codes ": " ∷ decimal count ∷ codes "\n" ∷ [])
 
 abbrev pub kind_line : Kind → List ℕ
 kind_line kind = ended_line (end_words kind.end) kind.count
@@ -44,9 +42,9 @@ line_if kind count = if count == 0 then [] else ended_line kind count
 
 -- the kinds that have a line of their own, in the order in which they were met, and the others together
 unfoldable pub kinds_text : List ℕ → Kinds → List ℕ
-kinds_text others kinds = flat_map kind_line kinds.told ++ line_if others kinds.rest
+kinds_text others kinds = joined (flat_map kind_line kinds.told ∷ line_if others kinds.rest ∷ [])
 
 -- exits by code, then traps by cause and address, then those that had no steps left
 unfoldable pub ended_text : Ended → List ℕ
 ended_text ended =
-    kinds_text (codes "exited otherwise") ended.exits ++ (kinds_text (codes "stopped otherwise") ended.stops ++ line_if (end_words OutOfSteps) ended.out_of_steps)
+    joined (kinds_text (codes "exited otherwise") ended.exits ∷ kinds_text (codes "stopped otherwise") ended.stops ∷ line_if (end_words OutOfSteps) ended.out_of_steps ∷ [])

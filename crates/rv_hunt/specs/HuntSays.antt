@@ -1,14 +1,14 @@
 -- What a hunt says at its end.
 use Rattle.std.specs.Fmt.{decimal}
-use Rattle.std.specs.Prelude.{ℕ, ◌+◌, ◌==◌, if◌then◌else◌, List, [], ◌++◌, codes, length}
+use Rattle.std.specs.Prelude.{ℕ, ◌+◌, ◌==◌, if◌then◌else◌, List, [], ◌∷◌, ◌++◌, codes, flat_map, length}
+use Rattle.rv_explain.specs.Pieces.{joined}
 use Rattle.rv_races.specs.declared.classes.RaceClass.TheVariants.{Named}
 use Rattle.rv_hunt.specs.EndedText.{ended_text}
+use Rattle.rv_hunt.specs.Tally.{Tally, pauses}
 use Rattle.rv_hunt.specs.ToldOrder.{benign, bugs, of_class, reports_of}
 use Rattle.rv_hunt.specs.declared.row.RaceRow.{RaceRow}
 use Rattle.rv_report.specs.declared.key.Key.{Key}
 use Rattle.rv_collide.specs.Counts.{saturated}
-use Rattle.rv_tally.specs.Tally.{Tally, pauses}
-use Rattle.rv_tally.specs.declared.counts.Counts.{Counts}
 
 -- What a hunt came to: how many sites the image has without those that are skipped, what its runs saw, the rows of its
 -- races, and those that a line of --ignore fits.
@@ -22,6 +22,10 @@ pub record Outcome : Type 0 where
 abbrev pub numbered : List ℕ → ℕ → List ℕ
 numbered name number = name ++ decimal number
 
+-- names, each with its number
+abbrev pub numbers : List (List ℕ × ℕ) → List ℕ
+numbers parts = flat_map (λ part. numbered part.0 part.1) parts
+
 -- ---- the first line
 
 -- the pauses that ended with a report
@@ -31,48 +35,41 @@ reports t = saturated (t.counts.hit + t.counts.changed)
 -- `races N, likely benign B, reports M of E endings in R runs`
 unfoldable pub summary_line : Tally → List (Key × RaceRow) → List ℕ
 summary_line t rows =
-    numbered (codes "races ") (bugs rows) ++ (numbered (codes ", likely benign ") (benign rows) ++ (numbered (codes ", reports ") (reports t)
-    ++ (numbered (codes " of ") (saturated (pauses t)) ++ (numbered (codes " endings in ") t.runs ++ codes " runs\n"))))
+    numbers ((codes "races ", bugs rows) ∷ (codes ", likely benign ", benign rows) ∷ (codes ", reports ", reports t) ∷ (codes " of ", saturated (pauses t)) ∷ (codes " endings in ", t.runs) ∷ []) ++ codes " runs\n"
 
 -- ---- the lines behind the blocks
 
 -- `1 race`, `2 races`
 abbrev pub counted : ℕ → List ℕ → List ℕ
-counted n thing = decimal n ++ (codes " " ++ (thing ++ (if n == 1 then [] else codes "s")))
+counted n thing = joined (decimal n ∷ codes " " ∷ thing ∷ (if n == 1 then [] else codes "s") ∷ [])
 
 -- `WORD M reports of N races`, where there are any
 abbrev pub apart_line : List ℕ → List (Key × RaceRow) → List ℕ
 apart_line word rows =
-    if length rows == 0 then [] else (word ++ codes " ") ++ (counted (reports_of rows) (codes "report") ++ (codes " of " ++ (counted (length rows) (codes "race") ++ codes "\n")))
+    if length rows == 0 then [] else joined (word ∷ codes " " ∷ counted (reports_of rows) (codes "report") ∷ codes " of " ∷ counted (length rows) (codes "race") ∷ codes "\n" ∷ [])
 
--- `seen sites S, armed A, paused at P`
-abbrev pub sites_text : ℕ → Tally → List ℕ
-sites_text sites t =
-    numbered (codes "seen sites ") sites ++ (numbered (codes ", armed ") (length t.armed) ++ numbered (codes ", paused at ") (length t.paused))
-
--- `; pauses N: quiet Q, hit H, changed C`
-abbrev pub pauses_text : ℕ → Counts → List ℕ
-pauses_text n counts =
-    numbered (codes "; pauses ") n ++ (numbered (codes ": quiet ") counts.quiet ++ (numbered (codes ", hit ") counts.hit ++ numbered (codes ", changed ") counts.changed))
-
--- both, and `; unwatched U; steps T`
+-- `seen sites S, armed A, paused at P; pauses N: quiet Q, hit H, changed C; unwatched U; steps T`
 unfoldable pub seen_line : ℕ → Tally → List ℕ
 seen_line sites t =
-    sites_text sites t ++ (pauses_text (saturated (pauses t)) t.counts ++ (numbered (codes "; unwatched ") t.counts.unwatched
-    ++ (numbered (codes "; steps ") t.counts.steps ++ codes "\n")))
+    numbers ((codes "seen sites ", sites) ∷ (codes ", armed ", length t.armed) ∷ (codes ", paused at ", length t.paused) ∷ (codes "; pauses ", saturated (pauses t))
+    ∷ (codes ": quiet ", t.counts.quiet) ∷ (codes ", hit ", t.counts.hit) ∷ (codes ", changed ", t.counts.changed)
+    ∷ (codes "; unwatched ", t.counts.unwatched) ∷ (codes "; steps ", t.counts.steps) ∷ []) ++ codes "\n"
 
 -- which races were counted and not told
 abbrev pub apart_text : Outcome → List ℕ
-apart_text outcome = apart_line (codes "named") (of_class Named outcome.rows) ++ apart_line (codes "ignored") outcome.ignored
+apart_text outcome = joined (apart_line (codes "named") (of_class Named outcome.rows) ∷ apart_line (codes "ignored") outcome.ignored ∷ [])
 
 -- how its harts ended, and what was seen
 abbrev pub saw_text : ℕ → Tally → List ℕ
-saw_text sites t = ended_text t.ended ++ seen_line sites t
+saw_text sites t = joined (ended_text t.ended ∷ seen_line sites t ∷ [])
+
+-- all of it
+unfoldable pub behind_text : Outcome → List ℕ
+behind_text outcome = joined (apart_text outcome ∷ saw_text outcome.sites outcome.saw ∷ [])
 
 -- ---- the whole
 
 -- The first line; the blocks of the races, before each of which an empty line stands; an empty line, and what is behind
 -- them.
 unfoldable pub hunt_text : Outcome → List ℕ → List ℕ
-hunt_text outcome blocks =
-    summary_line outcome.saw outcome.rows ++ (blocks ++ (codes "\n" ++ (apart_text outcome ++ saw_text outcome.sites outcome.saw)))
+hunt_text outcome blocks = joined (summary_line outcome.saw outcome.rows ∷ blocks ∷ codes "\n" ∷ behind_text outcome ∷ [])

@@ -1,5 +1,5 @@
 -- A hunt: which runs it makes, and what they saw.
-use Rattle.std.specs.Prelude.{◌≡◌, ⊤, ℕ, ◌+◌, ◌^◌, ◌≤◌, ◌<◌, true, false, List, [], ◌∷◌, ◌++◌, Some, length, map, slice_get, take}
+use Rattle.std.specs.Prelude.{◌≡◌, ⊤, ℕ, Bool, ◌+◌, ◌^◌, ◌≤◌, ◌<◌, true, false, List, [], ◌∷◌, ◌++◌, Some, length, map, slice_get, take}
 use Rattle.rv_campaign.specs.Kept.{IsKept, Source}
 use Rattle.rv_hunt.specs.KeptRun.{IsKeptRun}
 use Rattle.rv_hunt.specs.Rows.{row_of, table_of}
@@ -7,9 +7,9 @@ use Rattle.rv_hunt.specs.declared.hunted.Hunted.{Hunted}
 use Rattle.rv_hunt.specs.declared.kept_run.KeptRun.{KeptRun}
 use Rattle.rv_hunt.specs.declared.row.RaceRow.{RaceRow}
 use Rattle.rv_report.specs.declared.key.Key.{Key}
-use Rattle.rv_tally.specs.GoesOn.{IsLimit, goes_on}
+use Rattle.rv_tally.specs.GoesOn.{goes_on}
 use Rattle.rv_tally.specs.Plans.{Given, plan_of}
-use Rattle.rv_tally.specs.Tally.{Tally, tally_of}
+use Rattle.rv_hunt.specs.Tally.{Tally, reached, tally_of}
 use Rattle.rv_tally.specs.declared.limit.Limit.{Limit}
 use Rattle.rv_tally.specs.declared.limit.Limit.TheVariants.{Runs, Budget}
 
@@ -28,7 +28,6 @@ AreNumbers first (Runs runs) = first + runs ≤ 2 ^ 32
 AreNumbers first (Budget steps) = ⊤
 
 pub record IsHunt (hunt : Hunt) : Type 0 where
-  pub limit : IsLimit hunt.limit
   pub numbers : AreNumbers hunt.first hunt.limit
 
 -- what is kept of the run of that number
@@ -55,10 +54,14 @@ seen_in first runs = record { tally = summed runs; table = table_of (rows_from f
 
 -- ---- which runs are made
 
+-- one more run is made, behind those that the tally tells of
+abbrev pub is_due : Hunt → Tally → Bool
+is_due hunt saw = goes_on hunt.limit hunt.first (reached saw)
+
 -- The runs from the first on: each has the next number, and each was to be made by what those before it saw.
 pub record AreRuns (hunt : Hunt) (runs : List KeptRun) : Type 0 where
   pub each : (place : ℕ) (kept : KeptRun) → slice_get runs place ≡ Some kept → IsOfRun hunt (hunt.first + place) kept
-  pub due : (place : ℕ) → place < length runs → goes_on hunt.limit hunt.first (summed (take place runs)) ≡ true
+  pub due : (place : ℕ) → place < length runs → is_due hunt (summed (take place runs)) ≡ true
 
 -- This is what so many runs of a hunt saw.
 pub record IsSoFar (hunt : Hunt) (hunted : Hunted) : Type 0 where
@@ -69,4 +72,4 @@ pub record IsSoFar (hunt : Hunt) (hunted : Hunted) : Type 0 where
 -- This is what all runs of a hunt saw: no more is to be made.
 pub record IsHunted (hunt : Hunt) (hunted : Hunted) : Type 0 where
   pub so_far : IsSoFar hunt hunted
-  pub is_over : goes_on hunt.limit hunt.first hunted.tally ≡ false
+  pub is_over : is_due hunt hunted.tally ≡ false

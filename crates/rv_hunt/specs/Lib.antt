@@ -7,11 +7,14 @@ pub mod HuntText
 pub mod Hunted
 pub mod HuntedLaws
 pub mod KeptRun
+pub mod Kinds
 pub mod Remade
 pub mod Rows
 pub mod Summary
+pub mod Tally
 pub mod ToldOrder
 pub mod WarningText
+pub mod Warnings
 pub mod engine
 pub mod internal
 pub mod merge

@@ -17,10 +17,10 @@ use Rattle.rv_hart.specs.State.{State}
 use Rattle.rv_hart.specs.declared.hart.Hart.{Hart}
 use Rattle.rv_hart.specs.declared.hart.Status.{Status}
 use Rattle.rv_hart.specs.declared.hart.Status.TheVariants as status
-use Rattle.rv_tally.specs.declared.counts.Counts.{Counts}
+use Rattle.rv_hunt.specs.declared.tally.counts.Counts.{Counts}
 use Rattle.rv_tally.specs.declared.end.End.{End}
 use Rattle.rv_tally.specs.declared.end.End.TheVariants as end
-use Rattle.rv_tally.specs.declared.summary.Summary.{Summary}
+use Rattle.rv_hunt.specs.declared.summary.Summary.{Summary}
 
 -- ---- how its harts ended
 
@@ -81,13 +81,16 @@ has_step_within entries e = list_any (λ place. is_some (stepped_at entries plac
 
 -- ---- all of it
 
-pub record AreCounts (core : Stored) (c : Counts) : Type 0 where
-  pub steps : c.steps ≡ length (steps core.entries)
-  pub quiet : c.quiet ≡ count_by (λ (e : Ending). is_quiet e.verdict) (ended core)
-  pub hit : c.hit ≡ count_by (λ (e : Ending). is_hit e.verdict) (ended core)
-  pub changed : c.changed ≡ count_by (λ (e : Ending). is_changed e.verdict) (ended core)
-  pub unwatched : c.unwatched ≡ count_by (λ (e : Ending). is_unwatched e.slot) (ended core)
-  pub passed : c.passed ≡ count_by (has_step_within core.entries) (ended core)
+-- the numbers of so many steps, and of pauses that ended so
+abbrev pub counts_of : List Entry → ℕ → List Ending → Counts
+counts_of entries steps ended = record {
+  steps = steps;
+  quiet = count_by (λ e. is_quiet e.verdict) ended;
+  hit = count_by (λ e. is_hit e.verdict) ended;
+  changed = count_by (λ e. is_changed e.verdict) ended;
+  unwatched = count_by (λ e. is_unwatched e.slot) ended;
+  passed = count_by (has_step_within entries) ended;
+}
 
 -- what is counted of a run that is over
 pub record IsSummary (core : Stored) (s : Summary) : Type 0 where
@@ -95,4 +98,4 @@ pub record IsSummary (core : Stored) (s : Summary) : Type 0 where
   pub ends_are : s.ends.items ≡ ends core
   pub armed_are : s.armed.items ≡ armed_in core.entries
   pub paused_are : s.paused.items ≡ map paused_at (ended core)
-  pub counts : AreCounts core s.counts
+  pub counts_are : s.counts ≡ counts_of core.entries (length (steps core.entries)) (ended core)

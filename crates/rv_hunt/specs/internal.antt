@@ -1,5 +1,6 @@
 -- What only private contracts cite: no reader has to believe it.
 pub mod Adding
+pub mod Counting
 pub mod Drawn
 pub mod Lookup
 pub mod Lots

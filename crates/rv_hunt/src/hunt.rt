@@ -2,16 +2,16 @@
 ghost use Rattle.std.specs.Prelude.{◌≡◌, ◌<◌, ◌≤◌, ◌+◌, ◌^◌, true, length, IfOk, OnOk};
 ghost use Rattle.rv_hunt.specs.Hunted as spec;
 ghost use Rattle.rv_hunt.specs.internal.Lots as internal;
-ghost use Rattle.rv_tally.specs.GoesOn as going;
 
 use crate::hunted::Hunted;
 use crate::kept_run::{Keeper, KeptRun};
+use crate::tally::COST_OF_A_RUN;
 use rv_campaign::{Series, SeriesFault, kept_runs};
 use rv_collide::plan::Plan;
 use rv_elf::Image;
 use rv_memory::store::NoMemory;
 use rv_sample::Sampler;
-use rv_tally::limit::Limit;
+use rv_tally::limit::{Limit, next_number};
 use rv_tally::plans::Plans;
 use std::alloc::Global;
 use std::marker::Model;
@@ -26,12 +26,6 @@ const MOST_HELD_ARMS: u32 = 16_384;
 
 /// How many runs are made together at least, for each worker, where the budget may be spent by fewer.
 const LEAST_MADE: u64 = 4;
-
-/// What a run costs besides its steps.
-const COST_OF_A_RUN: u64 = 300;
-
-/// The greatest budget, in steps.
-pub const MOST_BUDGET: u64 = 1_000_000_000_000_000;
 
 /// A hunt: the image, the seed and the sites that its runs are made of, their plans, the ranges of the listed names,
 /// the number of its first run, and how far it goes.
@@ -82,19 +76,18 @@ fn plans_from(alloc: Global, plans: &Plans, next: u32, count: u32) -> Result<Vec
 impl Hunt<'_> {
     /// Whether one more run is made.
     fn goes_on(&self, hunted: &Hunted) -> bool
-        requires { spec.IsHunt self.now }
-        ensures { result ≡ going.goes_on self.now.limit self.now.first hunted.now.tally }
+        ensures { result ≡ spec.is_due self.now hunted.now.tally }
     {
-        hunted.tally.goes_on(self.limit, self.first)
+        self.limit.goes_on(self.first, hunted.tally.reached())
     }
 
     /// The number of the next run.
     fn next(&self, hunted: &Hunted) -> u32
         requires hunt { spec.IsHunt self.now }
-        requires goes_on { going.goes_on self.now.limit self.now.first hunted.now.tally ≡ true }
+        requires goes_on { spec.is_due self.now hunted.now.tally ≡ true }
         ensures { result ≡ self.now.first + hunted.now.tally.runs }
     {
-        hunted.tally.next(self.first)
+        next_number(self.first, hunted.tally.runs())
     }
 
     /// How many finished runs may be held by so many workers, from the run of that number on.
@@ -131,17 +124,14 @@ impl Hunt<'_> {
         let most = self
             .most_held(next, workers)
             .min((1 << 32) - u64::from(next)) as u32;
-        let runs = hunted.tally.runs();
+        let reached = hunted.tally.reached();
         match self.limit {
-            Limit::Runs(all) => (all.saturating_sub(runs).min(u64::from(most)) as u32).max(1),
+            Limit::Runs(all) => {
+                (all.saturating_sub(reached.runs).min(u64::from(most)) as u32).max(1)
+            }
             Limit::Budget(steps) => {
-                let cost = hunted
-                    .tally
-                    .counts()
-                    .steps
-                    .saturating_add(runs.saturating_mul(COST_OF_A_RUN));
                 let some = LEAST_MADE * u64::from(workers.max(1));
-                self.affordable(next, most, steps.saturating_sub(cost))
+                self.affordable(next, most, steps.saturating_sub(reached.cost))
                     .max(u64::from(most).min(some) as u32)
             }
         }
@@ -180,36 +170,29 @@ impl Hunt<'_> {
     }
 
     /// Adds what the next run saw.
-    fn add(
-        &self,
-        alloc: Global,
-        hunted: &mut Hunted,
-        run: u32,
-        kept: &KeptRun,
-    ) -> Result<(), NoMemory>
+    fn add(&self, hunted: &mut Hunted, run: u32, kept: &KeptRun) -> Result<(), NoMemory>
         requires so_far { spec.IsSoFar self.now hunted.old }
-        requires goes_on { going.goes_on self.now.limit self.now.first hunted.old.tally ≡ true }
+        requires goes_on { spec.is_due self.now hunted.old.tally ≡ true }
         requires hunt { spec.IsHunt self.now }
         requires next { run ≡ self.now.first + hunted.old.tally.runs }
         requires kept { spec.IsOfRun self.now run kept.now }
         ensures so_far { OnOk result (spec.IsSoFar self.now hunted.new) }
         ensures runs { OnOk result (hunted.new.tally.runs ≡ hunted.old.tally.runs + 1) }
     {
-        hunted.add(alloc, run, kept)?;
+        hunted.add(run, kept)?;
         Ok(())
     }
 
     /// Adds what the next runs saw, as long as the hunt goes on.
     fn add_lot<W: Watch>(
         &self,
-        alloc: Global,
         hunted: &mut Hunted,
         next: u32,
         lot: &[KeptRun],
         watch: &mut W,
     ) -> Result<(), NoMemory>
         requires so_far { spec.IsSoFar self.now hunted.old }
-        requires goes_on { going.goes_on self.now.limit self.now.first hunted.old.tally ≡ true }
+        requires goes_on { spec.is_due self.now hunted.old.tally ≡ true }
         requires hunt { spec.IsHunt self.now }
         requires next { next ≡ self.now.first + hunted.old.tally.runs }
         requires lot { internal.IsLot self.now next lot.now }
@@ -222,7 +205,7 @@ impl Hunt<'_> {
             if !self.goes_on(hunted) {
                 return Ok(());
             }
-            self.add(alloc, hunted, next + place as u32, &lot[place])?;
+            self.add(hunted, next + place as u32, &lot[place])?;
             watch.saw(hunted);
         }
         Ok(())
@@ -245,7 +228,7 @@ impl Hunt<'_> {
         while self.goes_on(hunted) {
             let next = self.next(hunted);
             let lot = self.lot(rt, alloc, hunted, next, workers)?;
-            self.add_lot(alloc, hunted, next, &lot, watch)?;
+            self.add_lot(hunted, next, &lot, watch)?;
         }
         Ok(())
     }

@@ -8,9 +8,9 @@ ghost use Rattle.rv_hunt.specs.internal.Lots as internal;
 use crate::kept_run::KeptRun;
 use crate::row::row_of;
 use crate::table::HuntTable;
+use crate::tally::Tally;
 use rv_explain::races::Report;
 use rv_memory::store::NoMemory;
-use rv_tally::tally::Tally;
 use std::alloc::Global;
 
 /// What runs saw: the sums over all of them, and a row for each race. The row's run is the one that made the report
@@ -34,7 +34,7 @@ fn add_reports(table: &mut HuntTable, run: u32, reports: &[Report]) -> Result<()
 
 impl Hunted {
     /// What no run has seen.
-    #[tactic(auto, unfolding(rv_tally::specs::Tally::tally_of))]
+    #[tactic(auto, unfolding(crate::specs::Tally::tally_of))]
     pub(crate) fn new(alloc: Global) -> Hunted
         ensures { result ≡ record { tally = spec.summed []; table = [] } }
     {
@@ -46,10 +46,10 @@ impl Hunted {
 
     /// Adds what the run of that number saw. After a refusal of growth it is of no further use.
     #[tactic(auto, unfolding(crate::specs::internal::Lots::with_run))]
-    pub(crate) fn add(&mut self, alloc: Global, run: u32, kept: &KeptRun) -> Result<(), NoMemory>
+    pub(crate) fn add(&mut self, run: u32, kept: &KeptRun) -> Result<(), NoMemory>
         ensures { OnOk result (self.new ≡ internal.with_run self.old run kept.now) }
     {
-        self.tally.add(alloc, &kept.summary)?;
+        self.tally.add(&kept.summary)?;
         add_reports(&mut self.table, run, &kept.reports)
     }
 }

@@ -4,7 +4,7 @@ ghost use Rattle.std.specs.Option.{option_to_list};
 ghost use Rattle.rv_explain.specs.Races as races;
 ghost use Rattle.rv_hunt.specs.KeptRun as spec;
 
-use crate::summary::summary_of;
+use crate::summary::{Summary, summary_of};
 use rv_campaign::Keep;
 use rv_collide::collider::Collider;
 use rv_collide::ending::Ending;
@@ -14,7 +14,6 @@ use rv_explain::races::Report;
 use rv_memory::flat::Flat;
 use rv_memory::store::NoMemory;
 use rv_report::key::key_of;
-use rv_tally::summary::Summary;
 use std::alloc::Global;
 
 /// What is kept of a run: what is counted of it, and its reports, in order. The run's entries, which are far more, are

@@ -2,7 +2,8 @@
 //!
 //! To the layer above, a table is a function of the whole list of rows that were added to it (`specs/Rows.antt`).
 //! What is written of it is the text of `specs/HuntText.antt`, and what is read is what `specs/HuntRead.antt` says. A
-//! hunt makes the runs of `specs/Hunted.antt`, of each of which it keeps what `specs/KeptRun.antt` has.
+//! hunt makes the runs of `specs/Hunted.antt`, of each of which it keeps what `specs/KeptRun.antt` has, and what all of them
+//! saw is the fold of that (`specs/Tally.antt`).
 //!
 //! Two engines stand on these: that of `hunt` is `engine.rt`, with `specs/engine/`, and that of `merge` is `merge.rt`, which
 //! adds tables and has the lists of races that are to be ignored, with `specs/merge/`. The page of a hunt is `page.rt`, with
@@ -27,4 +28,5 @@ pub mod row;
 pub mod saying;
 pub mod summary;
 pub mod table;
+pub mod tally;
 mod texts;

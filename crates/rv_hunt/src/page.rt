@@ -4,40 +4,25 @@
 //! to, and of the races that are told. Texts from files stand in it as `rv_markup` has it; pictures stand as they are given,
 //! escaped by their maker.
 ghost use Rattle.std.specs.Prelude.{◌≡◌, IfOk};
-ghost use Rattle.rv_hunt.specs.HuntSays.{summary_line};
 ghost use Rattle.rv_hunt.specs.page.PageText as spec;
 ghost use Rattle.rv_hunt.specs.page.Parts.{parts};
 
 use crate::page::elements::code;
 use crate::page::parts::{Outcome, RacePart};
-use crate::page::pieces::joined;
 use crate::page::races::{races_part, races_shown};
 use crate::page::runs::{aside_part, ended_part, seen_part, warnings_part};
 use crate::page::style::STYLE;
-use crate::saying::lines::write_summary;
+use crate::saying::lines::summary_line;
+use rv_explain::pieces::joined;
 use rv_markup::escaped::escaped;
-use rv_memory::flagged::Flagged;
 use rv_memory::store::NoMemory;
 use std::alloc::Global;
 
 mod elements;
 pub mod parts;
-pub(crate) mod pieces;
 mod races;
-pub(crate) mod runs;
+mod runs;
 mod style;
-
-/// The hunt's first line.
-fn summary(alloc: Global, outcome: &Outcome) -> Result<Vec<u8>, NoMemory>
-    ensures { IfOk result (λ line. line.items ≡ summary_line outcome.now.saw outcome.now.rows) }
-{
-    let mut writer = Flagged::new(Vec::new(alloc));
-    match write_summary(&mut writer, outcome.saw, outcome.rows) {
-        Ok(()) => Ok(writer.into_inner()),
-        // Only want of memory refuses a byte.
-        Err(_) => Err(NoMemory),
-    }
-}
 
 const DOCUMENT: &[u8] =
     b"<!DOCTYPE html>\n<html lang='en'>\n<head>\n<meta charset='utf-8'/>\n<meta name='viewport' content='width=device-width, initial-scale=1'/>\n";
@@ -89,7 +74,7 @@ fn top_text(alloc: Global, summary: &[u8], command: &[u8]) -> Result<Vec<u8>, No
 fn front_text(alloc: Global, command: &[u8], outcome: &Outcome) -> Result<Vec<u8>, NoMemory>
     ensures { IfOk result (λ text. text.items ≡ spec.front_text command.now outcome.now) }
 {
-    let summary = summary(alloc, outcome)?;
+    let summary = summary_line(alloc, outcome.saw, outcome.rows)?;
     let head = head_text(alloc, &summary)?;
     let top = top_text(alloc, &summary, command)?;
     let warnings = warnings_part(alloc, outcome.sites, outcome.saw)?;

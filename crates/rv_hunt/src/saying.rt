@@ -1,5 +1,5 @@
-//! What a hunt says at its end, as `specs/HuntSays.antt`, `EndedText.antt` and `WarningText.antt` have it. It is written
-//! piece by piece and takes no memory.
+//! What a hunt says at its end, as `specs/HuntSays.antt`, `EndedText.antt` and `WarningText.antt` have it. Each text is made
+//! whole, since nothing of it is written before all of it is there.
 pub mod ended;
 pub mod lines;
 pub mod order;

@@ -1,19 +1,30 @@
 //! What is counted of a run, as `specs/Summary.antt` has it.
-ghost use Rattle.std.specs.Prelude.{◌≡◌, ◌++◌, ◌≤◌, IfOk, OnOk, count_by, is_some, length, map};
+ghost use Rattle.std.specs.Prelude.{◌≡◌, ◌++◌, ◌≤◌, IfOk, OnOk, is_some, length, map};
 ghost use Rattle.std.specs.Option.{option_to_list};
 ghost use Rattle.rv_collide.specs.Entries.{stepped_at, stepped_hart, steps as steps_of};
 ghost use Rattle.rv_hunt.specs.Summary as spec;
+ghost use Rattle.rv_hunt.specs.internal.Counting as internal;
 
+use crate::tally::counts::{Counts, raised};
 use rv_collide::collider::Collider;
 use rv_collide::ending::{Ending, Verdict};
 use rv_collide::entry::Entry;
 use rv_hart::hart::Status;
 use rv_memory::flat::Flat;
 use rv_memory::store::NoMemory;
-use rv_tally::counts::Counts;
 use rv_tally::end::End;
-use rv_tally::summary::Summary;
 use std::alloc::Global;
+
+/// What is counted of a run: how many steps its plan allows, how its harts ended, in their order; the addresses that
+/// were armed, and those at which its harts were paused, in their order and as often as that was done; and numbers.
+#[derive(Drop)]
+pub struct Summary {
+    pub most_steps: u32,
+    pub ends: Vec<End>,
+    pub armed: Vec<u32>,
+    pub paused: Vec<u32>,
+    pub counts: Counts,
+}
 
 fn end_with(status: Status, pc: u32) -> End
     ensures { result ≡ spec.end_with status pc }
@@ -83,24 +94,6 @@ fn armed_and_steps(alloc: Global, core: &Collider<Flat>) -> Result<(Vec<u32>, u6
     Ok((armed, steps))
 }
 
-/// The endings of a run's pauses.
-fn ended(alloc: Global, core: &Collider<Flat>) -> Result<Vec<Ending>, NoMemory>
-    ensures { IfOk result (λ ended. ended.items ≡ spec.ended core.now) }
-{
-    let mut ended = Vec::new(alloc);
-    for n in 0..core.endings() {
-        ended.push(core.ending(n))?;
-    }
-    Ok(ended)
-}
-
-/// The addresses at which the harts of pauses were paused.
-fn paused(alloc: Global, ended: &[Ending]) -> Result<Vec<u32>, NoMemory>
-    ensures { IfOk result (λ paused. paused.items ≡ map spec.paused_at ended.now) }
-{
-    Ok(ended.iter().map(|ending| ending.access.pc).collect(alloc)?)
-}
-
 /// Whether a hart makes a step at a place.
 #[tactic(auto, unfolding(rv_collide::specs::Entries::stepped_at))]
 fn is_step(core: &Collider<Flat>, place: u32) -> bool
@@ -128,59 +121,45 @@ fn has_step_within(core: &Collider<Flat>, ending: &Ending) -> bool
     false
 }
 
-fn quiet(ended: &[Ending]) -> u64
-    ensures { result ≡ count_by (λ e. spec.is_quiet e.verdict) ended.now }
+/// The numbers with one more pause, that ended so.
+fn with_ending(core: &Collider<Flat>, counts: Counts, ending: &Ending) -> Counts
+    ensures { result ≡ internal.with_ending core.now.entries counts ending.now }
 {
-    ended
-        .iter()
-        .filter(|e| matches!(e.verdict, Verdict::Quiet))
-        .count() as u64
-}
-
-fn hit(ended: &[Ending]) -> u64
-    ensures { result ≡ count_by (λ e. spec.is_hit e.verdict) ended.now }
-{
-    ended
-        .iter()
-        .filter(|e| matches!(e.verdict, Verdict::Hit(_)))
-        .count() as u64
-}
-
-fn changed(ended: &[Ending]) -> u64
-    ensures { result ≡ count_by (λ e. spec.is_changed e.verdict) ended.now }
-{
-    ended
-        .iter()
-        .filter(|e| matches!(e.verdict, Verdict::Changed))
-        .count() as u64
-}
-
-fn unwatched(ended: &[Ending]) -> u64
-    ensures { result ≡ count_by (λ e. spec.is_unwatched e.slot) ended.now }
-{
-    ended.iter().filter(|e| e.slot.is_none()).count() as u64
-}
-
-fn passed(core: &Collider<Flat>, ended: &[Ending]) -> u64
-    ensures { result ≡ count_by (spec.has_step_within core.now.entries) ended.now }
-{
-    ended.iter().filter(|e| has_step_within(core, e)).count() as u64
-}
-
-/// The numbers of a run whose pauses ended so.
-fn counts(core: &Collider<Flat>, steps: u64, ended: &[Ending]) -> Counts
-    requires steps { steps ≡ length (steps_of core.now.entries) }
-    requires ended { ended.now ≡ spec.ended core.now }
-    ensures { spec.AreCounts core.now result }
-{
-    Counts {
-        steps,
-        quiet: quiet(ended),
-        hit: hit(ended),
-        changed: changed(ended),
-        unwatched: unwatched(ended),
-        passed: passed(core, ended),
+    let mut more = counts;
+    match ending.verdict {
+        Verdict::Quiet => more.quiet = counts.quiet.saturating_add(1),
+        Verdict::Hit(_) => more.hit = counts.hit.saturating_add(1),
+        Verdict::Changed => more.changed = counts.changed.saturating_add(1),
     }
+    more.unwatched = raised(counts.unwatched, ending.slot.is_none());
+    more.passed = raised(counts.passed, has_step_within(core, ending));
+    more
+}
+
+/// The addresses at which harts were paused in a run of so many steps, and the run's numbers.
+fn paused_and_counts(
+    alloc: Global,
+    core: &Collider<Flat>,
+    steps: u64,
+) -> Result<(Vec<u32>, Counts), NoMemory>
+    ensures paused { IfOk result (λ told. told.0.items ≡ map spec.paused_at (spec.ended core.now)) }
+    ensures counts { IfOk result (λ told. told.1 ≡ spec.counts_of core.now.entries steps (spec.ended core.now)) }
+{
+    let mut paused = Vec::new(alloc);
+    let mut counts = Counts {
+        steps,
+        quiet: 0,
+        hit: 0,
+        changed: 0,
+        unwatched: 0,
+        passed: 0,
+    };
+    for n in 0..core.endings() {
+        let ending = core.ending(n);
+        paused.push(ending.access.pc)?;
+        counts = with_ending(core, counts, &ending);
+    }
+    Ok((paused, counts))
 }
 
 /// What is counted of a run that is over, whose core this is.
@@ -188,12 +167,12 @@ pub fn summary_of(alloc: Global, core: &Collider<Flat>) -> Result<Summary, NoMem
     ensures { IfOk result (λ summary. spec.IsSummary core.now summary) }
 {
     let (armed, steps) = armed_and_steps(alloc, core)?;
-    let ended = ended(alloc, core)?;
+    let (paused, counts) = paused_and_counts(alloc, core, steps)?;
     Ok(Summary {
         most_steps: core.plan().steps,
         ends: ends(alloc, core)?,
         armed,
-        paused: paused(alloc, &ended)?,
-        counts: counts(core, steps, &ended),
+        paused,
+        counts,
     })
 }

@@ -1,10 +1,34 @@
 //! How harts end.
+ghost use Rattle.std.specs.Prelude.{◌≡◌};
+ghost use Rattle.rv_tally.specs.Ways as spec;
+
 use rv_hart::hart::Cause;
 
 /// How a hart ended: it exited with a code, a trap stopped it at an address, or it ran when its run's steps were spent.
-#[derive(Clone, Copy, Debug, PartialEq, Eq)]
+#[derive(Clone, Copy)]
 pub enum End {
     Exited(u32),
     Stopped(Cause, u32),
     OutOfSteps,
+}
+
+/// In which way a hart ended, whatever its code, its cause or its address.
+#[derive(Clone, Copy)]
+pub enum Way {
+    Exit,
+    Trap,
+    Spent,
+}
+
+impl End {
+    /// In which way the hart ended.
+    pub fn way(self) -> Way
+        ensures { result ≡ spec.way self }
+    {
+        match self {
+            End::Exited(_) => Way::Exit,
+            End::Stopped(_, _) => Way::Trap,
+            End::OutOfSteps => Way::Spent,
+        }
+    }
 }

@@ -12,7 +12,7 @@ use super::{Job, text_of};
 use crate::arguments::{FolderPath, IgnorePath, ImagePath, PagePath, TablePath};
 use clap::ArgMatches;
 use rv_collide::plan::{DEFAULT_SLOTS, MOST_ARMS, MOST_PAUSE, MOST_STEPS};
-use rv_tally::limit::Limit;
+use rv_tally::limit::{Limit, MOST_BUDGET};
 use rv_tally::plans::Lengths;
 use rv_text::pieces::Pieces;
 
@@ -24,9 +24,6 @@ pub const LAST_RUN: u32 = 4_294_967_295;
 
 /// How many steps a hunt makes where the line does not say.
 pub const DEFAULT_BUDGET: u64 = 50_000_000;
-
-/// The most steps that a hunt may be given.
-pub const MOST_BUDGET: u64 = 1_000_000_000_000_000;
 
 pub const FIRST: NumberOption = NumberOption {
     name: "first",

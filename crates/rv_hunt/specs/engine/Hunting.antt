@@ -2,7 +2,7 @@
 use Rattle.std.specs.Prelude.{◌≡◌, ℕ, Bool, false, ◌||◌, Option, Some, None, option_and_then, option_map, Result, Ok, List, [], ◌++◌, filter, length}
 use Rattle.std.specs.Option.{option_map_or}
 use Rattle.rv_elf.specs.Contents.{Contents}
-use Rattle.rv_hunt.specs.HuntSays.{Outcome, apart_text, hunt_text, saw_text}
+use Rattle.rv_hunt.specs.HuntSays.{Outcome, behind_text, hunt_text}
 use Rattle.rv_hunt.specs.HuntText.{table_text}
 use Rattle.rv_hunt.specs.Hunted.{Hunt, IsHunted}
 use Rattle.rv_hunt.specs.ToldOrder.{benign, bugs, told_rows}
@@ -115,7 +115,7 @@ told_one_by_one line o blocks = record { text = hunt_text o blocks ++ keep line;
 
 -- the table; behind the warnings stands what the other text has behind its blocks
 abbrev pub told_as_table : Onward → Outcome → Texts
-told_as_table line o = record { text = table_text o.rows; notes = (warnings_text o.sites o.saw ++ (apart_text o ++ saw_text o.sites o.saw)) ++ keep line }
+told_as_table line o = record { text = table_text o.rows; notes = (warnings_text o.sites o.saw ++ behind_text o) ++ keep line }
 
 -- These are the texts of what a hunt came to, in one of the two ways, with the races that are told one by one.
 abbrev pub AreTextsOf : Onward → Shows → Hunt → Outcome → List (Key × RaceRow) → Texts → Type 0

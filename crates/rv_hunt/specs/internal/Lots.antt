@@ -8,7 +8,7 @@ use Rattle.rv_hunt.specs.Rows.{added}
 use Rattle.rv_hunt.specs.declared.hunted.Hunted.{Hunted}
 use Rattle.rv_hunt.specs.declared.kept_run.KeptRun.{KeptRun}
 use Rattle.rv_tally.specs.Plans.{Given, plan_of}
-use Rattle.rv_tally.specs.Tally as tally
+use Rattle.rv_hunt.specs.Tally as tally
 
 -- the plans of the runs from that number on
 abbrev pub ArePlans : Given → ℕ → List Plan → Type 0

@@ -11,10 +11,10 @@ use Rattle.rv_hunt.specs.declared.row.RaceRow.{RaceRow}
 use Rattle.rv_hunt.specs.page.Elements.{cell, number_cell, number_row, row, table_part, table_part_if}
 use Rattle.rv_report.specs.declared.key.Key.{Key}
 use Rattle.rv_collide.specs.Counts.{saturated}
-use Rattle.rv_tally.specs.Kinds.{Kinds}
-use Rattle.rv_tally.specs.Tally.{Ended, Tally, pauses}
+use Rattle.rv_hunt.specs.Kinds.{Kinds}
+use Rattle.rv_hunt.specs.Tally.{Ended, Tally, pauses}
 use Rattle.rv_tally.specs.declared.end.End.TheVariants.{OutOfSteps}
-use Rattle.rv_tally.specs.declared.kinds.Kind.{Kind}
+use Rattle.rv_hunt.specs.declared.tally.kinds.Kind.{Kind}
 use Rattle.rv_text.specs.Lines.{lines_of}
 
 -- ---- warnings

@@ -29,9 +29,9 @@ use crate::hunted::Hunted;
 use crate::laws::hunts_have_one_result;
 use crate::merge::parted::{Parted, part_rows};
 use crate::page::parts::Outcome;
-use crate::page::runs::warnings;
 use crate::row::RaceRow;
 use crate::saying::order::{benign, bugs, told_rows};
+use crate::saying::warnings::warnings_text;
 use rv_engines::new_file::NewFile;
 use rv_explain::symbol_table::SymbolTable;
 use rv_memory::store::NoMemory;
@@ -101,7 +101,7 @@ fn texts_one_by_one(
 {
     let blocks = told_blocks(alloc, hunt, excluded, line, told)?;
     let text = hunt_text(alloc, line, outcome, &blocks)?;
-    Ok((text, warnings(alloc, outcome.sites, outcome.saw)?))
+    Ok((text, warnings_text(alloc, outcome.sites, outcome.saw)?))
 }
 
 /// The same as a table.

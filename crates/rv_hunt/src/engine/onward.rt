@@ -3,7 +3,7 @@ ghost use Rattle.std.specs.Prelude.{◌≡◌, ◌++◌, IfOk, OnOk, option_map}
 ghost use Rattle.rv_hunt.specs.engine.OnwardText as spec;
 
 use crate::engine::options::LineParts;
-use crate::page::pieces::joined;
+use rv_explain::pieces::joined;
 use rv_memory::store::NoMemory;
 use rv_text::decimal::Decimal;
 use std::alloc::Global;

@@ -4,8 +4,7 @@ ghost use Rattle.rv_hunt.specs.Hunted.{AreNumbers};
 ghost use Rattle.rv_tally.specs.GoesOn.{IsLimit};
 ghost use Rattle.rv_hunt.specs.engine.Asked.{AreLegal};
 
-use crate::hunt::MOST_BUDGET;
-use rv_tally::limit::Limit;
+use rv_tally::limit::{Limit, MOST_BUDGET};
 use rv_tally::plans::Plans;
 
 /// What a hunt writes to its standard output.

@@ -2,7 +2,7 @@
 ghost use Rattle.std.specs.Prelude.{◌≡◌, IfOk, map};
 ghost use Rattle.rv_hunt.specs.page.Elements as spec;
 
-use crate::page::pieces::joined;
+use rv_explain::pieces::joined;
 use rv_markup::escaped::escaped;
 use rv_memory::store::NoMemory;
 use rv_text::decimal::Decimal;

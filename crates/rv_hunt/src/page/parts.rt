@@ -2,8 +2,8 @@
 ghost use Rattle.std.specs.Prelude.{◌≡◌};
 
 use crate::row::RaceRow;
+use crate::tally::Tally;
 use rv_report::key::Key;
-use rv_tally::tally::Tally;
 use std::marker::Model;
 
 /// What a hunt came to: how many sites there are, what its runs saw, the rows of its races, and those that are ignored.

@@ -1,42 +1,26 @@
 //! What the runs saw, in tables, as `specs/page/RunsShown.antt` has them.
 ghost use Rattle.std.specs.Prelude.{◌≡◌, drop, flat_map, IfOk};
-ghost use Rattle.rv_hunt.specs.EndedText.{end_words};
-ghost use Rattle.rv_hunt.specs.WarningText.{warnings_text};
 ghost use Rattle.rv_hunt.specs.page.RunsShown as spec;
 ghost use Rattle.rv_text.specs.Lines.{lines_of};
 
 use crate::page::elements::{cell, number_cell, number_row, row, table_part, table_part_if};
 use crate::page::parts::Outcome;
-use crate::page::pieces::joined;
 use crate::row::RaceRow;
-use crate::saying::ended::write_end;
+use crate::saying::ended::end_words;
 use crate::saying::order::{of_class, reports_of};
-use crate::saying::warnings::write_warnings;
+use crate::saying::warnings::warnings_text;
+use crate::tally::Tally;
+use crate::tally::ended::Ended;
+use crate::tally::kinds::{Kind, Kinds};
 use rv_explain::block::RaceClass;
-use rv_memory::flagged::Flagged;
+use rv_explain::pieces::joined;
 use rv_memory::store::NoMemory;
 use rv_report::key::Key;
-use rv_tally::end::End;
-use rv_tally::ended::Ended;
-use rv_tally::kinds::{Kind, Kinds};
-use rv_tally::tally::Tally;
 use rv_text::lines::Lines;
 use std::alloc::Global;
 
 /// What stands before each warning of a hunt.
 const WARNING: &[u8] = b"rvcollide: warning: ";
-
-/// The warnings of a hunt, a line each.
-pub(crate) fn warnings(alloc: Global, sites: u32, saw: &Tally) -> Result<Vec<u8>, NoMemory>
-    ensures { IfOk result (λ text. text.items ≡ warnings_text sites saw.now) }
-{
-    let mut writer = Flagged::new(Vec::new(alloc));
-    match write_warnings(&mut writer, sites, saw) {
-        Ok(()) => Ok(writer.into_inner()),
-        // Only want of memory refuses a byte.
-        Err(_) => Err(NoMemory),
-    }
-}
 
 /// What stands behind the first bytes of a line.
 #[tactic(auto, using(std::proofs::lemmas::List::drop_min))]
@@ -72,7 +56,7 @@ fn warning_rows(alloc: Global, text: &[u8]) -> Result<Vec<u8>, NoMemory>
 pub(crate) fn warnings_part(alloc: Global, sites: u32, saw: &Tally) -> Result<Vec<u8>, NoMemory>
     ensures { IfOk result (λ part. part.items ≡ spec.warnings_part sites saw.now) }
 {
-    let text = warnings(alloc, sites, saw)?;
+    let text = warnings_text(alloc, sites, saw)?;
     let rows = warning_rows(alloc, &text)?;
     table_part_if(alloc, b"warnings", b"Warnings", b"", &rows)
 }
@@ -113,23 +97,11 @@ pub(crate) fn aside_part(alloc: Global, outcome: &Outcome) -> Result<Vec<u8>, No
     table_part_if(alloc, b"aside", b"Counted, not told", ASIDE_HEAD, &rows)
 }
 
-/// In which way a hart ended.
-fn end_text(alloc: Global, end: End) -> Result<Vec<u8>, NoMemory>
-    ensures { IfOk result (λ text. text.items ≡ end_words end) }
-{
-    let mut writer = Flagged::new(Vec::new(alloc));
-    match write_end(&mut writer, end) {
-        Ok(()) => Ok(writer.into_inner()),
-        // Only want of memory refuses a byte.
-        Err(_) => Err(NoMemory),
-    }
-}
-
 /// The row of a kind.
 fn kind_row(alloc: Global, kind: &Kind) -> Result<Vec<u8>, NoMemory>
     ensures { IfOk result (λ row. row.items ≡ spec.kind_row kind.now) }
 {
-    let name = end_text(alloc, kind.end)?;
+    let name = end_words(alloc, kind.end)?;
     number_row(alloc, &name, kind.count)
 }
 

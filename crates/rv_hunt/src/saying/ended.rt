@@ -1,16 +1,16 @@
 //! How the harts of all runs ended.
-ghost use Rattle.std.specs.Prelude.{◌≡◌, ◌||◌, is_err, flat_map, OnOk};
-ghost use Rattle.std.specs.Io.KnownBytes.{Appends};
+ghost use Rattle.std.specs.Prelude.{◌≡◌, flat_map, IfOk};
 ghost use Rattle.rv_hunt.specs.EndedText as spec;
 
+use crate::tally::ended::Ended;
+use crate::tally::kinds::{Kind, Kinds};
+use rv_explain::pieces::joined;
 use rv_hart::hart::Cause;
-use rv_memory::flagged::WriteFault;
-use rv_memory::output::{Output, put_pieces};
+use rv_memory::store::NoMemory;
 use rv_tally::end::End;
-use rv_tally::ended::Ended;
-use rv_tally::kinds::{Kind, Kinds};
 use rv_text::decimal::Decimal;
 use rv_text::hexadecimal::word_digits;
+use std::alloc::Global;
 
 /// A cause in the words of the privileged architecture's table of exceptions.
 fn cause_words(cause: Cause) -> &'static [u8]
@@ -29,15 +29,14 @@ fn cause_words(cause: Cause) -> &'static [u8]
     }
 }
 
-/// Writes in which way a hart ended.
-pub fn write_end<O: Output>(writer: &mut O, end: End) -> Result<(), WriteFault>
-    ensures ok { OnOk result (Appends (O.written writer.old) (O.written writer.new) (spec.end_words end)) }
-    ensures failed { O.has_failed writer.new ≡ (O.has_failed writer.old || is_err result) }
+/// In which way a hart ended.
+pub(crate) fn end_words(alloc: Global, end: End) -> Result<Vec<u8>, NoMemory>
+    ensures { IfOk result (λ words. words.items ≡ spec.end_words end) }
 {
     match end {
-        End::Exited(code) => put_pieces(writer, &[b"exited ", &word_digits(code)]),
-        End::Stopped(cause, pc) => put_pieces(
-            writer,
+        End::Exited(code) => joined(alloc, &[b"exited ", &word_digits(code)]),
+        End::Stopped(cause, pc) => joined(
+            alloc,
             &[
                 b"stopped by ",
                 cause_words(cause),
@@ -45,68 +44,65 @@ pub fn write_end<O: Output>(writer: &mut O, end: End) -> Result<(), WriteFault>
                 &word_digits(pc),
             ],
         ),
-        End::OutOfSteps => writer.put(b"out of steps"),
+        End::OutOfSteps => Ok(Vec::from_slice(alloc, b"out of steps")?),
     }
 }
 
-fn write_count<O: Output>(writer: &mut O, count: u64) -> Result<(), WriteFault>
-    ensures ok { OnOk result (Appends (O.written writer.old) (O.written writer.new) (spec.count_text count)) }
-    ensures failed { O.has_failed writer.new ≡ (O.has_failed writer.old || is_err result) }
+/// The line of so many harts of a kind.
+#[tactic(auto, unfolding(crate::specs::EndedText::ended_line))]
+fn ended_line(alloc: Global, kind: &[u8], count: u64) -> Result<Vec<u8>, NoMemory>
+    ensures { IfOk result (λ line. line.items ≡ spec.ended_line kind.now count) }
 {
     let count = Decimal::new(count);
-    put_pieces(writer, &[b": ", count.as_bytes(), b"\n"])
+    joined(alloc, &[b"ended ", kind, b": ", count.as_bytes(), b"\n"])
 }
 
-/// Writes the line of a kind.
-fn write_kind<O: Output>(writer: &mut O, kind: &Kind) -> Result<(), WriteFault>
-    ensures ok { OnOk result (Appends (O.written writer.old) (O.written writer.new) (spec.kind_line kind.now)) }
-    ensures failed { O.has_failed writer.new ≡ (O.has_failed writer.old || is_err result) }
+/// The line of a kind.
+fn kind_line(alloc: Global, kind: &Kind) -> Result<Vec<u8>, NoMemory>
+    ensures { IfOk result (λ line. line.items ≡ spec.kind_line kind.now) }
 {
-    writer.put(b"ended ")?;
-    write_end(writer, kind.end)?;
-    write_count(writer, kind.count)
+    let words = end_words(alloc, kind.end)?;
+    ended_line(alloc, &words, kind.count)
 }
 
-/// Writes a line of so many, where there are any.
-fn write_if<O: Output>(writer: &mut O, kind: &[u8], count: u64) -> Result<(), WriteFault>
-    ensures ok { OnOk result (Appends (O.written writer.old) (O.written writer.new) (spec.line_if kind.now count)) }
-    ensures failed { O.has_failed writer.new ≡ (O.has_failed writer.old || is_err result) }
+/// A line of so many, where there are any.
+fn line_if(alloc: Global, kind: &[u8], count: u64) -> Result<Vec<u8>, NoMemory>
+    ensures { IfOk result (λ line. line.items ≡ spec.line_if kind.now count) }
 {
     if count == 0 {
-        return Ok(());
+        return Ok(Vec::new(alloc));
     }
-    put_pieces(writer, &[b"ended ", kind])?;
-    write_count(writer, count)
+    ended_line(alloc, kind, count)
 }
 
-/// Writes a line of each kind.
-fn write_told<O: Output>(writer: &mut O, kinds: &[Kind]) -> Result<(), WriteFault>
-    ensures ok { OnOk result (Appends (O.written writer.old) (O.written writer.new) (flat_map spec.kind_line kinds.now)) }
-    ensures failed { O.has_failed writer.new ≡ (O.has_failed writer.old || is_err result) }
+/// A line of each kind.
+fn told_lines(alloc: Global, kinds: &[Kind]) -> Result<Vec<u8>, NoMemory>
+    ensures { IfOk result (λ lines. lines.items ≡ flat_map spec.kind_line kinds.now) }
 {
+    let mut lines = Vec::new(alloc);
     for kind in kinds {
-        write_kind(writer, kind)?;
+        lines.extend_from_slice(&kind_line(alloc, kind)?)?;
     }
-    Ok(())
+    Ok(lines)
 }
 
-/// Writes a line of each kind that was met first, and one of the others.
+/// A line of each kind that was met first, and one of the others.
 #[tactic(auto, unfolding(crate::specs::EndedText::kinds_text))]
-fn write_kinds<O: Output>(writer: &mut O, kinds: &Kinds, others: &[u8]) -> Result<(), WriteFault>
-    ensures ok { OnOk result (Appends (O.written writer.old) (O.written writer.new) (spec.kinds_text others.now kinds.now)) }
-    ensures failed { O.has_failed writer.new ≡ (O.has_failed writer.old || is_err result) }
+fn kinds_text(alloc: Global, others: &[u8], kinds: &Kinds) -> Result<Vec<u8>, NoMemory>
+    ensures { IfOk result (λ text. text.items ≡ spec.kinds_text others.now kinds.now) }
 {
-    write_told(writer, kinds.told())?;
-    write_if(writer, others, kinds.rest())
+    let told = told_lines(alloc, kinds.told())?;
+    let rest = line_if(alloc, others, kinds.rest())?;
+    joined(alloc, &[&told, &rest])
 }
 
-/// Writes how harts ended: exits by code, then traps by cause and address, then those that had no steps left.
+/// How harts ended: exits by code, then traps by cause and address, then those that had no steps left.
 #[tactic(auto, unfolding(crate::specs::EndedText::ended_text))]
-pub fn write_ended<O: Output>(writer: &mut O, ended: &Ended) -> Result<(), WriteFault>
-    ensures ok { OnOk result (Appends (O.written writer.old) (O.written writer.new) (spec.ended_text ended.now)) }
-    ensures failed { O.has_failed writer.new ≡ (O.has_failed writer.old || is_err result) }
+pub(crate) fn ended_text(alloc: Global, ended: &Ended) -> Result<Vec<u8>, NoMemory>
+    ensures { IfOk result (λ text. text.items ≡ spec.ended_text ended.now) }
 {
-    write_kinds(writer, ended.exits(), b"exited otherwise")?;
-    write_kinds(writer, ended.stops(), b"stopped otherwise")?;
-    write_if(writer, b"out of steps", ended.out_of_steps())
+    let exits = kinds_text(alloc, b"exited otherwise", ended.exits())?;
+    let stops = kinds_text(alloc, b"stopped otherwise", ended.stops())?;
+    let rest = line_if(alloc, b"out of steps", ended.out_of_steps())?;
+    joined(alloc, &[&exits, &stops, &rest])
 }

@@ -1,96 +1,90 @@
 //! The first line of what a hunt says, and those behind the blocks of its races.
-ghost use Rattle.std.specs.Prelude.{◌≡◌, ◌||◌, is_err, flat_map, OnOk};
-ghost use Rattle.std.specs.Io.KnownBytes.{Appends};
+ghost use Rattle.std.specs.Prelude.{◌≡◌, flat_map, IfOk};
 ghost use Rattle.rv_hunt.specs.HuntSays as spec;
 
 use crate::row::RaceRow;
-use crate::saying::ended::write_ended;
+use crate::saying::ended::ended_text;
 use crate::saying::order::{benign, bugs, reports_of};
-use rv_memory::flagged::WriteFault;
-use rv_memory::output::{Output, put_pieces};
+use crate::tally::Tally;
+use rv_explain::pieces::joined;
+use rv_memory::store::NoMemory;
 use rv_report::key::Key;
-use rv_tally::tally::Tally;
 use rv_text::decimal::Decimal;
+use std::alloc::Global;
 
-/// Writes `NAME NUMBER`.
-fn write_number<O: Output>(writer: &mut O, name: &[u8], number: u64) -> Result<(), WriteFault>
-    ensures ok { OnOk result (Appends (O.written writer.old) (O.written writer.new) (spec.numbered name.now number)) }
-    ensures failed { O.has_failed writer.new ≡ (O.has_failed writer.old || is_err result) }
+/// `NAME NUMBER`.
+fn numbered(alloc: Global, name: &[u8], number: u64) -> Result<Vec<u8>, NoMemory>
+    ensures { IfOk result (λ text. text.items ≡ spec.numbered name.now number) }
 {
     let number = Decimal::new(number);
-    put_pieces(writer, &[name, number.as_bytes()])
+    joined(alloc, &[name, number.as_bytes()])
 }
 
-/// Writes names, each with its number.
-fn write_numbers<O: Output>(writer: &mut O, parts: &[(&[u8], u64)]) -> Result<(), WriteFault>
-    ensures ok { OnOk result (Appends (O.written writer.old) (O.written writer.new) (flat_map (λ part. spec.numbered part.0.now part.1) parts.now)) }
-    ensures failed { O.has_failed writer.new ≡ (O.has_failed writer.old || is_err result) }
+/// Names, each with its number.
+fn numbers(alloc: Global, parts: &[(&[u8], u64)]) -> Result<Vec<u8>, NoMemory>
+    ensures { IfOk result (λ text. text.items ≡ flat_map (λ part. spec.numbered part.0.now part.1) parts.now) }
 {
+    let mut text = Vec::new(alloc);
     for (name, number) in parts {
-        write_number(writer, name, *number)?;
+        text.extend_from_slice(&numbered(alloc, name, *number)?)?;
     }
-    Ok(())
+    Ok(text)
 }
 
-/// Writes the first line.
+/// The first line.
 #[tactic(auto, unfolding(crate::specs::HuntSays::summary_line))]
-pub fn write_summary<O: Output>(
-    writer: &mut O,
+pub(crate) fn summary_line(
+    alloc: Global,
     saw: &Tally,
     rows: &[(Key, RaceRow)],
-) -> Result<(), WriteFault>
-    ensures ok { OnOk result (Appends (O.written writer.old) (O.written writer.new) (spec.summary_line saw.now rows.now)) }
-    ensures failed { O.has_failed writer.new ≡ (O.has_failed writer.old || is_err result) }
+) -> Result<Vec<u8>, NoMemory>
+    ensures { IfOk result (λ line. line.items ≡ spec.summary_line saw.now rows.now) }
 {
     let counts = saw.counts();
-    let numbers: [(&[u8], u64); 5] = [
+    let parts: [(&[u8], u64); 5] = [
         (b"races ", bugs(rows)),
         (b", likely benign ", benign(rows)),
         (b", reports ", counts.hit.saturating_add(counts.changed)),
         (b" of ", saw.pauses()),
         (b" endings in ", saw.runs()),
     ];
-    write_numbers(writer, &numbers)?;
-    writer.put(b" runs\n")
+    let mut line = numbers(alloc, &parts)?;
+    line.extend_from_slice(b" runs\n")?;
+    Ok(line)
 }
 
-/// Writes how many of a thing there are.
-fn write_counted<O: Output>(writer: &mut O, number: u64, thing: &[u8]) -> Result<(), WriteFault>
-    ensures ok { OnOk result (Appends (O.written writer.old) (O.written writer.new) (spec.counted number thing.now)) }
-    ensures failed { O.has_failed writer.new ≡ (O.has_failed writer.old || is_err result) }
+/// How many of a thing there are.
+fn counted(alloc: Global, number: u64, thing: &[u8]) -> Result<Vec<u8>, NoMemory>
+    ensures { IfOk result (λ text. text.items ≡ spec.counted number thing.now) }
 {
     let many = if number == 1 { b"".as_slice() } else { b"s" };
     let digits = Decimal::new(number);
-    put_pieces(writer, &[digits.as_bytes(), b" ", thing, many])
+    joined(alloc, &[digits.as_bytes(), b" ", thing, many])
 }
 
-/// Writes how many races were counted and not told, where there are any.
-pub fn write_apart<O: Output>(
-    writer: &mut O,
+/// How many races were counted and not told, where there are any.
+pub(crate) fn apart_line(
+    alloc: Global,
     word: &[u8],
     rows: &[(Key, RaceRow)],
-) -> Result<(), WriteFault>
-    ensures ok { OnOk result (Appends (O.written writer.old) (O.written writer.new) (spec.apart_line word.now rows.now)) }
-    ensures failed { O.has_failed writer.new ≡ (O.has_failed writer.old || is_err result) }
+) -> Result<Vec<u8>, NoMemory>
+    ensures { IfOk result (λ line. line.items ≡ spec.apart_line word.now rows.now) }
 {
     if rows.is_empty() {
-        return Ok(());
+        return Ok(Vec::new(alloc));
     }
-    put_pieces(writer, &[word, b" "])?;
-    write_counted(writer, reports_of(rows), b"report")?;
-    writer.put(b" of ")?;
-    write_counted(writer, rows.len() as u64, b"race")?;
-    writer.put(b"\n")
+    let reports = counted(alloc, reports_of(rows), b"report")?;
+    let races = counted(alloc, rows.len() as u64, b"race")?;
+    joined(alloc, &[word, b" ", &reports, b" of ", &races, b"\n"])
 }
 
-/// Writes what was seen.
+/// What was seen.
 #[tactic(auto, unfolding(crate::specs::HuntSays::seen_line))]
-pub fn write_seen<O: Output>(writer: &mut O, sites: u32, saw: &Tally) -> Result<(), WriteFault>
-    ensures ok { OnOk result (Appends (O.written writer.old) (O.written writer.new) (spec.seen_line sites saw.now)) }
-    ensures failed { O.has_failed writer.new ≡ (O.has_failed writer.old || is_err result) }
+fn seen_line(alloc: Global, sites: u32, saw: &Tally) -> Result<Vec<u8>, NoMemory>
+    ensures { IfOk result (λ line. line.items ≡ spec.seen_line sites saw.now) }
 {
     let counts = saw.counts();
-    let numbers: [(&[u8], u64); 9] = [
+    let parts: [(&[u8], u64); 9] = [
         (b"seen sites ", u64::from(sites)),
         (b", armed ", saw.armed().count()),
         (b", paused at ", saw.paused().count()),
@@ -101,15 +95,16 @@ pub fn write_seen<O: Output>(writer: &mut O, sites: u32, saw: &Tally) -> Result<
         (b"; unwatched ", counts.unwatched),
         (b"; steps ", counts.steps),
     ];
-    write_numbers(writer, &numbers)?;
-    writer.put(b"\n")
+    let mut line = numbers(alloc, &parts)?;
+    line.extend_from_slice(b"\n")?;
+    Ok(line)
 }
 
-/// Writes how the harts of all runs ended, and what was seen.
-pub fn write_saw<O: Output>(writer: &mut O, sites: u32, saw: &Tally) -> Result<(), WriteFault>
-    ensures ok { OnOk result (Appends (O.written writer.old) (O.written writer.new) (spec.saw_text sites saw.now)) }
-    ensures failed { O.has_failed writer.new ≡ (O.has_failed writer.old || is_err result) }
+/// How the harts of all runs ended, and what was seen.
+pub(crate) fn saw_text(alloc: Global, sites: u32, saw: &Tally) -> Result<Vec<u8>, NoMemory>
+    ensures { IfOk result (λ text. text.items ≡ spec.saw_text sites saw.now) }
 {
-    write_ended(writer, saw.ended())?;
-    write_seen(writer, sites, saw)
+    let ended = ended_text(alloc, saw.ended())?;
+    let seen = seen_line(alloc, sites, saw)?;
+    joined(alloc, &[&ended, &seen])
 }

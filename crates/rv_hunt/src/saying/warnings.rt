@@ -1,14 +1,14 @@
 //! Where a clean answer would mean nothing.
-ghost use Rattle.std.specs.Prelude.{◌≡◌, ◌||◌, None, is_err, flat_map, IfSome, OnOk};
-ghost use Rattle.std.specs.Io.KnownBytes.{Appends};
+ghost use Rattle.std.specs.Prelude.{◌≡◌, None, flat_map, IfOk, IfSome};
 ghost use Rattle.rv_hunt.specs.WarningText as spec;
-ghost use Rattle.rv_tally.specs.Tally.{Tally};
+ghost use Rattle.rv_hunt.specs.Tally.{Tally};
 
-use crate::saying::ended::write_end;
-use rv_memory::flagged::WriteFault;
-use rv_memory::output::{Output, put_pieces};
-use rv_tally::kinds::Kind;
-use rv_tally::tally::Tally;
+use crate::saying::ended::end_words;
+use crate::tally::Tally;
+use crate::tally::kinds::Kind;
+use rv_explain::pieces::joined;
+use rv_memory::store::NoMemory;
+use std::alloc::Global;
 
 /// Why a clean answer would mean nothing.
 #[derive(Clone, Copy)]
@@ -38,7 +38,7 @@ const WARNINGS: [Warning; 6] = [
 ];
 
 /// Whether the warning holds of an image with so many sites and of what runs saw.
-pub fn holds(warning: Warning, sites: u32, saw: &Tally) -> bool
+fn holds(warning: Warning, sites: u32, saw: &Tally) -> bool
     ensures { result ≡ spec.holds sites saw.now warning }
 {
     match warning {
@@ -51,25 +51,29 @@ pub fn holds(warning: Warning, sites: u32, saw: &Tally) -> bool
     }
 }
 
-/// Writes the first trap that was met.
-fn write_first<O: Output>(writer: &mut O, stops: &[Kind]) -> Result<(), WriteFault>
-    ensures ok { OnOk result (Appends (O.written writer.old) (O.written writer.new) (spec.first_stop stops.now)) }
-    ensures failed { O.has_failed writer.new ≡ (O.has_failed writer.old || is_err result) }
+/// The first trap that was met.
+fn first_stop(alloc: Global, stops: &[Kind]) -> Result<Vec<u8>, NoMemory>
+    ensures { IfOk result (λ text. text.items ≡ spec.first_stop stops.now) }
 {
     let [kind, ..] = stops else {
-        return Ok(());
+        return Ok(Vec::new(alloc));
     };
-    writer.put(b", the first ")?;
-    write_end(writer, kind.end)
+    let words = end_words(alloc, kind.end)?;
+    joined(alloc, &[b", the first ", &words])
 }
 
-fn write_trapped<O: Output>(writer: &mut O, saw: &Tally) -> Result<(), WriteFault>
-    ensures ok { OnOk result (Appends (O.written writer.old) (O.written writer.new) (spec.warning_words saw.now Warning.Trapped)) }
-    ensures failed { O.has_failed writer.new ≡ (O.has_failed writer.old || is_err result) }
+fn trapped_words(alloc: Global, saw: &Tally) -> Result<Vec<u8>, NoMemory>
+    ensures { IfOk result (λ words. words.items ≡ spec.warning_words saw.now Warning.Trapped) }
 {
-    writer.put(b"in every run a trap stopped a hart")?;
-    write_first(writer, saw.ended().stops().told())?;
-    writer.put(b": is the program built for RV32IMA without an operating system?")
+    let first = first_stop(alloc, saw.ended().stops().told())?;
+    joined(
+        alloc,
+        &[
+            b"in every run a trap stopped a hart",
+            &first,
+            b": is the program built for RV32IMA without an operating system?",
+        ],
+    )
 }
 
 /// The words of a warning, where they are the same whatever runs saw.
@@ -97,65 +101,47 @@ fn fixed_words(warning: Warning) -> Option<&'static [u8]>
     }
 }
 
-fn write_words<O: Output>(writer: &mut O, saw: &Tally, warning: Warning) -> Result<(), WriteFault>
-    ensures ok { OnOk result (Appends (O.written writer.old) (O.written writer.new) (spec.warning_words saw.now warning)) }
-    ensures failed { O.has_failed writer.new ≡ (O.has_failed writer.old || is_err result) }
+/// The words of a warning.
+fn warning_words(alloc: Global, saw: &Tally, warning: Warning) -> Result<Vec<u8>, NoMemory>
+    ensures { IfOk result (λ words. words.items ≡ spec.warning_words saw.now warning) }
 {
     match fixed_words(warning) {
-        Some(words) => writer.put(words),
-        None => write_trapped(writer, saw),
+        Some(words) => Ok(Vec::from_slice(alloc, words)?),
+        None => trapped_words(alloc, saw),
     }
 }
 
-/// Writes the line of a warning.
-fn write_warning<O: Output>(writer: &mut O, saw: &Tally, warning: Warning) -> Result<(), WriteFault>
-    ensures ok { OnOk result (Appends (O.written writer.old) (O.written writer.new) (spec.warning_line saw.now warning)) }
-    ensures failed { O.has_failed writer.new ≡ (O.has_failed writer.old || is_err result) }
+/// The line of a warning, where it holds.
+fn line_if(alloc: Global, sites: u32, saw: &Tally, warning: Warning) -> Result<Vec<u8>, NoMemory>
+    ensures { IfOk result (λ line. line.items ≡ spec.line_if sites saw.now warning) }
 {
-    writer.put(b"rvcollide: warning: ")?;
-    write_words(writer, saw, warning)?;
-    writer.put(b"\n")
-}
-
-/// Writes the line of a warning, where it holds.
-fn write_if<O: Output>(
-    writer: &mut O,
-    sites: u32,
-    saw: &Tally,
-    warning: Warning,
-) -> Result<(), WriteFault>
-    ensures ok { OnOk result (Appends (O.written writer.old) (O.written writer.new) (spec.line_if sites saw.now warning)) }
-    ensures failed { O.has_failed writer.new ≡ (O.has_failed writer.old || is_err result) }
-{
-    if holds(warning, sites, saw) {
-        write_warning(writer, saw, warning)
-    } else {
-        Ok(())
+    if !holds(warning, sites, saw) {
+        return Ok(Vec::new(alloc));
     }
+    let words = warning_words(alloc, saw, warning)?;
+    joined(alloc, &[b"rvcollide: warning: ", &words, b"\n"])
 }
 
-/// Writes the lines of those of the warnings that hold.
-fn write_those<O: Output>(
-    writer: &mut O,
+/// The lines of those of the warnings that hold.
+fn those_lines(
+    alloc: Global,
     sites: u32,
     saw: &Tally,
     warnings: &[Warning],
-) -> Result<(), WriteFault>
-    ensures ok { OnOk result (Appends (O.written writer.old) (O.written writer.new)
-        (flat_map (spec.line_if sites saw.now) warnings.now)) }
-    ensures failed { O.has_failed writer.new ≡ (O.has_failed writer.old || is_err result) }
+) -> Result<Vec<u8>, NoMemory>
+    ensures { IfOk result (λ lines. lines.items ≡ flat_map (spec.line_if sites saw.now) warnings.now) }
 {
+    let mut lines = Vec::new(alloc);
     for warning in warnings {
-        write_if(writer, sites, saw, *warning)?;
+        lines.extend_from_slice(&line_if(alloc, sites, saw, *warning)?)?;
     }
-    Ok(())
+    Ok(lines)
 }
 
-/// Writes a line of each warning that holds.
+/// A line of each warning that holds.
 #[tactic(auto, unfolding(crate::specs::WarningText::warnings_text))]
-pub fn write_warnings<O: Output>(writer: &mut O, sites: u32, saw: &Tally) -> Result<(), WriteFault>
-    ensures ok { OnOk result (Appends (O.written writer.old) (O.written writer.new) (spec.warnings_text sites saw.now)) }
-    ensures failed { O.has_failed writer.new ≡ (O.has_failed writer.old || is_err result) }
+pub(crate) fn warnings_text(alloc: Global, sites: u32, saw: &Tally) -> Result<Vec<u8>, NoMemory>
+    ensures { IfOk result (λ text. text.items ≡ spec.warnings_text sites saw.now) }
 {
-    write_those(writer, sites, saw, &WARNINGS)
+    those_lines(alloc, sites, saw, &WARNINGS)
 }

@@ -1,12 +1,11 @@
 -- the runs before the place are added; before the first of them the hunt goes on
 use Rattle.std.proofs.Common.{◌≡◌, ◌+◌, true}
-use Rattle.rv_hunt.specs.Hunted.{IsSoFar}
-use Rattle.rv_tally.specs.GoesOn.{goes_on}
+use Rattle.rv_hunt.specs.Hunted.{IsSoFar, is_due}
 use Rattle.rv_hunt.proofs.hunt.Hunt.add_lot.Given as goal
 
 abbrev pub invariant-loop-place : goal.invariant-loop-place
 invariant-loop-place g l = record {
   so_far : IsSoFar l.self l.hunted;
   runs : l.hunted.tally.runs ≡ l.initial.hunted.tally.runs + l.place;
-  first : l.place ≡ 0 → goes_on l.self.limit l.self.first l.hunted.tally ≡ true;
+  first : l.place ≡ 0 → is_due l.self l.hunted.tally ≡ true;
 }

@@ -1,7 +1,7 @@
 use Rattle.std.proofs.Common.{◌≡◌, length}
 use Rattle.rv_collide.specs.Counts.{saturated}
 use Rattle.rv_hunt.specs.page.RunsShown.{seen_rows}
-use Rattle.rv_tally.specs.Tally.{pauses}
+use Rattle.rv_hunt.specs.Tally.{pauses}
 use Rattle.rv_hunt.proofs.page.runs.seen_rows.Goals as goal
 
 pub returns : goal.returns

@@ -1,0 +1,42 @@
+-- How harts ended, kind by kind.
+use Rattle.std.specs.Prelude.{ℕ, ◌+◌, ◌==◌, ◌&&◌, Bool, true, false, nat_lt, if◌then◌else◌, List, [], ◌∷◌, ◌++◌, length, map}
+use Rattle.std.specs.List.{list_any}
+use Rattle.rv_collide.specs.Counts.{saturated}
+use Rattle.rv_hart.specs.Cause.{number}
+use Rattle.rv_tally.specs.declared.end.End.{End}
+use Rattle.rv_tally.specs.declared.end.End.TheVariants.{Exited, Stopped, OutOfSteps}
+use Rattle.rv_hunt.specs.declared.tally.kinds.Kind.{Kind}
+
+-- the same code, or the same cause at the same address
+abbrev pub same_end : End → End → Bool
+same_end (Exited code) (Exited other) = code == other
+same_end (Exited code) (Stopped cause pc) = false
+same_end (Exited code) OutOfSteps = false
+same_end (Stopped cause pc) (Exited code) = false
+same_end (Stopped cause pc) (Stopped other_cause other_pc) = (number cause == number other_cause) && (pc == other_pc)
+same_end (Stopped cause pc) OutOfSteps = false
+same_end OutOfSteps (Exited code) = false
+same_end OutOfSteps (Stopped cause pc) = false
+same_end OutOfSteps OutOfSteps = true
+
+-- The kinds that were met first, each with how many there were of it, and how many there were of all others.
+pub record Kinds : Type 0 where
+  pub told : List Kind
+  pub rest : ℕ
+
+abbrev pub no_kinds : Kinds
+no_kinds = record { told = []; rest = 0 }
+
+-- a kind after one more end
+abbrev pub counted : End → Kind → Kind
+counted end kind = if same_end kind.end end then record { end = kind.end; count = saturated (kind.count + 1) } else kind
+
+abbrev pub is_of : End → Kind → Bool
+is_of end kind = same_end kind.end end
+
+-- One more end: of a kind that was met, or of a new one, which has a line of its own where fewer than eight have.
+unfoldable pub one_more : Kinds → End → Kinds
+one_more kinds end =
+    if list_any (is_of end) kinds.told then record kinds { told = map (counted end) kinds.told }
+    else (if nat_lt (length kinds.told) 8 then record kinds { told = kinds.told ++ record { end = end; count = 1 } ∷ [] }
+    else record kinds { rest = saturated (kinds.rest + 1) })

@@ -1,0 +1,245 @@
+//! What the runs of a hunt saw, added up.
+ghost use Rattle.std.specs.Prelude.{◌≡◌, ◌+◌, OnOk};
+ghost use Rattle.rv_collide.specs.Counts.{saturated};
+ghost use Rattle.rv_hunt.specs.Tally as spec;
+ghost use Rattle.rv_hunt.specs.Warnings as warning;
+
+use crate::summary::Summary;
+use crate::tally::addresses::Addresses;
+use crate::tally::counts::{Counts, raised, sum};
+use crate::tally::ended::Ended;
+use rv_memory::store::NoMemory;
+use rv_tally::end::{End, Way};
+use rv_tally::limit::Reached;
+use std::alloc::Global;
+use std::marker::Model;
+
+pub mod addresses;
+pub mod counts;
+pub mod ended;
+pub mod kinds;
+
+/// What a run costs besides its steps.
+pub(crate) const COST_OF_A_RUN: u64 = 300;
+
+/// How many steps the plans of the longest runs have, and how many harts exited in those runs.
+#[derive(Clone, Copy)]
+pub struct Longest {
+    pub steps: u32,
+    pub exits: u64,
+}
+
+/// What runs saw, added up in their order. Numbers stay at 2^64 - 1 once there.
+#[derive(Drop)]
+pub struct Tally {
+    runs: u64,
+    ended: Ended,
+    armed: Addresses,
+    paused: Addresses,
+    counts: Counts,
+    some_stopped: u64,
+    each_stopped: u64,
+    longest: Longest,
+}
+
+impl Model for Tally {
+    ghost use Rattle.rv_hunt.specs.Tally.{Tally as Sums};
+
+    ghost Value = { Sums };
+
+    ghost view = { λ t. record {
+      runs = t.runs;
+      ended = t.ended;
+      armed = t.armed;
+      paused = t.paused;
+      counts = t.counts;
+      some_stopped = t.some_stopped;
+      each_stopped = t.each_stopped;
+      longest = t.longest;
+    } };
+}
+
+/// How many harts of a run exited, and how many a trap stopped.
+#[derive(Clone, Copy)]
+struct Ends {
+    exits: u64,
+    traps: u64,
+}
+
+/// How the harts of a run ended, counted.
+#[tactic(auto, using(std::proofs::lemmas::List::Sums::count_by_more_yes, std::proofs::lemmas::List::Sums::count_by_more_no))]
+fn counted(ends: &[End]) -> Ends
+    ensures exits { result.exits ≡ spec.exits ends.now }
+    ensures traps { result.traps ≡ spec.traps ends.now }
+{
+    let mut exits = 0u64;
+    let mut traps = 0u64;
+    for end in ends {
+        match end.way() {
+            Way::Exit => exits = exits.saturating_add(1),
+            Way::Trap => traps = traps.saturating_add(1),
+            Way::Spent => {}
+        }
+    }
+    Ends { exits, traps }
+}
+
+/// The longest runs, after one of so many steps and exits.
+fn longest_with(longest: Longest, steps: u32, exits: u64) -> Longest
+    ensures { result ≡ spec.longest_with longest steps exits }
+{
+    if longest.steps < steps {
+        Longest { steps, exits }
+    } else if longest.steps == steps {
+        Longest {
+            steps: longest.steps,
+            exits: longest.exits.saturating_add(exits),
+        }
+    } else {
+        longest
+    }
+}
+
+impl Tally {
+    /// What no run has seen.
+    pub fn new(alloc: Global) -> Tally
+        ensures { result ≡ spec.nothing }
+    {
+        Tally {
+            runs: 0,
+            ended: Ended::new(alloc),
+            armed: Addresses::new(alloc),
+            paused: Addresses::new(alloc),
+            counts: Counts {
+                steps: 0,
+                quiet: 0,
+                hit: 0,
+                changed: 0,
+                unwatched: 0,
+                passed: 0,
+            },
+            some_stopped: 0,
+            each_stopped: 0,
+            longest: Longest { steps: 0, exits: 0 },
+        }
+    }
+
+    /// Adds what one more run saw. After a refusal of growth the tally is of no further use.
+    #[tactic(auto, unfolding(crate::specs::Tally::added))]
+    pub fn add(&mut self, run: &Summary) -> Result<(), NoMemory>
+        ensures { OnOk result (self.new ≡ spec.added self.old run.now) }
+    {
+        self.ended.add_all(&run.ends)?;
+        self.armed.add_all(&run.armed)?;
+        self.paused.add_all(&run.paused)?;
+        self.runs = self.runs.saturating_add(1);
+        self.counts = sum(self.counts, run.counts);
+        let ends = counted(&run.ends);
+        self.some_stopped = raised(self.some_stopped, 1 <= ends.traps);
+        self.each_stopped = raised(self.each_stopped, ends.traps == run.ends.len() as u64);
+        self.longest = longest_with(self.longest, run.most_steps, ends.exits);
+        Ok(())
+    }
+
+    /// How many runs there were.
+    pub fn runs(&self) -> u64
+        ensures { result ≡ self.now.runs }
+    {
+        self.runs
+    }
+
+    /// How their harts ended.
+    pub fn ended(&self) -> &Ended
+        ensures { result.now ≡ self.now.ended }
+    {
+        &self.ended
+    }
+
+    /// The addresses that were armed.
+    pub fn armed(&self) -> &Addresses
+        ensures { result.now ≡ self.now.armed }
+    {
+        &self.armed
+    }
+
+    /// The addresses at which harts were paused.
+    pub fn paused(&self) -> &Addresses
+        ensures { result.now ≡ self.now.paused }
+    {
+        &self.paused
+    }
+
+    /// Their numbers.
+    pub fn counts(&self) -> Counts
+        ensures { result ≡ self.now.counts }
+    {
+        self.counts
+    }
+
+    /// How many pauses were made.
+    pub fn pauses(&self) -> u64
+        ensures { result ≡ saturated (spec.pauses self.now) }
+    {
+        self.counts
+            .quiet
+            .saturating_add(self.counts.hit)
+            .saturating_add(self.counts.changed)
+    }
+
+    /// Whether the first 48 runs show that the image is built for another machine.
+    fn is_hopeless(&self) -> bool
+        ensures { result ≡ spec.is_hopeless self.now }
+    {
+        self.runs == 48 && self.each_stopped == 48 && self.pauses() == 0
+    }
+
+    /// How far the hunt has come with these runs.
+    pub fn reached(&self) -> Reached
+        ensures { result ≡ spec.reached self.now }
+    {
+        Reached {
+            runs: self.runs,
+            cost: self
+                .counts
+                .steps
+                .saturating_add(self.runs.saturating_mul(COST_OF_A_RUN)),
+            is_hopeless: self.is_hopeless(),
+        }
+    }
+
+    /// Whether no pause was made.
+    pub fn made_no_pause(&self) -> bool
+        ensures { result ≡ warning.made_no_pause self.now }
+    {
+        self.pauses() == 0
+    }
+
+    /// Whether every run ended with a hart stopped by a trap.
+    pub fn each_run_trapped(&self) -> bool
+        ensures { result ≡ warning.each_run_trapped self.now }
+    {
+        1 <= self.runs && self.some_stopped == self.runs
+    }
+
+    /// Whether pauses were made, and within none of them another hart made a step.
+    pub fn passed_no_step(&self) -> bool
+        ensures { result ≡ warning.passed_no_step self.now }
+    {
+        1 <= self.pauses() && self.counts.passed == 0
+    }
+
+    /// Whether fewer than half of so many sites were ever armed.
+    pub fn armed_few(&self, sites: u32) -> bool
+        ensures { result ≡ warning.armed_few sites self.now }
+    {
+        let half = (u64::from(sites) + 1) / 2;
+        self.armed.count() < half
+    }
+
+    /// Whether no hart exited in any of the runs whose plan has the most steps.
+    pub fn exited_nowhere(&self) -> bool
+        ensures { result ≡ warning.exited_nowhere self.now }
+    {
+        1 <= self.runs && self.longest.exits == 0
+    }
+}
