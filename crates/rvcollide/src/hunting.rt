@@ -41,7 +41,7 @@ impl Progress<'_> {
     fn hundredths_of(&self, hunted: &Hunted) -> u64 {
         let (done, all) = match self.limit {
             Limit::Runs(runs) => (hunted.tally.runs(), runs),
-            Limit::Budget(steps) => (hunted.tally.counts().steps, steps),
+            Limit::Budget(steps) => (hunted.tally.reached().cost, steps),
         };
         (done / all.div_ceil(LINES).max(1)).min(LINES)
     }
@@ -52,8 +52,8 @@ impl Progress<'_> {
         let _ = match self.limit {
             Limit::Runs(all) => eprintln!(self.rt; "runs {runs} of {all}, races {races}"),
             Limit::Budget(all) => {
-                let steps = hunted.tally.counts().steps;
-                eprintln!(self.rt; "runs {runs}, races {races}, {steps} of {all} steps")
+                let spent = hunted.tally.reached().cost.min(all);
+                eprintln!(self.rt; "runs {runs}, races {races}, {spent} of {all} steps")
             }
         };
     }
