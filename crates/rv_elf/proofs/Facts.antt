@@ -39,7 +39,7 @@ pub then_ok : (first rest : Result (Unit {0}) LoadFault) → (first >>= λ _. re
 then_ok (Ok x) rest e = (refl, e)
 then_ok (Err fault) rest e = absurd cc
 
-same_some : {A : Type 0} (x y : A) → some_of x ≡ some_of y → x ≡ y
+pub same_some : {A : Type 0} (x y : A) → some_of x ≡ some_of y → x ≡ y
 same_some x y e = cc
 
 abbrev ok_of : ℕ → Result ℕ LoadFault

@@ -6,6 +6,7 @@ pub mod SegmentsBack
 pub mod SymbolsBack
 pub mod LoadsAgain
 pub mod LoadSteps
+pub mod Starts
 pub mod Stretches
 pub mod Tables
 pub mod Texts

@@ -22,8 +22,10 @@ pub fn load(alloc: Global, bytes: &[u8]) -> Result<Image, LoadFault>
     each_segment_test(bytes, headers.as_slice())?;
     segments_test(header.e_entry, headers.as_slice())?;
     let table = symbol_table(&header, bytes)?;
-    table.test()?;
+    let names = table.names(alloc);
+    table.test(&names)?;
+    names.ready()?;
     let segments = segments(alloc, bytes, headers.as_slice())?;
-    let symbols = table.symbols(alloc)?;
+    let symbols = table.symbols(alloc, &names)?;
     Ok(tested_image(header.e_entry, segments, symbols))
 }

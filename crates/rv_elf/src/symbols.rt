@@ -10,7 +10,7 @@ use crate::fault::LoadFault;
 use crate::layout::{
     FileHeader, SECTION_HEADER_SIZE, SYMBOL_ENTRY_SIZE, SectionHeader, SymbolEntry, part,
 };
-use crate::names::{is_candidate, name_of, room_with, text_of};
+use crate::names::{Names, is_candidate, room_with, text_of};
 use crate::symbol::Symbol;
 use rv_memory::store::NoMemory;
 use std::alloc::Global;
@@ -38,22 +38,29 @@ impl<'a> Model for SymbolTable<'a> {
     ghost view = { λ t. record { symbols = t.symbols.now; strings = t.strings.now } };
 }
 
-impl SymbolTable<'_> {
-    /// What is wanted of the entries.
-    pub fn test(&self) -> Result<(), LoadFault>
-        ensures { result
-            ≡ spec.entries_test 67_108_864 self.now.strings (spec.entries_of self.now.symbols) }
+impl<'a> SymbolTable<'a> {
+    /// The names in its strings.
+    pub fn names(&self, alloc: Global) -> Names<'a>
+        ensures { result ≡ self.now.strings }
     {
-        entries_test(self.symbols, self.strings)
+        Names::of(alloc, self.strings)
+    }
+
+    /// What is wanted of the entries.
+    pub fn test(&self, names: &Names) -> Result<(), LoadFault>
+        ensures { result
+            ≡ spec.entries_test 67_108_864 names.now (spec.entries_of self.now.symbols) }
+    {
+        entries_test(self.symbols, names)
     }
 
     /// The symbols, in order.
-    pub fn symbols(&self, alloc: Global) -> Result<Vec<Symbol>, NoMemory>
+    pub fn symbols(&self, alloc: Global, names: &Names) -> Result<Vec<Symbol>, NoMemory>
         ensures those { IfOk result (λ found.
-            found.items ≡ spec.symbols_among self.now.strings (spec.entries_of self.now.symbols)) }
+            found.items ≡ spec.symbols_among names.now (spec.entries_of self.now.symbols)) }
         ensures sound { IfOk result (λ found. All IsSymbol found.items) }
     {
-        symbols_among(alloc, self.symbols, self.strings)
+        symbols_among(alloc, self.symbols, names)
     }
 }
 
@@ -144,15 +151,15 @@ pub fn symbol_table<'a>(header: &FileHeader, bytes: &'a [u8]) -> Result<SymbolTa
 
 /// Whether each candidate's name ends within the strings, and the symbols have room.
 #[tactic(auto, unfolding(crate::specs::Loaded::entries_of))]
-fn entries_test(symbols: &[u8], strings: &[u8]) -> Result<(), LoadFault>
-    ensures { result ≡ spec.entries_test 67_108_864 strings.now (spec.entries_of symbols.now) }
+fn entries_test(symbols: &[u8], names: &Names) -> Result<(), LoadFault>
+    ensures { result ≡ spec.entries_test 67_108_864 names.now (spec.entries_of symbols.now) }
 {
     let count = symbols.len() / SYMBOL_ENTRY_SIZE;
     let mut room = ROOM;
     let mut rest = symbols;
     for _ in 0..count {
         let entry = SymbolEntry::read(rest);
-        room = room_with(room, strings, &entry)?;
+        room = room_with(room, names, &entry)?;
         let (_, after) = rest.split_at(SYMBOL_ENTRY_SIZE);
         rest = after;
     }
@@ -160,14 +167,14 @@ fn entries_test(symbols: &[u8], strings: &[u8]) -> Result<(), LoadFault>
 }
 
 /// The symbol that an entry stands for, if it stands for one.
-fn symbol_of(alloc: Global, strings: &[u8], entry: &SymbolEntry) -> Result<Option<Symbol>, NoMemory>
-    ensures value { IfOk result (λ found. found ≡ spec.kept strings.now entry.now) }
+fn symbol_of(alloc: Global, names: &Names, entry: &SymbolEntry) -> Result<Option<Symbol>, NoMemory>
+    ensures value { IfOk result (λ found. found ≡ spec.kept names.now entry.now) }
     ensures sound { IfOk result (λ found. ForSome found IsSymbol) }
 {
-    if !is_candidate(entry) {
+    if !is_candidate(entry) || names.makes_symbol(entry) != Some(true) {
         return Ok(None);
     }
-    let Some(name) = name_of(strings, entry) else {
+    let Some(name) = names.name_of(entry) else {
         return Ok(None);
     };
     let Some(text) = text_of(name) else {
@@ -195,9 +202,9 @@ fn push_some(found: &mut Vec<Symbol>, symbol: Option<Symbol>) -> Result<(), NoMe
 
 /// The symbols that the entries stand for, in order.
 #[tactic(auto, unfolding(crate::specs::Loaded::entries_of))]
-fn symbols_among(alloc: Global, symbols: &[u8], strings: &[u8]) -> Result<Vec<Symbol>, NoMemory>
+fn symbols_among(alloc: Global, symbols: &[u8], names: &Names) -> Result<Vec<Symbol>, NoMemory>
     ensures those { IfOk result (λ found.
-        found.items ≡ spec.symbols_among strings.now (spec.entries_of symbols.now)) }
+        found.items ≡ spec.symbols_among names.now (spec.entries_of symbols.now)) }
     ensures sound { IfOk result (λ found. All IsSymbol found.items) }
 {
     let count = symbols.len() / SYMBOL_ENTRY_SIZE;
@@ -205,7 +212,7 @@ fn symbols_among(alloc: Global, symbols: &[u8], strings: &[u8]) -> Result<Vec<Sy
     let mut rest = symbols;
     for _ in 0..count {
         let entry = SymbolEntry::read(rest);
-        push_some(&mut found, symbol_of(alloc, strings, &entry)?)?;
+        push_some(&mut found, symbol_of(alloc, names, &entry)?)?;
         let (_, after) = rest.split_at(SYMBOL_ENTRY_SIZE);
         rest = after;
     }

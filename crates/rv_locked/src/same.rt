@@ -18,13 +18,15 @@ pub(crate) fn same_image(one: &Image, other: &Image) -> bool
 fn same_segments(one: &[Region], other: &[Region]) -> bool
     ensures { IsTrue result ↔ (one.now ≡ other.now) }
 {
-    match (one, other) {
-        ([], []) => true,
-        ([first, rest @ ..], [other_first, other_rest @ ..]) => {
-            same_segment(first, other_first) && same_segments(rest, other_rest)
-        }
-        ([], [_, ..]) | ([_, ..], []) => false,
+    if one.len() != other.len() {
+        return false;
     }
+    for (place, segment) in one.iter().enumerate() {
+        if !same_segment(segment, &other[place]) {
+            return false;
+        }
+    }
+    true
 }
 
 fn same_segment(one: &Region, other: &Region) -> bool
@@ -38,13 +40,15 @@ fn same_segment(one: &Region, other: &Region) -> bool
 fn same_symbols(one: &[Symbol], other: &[Symbol]) -> bool
     ensures { IsTrue result ↔ (one.now ≡ other.now) }
 {
-    match (one, other) {
-        ([], []) => true,
-        ([first, rest @ ..], [other_first, other_rest @ ..]) => {
-            same_symbol(first, other_first) && same_symbols(rest, other_rest)
-        }
-        ([], [_, ..]) | ([_, ..], []) => false,
+    if one.len() != other.len() {
+        return false;
     }
+    for (place, symbol) in one.iter().enumerate() {
+        if !same_symbol(symbol, &other[place]) {
+            return false;
+        }
+    }
+    true
 }
 
 fn same_symbol(one: &Symbol, other: &Symbol) -> bool

@@ -7,7 +7,7 @@ use Rattle.rv_elf.proofs.symbols.symbols_among.Given as goal
 
 abbrev pub invariant-loop : goal.invariant-loop
 invariant-loop l = record {
-  found : l.found.items ++ symbols_among l.strings (records symbol_entry 16 (l.count - l.counter) l.rest) ≡ symbols_among l.strings (records symbol_entry 16 l.count l.symbols);
+  found : l.found.items ++ symbols_among l.names (records symbol_entry 16 (l.count - l.counter) l.rest) ≡ symbols_among l.names (records symbol_entry 16 l.count l.symbols);
   sound : All IsSymbol l.found.items;
   size : 16 * (l.count - l.counter) ≤ length l.rest;
 }

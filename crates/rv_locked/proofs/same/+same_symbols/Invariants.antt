@@ -1,5 +1,0 @@
-use Rattle.std.proofs.Common.{length}
-use Rattle.rv_locked.proofs.same.+same_symbols.Given as goal
-
-abbrev pub decreases-same_symbols : goal.decreases-same_symbols
-decreases-same_symbols l = length l.one.now
