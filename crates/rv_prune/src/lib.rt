@@ -7,9 +7,11 @@
 
 pub mod class;
 mod code;
+mod fences;
 pub mod laws;
 pub mod names;
 pub mod ordered;
 pub mod pruning;
 pub mod role;
 mod rules;
+mod waits;

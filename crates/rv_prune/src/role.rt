@@ -5,7 +5,7 @@ pub enum Role {
     Atomic,
     /// A plain store with a fence in front of it, as a release is compiled.
     Release,
-    /// A plain load with a fence behind it, as an acquire is compiled.
+    /// A plain load with a fence behind it, as an acquire is compiled, or one that a loop waits on until it acquires.
     Acquire,
     /// Another plain load.
     Load,
