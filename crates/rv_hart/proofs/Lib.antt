@@ -4,6 +4,7 @@ pub mod ByteLemmas
 pub mod FetchLemmas
 pub mod HartsLemmas
 pub mod LawLemmas
+pub mod LocalityLemmas
 pub mod NextLemmas
 pub mod OutputLemmas
 pub mod ProductLemmas

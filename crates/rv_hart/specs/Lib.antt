@@ -5,6 +5,7 @@ pub mod Common
 pub mod Conflict
 pub mod FetchLaws
 pub mod Fetched
+pub mod Locality
 pub mod NextAccess
 pub mod Refusals
 pub mod Registers

@@ -1,5 +1,6 @@
 //! Laws of the step. Each function's contract is the law.
 ghost use Rattle.rv_hart.specs.FetchLaws as fetch;
+ghost use Rattle.rv_hart.specs.Locality as locality;
 ghost use Rattle.rv_hart.specs.ReservationLaws as reservation;
 ghost use Rattle.rv_hart.specs.StepLaws as law;
 
@@ -59,6 +60,13 @@ pub fn reservations_and_accesses()
     ensures others { reservation.OthersReservations }
     ensures next { reservation.NextIsMade }
     ensures sizes { reservation.SizesOfAccesses }
+{}
+
+/// What a step depends on, where it is no SC: its hart's registers, pc and status, the permissions, and the bytes that it
+/// reads, its instruction among them. In two states that agree on these it is the same event, leaves the hart the same but
+/// for its reservation, writes the same bytes and prints the same. (An SC also reads its hart's reservation.)
+pub fn steps_are_local()
+    ensures { locality.LocalityLaw }
 {}
 
 /// Register x0 is read as 0; compares, shifts, products and quotients agree with the numbers that the words stand

@@ -4,6 +4,7 @@ ghost use Rattle.rv_hart.specs.internal.Machine as machine;
 ghost use Rattle.rv_hart.specs.internal.HartAccess as own;
 ghost use Rattle.rv_hart.specs.Common.{NotesKept, event_of_common};
 ghost use Rattle.rv_hart.specs.Fetched.{IsWordOf};
+ghost use Rattle.rv_hart.specs.Locality.{at_conditional, is_conditional};
 ghost use Rattle.rv_hart.specs.NextAccess as next;
 ghost use Rattle.rv_hart.specs.Refusals as refusals;
 ghost use Rattle.rv_hart.specs.Registers.{get};
@@ -217,6 +218,14 @@ impl<S: ByteStore> Machine<S> {
         ensures { result ≡ next.next_plain self.now.state h }
     {
         hart_plain(&self.store, self.hart(h))
+    }
+
+    /// Whether the instruction that a hart is at is an SC that would be made, be it one that succeeds or one that fails.
+    pub fn at_conditional(&self, h: u8) -> bool
+        requires { h < length self.now.state.harts }
+        ensures { result ≡ at_conditional self.now.state.memory (slice_get self.now.state.harts h) }
+    {
+        is_conditional(action_at(&self.store, self.hart(h)))
     }
 
     /// One step of a hart: its instruction, an exit, or a stop. A refused step changes nothing.
@@ -444,6 +453,12 @@ fn plain_access(hart: &Hart, action: Action) -> Option<Access>
         Action::Load { .. } | Action::Store { .. } => access_of(hart, action),
         _ => None,
     }
+}
+
+fn is_conditional(action: Action) -> bool
+    ensures { result ≡ is_conditional action }
+{
+    matches!(action, Action::Conditional { .. })
 }
 
 fn is_print(action: Action) -> bool
