@@ -1,0 +1,5 @@
+pub mod ByteLemmas
+pub mod StepLemmas
+pub mod AlikeLemmas
+pub mod RoundLemmas
+pub mod StuckLemmas
