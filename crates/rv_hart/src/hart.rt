@@ -1,4 +1,4 @@
-ghost use Rattle.std.specs.Prelude.{◌≡◌};
+ghost use Rattle.std.specs.Prelude.{◌≡◌, ◌↔◌, IsTrue};
 ghost use Rattle.rv_hart.specs.Cause as spec;
 ghost use Rattle.rv_hart.specs.State as state;
 
@@ -67,4 +67,15 @@ pub struct Hart {
     pub pc: u32,
     pub status: Status,
     pub reservation: Option<u32>,
+}
+
+impl Hart {
+    ghost use Rattle.rv_hart.specs.StepLaws.{SameButReservation};
+
+    /// Whether the two differ at most in their reservations.
+    pub fn is_same_but_reservation(&self, other: &Hart) -> bool
+        ensures { IsTrue result ↔ SameButReservation self.now other.now }
+    {
+        self.pc == other.pc && self.status == other.status && self.registers == other.registers
+    }
 }

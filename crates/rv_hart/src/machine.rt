@@ -420,7 +420,9 @@ impl<S: ByteStore> Machine<S> {
         Ok(event)
     }
 
-    fn hart(&self, h: u8) -> &Hart
+    /// A hart: its registers, pc, status and reservation.
+    #[inline(always)]
+    pub fn hart(&self, h: u8) -> &Hart
         requires { h < length self.now.state.harts }
         ensures { slice_get self.now.state.harts h ≡ Some result.now }
     {

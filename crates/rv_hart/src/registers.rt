@@ -4,7 +4,7 @@ ghost use Rattle.rv_hart.specs.Registers as spec;
 use std::marker::Model;
 
 /// A hart's 32 registers. What stands in x0's place is always 0, so that a read needs no test for it.
-#[derive(Clone, Copy)]
+#[derive(Clone, Copy, PartialEq, Eq)]
 pub struct Registers {
     values: [u32; 32],
 }
