@@ -81,3 +81,14 @@ store_idle keeps m n first (suc size) value same e =
     let here : byte n first ≡ byte m first = same first (among_first first size) in
     let other : set_byte n first (value % 256) ≡ n = set_byte_idle n first (value % 256) (subst (λ (o : Option ℕ). Has o (value % 256)) (sym here) had) in
     ap (λ (x : Memory). store x (first + 1) size (value / 256)) other ∙ store_idle keeps m n (first + 1) size (value / 256) (λ address h. same address (among_more first size address h)) rest
+
+-- a store after which its own bytes are as before has changed nothing
+pub store_same : StoreKeepsOtherBytes → (m : Memory) (first size value : ℕ) → SameBytes m (store m first size value) first size → store m first size value ≡ m
+store_same keeps m first zero value same = refl
+store_same keeps m first (suc size) value same =
+    let one : Memory = set_byte m first (value % 256) in
+    let apart : byte (store one (first + 1) size (value / 256)) first ≡ byte one first = keeps one (first + 1) size (value / 256) first (inl (omega arith)) in
+    let had : Has (byte m first) (value % 256) = set_byte_read m first (value % 256) (sym apart ∙ same first (among_first first size)) in
+    let one_is : one ≡ m = set_byte_idle m first (value % 256) had in
+    let here : store one (first + 1) size (value / 256) ≡ store m (first + 1) size (value / 256) = ap (λ (x : Memory). store x (first + 1) size (value / 256)) one_is in
+    here ∙ store_same keeps m (first + 1) size (value / 256) (λ address h. ap (λ (x : Memory). byte x address) (sym here) ∙ same address (among_more first size address h))

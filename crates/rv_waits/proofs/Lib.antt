@@ -1,5 +1,7 @@
 pub mod ByteLemmas
 pub mod StepLemmas
 pub mod AlikeLemmas
+pub mod TouchedLemmas
+pub mod QuietLemmas
 pub mod RoundLemmas
 pub mod StuckLemmas

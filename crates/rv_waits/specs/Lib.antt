@@ -1,5 +1,7 @@
 pub mod Round
 pub mod Stuck
 pub mod StuckLaw
-pub mod Touches
+pub mod Touched
 pub mod TouchedLaw
+pub mod Touches
+pub mod internal

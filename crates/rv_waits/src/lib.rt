@@ -6,3 +6,5 @@
 #![tactic(auto)]
 
 pub mod laws;
+pub mod quiet;
+pub mod touched;

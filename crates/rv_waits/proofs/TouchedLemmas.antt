@@ -1,0 +1,53 @@
+-- What was touched stays so, where more is.
+use Rattle.std.proofs.Common.{◌≡◌, ℕ, zero, suc, ◌⊎◌, inl, inr, Bool, true, false, List, [], ◌∷◌, Option, set, refl, subst, arith}
+use Rattle.std.specs.Prelude.{slice_get, IsSomeAnd, ◌||◌}
+use Rattle.std.proofs.lemmas.Bool.Decides.{nat_tests}
+use Rattle.rv_waits.specs.Touched.{in_ranges}
+use Rattle.rv_waits.specs.Touches.{is_among}
+use Rattle.rv_waits.specs.declared.touched.Range.{Range}
+
+or_left : (a b : Bool) → a ≡ true → (a || b) ≡ true
+or_left a b e = rw e refl
+
+or_right : (a b : Bool) → b ≡ true → (a || b) ≡ true
+or_right true b e = refl
+or_right false b e = e
+
+-- the place holds the range, or none
+abbrev IsFree : Range → Option Range → Type 0
+IsFree range o = IsSomeAnd o (λ there. (there ≡ range) ⊎ (there.size ≡ 0))
+
+none_among : (first size address : ℕ) → size ≡ 0 → is_among first size address ≡ true → ⊥
+none_among first size address none h = grind (arith, nat_tests)
+
+first_kept : (x range : Range) (xs : List Range) (address : ℕ) → (x ≡ range) ⊎ (x.size ≡ 0) → in_ranges (x ∷ xs) address ≡ true → in_ranges (range ∷ xs) address ≡ true
+first_kept x range xs address (inl e) h = subst (λ (y : Range). in_ranges (y ∷ xs) address ≡ true) e h
+first_kept x range xs address (inr none) h =
+    let rest : (b : Bool) → is_among x.first x.size address ≡ b → (b || in_ranges xs address) ≡ true → in_ranges xs address ≡ true =
+    λ b. elim b as (λ v. is_among x.first x.size address ≡ v → (v || in_ranges xs address) ≡ true → in_ranges xs address ≡ true) [
+      | true ↦ λ e t. absurd (none_among x.first x.size address none e)
+      | false ↦ λ e t. t
+    ] in
+    or_right (is_among range.first range.size address) (in_ranges xs address) (rest (is_among x.first x.size address) refl h)
+
+more_kept : (b : Bool) (xs ys : Bool) → (xs ≡ true → ys ≡ true) → (b || xs) ≡ true → (b || ys) ≡ true
+more_kept true xs ys f h = refl
+more_kept false xs ys f h = f h
+
+pub ranges_kept : (xs : List Range) (i : ℕ) (range : Range) (address : ℕ) → IsFree range (slice_get xs i) → in_ranges xs address ≡ true → in_ranges (set xs i range) address ≡ true
+ranges_kept [] i range address free h = h
+ranges_kept (x ∷ xs) zero range address free h = first_kept x range xs address free h
+ranges_kept (x ∷ xs) (suc i) range address free h =
+    more_kept (is_among x.first x.size address) (in_ranges xs address) (in_ranges (set xs i range) address) (ranges_kept xs i range address free) h
+
+pub range_there : (xs : List Range) (i : ℕ) (range : Range) (address : ℕ) → IsFree range (slice_get xs i) → is_among range.first range.size address ≡ true → in_ranges (set xs i range) address ≡ true
+range_there [] i range address free h = absurd free
+range_there (x ∷ xs) zero range address free h = or_left _ _ h
+range_there (x ∷ xs) (suc i) range address free h = or_right (is_among x.first x.size address) _ (range_there xs i range address free h)
+
+pub covers_kept : (all pcs xs ys : Bool) → (xs ≡ true → ys ≡ true) → (all || (pcs || xs)) ≡ true → (all || (pcs || ys)) ≡ true
+covers_kept true pcs xs ys f h = refl
+covers_kept false pcs xs ys f h = more_kept pcs xs ys f h
+
+pub covers_range : (all pcs ys : Bool) → ys ≡ true → (all || (pcs || ys)) ≡ true
+covers_range all pcs ys h = or_right all (pcs || ys) (or_right pcs ys h)

@@ -1,0 +1,87 @@
+//! What a hart touched: its instructions' bytes and those of its accesses, in a place that asks for no memory.
+ghost use Rattle.std.specs.Prelude.{◌≡◌, ◌<◌, ◌⊎◌, ℕ, true, false, None, Some, IfSome, IsSomeAnd, slice_get, length};
+ghost use Rattle.rv_waits.specs.Touched.{covers, in_instructions, in_ranges};
+ghost use Rattle.rv_waits.specs.Touches.{in_access, is_among};
+
+use rv_hart::access::Access;
+
+/// The most ranges of data that are kept apart.
+pub const MOST_RANGES: usize = 8;
+
+/// `size` bytes of data from `first` on; none where `size` is 0.
+#[derive(Clone, Copy, Debug, PartialEq, Eq)]
+pub struct Range {
+    pub first: u32,
+    pub size: u8,
+}
+
+/// The instructions from the least pc to the greatest, and up to `MOST_RANGES` ranges of data. `is_all` says that these were
+/// too many: then any byte may have been touched.
+#[derive(Clone, Copy)]
+pub struct Touched {
+    pub least_pc: u32,
+    pub greatest_pc: u32,
+    pub data: [Range; MOST_RANGES],
+    pub is_all: bool,
+}
+
+/// The instruction at pc alone.
+pub fn touched_at(pc: u32) -> Touched
+    ensures { (address : ℕ) → is_among pc 4 address ≡ true → covers result address ≡ true }
+{
+    let none = Range { first: 0, size: 0 };
+    Touched {
+        least_pc: pc,
+        greatest_pc: pc,
+        data: [none; MOST_RANGES],
+        is_all: false,
+    }
+}
+
+/// A further step: its instruction's pc, and its access if it made one.
+pub fn touch(touched: &mut Touched, pc: u32, access: Option<Access>)
+    ensures kept { (address : ℕ) → covers touched.old address ≡ true → covers touched.new address ≡ true }
+    ensures instruction { (address : ℕ) → is_among pc 4 address ≡ true → covers touched.new address ≡ true }
+    ensures access { (address : ℕ) → in_access access address ≡ true → covers touched.new address ≡ true }
+{
+    touch_instruction(touched, pc);
+    if let Some(access) = access {
+        let range = Range {
+            first: access.first,
+            size: access.size,
+        };
+        touch_range(touched, range);
+    }
+}
+
+fn touch_instruction(touched: &mut Touched, pc: u32)
+    ensures kept { (address : ℕ) → covers touched.old address ≡ true → covers touched.new address ≡ true }
+    ensures instruction { (address : ℕ) → is_among pc 4 address ≡ true → covers touched.new address ≡ true }
+{
+    touched.least_pc = touched.least_pc.min(pc);
+    touched.greatest_pc = touched.greatest_pc.max(pc);
+}
+
+fn touch_range(touched: &mut Touched, range: Range)
+    ensures kept { (address : ℕ) → covers touched.old address ≡ true → covers touched.new address ≡ true }
+    ensures range { (address : ℕ) → is_among range.first range.size address ≡ true → covers touched.new address ≡ true }
+{
+    match place_for(&touched.data, range) {
+        Some(place) => touched.data[place] = range,
+        None => touched.is_all = true,
+    }
+}
+
+/// Where the range is, or else a place with none.
+fn place_for(data: &[Range; MOST_RANGES], range: Range) -> Option<usize>
+    ensures { IfSome result (λ place. IsSomeAnd (slice_get data.now place) (λ there.
+        (there ≡ range) ⊎ (there.size ≡ 0))) }
+{
+    for place in 0..MOST_RANGES {
+        let there = data[place];
+        if there == range || there.size == 0 {
+            return Some(place);
+        }
+    }
+    None
+}
