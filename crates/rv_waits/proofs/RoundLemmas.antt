@@ -38,7 +38,7 @@ pub steps_memory : (h n : ℕ) (s t : State) → StepsQuietly h n s t → t.memo
 steps_memory h zero s t steps = ap (λ (x : State). x.memory) (sym steps)
 steps_memory h (suc n) s t (next, quiet, rest) = steps_memory h n next t rest ∙ quiet.memory
 
-steps_snoc : (h n : ℕ) (s t u : State) → StepsQuietly h n s t → IsQuietStep h t u → StepsQuietly h (suc n) s u
+pub steps_snoc : (h n : ℕ) (s t u : State) → StepsQuietly h n s t → IsQuietStep h t u → StepsQuietly h (suc n) s u
 steps_snoc h zero s t u steps quiet = (u, subst (λ (x : State). IsQuietStep h x u) (sym steps) quiet, refl)
 steps_snoc h (suc n) s t u (next, first, rest) quiet = (next, first, steps_snoc h n next t u rest quiet)
 

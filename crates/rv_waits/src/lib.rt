@@ -7,4 +7,5 @@
 
 pub mod laws;
 pub mod quiet;
+pub mod round;
 pub mod touched;
