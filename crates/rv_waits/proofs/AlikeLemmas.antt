@@ -17,7 +17,7 @@ use Rattle.rv_memory.specs.MemoryLaws.{StoreKeepsOtherBytes}
 use Rattle.rv_waits.specs.Round.{IsQuietStep, StepsQuietly, IsWhereItWas}
 use Rattle.rv_waits.specs.Touches.{Touches, touches_next, in_instruction, in_access, is_among}
 use Rattle.rv_waits.proofs.ByteLemmas.{same_load}
-use Rattle.rv_waits.proofs.StepLemmas.{some_and, next_access_is, SameAccessed, same_loaded, idle_write, prints_none}
+use Rattle.rv_waits.proofs.StepLemmas.{some_and, next_access_is, next_is_accessed, SameAccessed, same_loaded, idle_write, prints_none}
 
 -- ---- a hart that is where it was
 
@@ -82,10 +82,11 @@ same_accessed s t h e n hart there step same address among =
     let here : in_access (next_access s h) address ≡ true = ap (λ (a : Option Access). in_access a address) (next_access_is s t h e hart there step) ∙ among in
     same address (or_right (in_instruction (slice_get s.harts h) address) _ here)
 
-abbrev GoesToo : ℕ → State → State → Type 0
-GoesToo h next t = (u : State) × IsQuietStep h t u × IsWhereItWas h next u
+-- hart h goes on from t as from s, with the same access
+abbrev pub GoesToo : ℕ → State → State → State → Type 0
+GoesToo h s next t = (u : State) × IsQuietStep h t u × IsWhereItWas h next u × (next_access t h ≡ next_access s h)
 
-pub step_alike : LocalityLaw → StoreKeepsOtherBytes → (h : ℕ) (s next t : State) → IsQuietStep h s next → IsWhereItWas h s t → SamePermissions s.memory t.memory → SameTouched s h t.memory → GoesToo h next t
+pub step_alike : LocalityLaw → StoreKeepsOtherBytes → (h : ℕ) (s next t : State) → IsQuietStep h s next → IsWhereItWas h s t → SamePermissions s.memory t.memory → SameTouched s h t.memory → GoesToo h s next t
 step_alike local keeps h s next t quiet w permissions same =
     let b = in_both h s t w in
     let one : Hart = b.0 in
@@ -111,7 +112,7 @@ step_alike local keeps h s next t quiet w permissions same =
       output = goes.output_too ∙ ap (λ (l : List ℕ). t.output ++ l) silent ∙ append-nil t.output;
       no_sc = no_sc_too;
     } in
-    (found.0, moved, goes.left)
+    (found.0, moved, goes.left, next_is_accessed t found.0 h event found.1 ∙ sym (next_is_accessed s next h event quiet.moves.1))
 
 -- ---- some steps
 
@@ -120,10 +121,10 @@ abbrev pub SameTouchedIn : ℕ → State → ℕ → Memory → Type 0
 SameTouchedIn n s h m = (address : ℕ) → Touches h n s address → byte m address ≡ byte s.memory address
 
 -- the memories of both states have not changed
-same_permissions : (k l m n : Memory) → l ≡ k → n ≡ m → SamePermissions k m → SamePermissions l n
+pub same_permissions : (k l m n : Memory) → l ≡ k → n ≡ m → SamePermissions k m → SamePermissions l n
 same_permissions k l m n a b same address size need = rw (a, b) (same address size need)
 
-same_byte : (k l m n : Memory) (address : ℕ) → l ≡ k → n ≡ m → byte m address ≡ byte k address → byte n address ≡ byte l address
+pub same_byte : (k l m n : Memory) (address : ℕ) → l ≡ k → n ≡ m → byte m address ≡ byte k address → byte n address ≡ byte l address
 same_byte k l m n address a b same = rw (a, b) same
 
 pub steps_alike : LocalityLaw → StoreKeepsOtherBytes → (h n : ℕ) (s u t : State) → StepsQuietly h n s u → IsWhereItWas h s t → SamePermissions s.memory t.memory → SameTouchedIn n s h t.memory → (v : State) × StepsQuietly h n t v × IsWhereItWas h u v

@@ -1,13 +1,14 @@
 -- A step after which its four bytes are as before has changed no byte.
 use Rattle.std.proofs.Common.{◌≡◌, ℕ, ◌+◌, ◌<◌, ◌≤◌, inl, inr, true, false, Option, Some, List, [], ◌∷◌, ◌++◌, length, refl, sym, ap, subst, ◌∙◌, arith, length-append}
-use Rattle.std.specs.Prelude.{slice_get, IfSome}
+use Rattle.std.specs.Prelude.{Bool, slice_get, IfSome, IfOk, Result, Ok}
 use Rattle.std.proofs.lemmas.Bool.{cases_eq}
 use Rattle.std.proofs.lemmas.Bool.Decides.{nat_tests}
 use Rattle.std.proofs.lemmas.List.{append-nil}
 use Rattle.rv_hart.specs.Locality.{at_conditional, is_conditional}
 use Rattle.rv_hart.specs.NextAccess.{next_access}
 use Rattle.rv_hart.specs.ReservationLaws.{SizesOfAccesses}
-use Rattle.rv_hart.specs.State.{State}
+use Rattle.rv_hart.specs.State.{State, Guest}
+use Rattle.rv_hart.specs.StepAnswer.{AnswersStep}
 use Rattle.rv_hart.specs.Step.{step_of, action_at, access_of, loaded_by, memory_after, written_by, writes, both}
 use Rattle.rv_hart.specs.StepLaws.{OutputLaw}
 use Rattle.rv_hart.specs.declared.access.Access.{Access}
@@ -21,7 +22,11 @@ use Rattle.rv_memory.specs.MemoryLaws.{StoreKeepsOtherBytes}
 use Rattle.rv_waits.specs.Round.{IsQuietStep}
 use Rattle.rv_waits.specs.Touches.{is_among}
 use Rattle.rv_waits.specs.declared.quiet.FourBytes.{FourBytes}
+use Rattle.rv_hart.specs.declared.machine.StepFault.{StepFault}
+use Rattle.rv_waits.specs.declared.quiet.Told.{Told}
+use Rattle.rv_waits.specs.declared.quiet.Told.TheVariants.{Quiet, Loud, Refused}
 use Rattle.rv_waits.specs.internal.Four.{AreBytesFrom}
+use Rattle.rv_waits.specs.internal.Told.{IfQuiet, answer_of}
 use Rattle.rv_waits.proofs.ByteLemmas.{SameBytes, store_same}
 use Rattle.rv_waits.proofs.StepLemmas.{next_access_is, step_is}
 
@@ -115,3 +120,21 @@ quiet_made keeps sizes output s t h first access bytes step no_sc at_first befor
   output = quiet_output output s t h (Moved access) step same;
   no_sc = no_sc;
 }
+
+-- ---- what was told
+
+pub if_quiet : (P : Option Access → Type 0) (told : Told) (answer : Result Event StepFault) → answer_of told ≡ answer → ((access : Option Access) → answer ≡ Ok (Moved access) → P access) → IfQuiet told P
+if_quiet P (Quiet access) answer e f = f access (sym e)
+if_quiet P (Loud event) answer e f = tt
+if_quiet P (Refused fault) answer e f = tt
+
+pub not_quiet : (P : Option Access → Type 0) (told : Told) → IfQuiet told (λ access. ⊥) → IfQuiet told P
+not_quiet P (Quiet access) none = absurd none
+not_quiet P (Loud event) none = tt
+not_quiet P (Refused fault) none = tt
+
+pub answered : (r : Bool) (old new : Guest) (h : ℕ) (one other : Result Event StepFault) → one ≡ other → AnswersStep r old new h other → AnswersStep r old new h one
+answered r old new h one other e a = subst (λ (x : Result Event StepFault). AnswersStep r old new h x) (sym e) a
+
+pub moved_step : (r : Bool) (old new : Guest) (h : ℕ) (answer : Result Event StepFault) (access : Option Access) → AnswersStep r old new h answer → answer ≡ Ok (Moved access) → step_of old.state h ≡ Some (Moved access, new.state)
+moved_step r old new h answer access a e = subst (λ (x : Result Event StepFault). IfOk x (λ event. step_of old.state h ≡ Some (event, new.state))) e a.step

@@ -58,6 +58,11 @@ accessed_is hart (Replace rd address combine value) = refl
 accessed_is hart (Print byte) = refl
 accessed_is hart (Exit code) = refl
 
+-- the access that is next is the event's
+pub next_is_accessed : (s t : State) (h : ℕ) (e : Event) → step_of s h ≡ Some (e, t) → next_access s h ≡ accessed e
+unfolding next_access
+next_is_accessed s t h e step = ap access_of_step step
+
 -- the access of the step that a hart makes
 pub next_access_is : (s t : State) (h : ℕ) (e : Event) (hart : Hart) → slice_get s.harts h ≡ Some hart → step_of s h ≡ Some (e, t) → next_access s h ≡ access_of hart (action_at s.memory hart)
 unfolding next_access

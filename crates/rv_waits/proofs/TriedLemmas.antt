@@ -1,5 +1,5 @@
 -- One more quiet step of a hart: what it loads and touches is added to what the earlier ones did.
-use Rattle.std.proofs.Common.{◌≡◌, ℕ, zero, suc, ◌+◌, ◌≤◌, ◌⊎◌, inl, inr, Bool, true, false, Option, Some, length, refl, sym, ap, subst, ◌∙◌, add-one}
+use Rattle.std.proofs.Common.{◌≡◌, ℕ, zero, suc, ◌+◌, ◌≤◌, ◌⊎◌, inl, inr, Bool, true, false, Option, Some, refl, sym, ap, subst, ◌∙◌, add-one}
 use Rattle.std.specs.Prelude.{slice_get, IsTrue, ◌||◌}
 use Rattle.rv_hart.specs.NextAccess.{next_access}
 use Rattle.rv_hart.specs.State.{State}
@@ -12,7 +12,8 @@ use Rattle.rv_waits.specs.Touched.{covers}
 use Rattle.rv_waits.specs.Touches.{Loads, SomeStep, Touches, in_access, in_instruction, is_among, is_read, touches_next}
 use Rattle.rv_waits.specs.declared.round.Seen.{Seen}
 use Rattle.rv_waits.specs.declared.touched.Touched.{Touched}
-use Rattle.rv_waits.specs.internal.Tried.{IsTried}
+use Rattle.rv_waits.specs.Tried.{IsTried}
+use Rattle.rv_waits.specs.internal.Added.{IsAdded}
 use Rattle.rv_waits.proofs.AlikeLemmas.{where_it_was}
 use Rattle.rv_waits.proofs.RoundLemmas.{steps_snoc}
 use Rattle.rv_waits.proofs.StepLemmas.{same_step}
@@ -46,7 +47,7 @@ false_true : false ≡ true → ⊥
 false_true e = cc
 
 pub tried_none : (h : ℕ) (s : State) (seen : Seen) → seen.polls ≡ false → IsTried h 0 s s seen
-tried_none h s seen none = record { steps = refl; loads = (λ e. absurd (false_true (sym none ∙ e)), λ l. absurd l); touched = λ address t. absurd t; harts = refl }
+tried_none h s seen none = record { steps = refl; loads = (λ e. absurd (false_true (sym none ∙ e)), λ l. absurd l); touched = λ address t. absurd t }
 
 or_cases : (a b : Bool) → (a || b) ≡ true → (a ≡ true) ⊎ (b ≡ true)
 or_cases true b e = inl refl
@@ -67,13 +68,8 @@ step_covered s h address hart access touched there made instruction accessed e =
       | inr d ↦ accessed (ap (λ (a : Option Access). in_access a address) made ∙ d)
     ]
 
-pub record IsAdded (old new : Touched) (pc : ℕ) (access : Option Access) : Type 0 where
-  pub kept : (address : ℕ) → covers old address ≡ true → covers new address ≡ true
-  pub instruction : (address : ℕ) → is_among pc 4 address ≡ true → covers new address ≡ true
-  pub accessed : (address : ℕ) → in_access access address ≡ true → covers new address ≡ true
-
-tried_suc : (h n : ℕ) (s t u : State) (hart : Hart) (access : Option Access) (old new : Seen) → IsTried h n s t old → IsQuietStep h t u → slice_get t.harts h ≡ Some hart → access ≡ next_access t h → length u.harts ≡ length t.harts → IsAdded old.touched new.touched hart.pc access → new.polls ≡ (old.polls || is_read access) → IsTried h (suc n) s u new
-tried_suc h n s t u hart access old new tried quiet there made harts added both =
+tried_suc : (h n : ℕ) (s t u : State) (hart : Hart) (access : Option Access) (old new : Seen) → IsTried h n s t old → IsQuietStep h t u → slice_get t.harts h ≡ Some hart → access ≡ next_access t h → IsAdded old.touched new.touched hart.pc access → new.polls ≡ (old.polls || is_read access) → IsTried h (suc n) s u new
+tried_suc h n s t u hart access old new tried quiet there made added both =
     let Reads : State → Type 0 = λ x. is_read (next_access x h) ≡ true in
     let to : IsTrue new.polls → Loads h (suc n) s = λ e.
     elim (or_cases old.polls (is_read access) (sym both ∙ e)) [
@@ -90,11 +86,11 @@ tried_suc h n s t u hart access old new tried quiet there made harts added both 
       | inl before ↦ added.kept address (tried.touched address before)
       | inr now ↦ step_covered t h address hart access new.touched there made (added.instruction address) (added.accessed address) now
     ] in
-    record { steps = steps_snoc h n s t u tried.steps quiet; loads = (to, from); touched = touched; harts = harts ∙ tried.harts }
+    record { steps = steps_snoc h n s t u tried.steps quiet; loads = (to, from); touched = touched }
 
-pub tried_more : (h : ℕ) (t u : State) (hart : Hart) (access : Option Access) (old new : Seen) → IsQuietStep h t u → slice_get t.harts h ≡ Some hart → access ≡ next_access t h → length u.harts ≡ length t.harts → IsAdded old.touched new.touched hart.pc access → new.polls ≡ (old.polls || is_read access) → (n : ℕ) → (s : State) → IsTried h n s t old → IsTried h (n + 1) s u new
-tried_more h t u hart access old new quiet there made harts added both n s tried =
-    rw add-one (tried_suc h n s t u hart access old new tried quiet there made harts added both)
+pub tried_more : (h : ℕ) (t u : State) (hart : Hart) (access : Option Access) (old new : Seen) → IsQuietStep h t u → slice_get t.harts h ≡ Some hart → access ≡ next_access t h → IsAdded old.touched new.touched hart.pc access → new.polls ≡ (old.polls || is_read access) → (n : ℕ) → (s : State) → IsTried h n s t old → IsTried h (n + 1) s u new
+tried_more h t u hart access old new quiet there made added both n s tried =
+    rw add-one (tried_suc h n s t u hart access old new tried quiet there made added both)
 
 pub round_tried : (h n : ℕ) (s t : State) (one other : Hart) (seen : Seen) → IsTried h n s t seen → 1 ≤ n → slice_get s.harts h ≡ Some one → slice_get t.harts h ≡ Some other → SameButReservation one other → IsRound s h n
 round_tried h n s t one other seen tried some there there_too same =

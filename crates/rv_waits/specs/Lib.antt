@@ -4,4 +4,5 @@ pub mod StuckLaw
 pub mod Touched
 pub mod TouchedLaw
 pub mod Touches
+pub mod Tried
 pub mod internal

@@ -1,3 +1,4 @@
 -- What only the contracts of private functions cite: no reader has to believe it.
+pub mod Added
 pub mod Four
-pub mod Tried
+pub mod Told

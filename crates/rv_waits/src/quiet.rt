@@ -1,14 +1,15 @@
 //! Whether a hart's step is a quiet one.
-ghost use Rattle.std.specs.Prelude.{◌≡◌, true, ◌<◌, ◌+◌, ◌^◌, ◌≤◌, ℕ, None, Some, IfSome, length, unwrap_or};
+ghost use Rattle.std.specs.Prelude.{◌≡◌, true, Ok, Err, Result, ◌<◌, ◌+◌, ◌^◌, ◌≤◌, ℕ, None, Some, IfSome, length, unwrap_or};
 ghost use Rattle.rv_hart.specs.NextAccess.{next_access};
-ghost use Rattle.rv_hart.specs.Step.{step_of};
+ghost use Rattle.rv_hart.specs.StepAnswer.{AnswersStep};
 ghost use Rattle.rv_memory.specs.Memory.{byte};
 ghost use Rattle.rv_waits.specs.Round.{IsQuietStep};
 ghost use Rattle.rv_waits.specs.internal.Four.{AreBytesFrom};
+ghost use Rattle.rv_waits.specs.internal.Told.{IfQuiet, answer_of};
 
 use rv_hart::access::{Access, Event};
 use rv_hart::laws::{reservations_and_accesses, what_no_step_does};
-use rv_hart::machine::Machine;
+use rv_hart::machine::{Machine, StepFault};
 use rv_memory::laws::store_keeps_the_rest;
 use rv_memory::store::ByteStore;
 
@@ -21,43 +22,61 @@ pub(crate) struct FourBytes {
     pub four: Option<u8>,
 }
 
-/// One step of a hart, if it is a quiet one, and the access that it made; None says nothing of the step, which may have been
-/// made.
-pub fn quiet_step<S: ByteStore>(machine: &mut Machine<S>, h: u8) -> Option<Option<Access>>
+/// What a step of a hart was: a quiet one, with its access; another one; or refused.
+#[derive(Clone, Copy)]
+pub enum Told {
+    Quiet(Option<Access>),
+    Loud(Event),
+    Refused(StepFault),
+}
+
+/// One step of a hart, and whether it was a quiet one. (One that is not told as quiet may be quiet.)
+pub fn told_step<S: ByteStore>(machine: &mut Machine<S>, h: u8) -> Told
     requires { h < length machine.old.state.harts }
-    ensures quiet { IfSome result (λ access. IsQuietStep h machine.old.state machine.new.state) }
-    ensures access { IfSome result (λ access. access ≡ next_access machine.old.state h) }
-    ensures harts { length machine.new.state.harts ≡ length machine.old.state.harts }
+    ensures step { AnswersStep S.can_refuse machine.old machine.new h (answer_of result) }
+    ensures quiet { IfQuiet result (λ access. IsQuietStep h machine.old.state machine.new.state) }
+    ensures access { IfQuiet result (λ access. access ≡ next_access machine.old.state h) }
 {
     what_no_step_does();
     reservations_and_accesses();
     store_keeps_the_rest();
-    if machine.at_conditional(h) {
-        return None;
-    }
+    let is_conditional = machine.at_conditional(h);
     let first = first_of(machine.next_access(h));
     let bytes = four_bytes(machine, first);
     let printed = machine.output().len();
-    let access = moved(machine, h)?;
+    let told = told_of(machine.step(h));
+    if is_conditional {
+        return loud(told);
+    }
     if machine.output().len() != printed {
-        return None;
+        return loud(told);
     }
     if !has_bytes(machine, first, bytes) {
-        return None;
+        return loud(told);
     }
-    Some(access)
+    told
 }
 
-/// One step of a hart, if it moves on, and the access that it made; None says nothing of the step.
-fn moved<S: ByteStore>(machine: &mut Machine<S>, h: u8) -> Option<Option<Access>>
-    ensures step { IfSome result (λ access.
-        step_of machine.old.state h ≡ Some (Event.Moved access, machine.new.state)) }
-    ensures harts { length machine.new.state.harts ≡ length machine.old.state.harts }
+/// A move as a quiet step, until more is known.
+fn told_of(answer: Result<Event, StepFault>) -> Told
+    ensures { answer_of result ≡ answer }
 {
-    match machine.step(h) {
-        Ok(Event::Moved(access)) => Some(access),
-        Ok(_) => None,
-        Err(_) => None,
+    match answer {
+        Ok(Event::Moved(access)) => Told::Quiet(access),
+        Ok(event) => Told::Loud(event),
+        Err(fault) => Told::Refused(fault),
+    }
+}
+
+/// The same, as one that is not quiet.
+fn loud(told: Told) -> Told
+    ensures same { answer_of result ≡ answer_of told }
+    ensures loud { IfQuiet result (λ access. ⊥) }
+{
+    match told {
+        Told::Quiet(access) => Told::Loud(Event::Moved(access)),
+        Told::Loud(event) => Told::Loud(event),
+        Told::Refused(fault) => Told::Refused(fault),
     }
 }
 

@@ -4,9 +4,10 @@ ghost use Rattle.rv_hart.specs.State.{State};
 ghost use Rattle.rv_waits.specs.Round.{IsRound};
 ghost use Rattle.rv_waits.specs.Touched.{covers};
 ghost use Rattle.rv_waits.specs.Touches.{Loads, Touches, is_read};
-ghost use Rattle.rv_waits.specs.internal.Tried.{IsTried};
+ghost use Rattle.rv_waits.specs.Tried.{IsTried};
+ghost use Rattle.rv_waits.specs.internal.Added.{IsAdded};
 
-use crate::quiet::quiet_step;
+use crate::quiet::{Told, told_step};
 use crate::touched::{Touched, touch, touched_at};
 use rv_hart::access::Access;
 use rv_hart::machine::Machine;
@@ -52,7 +53,7 @@ pub fn round_of<S: ByteStore>(copy: &mut Machine<S>, h: u8, most: u32) -> Option
 
 /// Whether some steps of a hart loaded data, and what they touched.
 #[derive(Clone, Copy)]
-pub(crate) struct Seen {
+pub struct Seen {
     pub polls: bool,
     pub touched: Touched,
 }
@@ -65,14 +66,22 @@ fn one_more<S: ByteStore>(copy: &mut Machine<S>, h: u8, seen: &mut Seen) -> bool
     ensures harts { length copy.new.state.harts ≡ length copy.old.state.harts }
 {
     let pc = copy.hart(h).pc;
-    match quiet_step(copy, h) {
-        Some(access) => {
-            seen.polls = either(seen.polls, is_read(access));
-            touch(&mut seen.touched, pc, access);
+    match told_step(copy, h) {
+        Told::Quiet(access) => {
+            see(seen, pc, access);
             true
         }
-        None => false,
+        Told::Loud(_) | Told::Refused(_) => false,
     }
+}
+
+/// What a step loaded and touched is added.
+pub(crate) fn see(seen: &mut Seen, pc: u32, access: Option<Access>)
+    ensures polls { seen.new.polls ≡ (seen.old.polls || is_read access) }
+    ensures touched { IsAdded seen.old.touched seen.new.touched pc access }
+{
+    seen.polls = either(seen.polls, is_read(access));
+    touch(&mut seen.touched, pc, access);
 }
 
 fn is_read(access: Option<Access>) -> bool
