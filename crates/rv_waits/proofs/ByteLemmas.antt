@@ -1,5 +1,5 @@
 -- A store that changes nothing in one memory changes nothing in another with the same bytes there.
-use Rattle.std.proofs.Common.{◌≡◌, ℕ, zero, suc, ◌+◌, ◌*◌, ◌-◌, ◌/◌, ◌%◌, ◌⊎◌, inl, inr, Bool, true, false, cond, List, [], ◌∷◌, Option, Some, None, set, refl, sym, ap, subst, ◌∙◌, arith}
+use Rattle.std.proofs.Common.{◌≡◌, ℕ, zero, suc, ◌+◌, ◌*◌, ◌-◌, ◌/◌, ◌%◌, ◌<◌, ◌≤◌, ◌⊎◌, inl, inr, Bool, true, false, cond, List, [], ◌∷◌, Option, Some, None, set, refl, sym, ap, subst, ◌∙◌, arith}
 use Rattle.std.specs.Prelude.{slice_get, unwrap_or}
 use Rattle.std.proofs.lemmas.Bool.Decides.{nat_tests}
 use Rattle.rv_memory.specs.Extent.{Extent}
@@ -23,6 +23,14 @@ same_load m n first (suc size) same =
     let here : byte n first ≡ byte m first = same first (among_first first size) in
     let rest : load n (first + 1) size ≡ load m (first + 1) size = same_load m n (first + 1) size (λ address h. same address (among_more first size address h)) in
     ap (λ (o : Option ℕ). unwrap_or o 0 + 256 * load n (first + 1) size) here ∙ ap (λ (k : ℕ). unwrap_or (byte m first) 0 + 256 * k) rest
+
+-- ---- where an address lies
+
+pub from_first : (first size address : ℕ) → is_among first size address ≡ true → first ≤ address
+from_first first size address h = grind (arith, nat_tests)
+
+pub to_last : (first size address : ℕ) → is_among first size address ≡ true → address < first + size
+to_last first size address h = grind (arith, nat_tests)
 
 -- ---- one byte
 

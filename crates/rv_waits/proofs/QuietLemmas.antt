@@ -27,16 +27,10 @@ use Rattle.rv_waits.specs.declared.quiet.Told.{Told}
 use Rattle.rv_waits.specs.declared.quiet.Told.TheVariants.{Quiet, Loud, Refused}
 use Rattle.rv_waits.specs.internal.Four.{AreBytesFrom}
 use Rattle.rv_waits.specs.internal.Told.{IfQuiet, answer_of}
-use Rattle.rv_waits.proofs.ByteLemmas.{SameBytes, store_same}
+use Rattle.rv_waits.proofs.ByteLemmas.{SameBytes, from_first, store_same, to_last}
 use Rattle.rv_waits.proofs.StepLemmas.{next_access_is, step_is}
 
 -- ---- four bytes
-
-from_first : (first size address : ℕ) → is_among first size address ≡ true → first ≤ address
-from_first first size address h = grind (arith, nat_tests)
-
-to_last : (first size address : ℕ) → is_among first size address ≡ true → address < first + size
-to_last first size address h = grind (arith, nat_tests)
 
 at_same : (m n : Memory) (a b : ℕ) (o : Option ℕ) → a ≡ b → o ≡ byte m b → o ≡ byte n b → byte n a ≡ byte m a
 at_same m n a b o e x y = rw e (sym y ∙ x)

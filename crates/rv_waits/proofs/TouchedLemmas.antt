@@ -1,10 +1,12 @@
 -- What was touched stays so, where more is.
-use Rattle.std.proofs.Common.{◌≡◌, ℕ, zero, suc, ◌⊎◌, inl, inr, Bool, true, false, List, [], ◌∷◌, Option, set, refl, subst, arith}
-use Rattle.std.specs.Prelude.{slice_get, IsSomeAnd, ◌||◌}
+use Rattle.std.proofs.Common.{◌≡◌, ℕ, zero, suc, ◌+◌, ◌-◌, ◌≤◌, ◌<◌, ◌⊎◌, inl, inr, Bool, true, false, List, [], ◌∷◌, Option, set, refl, subst, arith}
+use Rattle.std.specs.Prelude.{slice_get, IsSomeAnd, ◌||◌, ◌&&◌}
 use Rattle.std.proofs.lemmas.Bool.Decides.{nat_tests}
-use Rattle.rv_waits.specs.Touched.{in_ranges}
+use Rattle.rv_waits.specs.Touched.{covers, in_ranges}
 use Rattle.rv_waits.specs.Touches.{is_among}
 use Rattle.rv_waits.specs.declared.touched.Range.{Range}
+use Rattle.rv_waits.specs.declared.touched.Touched.{Touched}
+use Rattle.rv_waits.proofs.ByteLemmas.{from_first, to_last}
 
 or_left : (a b : Bool) → a ≡ true → (a || b) ≡ true
 or_left a b e = rw e refl
@@ -51,3 +53,12 @@ covers_kept false pcs xs ys f h = more_kept pcs xs ys f h
 
 pub covers_range : (all pcs ys : Bool) → ys ≡ true → (all || (pcs || ys)) ≡ true
 covers_range all pcs ys h = or_right all (pcs || ys) (or_right pcs ys h)
+
+-- ---- an access that writes none of it
+
+pub none_covered : (touched : Touched) (first size : ℕ) → ((k : ℕ) → k < size → covers touched (first + k) ≡ false) → (address : ℕ) → is_among first size address ≡ true → covers touched address ≡ false
+none_covered touched first size none address among =
+    let from : first ≤ address = from_first first size address among in
+    let to : address < first + size = to_last first size address among in
+    let here : first + (address - first) ≡ address = omega arith in
+    subst (λ (k : ℕ). covers touched k ≡ false) here (none (address - first) (omega arith))

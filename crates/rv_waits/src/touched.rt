@@ -1,5 +1,6 @@
 //! What a hart touched: its instructions' bytes and those of its accesses, in a place that asks for no memory.
 ghost use Rattle.std.specs.Prelude.{◌≡◌, ◌<◌, ◌⊎◌, ℕ, true, false, None, Some, IfSome, IsSomeAnd, slice_get, length};
+ghost use Rattle.rv_hart.specs.StepLaws.{access_writes};
 ghost use Rattle.rv_waits.specs.Touched.{covers, in_instructions, in_ranges};
 ghost use Rattle.rv_waits.specs.Touches.{in_access, is_among};
 
@@ -84,4 +85,53 @@ fn place_for(data: &[Range; MOST_RANGES], range: Range) -> Option<usize>
         }
     }
     None
+}
+
+/// Whether the byte at an address may have been touched.
+pub fn covers(touched: &Touched, address: u32) -> bool
+    ensures { result ≡ covers touched.now address }
+{
+    touched.is_all || in_instructions(touched, address) || in_ranges(touched, address)
+}
+
+fn in_instructions(touched: &Touched, address: u32) -> bool
+    ensures { result ≡ in_instructions touched.now.least_pc touched.now.greatest_pc address }
+{
+    touched.least_pc <= address && u64::from(address) < u64::from(touched.greatest_pc) + 4
+}
+
+fn in_ranges(touched: &Touched, address: u32) -> bool
+    ensures { result ≡ in_ranges touched.now.data address }
+{
+    touched.data.iter().any(|range| is_in(range, address))
+}
+
+fn is_in(range: &Range, address: u32) -> bool
+    ensures { result ≡ is_among range.now.first range.now.size address }
+{
+    range.first <= address && u64::from(address) < u64::from(range.first) + u64::from(range.size)
+}
+
+/// Whether an access writes a byte that may have been touched.
+pub fn meets(touched: &Touched, access: Option<Access>) -> bool
+    ensures { result ≡ false → (address : ℕ) → covers touched.now address ≡ true → access_writes access address ≡ false }
+{
+    match access {
+        Some(it) => it.write && any_covered(touched, it.first, it.size),
+        None => false,
+    }
+}
+
+fn any_covered(touched: &Touched, first: u32, size: u8) -> bool
+    ensures { result ≡ false → (address : ℕ) → is_among first size address ≡ true → covers touched.now address ≡ false }
+{
+    for offset in 0..size {
+        let Some(address) = first.checked_add(u32::from(offset)) else {
+            return true;
+        };
+        if covers(touched, address) {
+            return true;
+        }
+    }
+    false
 }
