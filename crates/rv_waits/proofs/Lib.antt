@@ -3,6 +3,8 @@ pub mod StepLemmas
 pub mod AlikeLemmas
 pub mod TouchedLemmas
 pub mod TriedLemmas
+pub mod WatchLemmas
+pub mod WatchListLemmas
 pub mod QuietLemmas
 pub mod RoundLemmas
 pub mod StuckLemmas

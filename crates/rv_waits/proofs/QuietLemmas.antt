@@ -1,8 +1,7 @@
 -- A step after which its four bytes are as before has changed no byte.
-use Rattle.std.proofs.Common.{◌≡◌, ℕ, ◌+◌, ◌<◌, ◌≤◌, inl, inr, true, false, Option, Some, List, [], ◌∷◌, ◌++◌, length, refl, sym, ap, subst, ◌∙◌, arith, length-append}
+use Rattle.std.proofs.Common.{◌≡◌, ℕ, ◌+◌, ◌<◌, ◌≤◌, inl, inr, false, Option, Some, List, [], ◌∷◌, ◌++◌, length, refl, sym, ap, subst, ◌∙◌, arith, length-append}
 use Rattle.std.specs.Prelude.{Bool, slice_get, IfSome, IfOk, Result, Ok}
 use Rattle.std.proofs.lemmas.Bool.{cases_eq}
-use Rattle.std.proofs.lemmas.Bool.Decides.{nat_tests}
 use Rattle.std.proofs.lemmas.List.{append-nil}
 use Rattle.rv_hart.specs.Locality.{at_conditional, is_conditional}
 use Rattle.rv_hart.specs.NextAccess.{next_access}
@@ -20,7 +19,6 @@ use Rattle.rv_hart.specs.declared.hart.Hart.{Hart}
 use Rattle.rv_memory.specs.Memory.{IsSize, Memory, byte}
 use Rattle.rv_memory.specs.MemoryLaws.{StoreKeepsOtherBytes}
 use Rattle.rv_waits.specs.Round.{IsQuietStep}
-use Rattle.rv_waits.specs.Touches.{is_among}
 use Rattle.rv_waits.specs.declared.quiet.FourBytes.{FourBytes}
 use Rattle.rv_hart.specs.declared.machine.StepFault.{StepFault}
 use Rattle.rv_waits.specs.declared.quiet.Told.{Told}

@@ -1,6 +1,6 @@
 -- What was touched stays so, where more is.
 use Rattle.std.proofs.Common.{◌≡◌, ℕ, zero, suc, ◌+◌, ◌-◌, ◌≤◌, ◌<◌, ◌⊎◌, inl, inr, Bool, true, false, List, [], ◌∷◌, Option, set, refl, subst, arith}
-use Rattle.std.specs.Prelude.{slice_get, IsSomeAnd, ◌||◌, ◌&&◌}
+use Rattle.std.specs.Prelude.{slice_get, IsSomeAnd, ◌||◌}
 use Rattle.std.proofs.lemmas.Bool.Decides.{nat_tests}
 use Rattle.rv_waits.specs.Touched.{covers, in_ranges}
 use Rattle.rv_waits.specs.Touches.{is_among}

@@ -6,3 +6,4 @@ pub mod TouchedLaw
 pub mod Touches
 pub mod Tried
 pub mod internal
+pub mod Watch

@@ -9,3 +9,4 @@ pub mod laws;
 pub mod quiet;
 pub mod round;
 pub mod touched;
+pub mod watch;

@@ -1,4 +1,4 @@
-use Rattle.std.proofs.Common.{◌<◌, ◌≤◌, ℕ, arith}
+use Rattle.std.proofs.Common.{◌≤◌, arith}
 use Rattle.rv_waits.proofs.TouchedLemmas.{none_covered}
 use Rattle.rv_waits.proofs.touched.any_covered.Goals as goal
 

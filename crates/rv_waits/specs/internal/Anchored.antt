@@ -1,0 +1,33 @@
+use Rattle.std.specs.Prelude.{◌≡◌, ℕ, ◌+◌, ◌⊎◌, ◌||◌, Bool, true, false, Option}
+use Rattle.rv_hart.specs.StepLaws.{access_writes}
+use Rattle.rv_hart.specs.declared.access.Access.{Access}
+use Rattle.rv_hart.specs.declared.hart.Hart.{Hart}
+use Rattle.rv_waits.specs.Touched.{covers}
+use Rattle.rv_waits.specs.Touches.{is_read}
+use Rattle.rv_waits.specs.declared.watch.Anchor.{Anchor}
+use Rattle.rv_waits.specs.internal.Added.{IsAdded}
+
+-- an anchor of the hart as it is
+pub record IsNew (now : Hart) (anchor : Anchor) : Type 0 where
+  pub hart : anchor.hart ≡ now
+  pub steps : anchor.steps ≡ 0
+  pub polls : anchor.seen.polls ≡ false
+
+-- the anchor with one more step
+pub record IsOneMore (old new : Anchor) (pc : ℕ) (made : Option Access) : Type 0 where
+  pub hart : new.hart ≡ old.hart
+  pub steps : new.steps ≡ old.steps + 1
+  pub touched : IsAdded old.seen.touched new.seen.touched pc made
+  pub polls : new.seen.polls ≡ (old.seen.polls || is_read made)
+
+abbrev pub IsGoneOn : Anchor → Hart → ℕ → Option Access → Anchor → Type 0
+IsGoneOn old now pc access new = IsNew now new ⊎ IsOneMore old new pc access
+
+-- the anchor as it was, where another hart's access writes nothing that was touched since
+pub record IsKept (old new : Anchor) (is_own : Bool) (access : Option Access) : Type 0 where
+  pub same : new ≡ old
+  pub other : is_own ≡ false
+  pub apart : (address : ℕ) → covers old.seen.touched address ≡ true → access_writes access address ≡ false
+
+abbrev pub IsLooked : Anchor → Hart → Bool → Option Access → Anchor → Type 0
+IsLooked old now is_own access new = IsNew now new ⊎ IsKept old new is_own access
