@@ -16,6 +16,11 @@ pub trait NewFile {
     /// Whether making or writing the file has failed.
     ghost has_failed: { Self → Bool };
 
+    /// Looks whether the file can be made. What is there stays, and nothing else is left.
+    fn look(&mut self) -> Result<(), WriteFault>
+        ensures made { is_made self.new ≡ is_made self.old }
+        ensures failed { has_failed self.new ≡ (has_failed self.old || is_err result) };
+
     /// Makes the file, with these bytes.
     fn make(&mut self, bytes: &[u8]) -> Result<(), WriteFault>
         ensures made { is_made self.new ≡ true }

@@ -13,6 +13,7 @@ use rv_collide::replay::{ReplayFault, replay};
 use rv_elf::Image;
 use rv_memory::flat::Flat;
 use rv_memory::store::NoMemory;
+use rv_prune::named_bytes::NamedBytes;
 use rv_races::races::races_in;
 pub use rv_races::races::{Race, Report, RunRaces};
 use std::alloc::Global;
@@ -24,7 +25,7 @@ pub fn races_of_run(
     image: &Image,
     plan: Plan,
     entries: &[Entry],
-    ranges: &[(u32, u32)],
+    ranges: &NamedBytes,
 ) -> Result<RunRaces, ReplayFault>
     ensures found { IfOk result (λ found.
         spec.found_of found ≡ spec.found (spec.run_of (placed image.now (numbers plan) entries.now 0)) ranges.now) }

@@ -10,6 +10,7 @@ use rv_campaign::{Series, SeriesFault, kept_runs};
 use rv_collide::plan::Plan;
 use rv_elf::Image;
 use rv_memory::store::NoMemory;
+use rv_prune::named_bytes::NamedBytes;
 use rv_sample::Sampler;
 use rv_tally::limit::{Limit, next_number};
 use rv_tally::plans::Plans;
@@ -35,7 +36,7 @@ pub struct Hunt<'a> {
     pub seed: u64,
     pub sampler: &'a Sampler,
     pub plans: &'a Plans,
-    pub ranges: &'a [(u32, u32)],
+    pub ranges: &'a NamedBytes,
     pub first: u32,
     pub limit: Limit,
 }

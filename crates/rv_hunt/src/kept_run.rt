@@ -13,6 +13,7 @@ use rv_explain::classes::class_of;
 use rv_explain::races::Report;
 use rv_memory::flat::Flat;
 use rv_memory::store::NoMemory;
+use rv_prune::named_bytes::NamedBytes;
 use rv_report::key::key_of;
 use std::alloc::Global;
 
@@ -28,7 +29,7 @@ pub struct KeptRun {
 #[derive(Drop)]
 pub(crate) struct Keeper<'a> {
     pub(crate) image: &'a Image,
-    pub(crate) ranges: &'a [(u32, u32)],
+    pub(crate) ranges: &'a NamedBytes,
 }
 
 impl<'a> Keep for Keeper<'a> {
@@ -57,7 +58,7 @@ impl<'a> Keeper<'a> {
 /// Ending n as a report, where it is one.
 pub(crate) fn report_of(
     image: &Image,
-    ranges: &[(u32, u32)],
+    ranges: &NamedBytes,
     n: u32,
     ending: &Ending,
 ) -> Option<Report>
@@ -86,7 +87,7 @@ pub(crate) fn push_some(reports: &mut Vec<Report>, report: Option<Report>) -> Re
 fn reports_in(
     alloc: Global,
     image: &Image,
-    ranges: &[(u32, u32)],
+    ranges: &NamedBytes,
     core: &Collider<Flat>,
 ) -> Result<Vec<Report>, NoMemory>
     ensures { IfOk result (λ reports. core.now.image ≡ image.now → reports.items

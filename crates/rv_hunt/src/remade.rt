@@ -17,6 +17,7 @@ use rv_elf::Image;
 use rv_explain::classes::rank;
 use rv_explain::races::{Race, Report};
 use rv_memory::store::NoMemory;
+use rv_prune::named_bytes::NamedBytes;
 use rv_report::key::Key;
 use std::alloc::Global;
 
@@ -38,7 +39,7 @@ fn is_told_by(key: &Key, row: &RaceRow, report: &Report) -> bool
 }
 
 /// Ending n of a run as a report, where it is one.
-fn report_at(image: &Image, ranges: &[(u32, u32)], endings: &[Ending], n: u32) -> Option<Report>
+fn report_at(image: &Image, ranges: &NamedBytes, endings: &[Ending], n: u32) -> Option<Report>
     ensures { result ≡ races.report_at image.now ranges.now endings.now n }
 {
     let ending = endings.get(n as usize)?;
@@ -49,7 +50,7 @@ fn report_at(image: &Image, ranges: &[(u32, u32)], endings: &[Ending], n: u32) -
 fn reports_among(
     alloc: Global,
     image: &Image,
-    ranges: &[(u32, u32)],
+    ranges: &NamedBytes,
     endings: &[Ending],
 ) -> Result<Vec<Report>, NoMemory>
     ensures { IfOk result (λ reports. reports.items
@@ -78,7 +79,7 @@ fn first_told<'a>(key: &Key, row: &RaceRow, reports: &'a [Report]) -> Option<&'a
 fn race_in(
     alloc: Global,
     image: &Image,
-    ranges: &[(u32, u32)],
+    ranges: &NamedBytes,
     key: &Key,
     row: &RaceRow,
     endings: &[Ending],

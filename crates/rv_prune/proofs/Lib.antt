@@ -1,3 +1,4 @@
 pub mod Positions
+pub mod Counted
 pub mod RuleLemmas
 pub mod WaitLemmas

@@ -5,3 +5,4 @@ pub mod Fences
 pub mod Ordered
 pub mod Ranges
 pub mod Waits
+pub mod internal

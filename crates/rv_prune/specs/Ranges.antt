@@ -1,5 +1,5 @@
 -- The bytes that names stand for.
-use Rattle.std.specs.Prelude.{ℕ, max, not, Bool, List, map, filter, position, Option}
+use Rattle.std.specs.Prelude.{ℕ, ◌+◌, ◌&&◌, nat_le, nat_lt, max, not, Bool, List, map, filter, position, Option}
 use Rattle.std.specs.List.{flat_map, list_any}
 use Rattle.std.specs.Str.{bytes_eq}
 use Rattle.rv_elf.specs.Contents.{Contents, Named}
@@ -28,3 +28,7 @@ unknown image names = position (is_unknown image) names
 -- the ranges of each name, in the order of the names
 unfoldable pub ranges : Contents → List (List ℕ) → List (ℕ × ℕ)
 ranges image names = flat_map (named_ranges image) names
+
+-- the byte at the address is in the range
+abbrev pub has_at : ℕ → ℕ × ℕ → Bool
+has_at address range = nat_le range.0 address && nat_lt address (range.0 + range.1)

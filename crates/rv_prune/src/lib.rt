@@ -9,6 +9,7 @@ pub mod class;
 mod code;
 mod fences;
 pub mod laws;
+pub mod named_bytes;
 pub mod names;
 pub mod ordered;
 pub mod pruning;

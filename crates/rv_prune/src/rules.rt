@@ -3,28 +3,19 @@ ghost use Rattle.std.specs.Prelude.{◌≡◌};
 ghost use Rattle.rv_prune.specs.Class as spec;
 
 use crate::code::instruction_at;
+use crate::named_bytes::NamedBytes;
 use rv_collide::ending::{Ending, Verdict};
 use rv_elf::Image;
-use rv_hart::access::Access;
 use rv_isa::instr::Instr;
 use rv_isa::op::Op;
 use rv_isa::shape::Shape;
 
-/// Whether the access has a byte of the range, given by the address of its first byte and its size.
-fn touches(access: &Access, range: (u32, u32)) -> bool
-    ensures { result ≡ spec.touches access.now range }
-{
-    let end = u64::from(access.first) + u64::from(access.size);
-    let range_end = u64::from(range.0) + u64::from(range.1);
-    u64::from(access.first.max(range.0)) < end.min(range_end)
-}
-
 /// The paused access touches a listed byte.
 #[tactic(auto, unfolding(crate::specs::Class::is_named))]
-pub fn is_named(ranges: &[(u32, u32)], ending: &Ending) -> bool
+pub fn is_named(ranges: &NamedBytes, ending: &Ending) -> bool
     ensures { result ≡ spec.is_named ranges.now ending.now }
 {
-    ranges.iter().any(|range| touches(&ending.access, *range))
+    ranges.is_touched(&ending.access)
 }
 
 fn is_plain_load(size: u8, shape: Shape) -> bool

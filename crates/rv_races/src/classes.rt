@@ -5,6 +5,7 @@ ghost use Rattle.rv_races.specs.Classes as spec;
 use rv_collide::ending::Ending;
 use rv_elf::Image;
 use rv_prune::class::Class;
+use rv_prune::named_bytes::NamedBytes;
 use rv_prune::ordered::is_ordered;
 use rv_prune::pruning::classify;
 
@@ -21,7 +22,7 @@ pub enum RaceClass {
 /// The class of a report: that of `classify`, or ordered where that is Kept and the report is ordered. The ranges
 /// are those of the listed names. It takes no memory.
 #[tactic(auto, unfolding(crate::specs::Classes::class_of))]
-pub fn class_of(image: &Image, ranges: &[(u32, u32)], ending: &Ending) -> RaceClass
+pub fn class_of(image: &Image, ranges: &NamedBytes, ending: &Ending) -> RaceClass
     ensures { result ≡ spec.class_of image.now ranges.now ending.now }
 {
     match classify(image, ending, ranges) {

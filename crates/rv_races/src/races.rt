@@ -10,6 +10,7 @@ use rv_collide::ending::Ending;
 use rv_elf::Image;
 use rv_memory::flat::Flat;
 use rv_memory::store::NoMemory;
+use rv_prune::named_bytes::NamedBytes;
 use rv_report::key::{Key, key_of};
 use std::alloc::Global;
 
@@ -42,7 +43,7 @@ pub fn races_in(
     alloc: Global,
     image: &Image,
     collider: &Collider<Flat>,
-    ranges: &[(u32, u32)],
+    ranges: &NamedBytes,
 ) -> Result<RunRaces, NoMemory>
     requires { collider.now.image ≡ image.now }
     ensures found { IfOk result (λ found.
@@ -64,7 +65,7 @@ fn reports_in(
     alloc: Global,
     image: &Image,
     collider: &Collider<Flat>,
-    ranges: &[(u32, u32)],
+    ranges: &NamedBytes,
 ) -> Result<Vec<Report>, NoMemory>
     requires { collider.now.image ≡ image.now }
     ensures { IfOk result (λ reports. reports.items
@@ -89,7 +90,7 @@ fn add_found(reports: &mut Vec<Report>, report: Option<Report>) -> Result<(), No
 }
 
 /// Ending n as a report, where it is one.
-fn report_of(image: &Image, ranges: &[(u32, u32)], n: u32, told: &Ending) -> Option<Report>
+fn report_of(image: &Image, ranges: &NamedBytes, n: u32, told: &Ending) -> Option<Report>
     ensures { result ≡ spec.report_of image.now ranges.now n told.now }
 {
     let key = key_of(told)?;

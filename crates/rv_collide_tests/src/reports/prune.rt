@@ -13,6 +13,7 @@ use rv_elf::{Image, Symbol};
 use rv_hart::access::Access;
 use rv_memory::region::Region;
 use rv_prune::class::Class;
+use rv_prune::named_bytes::NamedBytes;
 use rv_prune::names::{NamesFault, ranges};
 use rv_prune::pruning::classify;
 use std::alloc::Global;
@@ -27,7 +28,9 @@ fn class_in(
     ranges: &[(u32, u32)],
 ) -> Class {
     let image = image(rt, alloc, words);
-    classify(&image, ending, ranges)
+    let listed = ranges.to_vec(alloc).expect(rt, "ranges");
+    let bytes = NamedBytes::of(alloc, listed).expect(rt, "bytes");
+    classify(&image, ending, &bytes)
 }
 
 /// A load of so many bytes from 00020000 on.

@@ -8,6 +8,7 @@ ghost use Rattle.rv_engines.specs.CommandFault.{IsTold, refusal, fails_by, is_re
 use crate::run::fault::CommandFault;
 use rv_elf::Image;
 use rv_memory::store::NoMemory;
+use rv_prune::named_bytes::NamedBytes;
 use rv_prune::names::{NamesFault, ranges};
 use rv_text::hexadecimal::read_word;
 use std::alloc::{AllocError, Global};
@@ -78,9 +79,9 @@ pub fn read_named<'a>(
     alloc: Global,
     image: &Image,
     list: Option<&'a str>,
-) -> Result<Vec<(u32, u32)>, CommandFault<'a>>
+) -> Result<NamedBytes, CommandFault<'a>>
     ensures ok { IfOk result (λ found. spec.listed image.now (spec.elements (option_map (λ text. text.now) list.entry))
-        ≡ Ok found.items) }
+        ≡ Ok found) }
     ensures err { IfErr result (λ fault.
         IsTold (spec.listed image.now (spec.elements (option_map (λ text. text.now) list.entry))) (refusal fault)) }
     ensures reader { fails_by is_read result ≡ false }
@@ -89,7 +90,7 @@ pub fn read_named<'a>(
 {
     let names = elements(alloc, list)?;
     match ranges(alloc, image, &names) {
-        Ok(found) => Ok(found),
+        Ok(found) => Ok(NamedBytes::of(alloc, found)?),
         Err(NamesFault::NoMemory) => Err(CommandFault::from(NoMemory)),
         Err(NamesFault::Unknown(place)) => Err(CommandFault::Name(names[place])),
     }

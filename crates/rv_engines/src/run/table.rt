@@ -10,6 +10,7 @@ use rv_collide::ending::Ending;
 use rv_elf::Image;
 use rv_memory::store::NoMemory;
 use rv_prune::class::Class;
+use rv_prune::named_bytes::NamedBytes;
 use rv_prune::pruning::classify;
 use rv_report::race_table::RaceTable;
 use std::alloc::{AllocError, Global};
@@ -20,7 +21,7 @@ fn classes(
     rt: &(impl Threads + Sync),
     alloc: Global,
     image: &Image,
-    ranges: &[(u32, u32)],
+    ranges: &NamedBytes,
     endings: &[Ending],
 ) -> Result<Vec<Class>, AllocError>
     ensures { IfOk result (λ found. found.items ≡ map (λ ending. class image.now ending ranges.now) endings.now) }
@@ -40,7 +41,7 @@ fn add_run(
     rt: &(impl Threads + Sync),
     alloc: Global,
     image: &Image,
-    ranges: &[(u32, u32)],
+    ranges: &NamedBytes,
     run: u32,
     endings: &[Ending],
     table: &mut RaceTable,
@@ -60,7 +61,7 @@ pub fn table_of(
     rt: &(impl Threads + Sync),
     alloc: Global,
     image: &Image,
-    ranges: &[(u32, u32)],
+    ranges: &NamedBytes,
     count: u32,
     ended: &[Vec<Ending>],
 ) -> Result<RaceTable, NoMemory>

@@ -33,7 +33,7 @@ abbrev pub hunt_by : Asked → Contents → Listed → Hunt
 hunt_by asked image lists = record {
   source = record { image = image; sites = sites image lists.excluded.items; seed = asked.seed };
   given = asked.given;
-  ranges = lists.ranges.items;
+  ranges = lists.ranges;
   first = asked.first;
   limit = asked.limit;
 }

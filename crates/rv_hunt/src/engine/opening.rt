@@ -12,6 +12,7 @@ use rv_engines::image::read_image;
 use rv_engines::run::fault::CommandFault;
 use rv_engines::run::lists::{read_named, read_skipped};
 use rv_memory::flagged::Flagged;
+use rv_prune::named_bytes::NamedBytes;
 use std::alloc::Global;
 use std::io::Read;
 
@@ -19,7 +20,7 @@ use std::io::Read;
 #[derive(Drop)]
 pub struct Listed {
     pub excluded: Vec<u32>,
-    pub ranges: Vec<(u32, u32)>,
+    pub ranges: NamedBytes,
 }
 
 /// An image, and the lists of the line.

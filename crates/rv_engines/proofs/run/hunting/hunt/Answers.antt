@@ -26,12 +26,12 @@ returns-in_err-ranges-clause-err g c =
 pub returns-in_err-ended-clause-err : goal.returns-in_err-ended-clause-err
 returns-in_err-ended-clause-err g c =
     let p = err_from_is_err_and c.from_residual-in_err-ended.result c.from_residual-in_err-ended.ensures.1 in
-    rw p.1 (numbers_refused (g.R.Read.remaining (flag.device c.args.image.now)) (request c.args.options.now) c.in_ok-contents.contents c.in_ok-excluded.excluded.items c.in_ok-ranges.ranges.items c.in_err-ended.field-0.0 _ p.2 c.in_ok-contents.ensures.ok c.in_ok-excluded.ensures.ok c.in_ok-ranges.ensures.ok c.in_err-ended.ensures.err)
+    rw p.1 (numbers_refused (g.R.Read.remaining (flag.device c.args.image.now)) (request c.args.options.now) c.in_ok-contents.contents c.in_ok-excluded.excluded.items c.in_ok-ranges.ranges c.in_err-ended.field-0.0 _ p.2 c.in_ok-contents.ensures.ok c.in_ok-excluded.ensures.ok c.in_ok-ranges.ensures.ok c.in_err-ended.ensures.err)
 
 pub returns-clause-ok : goal.returns-clause-ok
 returns-clause-ok g c =
-    campaign_known (g.R.Read.remaining (flag.device c.args.image.now)) (request c.args.options.now) c.in_ok-contents.contents c.in_ok-excluded.excluded.items c.in_ok-ranges.ranges.items (IsReady (request c.args.options.now) _) c.in_ok-contents.ensures.ok c.in_ok-excluded.ensures.ok c.in_ok-ranges.ensures.ok c.in_ok-ended.ensures.accepted
-    (ready (request c.args.options.now) _ c.in_ok-ranges.ranges.items _ _ _ _ c.deref.ensures.value c.deref-2.ensures.value c.deref-3.ensures.value c.in_ok-ended.ensures.ok c.in_ok-table.ensures)
+    campaign_known (g.R.Read.remaining (flag.device c.args.image.now)) (request c.args.options.now) c.in_ok-contents.contents c.in_ok-excluded.excluded.items c.in_ok-ranges.ranges (IsReady (request c.args.options.now) _) c.in_ok-contents.ensures.ok c.in_ok-excluded.ensures.ok c.in_ok-ranges.ensures.ok c.in_ok-ended.ensures.accepted
+    (ready (request c.args.options.now) _ c.in_ok-ranges.ranges _ _ _ _ c.deref.ensures.value refl c.deref-2.ensures.value c.in_ok-ended.ensures.ok c.in_ok-table.ensures)
 
 pub table_of-requires : goal.table_of-requires
 table_of-requires g c = (search rules, rw c.deref-3.ensures.value (how_many _ c.args.options.now.runs c.in_ok-ended.ended.items c.in_ok-ended.ensures.ok))

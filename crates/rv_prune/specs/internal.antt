@@ -1,0 +1,2 @@
+-- What only the contracts of private functions cite: no reader has to believe it.
+pub mod Bounds
