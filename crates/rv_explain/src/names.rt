@@ -1,5 +1,5 @@
 //! How an address is written, as `specs/Names.antt` has it.
-ghost use Rattle.std.specs.Prelude.{◌≡◌, ◌++◌, IfOk, OnOk, codes};
+ghost use Rattle.std.specs.Prelude.{◌≡◌, ◌<◌, ◌≤◌, ◌++◌, IfOk, OnOk, length, codes};
 ghost use Rattle.std.specs.String.{string_bytes};
 ghost use Rattle.rv_explain.specs.Names as spec;
 ghost use Rattle.rv_text.specs.Hexadecimal.{byte_digits};
@@ -10,6 +10,9 @@ use rv_memory::store::NoMemory;
 use rv_symbols::symbol_table::SymbolTable;
 use rv_text::hexadecimal::{byte_digits, word_digits};
 use std::alloc::Global;
+
+/// How many bytes of a name people are shown at most, since a file may have names of megabytes.
+pub const SHOWN_BYTES: usize = 200;
 
 fn is_hidden(byte: u8) -> bool
     ensures { result ≡ spec.is_hidden byte }
@@ -50,6 +53,43 @@ fn escaped(alloc: Global, name: &[u8]) -> Result<Vec<u8>, NoMemory>
     Ok(text)
 }
 
+fn continues(byte: u8) -> bool
+    ensures { result ≡ spec.continues byte }
+{
+    0x80 <= byte && byte < 0xc0
+}
+
+/// How many bytes of a longer name are shown, so that no character is cut.
+fn edge(name: &[u8]) -> usize
+    requires { SHOWN_BYTES < length name.now }
+    ensures is { result ≡ spec.edge name.now }
+    ensures within { result ≤ length name.now }
+{
+    if !continues(name[SHOWN_BYTES]) {
+        SHOWN_BYTES
+    } else if !continues(name[SHOWN_BYTES - 1]) {
+        SHOWN_BYTES - 1
+    } else if !continues(name[SHOWN_BYTES - 2]) {
+        SHOWN_BYTES - 2
+    } else {
+        SHOWN_BYTES - 3
+    }
+}
+
+/// What people are shown of a name.
+#[tactic(auto, unfolding(crate::specs::Names::shown))]
+fn shown(alloc: Global, name: &[u8]) -> Result<Vec<u8>, NoMemory>
+    ensures { IfOk result (λ text. text.items ≡ spec.shown name.now) }
+{
+    if name.len() <= SHOWN_BYTES {
+        return escaped(alloc, name);
+    }
+    let (front, _) = name.split_at(edge(name));
+    let mut text = escaped(alloc, front)?;
+    text.extend_from_slice(b"..")?;
+    Ok(text)
+}
+
 /// A number in lower-case hexadecimal without leading zeros.
 fn hex(alloc: Global, number: u32) -> Result<String, NoMemory>
     ensures { IfOk result (λ text. string_bytes text ≡ spec.hex number) }
@@ -70,7 +110,7 @@ fn size_text(alloc: Global, size: u32) -> Result<Vec<u8>, NoMemory>
 fn symbol_text(alloc: Global, symbol: &Symbol, address: u32) -> Result<Vec<u8>, NoMemory>
     ensures { IfOk result (λ text. text.items ≡ spec.symbol_text symbol.now address) }
 {
-    let name = escaped(alloc, symbol.name.as_bytes())?;
+    let name = shown(alloc, symbol.name.as_bytes())?;
     let offset = hex(alloc, address.saturating_sub(symbol.value))?;
     let size = size_text(alloc, symbol.size)?;
     joined(alloc, &[&name, b"+", offset.as_bytes(), &size])
