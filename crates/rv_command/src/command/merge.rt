@@ -89,10 +89,12 @@ fn tables_before(words: &[&str]) -> usize
     ensures count { result ≡ line.tables_before (spec.texts words.now) }
     ensures within { result ≤ length words.now }
 {
-    match words {
-        [word, rest @ ..] if !is_dashed(*word) => 1 + tables_before(rest),
-        _ => 0,
+    for (place, word) in words.iter().enumerate() {
+        if is_dashed(*word) {
+            return place;
+        }
     }
+    words.len()
 }
 
 /// Whether the word is an option, or would be one.
