@@ -1,6 +1,6 @@
-//! The tests of rv_hart, rv_words and rv_break, and of rv_elf and rv_asm: steps of machines, worked out from the RISC-V
-//! Unprivileged ISA, the texts that harts are shown in, lists of instruction words, breakpoints, images, and the
-//! assembler.
+//! The tests of rv_hart, rv_words, rv_waits and rv_break, and of rv_elf and rv_asm: steps of machines, worked out from the RISC-V
+//! Unprivileged ISA, the texts that harts are shown in, lists of instruction words, breakpoints, images, the
+//! assembler, and harts that wait.
 //!
 //! They stand in a crate of their own, so that these are not proved a second time with their tests.
 #![tactic(auto)]
@@ -32,5 +32,7 @@ mod quick;
 mod sharing;
 #[cfg(test)]
 mod texts;
+#[cfg(test)]
+mod waits;
 #[cfg(test)]
 mod words;
