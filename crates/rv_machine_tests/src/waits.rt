@@ -150,3 +150,28 @@ fn assert_round(
     assert_is(rt, by_trial, wanted, what);
     assert_is(rt, by_watch, wanted, what);
 }
+
+/// `addi x0,x0,0`, and `jal x0,-16380`.
+const NOTHING: u32 = 0x0000_0013;
+
+const FAR_BACK: u32 = 0x804f_c06f;
+
+/// A loop of 4,096 instructions has a round of as many; fewer steps show none.
+#[test]
+fn long_round(rt: HostRuntime) {
+    let alloc = rt.alloc();
+    let mut words = vec![in alloc; NOTHING; 4095].expect(&rt, "memory");
+    words.push(FAR_BACK).expect(&rt, "memory");
+    assert_long(&rt, alloc, &words);
+}
+
+fn assert_long(rt: &impl Abort, alloc: Global, words: &[u32]) {
+    let mut one = machine(rt, alloc, words, &[0], 1);
+    let mut other = machine(rt, alloc, words, &[0], 1);
+    assert!(rt; one.harts() == 1 && other.harts() == 1);
+    assert_is(rt, told(round_of(&mut one, 0, 4095)), None, "4,095 steps");
+    assert_is(rt, told(round_of(&mut other, 0, 4096)), Some((4096, false, false)), "4,096 steps");
+}
+
+/// After `lui x6,0x20`, hart 0 spins on a load; hart 1 stores its number, 1, there, and goes on.
+const WAKES: [u32; 5] = [0x0002_0337, 0x0005_1863, 0x0003_2283, 0xfe02_8ee3, 0x0000_006f];

@@ -6,7 +6,7 @@
 #![tactic(auto)]
 
 pub mod laws;
-pub mod quiet;
+mod quiet;
 pub mod round;
 pub mod touched;
 pub mod watch;

@@ -24,14 +24,14 @@ pub(crate) struct FourBytes {
 
 /// What a step of a hart was: a quiet one, with its access; another one; or refused.
 #[derive(Clone, Copy)]
-pub enum Told {
+pub(crate) enum Told {
     Quiet(Option<Access>),
     Loud(Event),
     Refused(StepFault),
 }
 
 /// One step of a hart, and whether it was a quiet one. (One that is not told as quiet may be quiet.)
-pub fn told_step<S: ByteStore>(machine: &mut Machine<S>, h: u8) -> Told
+pub(crate) fn told_step<S: ByteStore>(machine: &mut Machine<S>, h: u8) -> Told
     requires { h < length machine.old.state.harts }
     ensures step { AnswersStep S.can_refuse machine.old machine.new h (answer_of result) }
     ensures quiet { IfQuiet result (λ access. IsQuietStep h machine.old.state machine.new.state) }
