@@ -1,11 +1,12 @@
 //! Harts that wait, and harts that don't.
-ghost use Rattle.std.specs.Prelude.{◌<◌, length};
+ghost use Rattle.std.specs.Prelude.{◌≡◌, ◌<◌, length};
 ghost use Rattle.rv_waits.specs.Watch.{IsWatchOf};
 
 use crate::assertion::assert_is;
-use crate::machines::machine;
+use crate::machines::{machine, regions};
 use rv_hart::machine::Machine;
 use rv_memory::flat::Flat;
+use rv_memory::paged::Paged;
 use rv_waits::round::{Round, round_of};
 use rv_waits::watch::Watch;
 use std::alloc::Global;
@@ -170,8 +171,203 @@ fn assert_long(rt: &impl Abort, alloc: Global, words: &[u32]) {
     let mut other = machine(rt, alloc, words, &[0], 1);
     assert!(rt; one.harts() == 1 && other.harts() == 1);
     assert_is(rt, told(round_of(&mut one, 0, 4095)), None, "4,095 steps");
-    assert_is(rt, told(round_of(&mut other, 0, 4096)), Some((4096, false, false)), "4,096 steps");
+    assert_is(
+        rt,
+        told(round_of(&mut other, 0, 4096)),
+        Some((4096, false, false)),
+        "4,096 steps",
+    );
 }
 
-/// After `lui x6,0x20`, hart 0 spins on a load; hart 1 stores its number, 1, there, and goes on.
-const WAKES: [u32; 5] = [0x0002_0337, 0x0005_1863, 0x0003_2283, 0xfe02_8ee3, 0x0000_006f];
+/// Hart 0 spins on a load; hart 1 stores its number there. `lui x6,0x20`, `bne x10,x0,16`, `lw x5,0(x6)`, `beq x5,x0,-4`,
+/// `jal x0,0`, `sw x10,0(x6)`, `jal x0,0`
+const WAKES: [u32; 7] = [
+    0x0002_0337,
+    0x0005_1863,
+    0x0003_2283,
+    0xfe02_8ee3,
+    0x0000_006f,
+    0x00a3_2023,
+    0x0000_006f,
+];
+
+/// So many steps of a hart, watched.
+fn steps(machine: &mut Machine<Flat>, watch: &mut Watch, h: u8, count: u32)
+    requires hart { h < length machine.old.state.harts }
+    requires watch { IsWatchOf watch.old machine.old.state }
+    ensures harts { length machine.new.state.harts ≡ length machine.old.state.harts }
+    ensures watch { IsWatchOf watch.new machine.new.state }
+{
+    for _ in 0..count {
+        let _ = watch.step(machine, h);
+    }
+}
+
+#[test]
+fn wakes(rt: HostRuntime) {
+    let mut machine = machine(&rt, rt.alloc(), &WAKES, &[0], 2);
+    assert_wakes(&rt, rt.alloc(), &mut machine);
+}
+
+fn assert_wakes(rt: &impl Abort, alloc: Global, machine: &mut Machine<Flat>) {
+    assert!(rt; machine.harts() == 2);
+    let mut watch = Watch::new(alloc, machine).expect(rt, "memory");
+    steps(machine, &mut watch, 0, 11);
+    steps(machine, &mut watch, 1, 2);
+    assert_is(rt, watch.round(machine, 0).is_some(), true, "hart 0 spins");
+    steps(machine, &mut watch, 1, 1);
+    assert_is(
+        rt,
+        watch.round(machine, 0).is_some(),
+        false,
+        "the byte has changed",
+    );
+    steps(machine, &mut watch, 0, 10);
+    assert_is(
+        rt,
+        watch.round(machine, 0).is_some(),
+        true,
+        "hart 0 is parked",
+    );
+}
+
+/// What programs are drawn from: loads, stores, an AMO that changes nothing and one that does, LR, SC, branches, and
+/// computations.
+const INSTRUCTIONS: [u32; 16] = [
+    0x0003_2283,
+    0x0043_2283,
+    0x0003_2023,
+    0x00a3_2223,
+    0x0053_2223,
+    0x4003_22af,
+    0x00a3_23af,
+    0x1003_22af,
+    0x18a3_23af,
+    0xfe02_8ee3,
+    0x0002_9463,
+    0x0000_0293,
+    0x0014_0413,
+    0x0040_006f,
+    0xfe05_0ce3,
+    0xfea2_8ee3,
+];
+
+/// The next of a fixed row of numbers.
+fn draw(row: &mut u32) -> u32 {
+    *row = row.wrapping_mul(1_664_525).wrapping_add(1_013_904_223);
+    *row >> 16
+}
+
+/// Six drawn instructions, without end.
+fn drawn_words(row: &mut u32) -> [u32; 8] {
+    let mut words = [
+        LOADS[0],
+        NOTHING,
+        NOTHING,
+        NOTHING,
+        NOTHING,
+        NOTHING,
+        NOTHING,
+        0xfe9f_f06f,
+    ];
+    for place in 1..7 {
+        words[place] = INSTRUCTIONS[(draw(row) % 16) as usize];
+    }
+    words
+}
+
+/// Whether the watch sees the hart waiting. Then steps of a copy see it too.
+fn waits(rt: &impl Abort, machine: &mut Machine<Paged>, watch: &Watch, h: u8) -> bool
+    requires hart { h < length machine.old.state.harts }
+    requires watch { IsWatchOf watch.now machine.old.state }
+    ensures { machine.new ≡ machine.old }
+{
+    let Some(round) = watch.round(machine, h) else {
+        return false;
+    };
+    assert!(rt; machine.output().len() <= 8);
+    let mut copy = machine.share(8).expect(rt, "memory");
+    assert!(rt;
+        round_of(&mut copy, h, round.steps).is_some(),
+        "a round of {} steps",
+        round.steps
+    );
+    true
+}
+
+/// Whether each hart that runs is seen to wait.
+fn is_stuck(rt: &impl Abort, machine: &mut Machine<Paged>, watch: &Watch) -> bool
+    requires hart { length machine.old.state.harts ≡ 2 }
+    requires watch { IsWatchOf watch.now machine.old.state }
+    ensures { machine.new ≡ machine.old }
+{
+    let first = !machine.runs(0) || waits(rt, machine, watch, 0);
+    let second = !machine.runs(1) || waits(rt, machine, watch, 1);
+    first && second
+}
+
+/// From a stuck state drawn steps change neither word of data.
+fn assert_stays(rt: &impl Abort, machine: &mut Machine<Paged>, row: &mut u32) {
+    let before = (machine.number(0x20000, 4), machine.number(0x20004, 4));
+    for _ in 0..200 {
+        let _ = machine.step((draw(row) % 2) as u8);
+    }
+    let after = (machine.number(0x20000, 4), machine.number(0x20004, 4));
+    assert_is(rt, after, before, "a stuck machine stays as it is");
+}
+
+/// A drawn program of two harts, watched for so many drawn steps, or until it is stuck; says whether it was.
+fn tries_drawn(rt: &impl Abort, alloc: Global, row: &mut u32) -> bool {
+    let regions = regions(rt, alloc, &drawn_words(row), &[0, 1]);
+    let mut machine: Machine<Paged> = Machine::new(alloc, &regions, 0x10000, 2, 8).expect(
+        rt,
+        "a machine",
+    );
+    let is_stuck = watched_drawn(rt, alloc, &mut machine, row);
+    if is_stuck {
+        assert_stays(rt, &mut machine, row);
+    }
+    is_stuck
+}
+
+fn watched_drawn(
+    rt: &impl Abort,
+    alloc: Global,
+    machine: &mut Machine<Paged>,
+    row: &mut u32,
+) -> bool {
+    assert!(rt; machine.harts() == 2);
+    let mut watch = Watch::new(alloc, machine).expect(rt, "memory");
+    until_stuck(rt, machine, &mut watch, row)
+}
+
+fn until_stuck(
+    rt: &impl Abort,
+    machine: &mut Machine<Paged>,
+    watch: &mut Watch,
+    row: &mut u32,
+) -> bool
+    requires hart { length machine.old.state.harts ≡ 2 }
+    requires watch { IsWatchOf watch.old machine.old.state }
+{
+    for _ in 0..100 {
+        let _ = watch.step(machine, (draw(row) % 2) as u8);
+        if is_stuck(rt, machine, watch) {
+            return true;
+        }
+    }
+    false
+}
+
+/// Of 40 drawn programs some get stuck and some don't; whoever is seen to wait does.
+#[test]
+fn drawn(rt: HostRuntime) {
+    let mut row = 1;
+    let mut stuck = 0u32;
+    for _ in 0..40u32 {
+        if tries_drawn(&rt, rt.alloc(), &mut row) {
+            stuck = stuck.min(39) + 1;
+        }
+    }
+    assert!(rt; 3 < stuck && stuck < 37, "{stuck} programs got stuck");
+}
