@@ -1,6 +1,7 @@
 pub mod ArmedAccesses
 pub mod ArmedLemmas
 pub mod Begun
+pub mod Behind
 pub mod BoundLemmas
 pub mod Bytes
 pub mod Calls
@@ -20,6 +21,8 @@ pub mod GrammarLemmas
 pub mod GrammarProof
 pub mod Growth
 pub mod HeldLemmas
+pub mod JoinedLegal
+pub mod JoinedLists
 pub mod LawLemmas
 pub mod Lists
 pub mod OpenAt

@@ -8,6 +8,7 @@ pub mod Forced
 pub mod Grammar
 pub mod GrammarLaws
 pub mod Held
+pub mod Joined
 pub mod Laws
 pub mod Legal
 pub mod ListLaws
