@@ -29,7 +29,7 @@ opening_below xs h o found = find_below (length xs) (λ (p : Opening). p.hart ==
 taken_below : (n i : ℕ) (xs : List Entry) → i < length (take n xs) → i < n
 taken_below n i xs lt = let l = length-take n xs in omega arith
 
-record Bounds (place : ℕ) (pause : Pause) : Type 0 where
+pub record Bounds (place : ℕ) (pause : Pause) : Type 0 where
   pub begun : pause.paused_at < place
   pub over : pause.resumed_at ≡ place
 
@@ -49,7 +49,7 @@ pause_front xs e i lt =
     ap (λ (o : Option Entry). option_and_then (λ hart. option_map (ended i) (opening_of (take i (xs ++ e ∷ [])) hart)) (option_and_then resumed_hart o)) (get_front xs (e ∷ []) i lt)
     ∙ ap (λ (ys : List Entry). option_and_then (λ hart. option_map (ended i) (opening_of ys hart)) (option_and_then resumed_hart (slice_get xs i))) (take-append-le i xs (e ∷ []) (omega arith))
 
-pause_bounds : (xs : List Entry) (i : ℕ) (pause : Pause) → pause_ended xs i ≡ Some pause → Bounds i pause
+pub pause_bounds : (xs : List Entry) (i : ℕ) (pause : Pause) → pause_ended xs i ≡ Some pause → Bounds i pause
 unfolding pause_ended
 pause_bounds xs i pause h = bounds_of xs i (option_and_then resumed_hart (slice_get xs i)) pause h
 

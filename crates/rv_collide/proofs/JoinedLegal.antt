@@ -62,7 +62,7 @@ steps_before (Resumed h ∷ zs) (suc place) e there turn = steps_before zs place
 steps_before (Armed a ∷ zs) (suc place) e there turn = steps_before zs place e there turn
 steps_before (Disarmed a ∷ zs) (suc place) e there turn = steps_before zs place e there turn
 
-one_more : (z : Entry) (zs : List Entry) → count_by arms (z ∷ zs) ≡ (0 + cond (arms z) 1 0) + count_by arms zs
+pub one_more : (z : Entry) (zs : List Entry) → count_by arms (z ∷ zs) ≡ (0 + cond (arms z) 1 0) + count_by arms zs
 one_more z zs = sum_by-append (λ x. cond (arms x) 1 0) (z ∷ []) zs
 
 none_before : (z : Entry) (zs : List Entry) → arms z ≡ true → 0 < count_by arms (z ∷ zs)
@@ -80,7 +80,7 @@ arms_before (z ∷ zs) (suc place) e there arm =
 
 left_at : (plan other : Numbers) (zs : List Entry) → IsEnough plan other zs → (place : ℕ) (e : Entry) → slice_get zs place ≡ Some e → HasLeft other (take place zs) e
 left_at plan other zs enough place e there =
-    let room = enough.steps in
+    let room = enough.room in
     let room_to_arm = enough.arms_made in
     record {
       step_left = λ turn. let before = steps_before zs place e there turn in omega arith;

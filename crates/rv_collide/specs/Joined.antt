@@ -3,12 +3,13 @@ use Rattle.std.specs.Prelude.{◌≡◌, ℕ, ◌+◌, ◌≤◌, ◌==◌, max,
 use Rattle.std.specs.FinSet.{len}
 use Rattle.rv_break.specs.declared.claim.Seen.{Seen}
 use Rattle.rv_collide.specs.Armed.{armed, arms}
+use Rattle.rv_collide.specs.Entries.{steps}
 use Rattle.rv_collide.specs.Forced.{Setting}
 use Rattle.rv_collide.specs.Legal.{IsLegal}
 use Rattle.rv_collide.specs.Made.{made}
 use Rattle.rv_collide.specs.Next.{next}
 use Rattle.rv_collide.specs.Pause.{Opening, openings}
-use Rattle.rv_collide.specs.Plan.{Numbers}
+use Rattle.rv_collide.specs.Plan.{IsPlan, Numbers}
 use Rattle.rv_collide.specs.StateAt.{state_at}
 use Rattle.rv_collide.specs.Verdict.{endings}
 use Rattle.rv_collide.specs.declared.ending.Ending.{Ending}
@@ -81,7 +82,7 @@ steps_needed (Disarmed address ∷ later) = steps_needed later
 pub record IsEnough (plan other : Numbers) (entries : List Entry) : Type 0 where
   pub harts : plan.harts ≡ other.harts
   pub slots : plan.slots ≡ other.slots
-  pub steps : steps_needed entries ≤ other.steps
+  pub room : steps_needed entries ≤ other.steps
   pub arms_made : count_by arms entries ≤ other.arms
 
 -- A list that is legal under a plan is legal under each plan that has room for it, with fewer steps and arms too.
@@ -93,3 +94,48 @@ RoomIsEnough =
 abbrev pub JoinedIsLegal : Type 0
 JoinedIsLegal =
     (start end : State) (before after whole : Numbers) (prefix own : List Entry) → IsPrefix (record { start = start; plan = before }) prefix end → IsLegal (record { start = end; plan = after }) own → IsEnough before whole (prefix ++ own) → IsEnough after whole (prefix ++ own) → IsLegal (record { start = start; plan = whole }) (prefix ++ own)
+
+-- What a legal list needs is no more than its plan has.
+pub record NeedsNoMore (plan : Numbers) (entries : List Entry) : Type 0 where
+  pub steps_of : steps_needed entries ≤ plan.steps
+  pub arms_of : count_by arms entries ≤ plan.arms
+
+abbrev pub LegalNeedsNoMore : Type 0
+LegalNeedsNoMore =
+    (start : State) (plan : Numbers) (entries : List Entry) → IsLegal (record { start = start; plan = plan }) entries → NeedsNoMore plan entries
+
+-- the plan with just the steps and arms that a list needs; at least one step, as each plan has
+abbrev pub plan_for : Numbers → List Entry → Numbers
+plan_for plan entries = record plan { steps = max 1 (steps_needed entries); arms = count_by arms entries }
+
+-- A legal list stays so under the plan that it is given in the end, which has just what the list needs.
+pub record IsNarrowed (start : State) (plan narrow : Numbers) (entries : List Entry) : Type 0 where
+  pub legal : IsLegal (record { start = start; plan = narrow }) entries
+  pub plan_is : narrow ≡ plan_for plan entries
+
+-- ---- what a run leaves that went on from a fork
+
+-- Where a run goes on: the start and the plan of the run before, and the state that its prefix leads to.
+pub record Fork : Type 0 where
+  pub start : State
+  pub plan : Numbers
+  pub end : State
+
+-- The run made its own entries behind the prefix, under a plan with no more than what was left of steps and arms.
+pub record GoesOnFrom (fork : Fork) (prefix : List Entry) (told : List Ending) (after : Numbers) (own : List Entry) (ended : List Ending) : Type 0 where
+  pub in_range : IsPlan fork.plan
+  pub is_prefix : IsPrefix (record { start = fork.start; plan = fork.plan }) prefix fork.end
+  pub told_are : told ≡ endings fork.start prefix
+  pub legal : IsLegal (record { start = fork.end; plan = after }) own
+  pub ended_are : ended ≡ endings fork.end own
+  pub harts : after.harts ≡ fork.plan.harts
+  pub slots : after.slots ≡ fork.plan.slots
+  pub steps_left : length (steps prefix) + after.steps ≤ fork.plan.steps
+  pub arms_left : count_by arms prefix + after.arms ≤ fork.plan.arms
+
+-- The whole is a legal list from the start of the run before, with its endings, under a plan that has just the steps and arms
+-- that it needs.
+pub record IsWhole (fork : Fork) (after whole : Numbers) (entries : List Entry) (told : List Ending) : Type 0 where
+  pub legal : IsLegal (record { start = fork.start; plan = whole }) entries
+  pub told_are : told ≡ endings fork.start entries
+  pub plan_is : whole ≡ plan_for after entries

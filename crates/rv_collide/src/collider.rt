@@ -39,6 +39,7 @@ use std::marker::Model;
 use std::snapshot::Snapshot;
 
 mod again;
+mod forking;
 mod quick;
 mod sharing;
 

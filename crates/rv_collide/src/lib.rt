@@ -9,6 +9,7 @@ pub mod changed_laws;
 pub mod collider;
 pub mod ending;
 pub mod entry;
+pub mod join;
 pub mod join_laws;
 pub mod laws;
 pub mod list_laws;
