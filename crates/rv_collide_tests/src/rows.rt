@@ -1,5 +1,6 @@
 //! Worked schedules, each told again.
 use crate::assertion::assert_is;
+use crate::rows::forks::assert_forks_show;
 use crate::samples::{slotted, told_over};
 use rv_collide::collider::{Collider, Finished};
 use rv_collide::entry::Entry;
@@ -13,6 +14,7 @@ use std::alloc::Global;
 use std::process::Abort;
 
 mod conflicts;
+mod forks;
 mod overlaps;
 mod reservations;
 mod slots;
@@ -70,10 +72,11 @@ fn assert_shows<S: ByteStore>(rt: &impl Abort, alloc: Global, row: &Row, slots: 
     see(rt, alloc, row, collider);
 }
 
-/// Asserts it of each row, over either store.
+/// Asserts it of each row, over either store, and of its forks.
 pub fn assert_all_show(rt: &impl Abort, alloc: Global, rows: &[Row], slots: u8) {
     for row in rows {
         assert_shows::<Flat>(rt, alloc, row, slots);
         assert_shows::<Paged>(rt, alloc, row, slots);
+        assert_forks_show(rt, alloc, row, slotted(rt, row.harts, 1000, 200, slots));
     }
 }
