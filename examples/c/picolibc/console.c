@@ -15,7 +15,8 @@ static FILE console = FDEV_SETUP_STREAM(put, NULL, NULL, _FDEV_SETUP_WRITE);
 FILE *const stdout = &console;
 FILE *const stderr = &console;
 
-_Noreturn void _exit(int code)
+/* A program that ends all its harts takes another. */
+__attribute__((weak)) _Noreturn void _exit(int code)
 {
     leave((unsigned)code);
 }
