@@ -74,6 +74,28 @@ pub fn read_skipped<'a>(alloc: Global, list: Option<&'a str>) -> Result<Vec<u32>
     }
 }
 
+/// The ranges that the names of the list stand for.
+fn named_ranges<'a>(
+    alloc: Global,
+    image: &Image,
+    list: Option<&'a str>,
+) -> Result<Vec<(u32, u32)>, CommandFault<'a>>
+    ensures ok { IfOk result (λ found. spec.listed image.now (spec.elements (option_map (λ text. text.now) list.entry))
+        ≡ Ok found.items) }
+    ensures err { IfErr result (λ fault.
+        IsTold (spec.listed image.now (spec.elements (option_map (λ text. text.now) list.entry))) (refusal fault)) }
+    ensures reader { fails_by is_read result ≡ false }
+    ensures writer { fails_by is_write result ≡ false }
+    ensures thread { fails_by is_thread result ≡ false }
+{
+    let names = elements(alloc, list)?;
+    match ranges(alloc, image, &names) {
+        Ok(found) => Ok(found),
+        Err(NamesFault::NoMemory) => Err(CommandFault::from(NoMemory)),
+        Err(NamesFault::Unknown(place)) => Err(CommandFault::Name(names[place])),
+    }
+}
+
 /// The bytes that the names of the list stand for.
 pub fn read_named<'a>(
     alloc: Global,
@@ -88,10 +110,12 @@ pub fn read_named<'a>(
     ensures writer { fails_by is_write result ≡ false }
     ensures thread { fails_by is_thread result ≡ false }
 {
-    let names = elements(alloc, list)?;
-    match ranges(alloc, image, &names) {
-        Ok(found) => Ok(NamedBytes::of(alloc, found)?),
-        Err(NamesFault::NoMemory) => Err(CommandFault::from(NoMemory)),
-        Err(NamesFault::Unknown(place)) => Err(CommandFault::Name(names[place])),
+    let listed = match named_ranges(alloc, image, list) {
+        Ok(listed) => listed,
+        Err(fault) => return Err(fault),
+    };
+    match NamedBytes::of(alloc, listed) {
+        Ok(found) => Ok(found),
+        Err(NoMemory) => Err(CommandFault::from(NoMemory)),
     }
 }

@@ -1,4 +1,4 @@
-use Rattle.std.proofs.Common.{rules}
+use Rattle.std.proofs.Common.{refl, rules}
 use Rattle.std.proofs.lemmas.Result.{err_from_is_err_and}
 use Rattle.rv_memory.specs.Flagged as flag
 use Rattle.rv_engines.specs.Request.{request}
@@ -34,4 +34,4 @@ returns-clause-ok g c =
     (ready (request c.args.options.now) _ c.in_ok-ranges.ranges _ _ _ _ c.deref.ensures.value refl c.deref-2.ensures.value c.in_ok-ended.ensures.ok c.in_ok-table.ensures)
 
 pub table_of-requires : goal.table_of-requires
-table_of-requires g c = (search rules, rw c.deref-3.ensures.value (how_many _ c.args.options.now.runs c.in_ok-ended.ended.items c.in_ok-ended.ensures.ok))
+table_of-requires g c = (search rules, rw c.deref-2.ensures.value (how_many _ c.args.options.now.runs c.in_ok-ended.ended.items c.in_ok-ended.ensures.ok))

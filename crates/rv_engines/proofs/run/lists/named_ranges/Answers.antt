@@ -1,6 +1,6 @@
 use Rattle.std.proofs.Common.{ap, arith, length}
 use Rattle.rv_engines.proofs.RunLists.{name_told, name_within, names_read}
-use Rattle.rv_engines.proofs.run.lists.read_named.Goals as goal
+use Rattle.rv_engines.proofs.run.lists.named_ranges.Goals as goal
 
 pub returns-in-Ok-clause-ok : goal.returns-in-Ok-clause-ok
 returns-in-Ok-clause-ok c =
