@@ -91,7 +91,8 @@ impl Watch {
         }
     }
 
-    /// The round of a hart, where it is seen to wait in the machine's state; None says nothing.
+    /// The round of a hart, where it is seen to wait in the machine's state: it stands where its anchor does. None says nothing.
+    /// The round may go over the same loop several times.
     pub fn round<S: ByteStore>(&self, machine: &Machine<S>, h: u8) -> Option<Round>
         requires hart { h < length machine.now.state.harts }
         requires watch { IsWatchOf self.now machine.now.state }
