@@ -74,12 +74,12 @@ fn touch_range(touched: &mut Touched, range: Range)
 }
 
 /// Where the range is, or else a place with none.
-fn place_for(data: &[Range; MOST_RANGES], range: Range) -> Option<usize>
-    ensures { IfSome result (λ place. IsSomeAnd (slice_get data.now place) (λ there.
+fn place_for(ranges: &[Range; MOST_RANGES], range: Range) -> Option<usize>
+    ensures { IfSome result (λ place. IsSomeAnd (slice_get ranges.now place) (λ there.
         (there ≡ range) ⊎ (there.size ≡ 0))) }
 {
     for place in 0..MOST_RANGES {
-        let there = data[place];
+        let there = ranges[place];
         if there == range || there.size == 0 {
             return Some(place);
         }
