@@ -88,12 +88,8 @@ class Tries:
         return name + ".elf"
 
 
-def image_of(segments, symbols=(), entry=0x10000):
-    """An ELF32 file: of each segment its address, bytes, size in memory and flags; of each symbol its name, value, size and type."""
-    strings, table = b"\0", bytes(16)
-    for name, value, size, kind in symbols:
-        table += struct.pack("<IIIBBH", len(strings), value, size, kind, 0, 0xFFF1)
-        strings += bytes_of(name) + b"\0"
+def image_with(segments, table, strings, entry=0x10000):
+    """An ELF32 file: of each segment its address, bytes, size in memory and flags; the bytes of a symbol table, and its strings."""
     offset = 52 + 32 * len(segments)
     headers = contents = b""
     for start, code, size, flags in segments:
@@ -102,8 +98,17 @@ def image_of(segments, symbols=(), entry=0x10000):
     end = offset + len(contents)
     sections = bytes(40) + struct.pack("<10I", 0, 2, 0, 0, end, len(table), 2, 1, 4, 16)
     sections += struct.pack("<10I", 0, 3, 0, 0, end + len(table), len(strings), 0, 0, 1, 0)
-    header = struct.pack("<16sHHIIIIIHHHHHH", b"\x7fELF\x01\x01\x01", 2, 243, 1, entry, 52, end + len(table + strings), 0, 52, 32, len(segments), 40, 3, 0)
-    return header + headers + contents + table + strings + sections
+    header = struct.pack("<16sHHIIIIIHHHHHH", b"\x7fELF\x01\x01\x01", 2, 243, 1, entry, 52, end + len(table) + len(strings), 0, 52, 32, len(segments), 40, 3, 0)
+    return b"".join([header, headers, contents, table, strings, sections])
+
+
+def image_of(segments, symbols=(), entry=0x10000):
+    """The same with symbols: of each its name, value, size and type."""
+    strings, table = b"\0", bytes(16)
+    for name, value, size, kind in symbols:
+        table += struct.pack("<IIIBBH", len(strings), value, size, kind, 0, 0xFFF1)
+        strings += bytes_of(name) + b"\0"
+    return image_with(segments, table, strings, entry)
 
 
 def tried(tests):
