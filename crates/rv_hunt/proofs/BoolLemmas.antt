@@ -26,24 +26,3 @@ second_failed i g e a b y first next = rw (first, next) (second i g e y)
 
 pub third_failed : (i g e a b c z : Bool) → a ≡ (i || false) → b ≡ (g || false) → c ≡ (e || z) → ((a || b) || c) ≡ (((i || g) || e) || z)
 third_failed i g e a b c z first next last = rw (first, next, last) (third i g e z)
-
-files : (d p n v x : Bool) → (((d || p) || x) || (n || v)) ≡ (((d || p) || (n || v)) || x)
-files true p n v x = refl
-files false true n v x = refl
-files false false n v true = files_true n v
-  where
-    files_true : (n v : Bool) → true ≡ ((n || v) || true)
-    files_true true v = refl
-    files_true false true = refl
-    files_true false false = refl
-files false false true v false = refl
-files false false false true false = refl
-files false false false false false = refl
-
--- of a folder and a page, and of two writers, one of the first two failed
-pub file_failed : (d p n v a x : Bool) → a ≡ ((d || p) || x) → (a || (n || v)) ≡ (((d || p) || (n || v)) || x)
-file_failed d p n v a x first = rw first (files d p n v x)
-
-or_or : (a b x : Bool) → (a || (b || x)) ≡ ((a || b) || x)
-or_or true b x = refl
-or_or false b x = refl

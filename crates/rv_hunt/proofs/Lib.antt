@@ -6,6 +6,7 @@ pub mod EngineLemmas
 pub mod FileLemmas
 pub mod FilterLemmas
 pub mod FoldLemmas
+pub mod HeldLemmas
 pub mod HuntLemmas
 pub mod IgnoreLemmas
 pub mod IgnoredRowLemmas

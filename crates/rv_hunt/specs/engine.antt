@@ -4,6 +4,7 @@ pub mod FolderFault
 pub mod HuntBlocks
 pub mod HuntFault
 pub mod Hunting
+pub mod Late
 pub mod OnwardText
 pub mod Paged
 pub mod Saved

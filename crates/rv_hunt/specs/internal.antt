@@ -2,6 +2,7 @@
 pub mod Adding
 pub mod Counting
 pub mod Drawn
+pub mod Held
 pub mod Lookup
 pub mod Lots
 pub mod MakeFault

@@ -9,6 +9,7 @@ ghost use Rattle.rv_engines.specs.Campaigns.{passes};
 ghost use Rattle.rv_hunt.specs.engine.Asked.{AreLegal, asked, parts};
 ghost use Rattle.rv_hunt.specs.engine.HuntFault.{IsTold, fails_by, is_of_files, is_read, is_write};
 ghost use Rattle.rv_hunt.specs.engine.Hunting as spec;
+ghost use Rattle.rv_hunt.specs.engine.Late.{IfKept, IfMade};
 ghost use Rattle.rv_hunt.specs.engine.Paged.{IsPaged};
 ghost use Rattle.rv_hunt.specs.engine.Saved.{AreSaved};
 ghost use Rattle.rv_hunt.specs.internal.Opened.{IsMade, hunt_in, hunting_with};
@@ -105,8 +106,8 @@ fn make<'a, T: Threads + Wait + Sync, R: Read, D: Folder, F: NewFile, P: Watch>(
     ensures made { IfOk result (λ made. IfSome (spec.files_of R.remaining inputs.old) (λ files.
         (hunting : spec.Hunting) × spec.IsHuntingOf (asked options.now) files hunting
         × IsMade (parts options.now.line) options.now.shows hunting
-        (λ rows. IfSome folder.new (λ saved. AreSaved hunting.hunt (D.Holds saved) rows))
-        (λ came rows. IfSome page.new (λ file. IsPaged (parts options.now.line) hunting.hunt came rows (F.Holds file)))
+        (λ rows. IfSome folder.new (λ saved. AreSaved hunting.hunt (IfKept D.has_failed D.Holds saved) rows))
+        (λ came rows. IfSome page.new (λ file. IsPaged (parts options.now.line) hunting.hunt came rows (IfMade F.has_failed F.Holds file)))
         made)) }
     ensures wanted { (is_some folder.new ≡ is_some folder.old) × (is_some page.new ≡ is_some page.old) }
     ensures refused { IfErr result (λ fault. IfSome (spec.files_of R.remaining inputs.old) (λ files.
@@ -116,8 +117,8 @@ fn make<'a, T: Threads + Wait + Sync, R: Read, D: Folder, F: NewFile, P: Watch>(
     ensures no_page { IfErr result (λ fault. is_of_files fault ≡ true
         → passes F.is_made page.new ≡ passes F.is_made page.old) }
     ensures readers { spec.any_failed inputs.new ≡ (spec.any_failed inputs.old || fails_by is_read result) }
-    ensures writers { (passes D.has_failed folder.new || passes F.has_failed page.new)
-        ≡ ((passes D.has_failed folder.old || passes F.has_failed page.old) || fails_by is_write result) }
+    ensures files { fails_by is_write result ≡ true
+        → (passes D.has_failed folder.new || passes F.has_failed page.new) ≡ true }
 {
     let read = match read(alloc, options, inputs) {
         Ok(read) => read,
@@ -135,7 +136,8 @@ fn make<'a, T: Threads + Wait + Sync, R: Read, D: Folder, F: NewFile, P: Watch>(
 
 /// Reads the image and the lists, looks at the folder, makes the runs of a hunt, the schedules of the races that are told
 /// and the page, and writes what the runs saw. `notes` is the standard error: it has got all of the notes before the first byte
-/// of the text is written. Where a file or a list is refused, or the folder is, nothing is made or written.
+/// of the text is written. Where a file or a list is refused, or the folder or the page can't be made, nothing is made or
+/// written. A file that fails after the runs has it noted: all others are made, and the text is written.
 pub fn run_hunt<
     'a,
     T: Threads + Wait + Sync,
@@ -162,8 +164,8 @@ pub fn run_hunt<
         × spec.IsTold (parts options.now.line) options.now.shows hunting found
         (Appends (buffer.written W.contents writer.old) (buffer.sent W.contents writer.new))
         (Appends (buffer.written E.contents notes.old) (buffer.sent E.contents notes.new))
-        (λ rows. IfSome folder.new (λ made. AreSaved hunting.hunt (D.Holds made) rows))
-        (λ came rows. IfSome page.new (λ file. IsPaged (parts options.now.line) hunting.hunt came rows (F.Holds file))))) }
+        (λ rows. IfSome folder.new (λ made. AreSaved hunting.hunt (IfKept D.has_failed D.Holds made) rows))
+        (λ came rows. IfSome page.new (λ file. IsPaged (parts options.now.line) hunting.hunt came rows (IfMade F.has_failed F.Holds file))))) }
     ensures wanted { (is_some folder.new ≡ is_some folder.old) × (is_some page.new ≡ is_some page.old) }
     ensures refused { IfErr result (λ fault. IfSome (spec.files_of R.remaining inputs.old) (λ files.
         IsTold (asked options.now) files fault)) }
@@ -177,14 +179,16 @@ pub fn run_hunt<
         → passes F.is_made page.new ≡ passes F.is_made page.old) }
     ensures first { buffer.has_failed notes.old ≡ false → buffer.has_failed notes.new ≡ true
         → Keeps (buffer.sent W.contents writer.old) (buffer.sent W.contents writer.new) }
-    ensures files_first { (passes D.has_failed folder.old || passes F.has_failed page.old) ≡ false
-        → (passes D.has_failed folder.new || passes F.has_failed page.new) ≡ true
+    ensures looked { fails_by is_write result ≡ true
+        → (buffer.has_failed notes.new || buffer.has_failed writer.new) ≡ false
         → Keeps (buffer.sent W.contents writer.old) (buffer.sent W.contents writer.new) }
     ensures readers { spec.any_failed inputs.new ≡ (spec.any_failed inputs.old || fails_by is_read result) }
-    ensures writers { ((passes D.has_failed folder.new || passes F.has_failed page.new)
-        || (buffer.has_failed notes.new || buffer.has_failed writer.new))
-        ≡ (((passes D.has_failed folder.old || passes F.has_failed page.old)
-        || (buffer.has_failed notes.old || buffer.has_failed writer.old)) || fails_by is_write result) }
+    ensures writers { fails_by is_write result ≡ true
+        → ((passes D.has_failed folder.new || passes F.has_failed page.new)
+        || (buffer.has_failed notes.new || buffer.has_failed writer.new)) ≡ true }
+    ensures streams { (buffer.has_failed notes.old || buffer.has_failed writer.old) ≡ false
+        → (buffer.has_failed notes.new || buffer.has_failed writer.new) ≡ true
+        → fails_by is_write result ≡ true }
 {
     let made = match make(rt, alloc, options, inputs, folder, page, watch) {
         Ok(made) => made,

@@ -5,7 +5,7 @@ ghost use Rattle.std.specs.Io.{ReadsAtMost};
 
 use rv_engines::new_file::NewFile;
 use rv_memory::flagged::{Flagged, WriteFault, flush, write_whole};
-use std::fs;
+use std::fs::{self, File, OpenOptions};
 use std::io::{self, Read};
 use std::rt::Files;
 
@@ -86,6 +86,30 @@ fn write_file<R: Files>(rt: &R, path: &str, bytes: &[u8]) -> Result<(), WriteFau
     flush(&mut writer)
 }
 
+/// Looks whether a file that is there takes bytes, which are left as they are. A device or a pipe is not opened, since
+/// another program may wait for it.
+fn look_at_standing<R: Files>(rt: &R, path: &str) -> Result<(), WriteFault> {
+    let Ok(metadata) = fs::metadata(rt, path) else {
+        return Ok(());
+    };
+    if metadata.is_dir() {
+        return Err(WriteFault);
+    }
+    if metadata.is_file() && OpenOptions::new().write(true).open(rt, path).is_err() {
+        return Err(WriteFault);
+    }
+    Ok(())
+}
+
+/// Looks whether a file can be made at the path: one that is not there is made and taken away.
+fn look_at<R: Files>(rt: &R, path: &str) -> Result<(), WriteFault> {
+    match File::create_new(rt, path) {
+        Ok(_) if fs::remove_file(rt, path).is_ok() => Ok(()),
+        Err(error) if error.kind() == io::ErrorKind::AlreadyExists => look_at_standing(rt, path),
+        _ => Err(WriteFault),
+    }
+}
+
 impl<R: Files> NewFile for OutputFile<'_, R> {
     ghost use Rattle.std.specs.Prelude.{⊤};
 
@@ -95,6 +119,14 @@ impl<R: Files> NewFile for OutputFile<'_, R> {
     ghost Holds = { λ file bytes. ⊤ };
 
     ghost has_failed = { λ file. file.failed };
+
+    fn look(&mut self) -> Result<(), WriteFault> {
+        let looked = look_at(self.rt, self.path);
+        if looked.is_err() {
+            self.failed = true;
+        }
+        looked
+    }
 
     fn make(&mut self, bytes: &[u8]) -> Result<(), WriteFault> {
         self.is_made = true;

@@ -8,6 +8,9 @@ use rv_text::decimal::read_decimal;
 use std::fs::{self, File};
 use std::io;
 
+/// The name of the file by which a folder is tried.
+const TRIED: &str = "race-1.schedule";
+
 /// A folder in which files are made.
 #[derive(Drop)]
 pub struct ScheduleFolder<'a> {
@@ -52,12 +55,12 @@ impl<'a> ScheduleFolder<'a> {
         self.stands
     }
 
-    /// Notes why the folder takes no file.
+    /// Notes why the folder takes no file, the first time.
     fn note(&mut self, fault: FolderFault, race: Option<u64>)
         ensures failed { self.new.failed ≡ (self.old.failed || is_write fault) }
         ensures used { self.new.is_used ≡ self.old.is_used }
     {
-        if matches!(fault, FolderFault::Write) {
+        if matches!(fault, FolderFault::Write) && !self.failed {
             self.failed = true;
             self.at = race;
         }
@@ -126,6 +129,27 @@ fn make_schedule(
     make_file(rt, path.as_str(), bytes)
 }
 
+/// Makes a file of the folder, and takes it away.
+fn try_folder(rt: &HostRuntime, folder: &str) -> Result<(), FolderFault> {
+    let Ok(path) = format!(in rt.alloc(); "{folder}/{TRIED}") else {
+        return Err(FolderFault::NoMemory);
+    };
+    make_file(rt, path.as_str(), &[])?;
+    match fs::remove_file(rt, path.as_str()) {
+        Ok(()) => Ok(()),
+        Err(error) => Err(fault_of(&error)),
+    }
+}
+
+/// Looks whether the folder has no schedule of a race yet, and takes files.
+fn look_in(rt: &HostRuntime, folder: &str) -> Result<Option<u64>, FolderFault> {
+    let race = race_there(rt, folder)?;
+    if race.is_none() {
+        try_folder(rt, folder)?;
+    }
+    Ok(race)
+}
+
 impl Folder for ScheduleFolder<'_> {
     ghost use Rattle.std.specs.Prelude.{⊤};
 
@@ -137,7 +161,7 @@ impl Folder for ScheduleFolder<'_> {
     ghost has_failed = { λ folder. folder.failed };
 
     fn look(&mut self) -> Result<(), FolderFault> {
-        let (fault, race) = match race_there(self.rt, self.path) {
+        let (fault, race) = match look_in(self.rt, self.path) {
             Ok(None) => return Ok(()),
             Ok(Some(race)) => (FolderFault::Write, Some(race)),
             Err(fault) => (fault, None),

@@ -13,6 +13,9 @@ use rv_hunt::merge::fault::FileFault;
 
 const WRITE: FileFault = FileFault::Plain(Fault::Write);
 
+/// A file that could not be made.
+pub const WRITE_FAULT: HuntFault<'static> = HuntFault::Command(CommandFault::Plain(Fault::Write));
+
 /// What of a folder is at fault.
 #[derive(Clone, Copy)]
 pub enum AtFault {
@@ -30,6 +33,13 @@ pub struct Failed {
     pub image: bool,
     pub folder: AtFault,
     pub page: bool,
+}
+
+impl Failed {
+    /// Whether a file that the hunt makes has failed.
+    pub fn has_file(&self) -> bool {
+        self.page || !matches!(self.folder, AtFault::Nothing)
+    }
 }
 
 /// What is at fault in a folder, where one is given.

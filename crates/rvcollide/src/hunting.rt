@@ -5,7 +5,7 @@ ghost use Rattle.rv_hunt.specs.engine.Asked.{AreLegal};
 use crate::failure::Failure;
 use crate::files::{InputFile, OutputFile};
 use crate::folder::ScheduleFolder;
-use crate::hunt_failure::{Failed, at_fault_in, failure_of};
+use crate::hunt_failure::{Failed, WRITE_FAULT, at_fault_in, failure_of};
 use crate::paths::{expect_path, ignore_path};
 use crate::shown_line::ShownLine;
 use rv_command::arguments::{FolderPath, ImagePath, PagePath};
@@ -196,16 +196,16 @@ fn hunt_by<'a>(
         &mut notes,
         &mut progress,
     );
+    let failed = Failed {
+        image: inputs.image.failed(),
+        folder: at_fault_in(&folder),
+        page: page.is_some_and(|page| page.has_failed()),
+    };
     match hunted {
+        // What a file's fault left is written by now.
+        Ok(_) if failed.has_file() => Err(failure_of(image, line, failed, WRITE_FAULT)),
         Ok(found) if is_asked(line, found) => Err(Failure::Found),
         Ok(_) => Ok(()),
-        Err(fault) => {
-            let failed = Failed {
-                image: inputs.image.failed(),
-                folder: at_fault_in(&folder),
-                page: page.is_some_and(|page| page.has_failed()),
-            };
-            Err(failure_of(image, line, failed, fault))
-        }
+        Err(fault) => Err(failure_of(image, line, failed, fault)),
     }
 }

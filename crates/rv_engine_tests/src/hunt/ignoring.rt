@@ -47,10 +47,11 @@ const FITS: &[Fits] = &[
 
 fn assert_fits(rt: &impl Abort, alloc: Global, symbols: &SymbolTable, row: &Fits) {
     let (list, first, second, wanted) = *row;
-    let ignores = read_ignores(alloc, symbols, &mut Flagged::new(list.as_bytes()))
+    let ignores = read_ignores(alloc, symbols.image(), &mut Flagged::new(list.as_bytes()))
         .ok()
         .expect(rt, list);
-    let found = ignores.fits(symbols, &Key { first, second });
+    let bytes = ignores.bytes(alloc, symbols.image()).expect(rt, "memory");
+    let found = ignores.fits(symbols, &bytes, &Key { first, second });
     assert_is(rt, found, wanted, list);
 }
 

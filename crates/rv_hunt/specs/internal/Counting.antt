@@ -1,5 +1,5 @@
 -- The numbers of a run, pause by pause.
-use Rattle.std.specs.Prelude.{ℕ, ◌+◌, List}
+use Rattle.std.specs.Prelude.{◌+◌, List}
 use Rattle.rv_collide.specs.Counts.{saturated}
 use Rattle.rv_collide.specs.declared.ending.Ending.{Ending}
 use Rattle.rv_collide.specs.declared.entry.Entry.{Entry}

@@ -11,7 +11,6 @@ use crate::merge::ignore::{Ignores, read_ignores};
 use crate::merge::table_file::read_expected;
 use crate::table::HuntTable;
 use rv_elf::Image;
-use rv_explain::symbol_table::SymbolTable;
 use rv_memory::flagged::Flagged;
 use std::alloc::Global;
 use std::io::Read;
@@ -39,10 +38,7 @@ pub(crate) fn read_ignored<R: Read>(
 {
     match list {
         None => Ok(Ignores::none(alloc)),
-        Some(reader) => {
-            let symbols = SymbolTable::new(alloc, image)?;
-            read_ignores(alloc, &symbols, reader)
-        }
+        Some(reader) => read_ignores(alloc, image, reader),
     }
 }
 

@@ -1,5 +1,5 @@
 //! The runs of a hunt, and the texts of what they saw.
-ghost use Rattle.std.specs.Prelude.{◌≡◌, ◌||◌, All, IfOk, IfSome, is_some};
+ghost use Rattle.std.specs.Prelude.{◌≡◌, ◌||◌, All, IfOk, IfSome, is_err, is_some, true};
 ghost use Rattle.rv_engines.specs.Campaigns.{passes};
 ghost use Rattle.rv_hunt.specs.Hunted.{IsHunted};
 ghost use Rattle.rv_sample.specs.Sites.{sites};
@@ -7,6 +7,7 @@ ghost use Rattle.rv_hunt.specs.engine.Asked.{AreLegal, asked, parts};
 ghost use Rattle.rv_hunt.specs.engine.FolderFault as looking;
 ghost use Rattle.rv_hunt.specs.engine.HuntBlocks.{AreBlocks};
 ghost use Rattle.rv_hunt.specs.engine.Hunting as spec;
+ghost use Rattle.rv_hunt.specs.engine.Late.{IfKept, IfMade};
 ghost use Rattle.rv_hunt.specs.engine.Paged.{IsPaged};
 ghost use Rattle.rv_hunt.specs.engine.Saved.{AreSaved};
 ghost use Rattle.rv_hunt.specs.internal.MakeFault.{fails_by_write};
@@ -34,6 +35,7 @@ use crate::saying::order::{benign, bugs, told_rows};
 use crate::saying::warnings::warnings_text;
 use rv_engines::new_file::NewFile;
 use rv_explain::symbol_table::SymbolTable;
+use rv_memory::flagged::WriteFault;
 use rv_memory::store::NoMemory;
 use rv_report::key::Key;
 use rv_sample::Sampler;
@@ -49,38 +51,32 @@ pub(crate) struct Made {
     pub(crate) notes: Vec<u8>,
 }
 
-/// The blocks of the races that are told.
-fn told_blocks(
-    alloc: Global,
-    hunt: &Hunt,
-    excluded: &[u32],
-    line: &LineParts<'_>,
-    told: &[(Key, RaceRow)],
-) -> Result<Vec<u8>, NoMemory>
-    requires sites { hunt.now.source.sites ≡ sites hunt.now.source.image excluded.now }
-    requires races { All (HasRace hunt.now) told.now }
-    ensures { IfOk result (λ text. AreBlocks (parts line.now) hunt.now 1 told.now text.items) }
-{
-    let symbols = SymbolTable::new(alloc, hunt.image)?;
-    blocks_of(alloc, hunt, &symbols, excluded, line, told)
-}
-
 /// The texts of what a hunt came to. `told` are the races that are told one by one.
 fn texts(
     alloc: Global,
     hunt: &Hunt,
+    symbols: &SymbolTable,
     excluded: &[u32],
     options: &HuntOptions<'_, '_>,
     outcome: &Outcome,
     told: &[(Key, RaceRow)],
 ) -> Result<(Vec<u8>, Vec<u8>), NoMemory>
     requires sites { hunt.now.source.sites ≡ sites hunt.now.source.image excluded.now }
+    requires image { symbols.now ≡ hunt.now.source.image }
     requires races { All (HasRace hunt.now) told.now }
     ensures { IfOk result (λ texts. spec.AreTextsOf (parts options.now.line) options.now.shows hunt.now outcome.now told.now
         (record { text = texts.0.items; notes = texts.1.items })) }
 {
     match options.shows {
-        Shows::Text => texts_one_by_one(alloc, hunt, excluded, &options.line, outcome, told),
+        Shows::Text => texts_one_by_one(
+            alloc,
+            hunt,
+            symbols,
+            excluded,
+            &options.line,
+            outcome,
+            told,
+        ),
         Shows::Table => texts_as_table(alloc, &options.line, outcome),
     }
 }
@@ -89,17 +85,19 @@ fn texts(
 fn texts_one_by_one(
     alloc: Global,
     hunt: &Hunt,
+    symbols: &SymbolTable,
     excluded: &[u32],
     line: &LineParts<'_>,
     outcome: &Outcome,
     told: &[(Key, RaceRow)],
 ) -> Result<(Vec<u8>, Vec<u8>), NoMemory>
     requires sites { hunt.now.source.sites ≡ sites hunt.now.source.image excluded.now }
+    requires image { symbols.now ≡ hunt.now.source.image }
     requires races { All (HasRace hunt.now) told.now }
     ensures { IfOk result (λ texts. spec.AreTextsOf (parts line.now) Shows.Text hunt.now outcome.now told.now
         (record { text = texts.0.items; notes = texts.1.items })) }
 {
-    let blocks = told_blocks(alloc, hunt, excluded, line, told)?;
+    let blocks = blocks_of(alloc, hunt, symbols, excluded, line, told)?;
     let text = hunt_text(alloc, line, outcome, &blocks)?;
     Ok((text, warnings_text(alloc, outcome.sites, outcome.saw)?))
 }
@@ -118,13 +116,19 @@ fn texts_as_table(
 }
 
 /// The rows of what a hunt saw: those that are told, and those that are ignored.
-fn parted_rows(alloc: Global, hunt: &Hunt, lists: &Lists, saw: &Hunted) -> Result<Parted, NoMemory>
+fn parted_rows(
+    alloc: Global,
+    hunt: &Hunt,
+    symbols: &SymbolTable,
+    lists: &Lists,
+    saw: &Hunted,
+) -> Result<Parted, NoMemory>
+    requires { symbols.now ≡ hunt.now.source.image }
     ensures told { IfOk result (λ parted. parted.told.items ≡ spec.told_in (hunting_with hunt.now lists.now) saw.now) }
     ensures ignored { IfOk result (λ parted. parted.ignored.items ≡ spec.ignored_by (hunting_with hunt.now lists.now) saw.now) }
 {
-    let symbols = SymbolTable::new(alloc, hunt.image)?;
     let rows = saw.table.rows(alloc)?;
-    part_rows(alloc, &symbols, &lists.ignored, &rows)
+    part_rows(alloc, symbols, &lists.ignored, &rows)
 }
 
 /// What was found, by the rows of the races that are told.
@@ -139,31 +143,40 @@ fn found_in(lists: &Lists, rows: &[(Key, RaceRow)]) -> Found
 }
 
 /// The texts of what a hunt came to. They are made first, then the schedules of the races that are told are saved, and the
-/// page is made last: what wants memory comes before a file.
+/// page is made last: what wants memory comes before a file. Where a file can't be made that is noted, and the others are.
 fn texts_and_files<D: Folder, F: NewFile>(
     alloc: Global,
     hunt: &Hunt,
+    symbols: &SymbolTable,
     excluded: &[u32],
     options: &HuntOptions<'_, '_>,
     outcome: &Outcome,
     told: &[(Key, RaceRow)],
     folder: &mut Option<D>,
     page: &mut Option<F>,
-) -> Result<(Vec<u8>, Vec<u8>), MakeFault>
+) -> Result<(Vec<u8>, Vec<u8>), NoMemory>
     requires sites { hunt.now.source.sites ≡ sites hunt.now.source.image excluded.now }
+    requires image { symbols.now ≡ hunt.now.source.image }
     requires races { All (HasRace hunt.now) told.now }
     ensures texts { IfOk result (λ texts. spec.AreTextsOf (parts options.now.line) options.now.shows hunt.now outcome.now told.now
         (record { text = texts.0.items; notes = texts.1.items })) }
-    ensures saved { IfOk result (λ _. IfSome folder.new (λ made. AreSaved hunt.now (D.Holds made) told.now)) }
+    ensures saved { IfOk result (λ _. IfSome folder.new (λ made. AreSaved hunt.now (IfKept D.has_failed D.Holds made) told.now)) }
     ensures paged { IfOk result (λ _. IfSome page.new (λ file.
-        IsPaged (parts options.now.line) hunt.now outcome.now told.now (F.Holds file))) }
+        IsPaged (parts options.now.line) hunt.now outcome.now told.now (IfMade F.has_failed F.Holds file))) }
     ensures wanted { (is_some folder.new ≡ is_some folder.old) × (is_some page.new ≡ is_some page.old) }
-    ensures failed { (passes D.has_failed folder.new || passes F.has_failed page.new)
-        ≡ (passes D.has_failed folder.old || passes F.has_failed page.old || fails_by_write result) }
 {
-    let texts = texts(alloc, hunt, excluded, options, outcome, told)?;
+    let texts = texts(alloc, hunt, symbols, excluded, options, outcome, told)?;
     save_races(alloc, hunt, excluded, told, folder)?;
-    page_races(alloc, hunt, excluded, &options.line, outcome, told, page)?;
+    page_races(
+        alloc,
+        hunt,
+        symbols,
+        excluded,
+        &options.line,
+        outcome,
+        told,
+        page,
+    )?;
     Ok(texts)
 }
 
@@ -177,18 +190,17 @@ fn told<D: Folder, F: NewFile>(
     saw: &Hunted,
     folder: &mut Option<D>,
     page: &mut Option<F>,
-) -> Result<Made, MakeFault>
+) -> Result<Made, NoMemory>
     requires sites { hunt.now.source.sites ≡ sites hunt.now.source.image excluded.now }
     requires hunted { IsHunted hunt.now saw.now }
     ensures made { IfOk result (IsMade (parts options.now.line) options.now.shows (hunting_with hunt.now lists.now)
-        (λ rows. IfSome folder.new (λ made. AreSaved hunt.now (D.Holds made) rows))
-        (λ came rows. IfSome page.new (λ file. IsPaged (parts options.now.line) hunt.now came rows (F.Holds file)))) }
+        (λ rows. IfSome folder.new (λ made. AreSaved hunt.now (IfKept D.has_failed D.Holds made) rows))
+        (λ came rows. IfSome page.new (λ file. IsPaged (parts options.now.line) hunt.now came rows (IfMade F.has_failed F.Holds file)))) }
     ensures wanted { (is_some folder.new ≡ is_some folder.old) × (is_some page.new ≡ is_some page.old) }
-    ensures failed { (passes D.has_failed folder.new || passes F.has_failed page.new)
-        ≡ (passes D.has_failed folder.old || passes F.has_failed page.old || fails_by_write result) }
 {
     hunts_have_one_result();
-    let parted = parted_rows(alloc, hunt, lists, saw)?;
+    let symbols = SymbolTable::new(alloc, hunt.image)?;
+    let parted = parted_rows(alloc, hunt, &symbols, lists, saw)?;
     let told = told_rows(alloc, &parted.told)?;
     let outcome = Outcome {
         sites: count_of(hunt.sampler),
@@ -197,7 +209,7 @@ fn told<D: Folder, F: NewFile>(
         ignored: &parted.ignored,
     };
     let (text, notes) = texts_and_files(
-        alloc, hunt, excluded, options, &outcome, &told, folder, page,
+        alloc, hunt, &symbols, excluded, options, &outcome, &told, folder, page,
     )?;
     Ok(Made {
         found: found_in(lists, &parted.told),
@@ -218,7 +230,19 @@ fn look<D: Folder>(folder: &mut Option<D>) -> Result<(), FolderFault>
     }
 }
 
-/// Looks at the folder, and makes the runs of a hunt of what was opened, the schedules of the races that are told, and the
+/// Looks whether the page can be made, where one is given.
+fn look_at_page<F: NewFile>(page: &mut Option<F>) -> Result<(), WriteFault>
+    ensures made { passes F.is_made page.new ≡ passes F.is_made page.old }
+    ensures wanted { is_some page.new ≡ is_some page.old }
+    ensures failed { passes F.has_failed page.new ≡ (passes F.has_failed page.old || is_err result) }
+{
+    match page {
+        None => Ok(()),
+        Some(file) => file.look(),
+    }
+}
+
+/// Looks at the folder and the page, and makes the runs of a hunt of what was opened, the schedules of the races that are told, and the
 /// texts of what they saw.
 pub(crate) fn make_hunt<T: Threads + Wait + Sync, P: Watch, D: Folder, F: NewFile>(
     rt: &T,
@@ -233,14 +257,15 @@ pub(crate) fn make_hunt<T: Threads + Wait + Sync, P: Watch, D: Folder, F: NewFil
     requires { AreLegal options.now }
     ensures made { IfOk result (IsMade (parts options.now.line) options.now.shows
         (hunting_with (hunt_in (asked options.now) opened.now) lists.now)
-        (λ rows. IfSome folder.new (λ made. AreSaved (hunt_in (asked options.now) opened.now) (D.Holds made) rows))
+        (λ rows. IfSome folder.new (λ made. AreSaved (hunt_in (asked options.now) opened.now) (IfKept D.has_failed D.Holds made) rows))
         (λ came rows. IfSome page.new (λ file.
-        IsPaged (parts options.now.line) (hunt_in (asked options.now) opened.now) came rows (F.Holds file)))) }
+        IsPaged (parts options.now.line) (hunt_in (asked options.now) opened.now) came rows (IfMade F.has_failed F.Holds file)))) }
     ensures wanted { (is_some folder.new ≡ is_some folder.old) × (is_some page.new ≡ is_some page.old) }
-    ensures failed { (passes D.has_failed folder.new || passes F.has_failed page.new)
-        ≡ (passes D.has_failed folder.old || passes F.has_failed page.old || fails_by_write result) }
+    ensures failed { fails_by_write result ≡ true
+        → (passes D.has_failed folder.new || passes F.has_failed page.new) ≡ true }
 {
     look(folder)?;
+    look_at_page(page)?;
     let sampler = Sampler::sites(alloc, &opened.image, &opened.lists.excluded)?;
     let hunt = Hunt {
         image: &opened.image,
@@ -264,5 +289,8 @@ pub(crate) fn make_hunt<T: Threads + Wait + Sync, P: Watch, D: Folder, F: NewFil
     );
     // It has many parts, which are let go by one call.
     drop(saw);
-    made
+    match made {
+        Ok(made) => Ok(made),
+        Err(fault) => Err(MakeFault::from(fault)),
+    }
 }

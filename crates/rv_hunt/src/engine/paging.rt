@@ -1,15 +1,13 @@
 //! What the page of a hunt is told of each race, as `specs/engine/Paged.antt` has it.
-ghost use Rattle.std.specs.Prelude.{◌≡◌, ◌||◌, All, IfOk, IfSome, OnOk, is_some};
-ghost use Rattle.rv_engines.specs.Campaigns.{passes};
+ghost use Rattle.std.specs.Prelude.{◌≡◌, All, IfOk, IfSome, OnOk, is_some};
 ghost use Rattle.rv_hunt.specs.page.Parts as page;
 ghost use Rattle.rv_sample.specs.Sites.{sites};
 ghost use Rattle.rv_hunt.specs.engine.Asked.{parts};
+ghost use Rattle.rv_hunt.specs.engine.Late.{IfMade};
 ghost use Rattle.rv_hunt.specs.engine.Paged as spec;
-ghost use Rattle.rv_hunt.specs.internal.MakeFault.{fails_by_write};
 ghost use Rattle.rv_hunt.specs.internal.Opened.{HasRace};
 
 use crate::engine::drawn::drawn_again;
-use crate::engine::fault::MakeFault;
 use crate::engine::options::LineParts;
 use crate::hunt::Hunt;
 use crate::page::page_text;
@@ -101,37 +99,39 @@ fn parts_of(
 fn page_of(
     alloc: Global,
     hunt: &Hunt,
+    symbols: &SymbolTable,
     excluded: &[u32],
     line: &LineParts<'_>,
     outcome: &Outcome,
     rows: &[(Key, RaceRow)],
 ) -> Result<Vec<u8>, NoMemory>
     requires sites { hunt.now.source.sites ≡ sites hunt.now.source.image excluded.now }
+    requires image { symbols.now ≡ hunt.now.source.image }
     requires races { All (HasRace hunt.now) rows.now }
     ensures { IfOk result (λ text. spec.IsPaged (parts line.now) hunt.now outcome.now rows.now (λ bytes. bytes ≡ text.items)) }
 {
-    let symbols = SymbolTable::new(alloc, hunt.image)?;
-    let races = parts_of(alloc, hunt, &symbols, excluded, line, rows)?;
+    let races = parts_of(alloc, hunt, symbols, excluded, line, rows)?;
     page_text(alloc, line.command.as_bytes(), outcome, &races)
 }
 
-/// Makes a file of that page.
+/// Makes a file of that page. Where it can't be made the file has it noted.
 fn page_in<F: NewFile>(
     alloc: Global,
     hunt: &Hunt,
+    symbols: &SymbolTable,
     excluded: &[u32],
     line: &LineParts<'_>,
     outcome: &Outcome,
     rows: &[(Key, RaceRow)],
     file: &mut F,
-) -> Result<(), MakeFault>
+) -> Result<(), NoMemory>
     requires sites { hunt.now.source.sites ≡ sites hunt.now.source.image excluded.now }
+    requires image { symbols.now ≡ hunt.now.source.image }
     requires races { All (HasRace hunt.now) rows.now }
-    ensures paged { OnOk result (spec.IsPaged (parts line.now) hunt.now outcome.now rows.now (F.Holds file.new)) }
-    ensures failed { F.has_failed file.new ≡ (F.has_failed file.old || fails_by_write result) }
+    ensures { OnOk result (spec.IsPaged (parts line.now) hunt.now outcome.now rows.now (IfMade F.has_failed F.Holds file.new)) }
 {
-    let text = page_of(alloc, hunt, excluded, line, outcome, rows)?;
-    file.make(&text)?;
+    let text = page_of(alloc, hunt, symbols, excluded, line, outcome, rows)?;
+    let _ = file.make(&text);
     Ok(())
 }
 
@@ -139,21 +139,22 @@ fn page_in<F: NewFile>(
 pub(crate) fn page_races<F: NewFile>(
     alloc: Global,
     hunt: &Hunt,
+    symbols: &SymbolTable,
     excluded: &[u32],
     line: &LineParts<'_>,
     outcome: &Outcome,
     rows: &[(Key, RaceRow)],
     page: &mut Option<F>,
-) -> Result<(), MakeFault>
+) -> Result<(), NoMemory>
     requires sites { hunt.now.source.sites ≡ sites hunt.now.source.image excluded.now }
+    requires image { symbols.now ≡ hunt.now.source.image }
     requires races { All (HasRace hunt.now) rows.now }
     ensures paged { OnOk result (IfSome page.new (λ file.
-        spec.IsPaged (parts line.now) hunt.now outcome.now rows.now (F.Holds file))) }
+        spec.IsPaged (parts line.now) hunt.now outcome.now rows.now (IfMade F.has_failed F.Holds file))) }
     ensures wanted { is_some page.new ≡ is_some page.old }
-    ensures failed { passes F.has_failed page.new ≡ (passes F.has_failed page.old || fails_by_write result) }
 {
     match page {
         None => Ok(()),
-        Some(file) => page_in(alloc, hunt, excluded, line, outcome, rows, file),
+        Some(file) => page_in(alloc, hunt, symbols, excluded, line, outcome, rows, file),
     }
 }

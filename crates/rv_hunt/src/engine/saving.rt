@@ -1,15 +1,13 @@
 //! The schedules of the races that are told, as files.
-ghost use Rattle.std.specs.Prelude.{◌≡◌, ◌||◌, IfOk, IfSome, OnOk, is_some, List, ℕ, ◌≢◌};
+ghost use Rattle.std.specs.Prelude.{◌≡◌, IfOk, IfSome, OnOk, is_some, List, ℕ, ◌≢◌};
 ghost use Rattle.rv_collide.specs.Grammar.{IsWritable, schedule_text};
 ghost use Rattle.rv_collide.specs.Numbers.{numbers};
-ghost use Rattle.rv_engines.specs.Campaigns.{passes};
 ghost use Rattle.rv_sample.specs.Sites.{sites};
 ghost use Rattle.rv_hunt.specs.engine.HuntBlocks.{IsRunOf};
+ghost use Rattle.rv_hunt.specs.engine.Late.{IfKept};
 ghost use Rattle.rv_hunt.specs.engine.Saved.{AreSaved, IsSaved};
-ghost use Rattle.rv_hunt.specs.internal.MakeFault.{fails_by_write};
 
-use crate::engine::fault::MakeFault;
-use crate::engine::folder::Folder;
+use crate::engine::folder::{Folder, FolderFault};
 use crate::hunt::Hunt;
 use crate::row::RaceRow;
 use rv_collide::collider::Finished;
@@ -59,16 +57,20 @@ fn save_race<D: Folder>(
     number: u64,
     row: &(Key, RaceRow),
     folder: &mut D,
-) -> Result<(), MakeFault>
+) -> Result<(), NoMemory>
     requires sites { hunt.now.source.sites ≡ sites hunt.now.source.image excluded.now }
-    ensures saved { OnOk result (IsSaved hunt.now (D.Holds folder.new number) row.now) }
-    ensures kept { (n : ℕ) (text : List ℕ) → n ≢ number → D.Holds folder.old n text → D.Holds folder.new n text }
-    ensures failed { D.has_failed folder.new ≡ (D.has_failed folder.old || fails_by_write result) }
+    ensures saved { OnOk result (IsSaved hunt.now (IfKept D.has_failed D.Holds folder.new number) row.now) }
+    ensures kept { (n : ℕ) (text : List ℕ) → n ≢ number
+        → IfKept D.has_failed D.Holds folder.old n text → IfKept D.has_failed D.Holds folder.new n text }
 {
     let run = run_of(alloc, hunt, excluded, row)?;
     let text = text_of(alloc, &run)?;
-    folder.make(number, &text)?;
-    Ok(())
+    match folder.make(number, &text) {
+        Ok(()) => Ok(()),
+        Err(FolderFault::NoMemory) => Err(NoMemory),
+        // The folder has it noted, and the other files are made.
+        Err(FolderFault::Write) => Ok(()),
+    }
 }
 
 /// Makes a file for the race of each row, in their order.
@@ -78,10 +80,9 @@ fn save_in<D: Folder>(
     excluded: &[u32],
     rows: &[(Key, RaceRow)],
     folder: &mut D,
-) -> Result<(), MakeFault>
+) -> Result<(), NoMemory>
     requires sites { hunt.now.source.sites ≡ sites hunt.now.source.image excluded.now }
-    ensures saved { OnOk result (AreSaved hunt.now (D.Holds folder.new) rows.now) }
-    ensures failed { D.has_failed folder.new ≡ (D.has_failed folder.old || fails_by_write result) }
+    ensures { OnOk result (AreSaved hunt.now (IfKept D.has_failed D.Holds folder.new) rows.now) }
 {
     for place in 0..rows.len() {
         let number = place as u64 + 1;
@@ -97,11 +98,10 @@ pub(crate) fn save_races<D: Folder>(
     excluded: &[u32],
     rows: &[(Key, RaceRow)],
     folder: &mut Option<D>,
-) -> Result<(), MakeFault>
+) -> Result<(), NoMemory>
     requires sites { hunt.now.source.sites ≡ sites hunt.now.source.image excluded.now }
-    ensures saved { OnOk result (IfSome folder.new (λ made. AreSaved hunt.now (D.Holds made) rows.now)) }
+    ensures saved { OnOk result (IfSome folder.new (λ made. AreSaved hunt.now (IfKept D.has_failed D.Holds made) rows.now)) }
     ensures wanted { is_some folder.new ≡ is_some folder.old }
-    ensures failed { passes D.has_failed folder.new ≡ (passes D.has_failed folder.old || fails_by_write result) }
 {
     match folder {
         None => Ok(()),

@@ -1,21 +1,23 @@
 //! Lists of races that are to be ignored. `specs/merge/Ignore.antt` has what they say.
-ghost use Rattle.std.specs.Prelude.{◌≡◌, ◌≤◌, ◌||◌, ◌++◌, false, Ok, Err, IfOk, IfErr, IfSome, IsOkAnd, OnOk, [], length, filter, drop, slice_get, option_map};
+ghost use Rattle.std.specs.Prelude.{◌≡◌, ◌≤◌, ◌||◌, ◌++◌, false, Ok, Err, IfOk, IfErr, IfSome, IsOkAnd, OnOk, [], length, filter, drop, slice_get, map, option_map, ◌&&◌};
 ghost use Rattle.std.specs.Option.{option_copied};
 ghost use Rattle.rv_memory.specs.Flagged as flag;
 ghost use Rattle.rv_text.specs.Pieces.{pieces_of};
 ghost use Rattle.rv_hunt.specs.merge.FileFault.{IsTold, fails_by, is_read, is_write, told_ignore};
+ghost use Rattle.rv_hunt.specs.internal.Held as held;
 ghost use Rattle.rv_hunt.specs.merge.Ignore as spec;
 
 use crate::merge::fault::{FileFault, IgnoreFault, IgnoreKind};
 use crate::merge::spelled::is_spelled;
-use rv_elf::Symbol;
+use rv_elf::{Image, Symbol};
 use rv_explain::symbol_table::SymbolTable;
 use rv_memory::flagged::{Flagged, INPUT_LIMIT, read_whole};
 use rv_memory::store::NoMemory;
+use rv_prune::named_bytes::NamedBytes;
 use rv_report::key::Key;
 use rv_text::hexadecimal::read_word;
 use rv_text::pieces::Pieces;
-use std::alloc::Global;
+use std::alloc::{AllocError, Global};
 use std::io::Read;
 use std::marker::Model;
 
@@ -46,6 +48,13 @@ pub enum Side {
 pub struct Line {
     pub one: Side,
     pub other: Side,
+}
+
+/// The bytes of the symbols that the two sides of a line name.
+#[derive(Drop)]
+pub struct Held {
+    one: NamedBytes,
+    other: NamedBytes,
 }
 
 /// Lines of races that are to be ignored.
@@ -80,25 +89,29 @@ impl SymbolName {
     }
 
     /// Whether a symbol of the image has the name.
-    fn is_known(&self, symbols: &SymbolTable) -> bool
-        ensures { result ≡ spec.has_name symbols.now self.now }
+    fn is_known(&self, image: &Image) -> bool
+        ensures { result ≡ spec.has_name image.now self.now }
     {
-        symbols
-            .image()
-            .symbols()
-            .iter()
-            .any(|symbol| self.is_of(symbol))
+        image.symbols().iter().any(|symbol| self.is_of(symbol))
     }
 
-    /// Whether the address lies in a symbol of the name.
-    fn holds(&self, symbols: &SymbolTable, address: u32) -> bool
-        ensures { result ≡ spec.is_in_name symbols.now self.now address }
+    /// The bytes of the symbols of the name.
+    fn bytes(&self, alloc: Global, image: &Image) -> Result<NamedBytes, NoMemory>
+        ensures { IfOk result (λ bytes. bytes ≡ held.ranges_of image.now self.now) }
     {
-        symbols
-            .image()
+        let listed = self.ranges(alloc, image)?;
+        NamedBytes::of(alloc, listed)
+    }
+
+    fn ranges(&self, alloc: Global, image: &Image) -> Result<Vec<(u32, u32)>, AllocError>
+        ensures { IfOk result (λ listed. listed.items ≡ held.ranges_of image.now self.now) }
+    {
+        image
             .symbols()
             .iter()
-            .any(|symbol| lies_in(address, symbol) && self.is_of(symbol))
+            .filter(|symbol| self.is_of(symbol))
+            .map(|symbol| (symbol.value, symbol.size))
+            .collect(alloc)
     }
 
     /// Whether `explain` tells the address by a symbol of the name.
@@ -110,12 +123,6 @@ impl SymbolName {
             None => false,
         }
     }
-}
-
-fn lies_in(address: u32, symbol: &Symbol) -> bool
-    ensures { result ≡ spec.lies_in address symbol.now }
-{
-    symbol.value <= address && address - symbol.value < symbol.size
 }
 
 impl Side {
@@ -132,23 +139,34 @@ impl Side {
         }
     }
 
-    fn is_known(&self, symbols: &SymbolTable) -> bool
-        ensures { result ≡ spec.is_known symbols.now self.now }
+    fn is_known(&self, image: &Image) -> bool
+        ensures { result ≡ spec.is_known image.now self.now }
     {
         match self {
             Side::Any | Side::Address(_) => true,
-            Side::Name(name) => name.is_known(symbols),
+            Side::Name(name) => name.is_known(image),
+        }
+    }
+
+    /// The bytes of the symbols that it names.
+    fn bytes(&self, alloc: Global, image: &Image) -> Result<NamedBytes, NoMemory>
+        ensures { IfOk result (λ bytes. bytes ≡ held.held_of image.now self.now) }
+    {
+        match self {
+            Side::Any | Side::Address(_) => NamedBytes::of(alloc, Vec::new(alloc)),
+            Side::Name(name) => name.bytes(alloc, image),
         }
     }
 
     /// Whether the side fits an instruction, or one that is not known.
-    fn fits(&self, symbols: &SymbolTable, instruction: Option<u32>) -> bool
+    fn fits(&self, symbols: &SymbolTable, bytes: &NamedBytes, instruction: Option<u32>) -> bool
+        requires { bytes.now ≡ held.held_of symbols.now self.now }
         ensures { result ≡ spec.fits_side symbols.now self.now instruction }
     {
         match (self, instruction) {
             (Side::Any, _) => true,
             (Side::Address(address), Some(at)) => at == *address,
-            (Side::Name(name), Some(at)) => name.holds(symbols, at) || name.tells(symbols, at),
+            (Side::Name(name), Some(at)) => bytes.has(at) || name.tells(symbols, at),
             (_, None) => false,
         }
     }
@@ -163,19 +181,44 @@ impl Line {
         Ok(Line { one, other })
     }
 
-    fn are_known(&self, symbols: &SymbolTable) -> bool
-        ensures { result ≡ spec.are_known symbols.now self.now }
+    fn are_known(&self, image: &Image) -> bool
+        ensures { result ≡ spec.are_known image.now self.now }
     {
-        self.one.is_known(symbols) && self.other.is_known(symbols)
+        self.one.is_known(image) && self.other.is_known(image)
+    }
+
+    /// The bytes of the symbols that its sides name.
+    fn bytes(&self, alloc: Global, image: &Image) -> Result<Held, NoMemory>
+        ensures { IfOk result (λ bytes. bytes ≡ held.held_by image.now self.now) }
+    {
+        let one = self.one.bytes(alloc, image)?;
+        let other = self.other.bytes(alloc, image)?;
+        Ok(Held { one, other })
+    }
+
+    /// Whether its sides fit these instructions, in this order.
+    fn fits_in_order(
+        &self,
+        symbols: &SymbolTable,
+        bytes: &Held,
+        first: Option<u32>,
+        second: Option<u32>,
+    ) -> bool
+        requires { bytes.now ≡ held.held_by symbols.now self.now }
+        ensures { result ≡ (spec.fits_side symbols.now self.now.one first
+            && spec.fits_side symbols.now self.now.other second) }
+    {
+        self.one.fits(symbols, &bytes.one, first) && self.other.fits(symbols, &bytes.other, second)
     }
 
     /// Whether the line fits the race.
-    fn fits(&self, symbols: &SymbolTable, key: &Key) -> bool
+    fn fits(&self, symbols: &SymbolTable, bytes: &Held, key: &Key) -> bool
+        requires { bytes.now ≡ held.held_by symbols.now self.now }
         ensures { result ≡ spec.fits symbols.now key.now self.now }
     {
         let first = Some(key.first);
-        (self.one.fits(symbols, first) && self.other.fits(symbols, key.second))
-            || (self.one.fits(symbols, key.second) && self.other.fits(symbols, first))
+        self.fits_in_order(symbols, bytes, first, key.second)
+            || self.fits_in_order(symbols, bytes, key.second, first)
     }
 }
 
@@ -189,12 +232,42 @@ impl Ignores {
         }
     }
 
+    /// The bytes of the symbols that each of the lines names, which are looked up once for all races.
+    pub fn bytes(&self, alloc: Global, image: &Image) -> Result<Vec<Held>, NoMemory>
+        ensures { IfOk result (λ bytes. bytes.items ≡ map (held.held_by image.now) self.now) }
+    {
+        bytes_of(alloc, image, &self.lines)
+    }
+
     /// Whether a line fits the race.
-    pub fn fits(&self, symbols: &SymbolTable, key: &Key) -> bool
+    pub fn fits(&self, symbols: &SymbolTable, bytes: &[Held], key: &Key) -> bool
+        requires { bytes.now ≡ map (held.held_by symbols.now) self.now }
         ensures { result ≡ spec.is_ignored symbols.now self.now key.now }
     {
-        self.lines.iter().any(|line| line.fits(symbols, key))
+        any_fits(symbols, &self.lines, bytes, key)
     }
+}
+
+fn bytes_of(alloc: Global, image: &Image, lines: &[Line]) -> Result<Vec<Held>, NoMemory>
+    ensures { IfOk result (λ bytes. bytes.items ≡ map (held.held_by image.now) lines.now) }
+{
+    let mut bytes = Vec::new(alloc);
+    for line in lines {
+        bytes.push(line.bytes(alloc, image)?)?;
+    }
+    Ok(bytes)
+}
+
+fn any_fits(symbols: &SymbolTable, lines: &[Line], bytes: &[Held], key: &Key) -> bool
+    requires { bytes.now ≡ map (held.held_by symbols.now) lines.now }
+    ensures { result ≡ spec.is_ignored symbols.now lines.now key.now }
+{
+    for (place, line) in lines.iter().enumerate() {
+        if line.fits(symbols, &bytes[place], key) {
+            return true;
+        }
+    }
+    false
 }
 
 /// The line up to its comment.
@@ -249,12 +322,12 @@ fn at(number: u64, kind: IgnoreKind) -> FileFault
 #[tactic(auto, unfolding(crate::specs::merge::Ignore::line_of))]
 fn read_line(
     alloc: Global,
-    symbols: &SymbolTable,
+    image: &Image,
     number: u64,
     text: &[u8],
 ) -> Result<Option<Line>, FileFault>
-    ensures ok { IfOk result (λ line. spec.line_of symbols.now text.now ≡ Ok line) }
-    ensures err { IfErr result (IsTold (told_ignore (spec.at_line number (spec.line_of symbols.now text.now)))) }
+    ensures ok { IfOk result (λ line. spec.line_of image.now text.now ≡ Ok line) }
+    ensures err { IfErr result (IsTold (told_ignore (spec.at_line number (spec.line_of image.now text.now)))) }
     ensures reader { fails_by is_read result ≡ false }
     ensures writer { fails_by is_write result ≡ false }
 {
@@ -264,7 +337,7 @@ fn read_line(
         Ok(Some(words)) => words,
     };
     let line = Line::of(alloc, one, other)?;
-    if line.are_known(symbols) {
+    if line.are_known(image) {
         Ok(Some(line))
     } else {
         Err(at(number, IgnoreKind::Unknown))
@@ -284,27 +357,27 @@ fn push(lines: &mut Vec<Line>, line: Option<Line>) -> Result<(), NoMemory>
 /// Adds what the line of that number says.
 fn add_line(
     alloc: Global,
-    symbols: &SymbolTable,
+    image: &Image,
     number: u64,
     text: &[u8],
     lines: &mut Vec<Line>,
 ) -> Result<(), FileFault>
-    ensures ok { OnOk result (IsOkAnd (spec.line_of symbols.now text.now) (λ line.
+    ensures ok { OnOk result (IsOkAnd (spec.line_of image.now text.now) (λ line.
         lines.new.items ≡ lines.old.items ++ spec.listed line)) }
-    ensures err { IfErr result (IsTold (told_ignore (spec.at_line number (spec.line_of symbols.now text.now)))) }
+    ensures err { IfErr result (IsTold (told_ignore (spec.at_line number (spec.line_of image.now text.now)))) }
     ensures reader { fails_by is_read result ≡ false }
     ensures writer { fails_by is_write result ≡ false }
 {
-    let line = read_line(alloc, symbols, number, text)?;
+    let line = read_line(alloc, image, number, text)?;
     push(lines, line)?;
     Ok(())
 }
 
 /// What the lines of a text say.
-fn read_lines(alloc: Global, symbols: &SymbolTable, text: &[u8]) -> Result<Ignores, FileFault>
+fn read_lines(alloc: Global, image: &Image, text: &[u8]) -> Result<Ignores, FileFault>
     requires { length text.now ≤ INPUT_LIMIT }
-    ensures ok { IfOk result (λ lines. spec.lines_from symbols.now 1 (pieces_of 10 text.now) ≡ Ok lines) }
-    ensures err { IfErr result (IsTold (told_ignore (spec.lines_from symbols.now 1 (pieces_of 10 text.now)))) }
+    ensures ok { IfOk result (λ lines. spec.lines_from image.now 1 (pieces_of 10 text.now) ≡ Ok lines) }
+    ensures err { IfErr result (IsTold (told_ignore (spec.lines_from image.now 1 (pieces_of 10 text.now)))) }
     ensures reader { fails_by is_read result ≡ false }
     ensures writer { fails_by is_write result ≡ false }
 {
@@ -312,26 +385,26 @@ fn read_lines(alloc: Global, symbols: &SymbolTable, text: &[u8]) -> Result<Ignor
     let mut pieces = Pieces::of(text, b'\n');
     let mut number = 1_u64;
     while let Some(line) = pieces.next_piece() {
-        add_line(alloc, symbols, number, line, &mut lines)?;
+        add_line(alloc, image, number, line, &mut lines)?;
         number += 1;
     }
     Ok(Ignores { lines })
 }
 
-/// Reads a list of races that are to be ignored. The symbols are those of the image that is hunted.
+/// Reads a list of races that are to be ignored. The image is the one that is hunted.
 #[tactic(auto, unfolding(crate::specs::merge::Ignore::ignores_of))]
 pub fn read_ignores<R: Read>(
     alloc: Global,
-    symbols: &SymbolTable,
+    image: &Image,
     reader: &mut Flagged<R>,
 ) -> Result<Ignores, FileFault>
     ensures ok { IfOk result (λ lines. IfSome (R.remaining (flag.device reader.old)) (λ bytes.
-        spec.ignores_of symbols.now bytes ≡ Ok lines)) }
+        spec.ignores_of image.now bytes ≡ Ok lines)) }
     ensures err { IfErr result (λ fault. IfSome (R.remaining (flag.device reader.old)) (λ bytes.
-        IsTold (spec.ignores_of symbols.now bytes) fault)) }
+        IsTold (spec.ignores_of image.now bytes) fault)) }
     ensures reader { flag.has_failed reader.new ≡ (flag.has_failed reader.old || fails_by is_read result) }
     ensures writer { fails_by is_write result ≡ false }
 {
     let bytes = read_whole(alloc, reader, INPUT_LIMIT)?;
-    read_lines(alloc, symbols, &bytes)
+    read_lines(alloc, image, &bytes)
 }

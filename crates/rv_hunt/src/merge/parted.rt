@@ -47,8 +47,9 @@ pub fn part_rows(
         told: Vec::new(alloc),
         ignored: Vec::new(alloc),
     };
+    let bytes = ignores.bytes(alloc, symbols.image())?;
     for row in rows {
-        add(&mut parted, *row, ignores.fits(symbols, &row.0))?;
+        add(&mut parted, *row, ignores.fits(symbols, &bytes, &row.0))?;
     }
     Ok(parted)
 }

@@ -1,6 +1,5 @@
-use Rattle.std.proofs.Common.{◌∙◌, ◌||◌, ap, sym}
+use Rattle.std.proofs.Common.{◌∙◌, ap, sym}
 use Rattle.std.specs.Prelude.{IfSome}
-use Rattle.rv_engines.specs.Campaigns.{passes}
 use Rattle.rv_engines.specs.CommandFault as command
 use Rattle.rv_hunt.proofs.EngineLemmas.{make_told, made_known, write_same}
 use Rattle.rv_hunt.specs.engine.Asked.{asked, parts}
@@ -8,20 +7,20 @@ use Rattle.rv_hunt.specs.engine.Hunting.{files_of}
 use Rattle.rv_hunt.specs.engine.Paged.{IsPaged}
 use Rattle.rv_hunt.specs.engine.Saved.{AreSaved}
 use Rattle.rv_hunt.specs.internal.Opened.{hunt_in, hunting_with}
+use Rattle.rv_hunt.specs.engine.Late.{IfKept, IfMade}
 use Rattle.rv_hunt.proofs.engine.make.Goals as goal
 
 pub returns-in-Err-made-clause-refused : goal.returns-in-Err-made-clause-refused
 returns-in-Err-made-clause-refused g c =
     make_told (files_of g.R.Read.remaining c.args.inputs.now) (asked c.args.options.now) (hunting_with (hunt_in (asked c.args.options.now) c.in-Ok.read.0) c.in-Ok.read.1) c.in-Err-made.fault c.as_command.result c.as_command.ensures c.in-Ok.ensures.ok
 
-pub returns-in-Err-made-clause-writers : goal.returns-in-Err-made-clause-writers
-returns-in-Err-made-clause-writers g c =
-    let before = passes g.D.Folder.has_failed c.args.folder.now || passes g.F.NewFile.has_failed c.args.page.now in
-    c.in-Err-made.ensures.failed ∙ ap (λ z. before || z) (sym (ap (λ t. command.is_write (command.refusal t)) c.as_command.ensures ∙ write_same c.in-Err-made.fault))
+pub returns-in-Err-made-clause-files : goal.returns-in-Err-made-clause-files
+returns-in-Err-made-clause-files g c =
+    λ write. c.in-Err-made.ensures.failed (sym (ap (λ t. command.is_write (command.refusal t)) c.as_command.ensures ∙ write_same c.in-Err-made.fault) ∙ write)
 
 pub returns-in-Ok-made-clause-made : goal.returns-in-Ok-made-clause-made
 returns-in-Ok-made-clause-made g c =
     made_known (files_of g.R.Read.remaining c.args.inputs.now) (asked c.args.options.now) (parts c.args.options.now.line) c.args.options.now.shows (hunting_with (hunt_in (asked c.args.options.now) c.in-Ok.read.0) c.in-Ok.read.1)
-    (λ x rows. IfSome c.make_hunt-made.new.folder (λ made. AreSaved x.hunt (g.D.Folder.Holds made) rows))
-    (λ x came rows. IfSome c.make_hunt-made.new.page (λ file. IsPaged (parts c.args.options.now.line) x.hunt came rows (g.F.NewFile.Holds file)))
+    (λ x rows. IfSome c.make_hunt-made.new.folder (λ made. AreSaved x.hunt (IfKept g.D.Folder.has_failed g.D.Folder.Holds made) rows))
+    (λ x came rows. IfSome c.make_hunt-made.new.page (λ file. IsPaged (parts c.args.options.now.line) x.hunt came rows (IfMade g.F.NewFile.has_failed g.F.NewFile.Holds file)))
     c.in-Ok-made.made c.in-Ok.ensures.ok c.in-Ok-made.ensures.made
