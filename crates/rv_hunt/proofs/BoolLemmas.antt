@@ -2,10 +2,6 @@
 use Rattle.std.proofs.Common.{◌≡◌, Bool, true, false, refl, sym}
 use Rattle.std.specs.Prelude.{◌||◌}
 
-pub none_more : (a x : Bool) → x ≡ false → a ≡ (a || x)
-none_more true x none = refl
-none_more false x none = sym none
-
 second : (i g e y : Bool) → (((i || false) || (g || y)) || e) ≡ (((i || g) || e) || y)
 second true g e y = refl
 second false true e y = refl
