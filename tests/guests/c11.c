@@ -37,7 +37,9 @@ static int work(void *argument)
     call_once(&once, start);
     for (int i = 0; i < 4; i++) {
         assert(mtx_lock(&mutex) == thrd_success);
-        count++;
+        int found = count;
+        thrd_yield();
+        count = found + 1;
         assert(mtx_unlock(&mutex) == thrd_success);
         thrd_yield();
     }

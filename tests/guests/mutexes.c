@@ -18,7 +18,9 @@ static void *add(void *argument)
 {
     for (int i = 0; i < 5; i++) {
         assert(pthread_mutex_lock(&normal) == 0);
-        count++;
+        int found = count;
+        sched_yield();
+        count = found + 1;
         assert(pthread_mutex_unlock(&normal) == 0);
     }
     return argument;

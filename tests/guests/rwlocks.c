@@ -23,7 +23,9 @@ static void *add(void *argument)
         assert(count == found);
         assert(pthread_rwlock_unlock(&lock) == 0);
         assert(pthread_rwlock_wrlock(&lock) == 0);
-        count++;
+        found = count;
+        sched_yield();
+        count = found + 1;
         assert(pthread_rwlock_unlock(&lock) == 0);
     }
     return argument;

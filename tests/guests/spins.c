@@ -10,7 +10,9 @@ static void *add(void *argument)
 {
     for (int i = 0; i < 5; i++) {
         assert(pthread_spin_lock(&lock) == 0);
-        count++;
+        int found = count;
+        sched_yield();
+        count = found + 1;
         assert(pthread_spin_unlock(&lock) == 0);
     }
     return argument;

@@ -11,7 +11,7 @@ static _Thread_local int local = 5;
 
 static void start_once(void)
 {
-    usleep(100000);
+    sleep(1);
     starts++;
 }
 

@@ -23,7 +23,7 @@ SECTIONS
         __tls_blocks = .;
         . += 16 * __tls_size;
         __heap_start = .;
-        . += 0x10000;
+        . += DEFINED(__heap_size) ? __heap_size : 0x10000;
         __heap_end = .;
     } :data
     /DISCARD/ : { *(.comment) *(.note .note.*) *(.riscv.attributes) *(.eh_frame) }

@@ -7,12 +7,15 @@
 #include <stdlib.h>
 #include <time.h>
 #include <unistd.h>
-
 #include "../guest.h"
 #include "words.h"
 
+/* The words that main gets, as by -DGUEST_WORDS='"guest", "4"'. */
+#ifndef GUEST_WORDS
+#define GUEST_WORDS "guest"
+#endif
+
 #define HARTS 16u
-#define STACKS 0xc0000000u
 #define STACK_SIZE 0x10000u
 #define SECOND 1000000000u
 /* A hart's clock counts the rounds that it waited up to a time or slept: so many a second, of which a sleep makes some at most. */
@@ -47,7 +50,6 @@ static inline unsigned own_number(void)
     __asm__("mv %0, sp" : "=r"(sp));
     return sp / STACK_SIZE % HARTS;
 }
-
 static inline struct hart *own(void) { return &harts[own_number()]; }
 
 /* Each call comes here, and each round of a wait: a hart ends once the program has. */
@@ -148,7 +150,6 @@ _Noreturn void abort(void)
 /* ---- values of a thread's own: a key is in use where its word is odd, and the word counts how often it was made and deleted */
 
 static word keys[PTHREAD_KEYS_MAX], destructors[PTHREAD_KEYS_MAX];
-
 int pthread_key_create(pthread_key_t *key, void (*destructor)(void *))
 {
     rest();
@@ -225,14 +226,14 @@ __attribute__((used)) _Noreturn void threads_serve(unsigned number)
 
 __attribute__((used)) _Noreturn void threads_start(unsigned number, unsigned count)
 {
-    static char name[] = "guest", *words[] = {name, NULL};
+    static char *words[] = {GUEST_WORDS, NULL};
     if (number != 0) {
         threads_serve(number);
     }
     start_locals(0);
     swap(&hart_count, count);
     swap(&harts[0].id, HARTS), swap(&harts[0].state, JOINABLE);
-    exit(main(1, words));
+    exit(main(sizeof words / sizeof *words - 1, words));
 }
 
 /* Where each hart begins: tp points to the hart's block of thread-local variables, and sp lies within its stack. */
@@ -264,7 +265,6 @@ _Noreturn void pthread_exit(void *value)
 {
     struct hart *hart = own();
     unsigned number = own_number();
-    rest();
     run_destructors(hart);
     swap(&hart->value, of_pointer(value));
     add(&running, number == 0 ? 0 : -1u);
@@ -279,7 +279,7 @@ _Noreturn void pthread_exit(void *value)
     }
     __asm__ volatile("mv a0, %0\n\tmv sp, %1\n\ttail threads_serve"
                      :
-                     : "r"(number), "r"(STACKS + (number + 1) * STACK_SIZE - 16)
+                     : "r"(number), "r"(0xc0000000u + (number + 1) * STACK_SIZE - 16)
                      : "a0", "memory");
     __builtin_unreachable();
 }
@@ -482,7 +482,6 @@ int sem_timedwait(sem_t *semaphore, moment until) { return told(wait_for(try_sem
 
 #ifdef __PICOLIBC__
 #include <sys/time.h>
-
 struct __lock { pthread_mutex_t mutex; };
 struct __lock __lock___libc_recursive_mutex = {PTHREAD_RECURSIVE_MUTEX_INITIALIZER_NP};
 
