@@ -19,7 +19,7 @@ use rv_prune::pruning::classify;
 use std::alloc::Global;
 use std::process::Abort;
 
-/// The class of an ending in an image of words at 00010000.
+/// The class of an ending in an image of words at 00010000, where these ranges are listed.
 fn class_in(
     rt: &impl Abort,
     alloc: Global,
@@ -27,10 +27,20 @@ fn class_in(
     ending: &Ending,
     ranges: &[(u32, u32)],
 ) -> Class {
-    let image = image(rt, alloc, words);
+    class_with(rt, alloc, &image(rt, alloc, words), ending, ranges)
+}
+
+/// The class of an ending in an image, where these ranges are listed.
+fn class_with(
+    rt: &impl Abort,
+    alloc: Global,
+    image: &Image,
+    ending: &Ending,
+    ranges: &[(u32, u32)],
+) -> Class {
     let listed = ranges.to_vec(alloc).expect(rt, "ranges");
     let bytes = NamedBytes::of(alloc, listed).expect(rt, "bytes");
-    classify(&image, ending, &bytes)
+    classify(image, ending, &bytes)
 }
 
 /// A load of so many bytes from 00020000 on.

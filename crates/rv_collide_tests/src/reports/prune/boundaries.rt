@@ -157,8 +157,8 @@ fn classes_at(rt: &impl Abort, alloc: Global, pc: u32, met: u32) -> (Class, Clas
         verdict: Verdict::Changed,
         ..ending
     };
-    let of_hit = classify(&image, &ending, &[]);
-    (of_hit, classify(&image, &changed, &[]))
+    let of_hit = class_with(rt, alloc, &image, &ending, &[]);
+    (of_hit, class_with(rt, alloc, &image, &changed, &[]))
 }
 
 /// A change that no hart was seen to make is kept wherever it is.
@@ -175,7 +175,7 @@ fn places_of_triples(rt: HostRuntime) {
 fn class_at(rt: &impl Abort, alloc: Global, start: u32, segments: Vec<Region>) -> Class {
     let image = Image::new(start, segments, Vec::new(alloc)).expect(rt, "an image");
     let ending = hit(loads(start, 4), start.wrapping_add(8), 0, 1);
-    classify(&image, &ending, &[])
+    class_with(rt, alloc, &image, &ending, &[])
 }
 
 /// The first bytes of a segment.
