@@ -11,6 +11,7 @@ use rv_engines::sentences::{FaultLine, Paths};
 use rv_memory::buffered::Buffered;
 use rv_memory::flagged::Flagged;
 use rv_memory::output::Output;
+use rv_prune::named_bytes::NamedBytes;
 use std::alloc::Global;
 use std::io::{Read, Write};
 use std::process::Abort;
@@ -25,6 +26,12 @@ const PLAIN: ExplainOptions<'static> = ExplainOptions {
     around: 0,
     race: None,
 };
+
+/// The bytes of these listed ranges.
+fn bytes_of(rt: &impl Abort, alloc: Global, ranges: &[(u32, u32)]) -> NamedBytes {
+    let listed = ranges.to_vec(alloc).expect(rt, "ranges");
+    NamedBytes::of(alloc, listed).expect(rt, "bytes")
+}
 
 /// What `explain` answers of the bytes of its two inputs.
 fn told<'a, W: Write>(

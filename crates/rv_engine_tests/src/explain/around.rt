@@ -1,4 +1,5 @@
 //! Numbers that no command line has.
+use super::bytes_of;
 use crate::assertion::assert_is;
 use crate::padded::image;
 use rv_collide::entry::Entry::{self, Armed, Paused, Resumed, Stepped};
@@ -52,7 +53,8 @@ fn told(
 ) -> Result<Vec<u8>, ExplainFault> {
     let plan = Plan::new(2, 100, 1, 10, 4).expect(rt, "a plan");
     let entries = Vec::from_slice(alloc, &ENTRIES).expect(rt, "memory");
-    let found = races_of_run(alloc, image, plan, &entries, &[]).expect(rt, "races");
+    let none = bytes_of(rt, alloc, &[]);
+    let found = races_of_run(alloc, image, plan, &entries, &none).expect(rt, "races");
     let symbols = SymbolTable::new(alloc, image).expect(rt, "memory");
     let mut session = Session::new(alloc, image, plan, entries).expect(rt, "a session");
     let mut writer = Flagged::new(Vec::new(alloc));

@@ -1,5 +1,6 @@
 //! Blocks: the ring's race, a lost update that a Changed report tells of, and the reasons of classes. Names, numbers and marks of the
 //! first are those of another implementation.
+use super::bytes_of;
 use crate::assertion::assert_is;
 use crate::images::Named;
 use crate::padded::image;
@@ -345,8 +346,8 @@ fn blocks_and_classes_of_reports(rt: HostRuntime) {
     assert_blocks(&rt, rt.alloc(), &symbols);
     let ending = told(HIT, Some(1));
     let found = (
-        class_of(&image, &[], &ending),
-        class_of(&image, &[(0x20008, 1)], &ending),
+        class_of(&image, &bytes_of(&rt, rt.alloc(), &[]), &ending),
+        class_of(&image, &bytes_of(&rt, rt.alloc(), &[(0x20008, 1)]), &ending),
     );
     drop(symbols);
     drop(image);
