@@ -5,6 +5,7 @@ pub mod TouchedLemmas
 pub mod TriedLemmas
 pub mod WatchLemmas
 pub mod WatchListLemmas
+pub mod MoveLemmas
 pub mod QuietLemmas
 pub mod RoundLemmas
 pub mod StuckLemmas

@@ -47,7 +47,7 @@ same_step s t u h e f one two =
     let pair : (e, t) ≡ (f, u) = cc in
     ap (λ (p : Event × State). p.1) pair
 
-accessed_is : (hart : Hart) (action : Action) → accessed (event_of hart action) ≡ access_of hart action
+pub accessed_is : (hart : Hart) (action : Action) → accessed (event_of hart action) ≡ access_of hart action
 accessed_is hart (Trap cause) = refl
 accessed_is hart (Set rd value next) = refl
 accessed_is hart (Load rd address size signed) = refl

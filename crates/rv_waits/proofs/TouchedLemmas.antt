@@ -1,12 +1,12 @@
 -- What was touched stays so, where more is.
-use Rattle.std.proofs.Common.{◌≡◌, ℕ, zero, suc, ◌+◌, ◌-◌, ◌≤◌, ◌<◌, ◌⊎◌, inl, inr, Bool, true, false, List, [], ◌∷◌, Option, set, refl, subst, arith}
-use Rattle.std.specs.Prelude.{slice_get, IsSomeAnd, ◌||◌}
+use Rattle.std.proofs.Common.{◌≡◌, ℕ, zero, suc, ◌+◌, ◌⊎◌, inl, inr, Bool, true, false, List, [], ◌∷◌, Option, set, refl, subst, arith}
+use Rattle.std.specs.Prelude.{slice_get, IsSomeAnd, ◌||◌, ◌&&◌, nat_le, nat_lt}
 use Rattle.std.proofs.lemmas.Bool.Decides.{nat_tests}
-use Rattle.rv_waits.specs.Touched.{covers, in_ranges}
+use Rattle.rv_waits.specs.Touched.{covers, in_instructions, in_ranges}
 use Rattle.rv_waits.specs.Touches.{is_among}
 use Rattle.rv_waits.specs.declared.touched.Range.{Range}
 use Rattle.rv_waits.specs.declared.touched.Touched.{Touched}
-use Rattle.rv_waits.proofs.ByteLemmas.{from_first, to_last}
+use Rattle.rv_waits.specs.internal.Meets.{meets_some, overlaps}
 
 or_left : (a b : Bool) → a ≡ true → (a || b) ≡ true
 or_left a b e = rw e refl
@@ -56,9 +56,24 @@ covers_range all pcs ys h = or_right all (pcs || ys) (or_right pcs ys h)
 
 -- ---- an access that writes none of it
 
-pub none_covered : (touched : Touched) (first size : ℕ) → ((k : ℕ) → k < size → covers touched (first + k) ≡ false) → (address : ℕ) → is_among first size address ≡ true → covers touched address ≡ false
-none_covered touched first size none address among =
-    let from : first ≤ address = from_first first size address among in
-    let to : address < first + size = to_last first size address among in
-    let here : first + (address - first) ≡ address = omega arith in
-    subst (λ (k : ℕ). covers touched k ≡ false) here (none (address - first) (omega arith))
+among_both : (first end other size address : ℕ) → is_among other size address ≡ true → overlaps first end other (other + size) ≡ false → (nat_le first address && nat_lt address end) ≡ false
+among_both first end other size address among apart = grind (arith, nat_tests)
+
+pub or_false : (a b : Bool) → (a || b) ≡ false → (a ≡ false) × (b ≡ false)
+or_false true b h = cc
+or_false false b h = (refl, h)
+
+both_false : (a b : Bool) → a ≡ false → b ≡ false → (a || b) ≡ false
+both_false a b x y = rw (x, y) refl
+
+no_range : (xs : List Range) (first size address : ℕ) → is_among first size address ≡ true → meets_some xs first size ≡ false → in_ranges xs address ≡ false
+no_range [] first size address among apart = refl
+no_range (x ∷ xs) first size address among apart =
+    let here = or_false (overlaps x.first (x.first + x.size) first (first + size)) (meets_some xs first size) apart in
+    both_false (is_among x.first x.size address) (in_ranges xs address) (among_both x.first (x.first + x.size) first size address among here.0) (no_range xs first size address among here.1)
+
+-- what meets nothing of it writes no byte of it
+pub none_covered : (touched : Touched) (first size : ℕ) → touched.is_all ≡ false → overlaps touched.least_pc (touched.greatest_pc + 4) first (first + size) ≡ false → meets_some touched.data first size ≡ false → (address : ℕ) → is_among first size address ≡ true → covers touched address ≡ false
+none_covered touched first size few instructions ranges address among =
+    both_false touched.is_all _ few
+    (both_false (in_instructions touched.least_pc touched.greatest_pc address) (in_ranges touched.data address) (among_both touched.least_pc (touched.greatest_pc + 4) first size address among instructions) (no_range touched.data first size address among ranges))

@@ -1,5 +1,5 @@
 -- What is kept of the harts' steps, so that it can be told at once which of them wait.
-use Rattle.std.specs.Prelude.{◌≡◌, ℕ, Some, List, length, slice_get}
+use Rattle.std.specs.Prelude.{◌≡◌, ℕ, true, Some, List, length, slice_get}
 use Rattle.rv_hart.specs.State.{State}
 use Rattle.rv_waits.specs.Round.{IsWhereItWas}
 use Rattle.rv_waits.specs.Tried.{IsTried}
@@ -15,7 +15,7 @@ pub record IsAnchor (s : State) (h : ℕ) (anchor : Anchor) : Type 0 where
   pub tried : IsTried h anchor.steps from to anchor.seen
   pub here : IsWhereItWas h to s
 
--- an anchor of each hart
+-- A place for an anchor of each hart. One that is not set says nothing.
 pub record IsWatchOf (anchors : List Anchor) (s : State) : Type 0 where
   pub count : length anchors ≡ length s.harts
-  pub each : (h : ℕ) (anchor : Anchor) → slice_get anchors h ≡ Some anchor → IsAnchor s h anchor
+  pub each : (h : ℕ) (anchor : Anchor) → slice_get anchors h ≡ Some anchor → anchor.is_set ≡ true → IsAnchor s h anchor

@@ -3,4 +3,7 @@ pub mod Added
 pub mod Anchored
 pub mod Four
 pub mod Looked
+pub mod MayWrite
+pub mod Meets
+pub mod Moves
 pub mod Told

@@ -5,6 +5,7 @@ ghost use Rattle.rv_hart.specs.StepAnswer.{AnswersStep};
 ghost use Rattle.rv_memory.specs.Memory.{byte};
 ghost use Rattle.rv_waits.specs.Round.{IsQuietStep};
 ghost use Rattle.rv_waits.specs.internal.Four.{AreBytesFrom};
+ghost use Rattle.rv_waits.specs.internal.MayWrite.{may_write};
 ghost use Rattle.rv_waits.specs.internal.Told.{IfQuiet, answer_of};
 
 use rv_hart::access::{Access, Event};
@@ -30,6 +31,14 @@ pub(crate) enum Told {
     Refused(StepFault),
 }
 
+/// Whether a word may be a store's, an SC's or an AMO's, by its opcode; no other writes.
+#[inline(always)]
+pub(crate) fn may_write(word: u32) -> bool
+    ensures { result ≡ may_write word }
+{
+    word & 0x70 == 0x20
+}
+
 /// One step of a hart, and whether it was a quiet one. (One that is not told as quiet may be quiet.)
 pub(crate) fn told_step<S: ByteStore>(machine: &mut Machine<S>, h: u8) -> Told
     requires { h < length machine.old.state.harts }
@@ -40,14 +49,13 @@ pub(crate) fn told_step<S: ByteStore>(machine: &mut Machine<S>, h: u8) -> Told
     what_no_step_does();
     reservations_and_accesses();
     store_keeps_the_rest();
-    let is_conditional = machine.at_conditional(h);
+    if machine.at_conditional(h) {
+        return loud(told_of(machine.step(h)));
+    }
     let first = first_of(machine.next_access(h));
     let bytes = four_bytes(machine, first);
     let printed = machine.output().len();
     let told = told_of(machine.step(h));
-    if is_conditional {
-        return loud(told);
-    }
     if machine.output().len() != printed {
         return loud(told);
     }

@@ -76,6 +76,7 @@ fn one_more<S: ByteStore>(copy: &mut Machine<S>, h: u8, seen: &mut Seen) -> bool
 }
 
 /// What a step loaded and touched is added.
+#[inline(always)]
 pub(crate) fn see(seen: &mut Seen, pc: u32, access: Option<Access>)
     ensures polls { seen.new.polls ≡ (seen.old.polls || is_read access) }
     ensures touched { IsAdded seen.old.touched seen.new.touched pc access }
@@ -84,6 +85,7 @@ pub(crate) fn see(seen: &mut Seen, pc: u32, access: Option<Access>)
     touch(&mut seen.touched, pc, access);
 }
 
+#[inline(always)]
 fn is_read(access: Option<Access>) -> bool
     ensures { result ≡ is_read access }
 {
@@ -93,6 +95,7 @@ fn is_read(access: Option<Access>) -> bool
     }
 }
 
+#[inline(always)]
 fn either(one: bool, other: bool) -> bool
     ensures { result ≡ (one || other) }
 {

@@ -1,8 +1,9 @@
 //! What a hart touched: its instructions' bytes and those of its accesses, in a place that asks for no memory.
-ghost use Rattle.std.specs.Prelude.{◌≡◌, ◌<◌, ◌⊎◌, ℕ, true, false, None, Some, IfSome, IsSomeAnd, slice_get, length};
+ghost use Rattle.std.specs.Prelude.{◌≡◌, ◌+◌, ◌⊎◌, ℕ, true, false, Some, IfSome, IsSomeAnd, slice_get};
 ghost use Rattle.rv_hart.specs.StepLaws.{access_writes};
 ghost use Rattle.rv_waits.specs.Touched.{covers, in_instructions, in_ranges};
 ghost use Rattle.rv_waits.specs.Touches.{in_access, is_among};
+ghost use Rattle.rv_waits.specs.internal.Meets.{meets_some, overlaps};
 
 use rv_hart::access::Access;
 
@@ -40,6 +41,7 @@ pub fn touched_at(pc: u32) -> Touched
 }
 
 /// A further step: its instruction's pc, and its access if it made one.
+#[inline(always)]
 pub fn touch(touched: &mut Touched, pc: u32, access: Option<Access>)
     ensures kept { (address : ℕ) → covers touched.old address ≡ true → covers touched.new address ≡ true }
     ensures instruction { (address : ℕ) → is_among pc 4 address ≡ true → covers touched.new address ≡ true }
@@ -55,12 +57,18 @@ pub fn touch(touched: &mut Touched, pc: u32, access: Option<Access>)
     }
 }
 
+/// Most steps widen nothing, and write nothing here.
+#[inline(always)]
 fn touch_instruction(touched: &mut Touched, pc: u32)
     ensures kept { (address : ℕ) → covers touched.old address ≡ true → covers touched.new address ≡ true }
     ensures instruction { (address : ℕ) → is_among pc 4 address ≡ true → covers touched.new address ≡ true }
 {
-    touched.least_pc = touched.least_pc.min(pc);
-    touched.greatest_pc = touched.greatest_pc.max(pc);
+    if pc < touched.least_pc {
+        touched.least_pc = pc;
+    }
+    if pc > touched.greatest_pc {
+        touched.greatest_pc = pc;
+    }
 }
 
 fn touch_range(touched: &mut Touched, range: Range)
@@ -117,21 +125,51 @@ pub fn meets(touched: &Touched, access: Option<Access>) -> bool
     ensures { result ≡ false → (address : ℕ) → covers touched.now address ≡ true → access_writes access address ≡ false }
 {
     match access {
-        Some(it) => it.write && any_covered(touched, it.first, it.size),
+        Some(it) => it.write && meets_touched(touched, it.first, it.size),
         None => false,
     }
 }
 
-fn any_covered(touched: &Touched, first: u32, size: u8) -> bool
+fn meets_touched(touched: &Touched, first: u32, size: u8) -> bool
     ensures { result ≡ false → (address : ℕ) → is_among first size address ≡ true → covers touched.now address ≡ false }
 {
-    for offset in 0..size {
-        let Some(address) = first.checked_add(u32::from(offset)) else {
-            return true;
-        };
-        if covers(touched, address) {
-            return true;
-        }
-    }
-    false
+    touched.is_all || meets_instructions(touched, first, size) || meets_some(touched, first, size)
+}
+
+fn meets_instructions(touched: &Touched, first: u32, size: u8) -> bool
+    ensures { result ≡ overlaps touched.now.least_pc (touched.now.greatest_pc + 4) first (first + size) }
+{
+    overlaps(
+        u64::from(touched.least_pc),
+        u64::from(touched.greatest_pc) + 4,
+        u64::from(first),
+        u64::from(first) + u64::from(size),
+    )
+}
+
+fn meets_some(touched: &Touched, first: u32, size: u8) -> bool
+    ensures { result ≡ meets_some touched.now.data first size }
+{
+    touched
+        .data
+        .iter()
+        .any(|range| meets_range(range, first, size))
+}
+
+fn meets_range(range: &Range, first: u32, size: u8) -> bool
+    ensures { result ≡ overlaps range.now.first (range.now.first + range.now.size) first (first + size) }
+{
+    overlaps(
+        u64::from(range.first),
+        u64::from(range.first) + u64::from(range.size),
+        u64::from(first),
+        u64::from(first) + u64::from(size),
+    )
+}
+
+/// Whether the addresses from the one to before the other end meet those from the second to before its end.
+fn overlaps(first: u64, end: u64, other: u64, other_end: u64) -> bool
+    ensures { result ≡ overlaps first end other other_end }
+{
+    other < end && first < other_end
 }

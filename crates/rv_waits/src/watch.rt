@@ -1,22 +1,25 @@
 //! Which harts wait, told as they step.
-ghost use Rattle.std.specs.Prelude.{◌≡◌, ◌≢◌, ◌<◌, ◌≤◌, ◌+◌, ◌||◌, ◌↔◌, ℕ, true, false, None, Some, IfOk, IfSome, IsTrue, length, slice_get, slice_set};
-ghost use Rattle.rv_hart.specs.NextAccess.{accessed, next_access};
+ghost use Rattle.std.specs.Prelude.{◌≡◌, ◌<◌, ◌↔◌, ℕ, true, false, None, Some, Ok, IfOk, IfSome, IsTrue, length};
+ghost use Rattle.rv_hart.specs.NextAccess.{accessed};
 ghost use Rattle.rv_hart.specs.State.{State};
 ghost use Rattle.rv_hart.specs.Step.{step_of};
 ghost use Rattle.rv_hart.specs.StepAnswer.{AnswersStep};
-ghost use Rattle.rv_hart.specs.SomeHart.{SomeHart};
-ghost use Rattle.rv_waits.specs.Round.{IsQuietStep, IsRound};
+ghost use Rattle.rv_waits.specs.Round.{IsRound};
 ghost use Rattle.rv_waits.specs.Touched.{covers};
-ghost use Rattle.rv_waits.specs.Touches.{Loads, Touches, is_read};
+ghost use Rattle.rv_waits.specs.Touches.{Loads, Touches};
 ghost use Rattle.rv_waits.specs.internal.Anchored.{IsGoneOn, IsLooked, IsNew};
+ghost use Rattle.rv_waits.specs.internal.MayWrite.{may_write};
+ghost use Rattle.rv_waits.specs.internal.Moves.{IsMove, IsSetAt};
 
-use crate::quiet::{Told, told_step};
+use crate::quiet::{Told, may_write, told_step};
 use crate::round::{Round, Seen, see};
 use crate::touched::{meets, touched_at};
-use rv_hart::access::{Access, Event};
+use rv_hart::access::{Access, Common, Event, Noted};
 use rv_hart::hart::Hart;
 use rv_hart::laws::{steps_are_local, what_no_step_does};
 use rv_hart::machine::{Machine, StepFault};
+use rv_hart::stops::NoStops;
+use rv_isa::laws::functions_of_the_table;
 use rv_memory::laws::store_keeps_the_rest;
 use rv_memory::store::{ByteStore, NoMemory};
 use std::alloc::Global;
@@ -27,20 +30,28 @@ const FEWEST: u32 = 4;
 
 const MOST: u32 = 4096;
 
-/// A hart as it was, and what its steps since then loaded and touched: so many, all quiet ones. After `most` the anchor is set
-/// anew.
+/// The most steps that a hart which has changed something goes without an anchor.
+const LONGEST_REST: u32 = 64;
+
+/// A hart as it was, where `is_set`, and what its steps since then loaded and touched: so many, all quiet ones. Where it is not
+/// set the hart rests, for so many steps that change nothing. After `most` steps the anchor is set anew; `rest` is how many the
+/// next rest lasts.
 #[derive(Clone, Copy)]
 pub struct Anchor {
-    pub hart: Hart,
+    pub is_set: bool,
     pub steps: u32,
     pub most: u32,
+    pub rest: u32,
+    pub hart: Hart,
     pub seen: Seen,
 }
 
-/// An anchor of each hart of a machine, all of whose steps it makes.
+/// An anchor of each hart of a machine, all of whose steps it makes. A step costs little more than the machine's, since it looks
+/// at bytes only where an anchored hart may write.
 #[derive(Drop)]
 pub struct Watch {
     anchors: Vec<Anchor>,
+    noted: Noted,
 }
 
 impl Model for Watch {
@@ -61,12 +72,16 @@ impl Watch {
     {
         let mut anchors = Vec::with_capacity(alloc, machine.harts() as usize)?;
         for h in 0..machine.harts() {
-            anchors.push(anchor_at(machine.hart(h), FEWEST))?;
+            anchors.push(anchor_at(machine.hart(h), FEWEST, FEWEST))?;
         }
-        Ok(Watch { anchors })
+        Ok(Watch {
+            anchors,
+            noted: Noted::nothing(),
+        })
     }
 
     /// One step of a hart, as the machine makes it, and watched.
+    #[inline(always)]
     pub fn step<S: ByteStore>(
         &mut self,
         machine: &mut Machine<S>,
@@ -77,14 +92,76 @@ impl Watch {
         ensures step { AnswersStep S.can_refuse machine.old machine.new h result }
         ensures watch { IsWatchOf self.new machine.new.state }
     {
-        let pc = machine.hart(h).pc;
+        if let Some(event) = self.step_quick(machine, h) {
+            return Ok(event);
+        }
+        self.step_apart(machine, h)
+    }
+
+    /// The same where it is a common step that writes nothing, or one of a hart that rests; else nothing has changed.
+    #[inline(always)]
+    fn step_quick<S: ByteStore>(&mut self, machine: &mut Machine<S>, h: u8) -> Option<Event>
+        requires hart { h < length machine.old.state.harts }
+        requires watch { IsWatchOf self.old machine.old.state }
+        ensures step { IfSome result (λ event. AnswersStep S.can_refuse machine.old machine.new h (Ok event)) }
+        ensures watch { IsWatchOf self.new machine.new.state }
+        ensures same { (result ≡ None) → machine.new ≡ machine.old }
+    {
+        steps_are_local();
+        store_keeps_the_rest();
+        what_no_step_does();
+        functions_of_the_table();
+        if !machine.runs(h) {
+            return None;
+        }
+        let word = machine.fetched(h)?;
+        if self.may_lose_anchor(h, word) {
+            return None;
+        }
+        let pc = machine.pc(h);
+        let common = machine.step_quick::<0, NoStops>(h, word, &mut self.noted, &NoStops);
+        if let Common::Silent = common {
+            self.go_on(machine, h, pc, None);
+            return Some(Event::Moved(None));
+        }
+        if let Common::Accessed = common {
+            let access = self.noted.access;
+            self.accessed(machine, h, pc, access);
+            return Some(Event::Moved(Some(access)));
+        }
+        None
+    }
+
+    /// Whether a hart has an anchor, and the word at its pc may write: then bytes have to be looked at.
+    #[inline(always)]
+    fn may_lose_anchor(&self, h: u8, word: u32) -> bool
+        requires { h < length self.now }
+        ensures { result ≡ false → IsSetAt self.now h → may_write word ≡ false }
+    {
+        self.anchors[h as usize].is_set && may_write(word)
+    }
+
+    /// The same, whatever the step is.
+    #[cold]
+    #[inline(never)]
+    fn step_apart<S: ByteStore>(
+        &mut self,
+        machine: &mut Machine<S>,
+        h: u8,
+    ) -> Result<Event, StepFault>
+        requires hart { h < length machine.old.state.harts }
+        requires watch { IsWatchOf self.old machine.old.state }
+        ensures step { AnswersStep S.can_refuse machine.old machine.new h result }
+        ensures watch { IsWatchOf self.new machine.new.state }
+    {
+        let pc = machine.pc(h);
         match told_step(machine, h) {
             Told::Quiet(access) => {
                 self.go_on(machine, h, pc, access);
                 Ok(Event::Moved(access))
             }
             Told::Loud(event) => {
-                self.look(machine, h, event);
+                self.look(h, access_of(event));
                 Ok(event)
             }
             Told::Refused(fault) => Err(fault),
@@ -104,7 +181,10 @@ impl Watch {
         steps_are_local();
         store_keeps_the_rest();
         let anchor = &self.anchors[h as usize];
-        if anchor.steps == 0 || !anchor.hart.is_same_but_reservation(machine.hart(h)) {
+        if !anchor.is_set
+            || anchor.steps == 0
+            || !anchor.hart.is_same_but_reservation(machine.hart(h))
+        {
             return None;
         }
         Some(Round {
@@ -114,46 +194,62 @@ impl Watch {
         })
     }
 
-    /// After a quiet step of a hart.
+    /// After a common step of a hart that made an access.
+    #[inline(always)]
+    fn accessed<S: ByteStore>(&mut self, machine: &Machine<S>, h: u8, pc: u32, access: Access)
+        requires anchor { h < length self.old }
+        requires hart { h < length machine.now.state.harts }
+        ensures { (before : State) → IsWatchOf self.old before
+            → step_of before h ≡ Some (Event.Moved (Some access), machine.now.state)
+            → (access.write ≡ false → IsMove self.old before machine.now.state h pc (Some access))
+            → IsWatchOf self.new machine.now.state }
+    {
+        if access.write {
+            self.look(h, Some(access));
+        } else {
+            self.go_on(machine, h, pc, Some(access));
+        }
+    }
+
+    /// After a step of a hart that changed nothing.
+    #[inline(always)]
     fn go_on<S: ByteStore>(&mut self, machine: &Machine<S>, h: u8, pc: u32, access: Option<Access>)
         requires anchor { h < length self.old }
         requires hart { h < length machine.now.state.harts }
-        ensures { (before : State) → IsWatchOf self.old before → IsQuietStep h before machine.now.state
-            → access ≡ next_access before h → SomeHart (λ hart. hart.pc ≡ pc) before h
+        ensures { (before : State) → IsWatchOf self.old before → IsMove self.old before machine.now.state h pc access
             → IsWatchOf self.new machine.now.state }
     {
         steps_are_local();
         store_keeps_the_rest();
         what_no_step_does();
-        let anchor = self.anchors[h as usize];
-        self.anchors[h as usize] = gone_on(&anchor, machine.hart(h), pc, access);
+        gone_on(&mut self.anchors[h as usize], machine.hart(h), pc, access);
     }
 
-    /// After another step of a hart: it begins anew, and so does each whose bytes it wrote.
-    fn look<S: ByteStore>(&mut self, machine: &Machine<S>, h: u8, event: Event)
-        requires { length self.old ≡ length machine.now.state.harts }
-        ensures { (before : State) → IsWatchOf self.old before
-            → step_of before h ≡ Some (event, machine.now.state) → IsWatchOf self.new machine.now.state }
+    /// After another step of a hart: it rests, and so does each whose bytes it wrote.
+    #[inline(never)]
+    fn look(&mut self, h: u8, access: Option<Access>)
+        ensures { (before after : State) (event : Event) → IsWatchOf self.old before
+            → step_of before h ≡ Some (event, after) → access ≡ accessed event → IsWatchOf self.new after }
     {
         steps_are_local();
         store_keeps_the_rest();
         what_no_step_does();
-        let access = access_of(event);
-        for k in 0..machine.harts() {
-            let anchor = self.anchors[k as usize];
-            self.anchors[k as usize] = looked(&anchor, machine.hart(k), k == h, access);
+        for k in 0..self.anchors.len() {
+            looked(&mut self.anchors[k], k == h as usize, access);
         }
     }
 }
 
 /// An anchor of a hart as it is.
-fn anchor_at(hart: &Hart, most: u32) -> Anchor
+fn anchor_at(hart: &Hart, most: u32, rest: u32) -> Anchor
     ensures { IsNew hart.now result }
 {
     Anchor {
-        hart: *hart,
+        is_set: true,
         steps: 0,
         most,
+        rest,
+        hart: *hart,
         seen: Seen {
             polls: false,
             touched: touched_at(hart.pc),
@@ -161,35 +257,63 @@ fn anchor_at(hart: &Hart, most: u32) -> Anchor
     }
 }
 
-/// A hart's anchor after its quiet step; anew where it has stood for long.
-fn gone_on(anchor: &Anchor, hart: &Hart, pc: u32, access: Option<Access>) -> Anchor
-    ensures { IsGoneOn anchor.now hart.now pc access result }
+/// A hart's anchor after its step that changed nothing; anew where it has stood, or the hart has rested, for long.
+#[inline(always)]
+fn gone_on(anchor: &mut Anchor, hart: &Hart, pc: u32, access: Option<Access>)
+    ensures { IsGoneOn anchor.old hart.now pc access anchor.new }
 {
     if anchor.steps >= anchor.most {
-        return anchor_at(hart, longer(anchor.most));
+        set_anew(anchor, hart);
+        return;
     }
-    let mut next = *anchor;
-    next.steps += 1;
-    see(&mut next.seen, pc, access);
-    next
+    anchor.steps += 1;
+    if anchor.is_set {
+        see(&mut anchor.seen, pc, access);
+    }
 }
 
-/// Twice as many steps, and no more than `MOST`.
-fn longer(most: u32) -> u32 {
-    if most >= MOST / 2 { MOST } else { 2 * most }
-}
-
-/// A hart's anchor after a step: anew where the step is its own, or wrote what it touched.
-fn looked(anchor: &Anchor, hart: &Hart, is_own: bool, access: Option<Access>) -> Anchor
-    ensures { IsLooked anchor.now hart.now is_own access result }
+/// The anchor of a hart as it is, for twice as many steps. Rests are short again once it stood for longer than any of them.
+#[cold]
+#[inline(never)]
+fn set_anew(anchor: &mut Anchor, hart: &Hart)
+    ensures { IsNew hart.now anchor.new }
 {
+    let most = doubled(anchor.most, MOST);
+    let rest = if anchor.most > LONGEST_REST {
+        FEWEST
+    } else {
+        anchor.rest
+    };
+    *anchor = anchor_at(hart, most, rest);
+}
+
+/// Twice as many, and no more than `most`.
+fn doubled(count: u32, most: u32) -> u32 {
+    if count >= most / 2 { most } else { 2 * count }
+}
+
+/// A hart's anchor after a step: it is given up where the step is its own, for longer each time, or wrote what it touched.
+fn looked(anchor: &mut Anchor, is_own: bool, access: Option<Access>)
+    ensures { IsLooked anchor.old is_own access anchor.new }
+{
+    if !anchor.is_set {
+        return;
+    }
     if is_own {
-        return anchor_at(hart, FEWEST);
+        give_up(anchor, anchor.rest);
+        anchor.rest = doubled(anchor.rest, LONGEST_REST);
+    } else if meets(&anchor.seen.touched, access) {
+        give_up(anchor, FEWEST);
     }
-    if meets(&anchor.seen.touched, access) {
-        return anchor_at(hart, FEWEST);
-    }
-    *anchor
+}
+
+/// The hart rests for so many steps.
+fn give_up(anchor: &mut Anchor, most: u32)
+    ensures { anchor.new.is_set ≡ false }
+{
+    anchor.is_set = false;
+    anchor.steps = 0;
+    anchor.most = most;
 }
 
 fn access_of(event: Event) -> Option<Access>

@@ -13,15 +13,17 @@ pub record IsNew (now : Hart) (anchor : Anchor) : Type 0 where
   pub steps : anchor.steps ≡ 0
   pub polls : anchor.seen.polls ≡ false
 
--- the anchor with one more step
+-- the anchor, which is set, with one more step
 pub record IsOneMore (old new : Anchor) (pc : ℕ) (made : Option Access) : Type 0 where
+  pub was_set : old.is_set ≡ true
   pub hart : new.hart ≡ old.hart
   pub steps : new.steps ≡ old.steps + 1
   pub touched : IsAdded old.seen.touched new.seen.touched pc made
   pub polls : new.seen.polls ≡ (old.seen.polls || is_read made)
 
+-- the anchor is set anew, it is not set, or it has one more step
 abbrev pub IsGoneOn : Anchor → Hart → ℕ → Option Access → Anchor → Type 0
-IsGoneOn old now pc access new = IsNew now new ⊎ IsOneMore old new pc access
+IsGoneOn old now pc access new = IsNew now new ⊎ (new.is_set ≡ false) ⊎ IsOneMore old new pc access
 
 -- the anchor as it was, where another hart's access writes nothing that was touched since
 pub record IsKept (old new : Anchor) (is_own : Bool) (access : Option Access) : Type 0 where
@@ -29,5 +31,6 @@ pub record IsKept (old new : Anchor) (is_own : Bool) (access : Option Access) : 
   pub other : is_own ≡ false
   pub apart : (address : ℕ) → covers old.seen.touched address ≡ true → access_writes access address ≡ false
 
-abbrev pub IsLooked : Anchor → Hart → Bool → Option Access → Anchor → Type 0
-IsLooked old now is_own access new = IsNew now new ⊎ IsKept old new is_own access
+-- the anchor is not set, or is kept
+abbrev pub IsLooked : Anchor → Bool → Option Access → Anchor → Type 0
+IsLooked old is_own access new = (new.is_set ≡ false) ⊎ IsKept old new is_own access

@@ -5,10 +5,10 @@ use Rattle.rv_waits.specs.declared.watch.Anchor.{Anchor}
 use Rattle.rv_waits.specs.internal.Anchored.{IsLooked, IsNew}
 
 -- the first k anchors have been looked at, and the rest not yet
-pub record AreLooked (k h : ℕ) (access : Option Access) (harts : List Hart) (old new : List Anchor) : Type 0 where
+pub record AreLooked (k h : ℕ) (access : Option Access) (old new : List Anchor) : Type 0 where
   pub count : length new ≡ length old
   pub rest : (j : ℕ) → k ≤ j → slice_get new j ≡ slice_get old j
-  pub done : (j : ℕ) (anchor : Anchor) → j < k → slice_get new j ≡ Some anchor → (was : Anchor) × (hart : Hart) × (slice_get old j ≡ Some was) × (slice_get harts j ≡ Some hart) × IsLooked was hart (j == h) access anchor
+  pub done : (j : ℕ) (anchor : Anchor) → j < k → slice_get new j ≡ Some anchor → (was : Anchor) × (slice_get old j ≡ Some was) × IsLooked was (j == h) access anchor
 
 -- an anchor of each of the first k harts as it is
 pub record AreNew (k : ℕ) (harts : List Hart) (anchors : List Anchor) : Type 0 where
