@@ -17,12 +17,13 @@ use Rattle.rv_hart.specs.declared.access.Event.TheVariants.{Moved}
 use Rattle.rv_hart.specs.declared.hart.Hart.{Hart}
 use Rattle.rv_memory.specs.MemoryLaws.{StoreKeepsOtherBytes, StoreKeepsPermissions}
 use Rattle.rv_waits.specs.Touched.{covers}
+use Rattle.rv_waits.specs.Touches.{is_among}
 use Rattle.rv_waits.specs.Watch.{IsAnchor, IsWatchOf}
 use Rattle.rv_waits.specs.declared.watch.Anchor.{Anchor}
 use Rattle.rv_waits.specs.internal.Added.{IsAdded}
 use Rattle.rv_waits.specs.internal.Anchored.{IsGoneOn, IsLooked, IsNew, IsOneMore}
 use Rattle.rv_waits.specs.internal.Looked.{AreLooked, AreNew}
-use Rattle.rv_waits.specs.internal.Moves.{IsMove, IsSetAt}
+use Rattle.rv_waits.specs.internal.Moves.{IsMove, IsSetAt, WritesAmong}
 use Rattle.rv_waits.proofs.StepLemmas.{next_is_accessed, some_and, step_is}
 use Rattle.rv_waits.proofs.WatchLemmas.{anchor_left, anchor_more, anchor_now}
 
@@ -120,19 +121,19 @@ watch_more local stay keeps permissions anchors t h pc access old new now there_
 
 -- ---- after another step
 
-pub looked_none : (h : ℕ) (access : Option Access) (old : List Anchor) → AreLooked 0 h access old old
-looked_none h access old = record { count = refl; rest = λ j from. refl; done = λ j anchor below e. absurd (omega arith) }
+pub looked_none : (h first size : ℕ) (old : List Anchor) → AreLooked 0 h first size old old
+looked_none h first size old = record { count = refl; rest = λ j from. refl; done = λ j anchor below e. absurd (omega arith) }
 
-pub looked_more : (k h : ℕ) (access : Option Access) (old now : List Anchor) (was new : Anchor) → AreLooked k h access old now → slice_get now k ≡ Some was → IsLooked was (k == h) access new → AreLooked (k + 1) h access old (set now k new)
-looked_more k h access old now was new so_far there looked =
+pub looked_more : (k h first size : ℕ) (old now : List Anchor) (was new : Anchor) → AreLooked k h first size old now → slice_get now k ≡ Some was → IsLooked was (k == h) first size new → AreLooked (k + 1) h first size old (set now k new)
+looked_more k h first size old now was new so_far there looked =
     let rest : (j : ℕ) → k + 1 ≤ j → slice_get (set now k new) j ≡ slice_get old j = λ j from.
     get_set_other now k j new (λ e. absurd (omega arith)) ∙ so_far.rest j (omega arith) in
-    let done : (j : ℕ) (a : Anchor) → j < k + 1 → slice_get (set now k new) j ≡ Some a → (w : Anchor) × (slice_get old j ≡ Some w) × IsLooked w (j == h) access a = λ j a below e.
+    let done : (j : ℕ) (a : Anchor) → j < k + 1 → slice_get (set now k new) j ≡ Some a → (w : Anchor) × (slice_get old j ≡ Some w) × IsLooked w (j == h) first size a = λ j a below e.
     elim (cases_eq j k) [
       | inl same ↦
           let is_new : a ≡ new = get_set_same now k new a (ap (slice_get (set now k new)) (sym same) ∙ e) in
           let was_there : slice_get old j ≡ Some was = ap (slice_get old) same ∙ sym (so_far.rest k (omega arith)) ∙ there in
-          (was, was_there, subst (λ (x : Anchor). IsLooked was (j == h) access x) (sym is_new) (subst (λ (i : ℕ). IsLooked was (i == h) access new) (sym same) looked))
+          (was, was_there, subst (λ (x : Anchor). IsLooked was (j == h) first size x) (sym is_new) (subst (λ (i : ℕ). IsLooked was (i == h) first size new) (sym same) looked))
       | inr other ↦ so_far.done j a (omega arith) (sym (get_set_other now k j new other) ∙ e)
     ] in
     record { count = length-set now k new ∙ so_far.count; rest = rest; done = done }
@@ -140,9 +141,14 @@ looked_more k h access old now was new so_far there looked =
 not_own : (j h : ℕ) → (j == h) ≡ false → h ≢ j
 not_own j h e same = grind (arith, nat_tests)
 
-pub looked_all : LocalityLaw → OtherHartsStay → OtherBytesStay → StoreKeepsOtherBytes → StoreKeepsPermissions → (k h : ℕ) (access : Option Access) (old now : List Anchor) → AreLooked k h access old now → length now ≤ k →
-    (s t : State) (event : Event) → IsWatchOf old s → step_of s h ≡ Some (event, t) → access ≡ accessed event → IsWatchOf now t
-looked_all local stay bytes keeps permissions k h access old now looked past s t event watch step made =
+-- what is touched is not written, where none of the bytes that may be written is touched
+unwritten : (first size address : ℕ) (touched written : Bool) → (written ≡ true → is_among first size address ≡ true) → (is_among first size address ≡ true → touched ≡ false) → touched ≡ true → written ≡ false
+unwritten first size address touched true among apart is_touched = absurd (set_and_unset touched is_touched (apart (among refl)))
+unwritten first size address touched false among apart is_touched = refl
+
+pub looked_all : LocalityLaw → OtherHartsStay → OtherBytesStay → StoreKeepsOtherBytes → StoreKeepsPermissions → (k h first size : ℕ) (old now : List Anchor) → AreLooked k h first size old now → length now ≤ k →
+    (s t : State) (event : Event) → IsWatchOf old s → step_of s h ≡ Some (event, t) → WritesAmong first size (accessed event) → IsWatchOf now t
+looked_all local stay bytes keeps permissions k h first size old now looked past s t event watch step among =
     let each : (j : ℕ) (a : Anchor) → slice_get now j ≡ Some a → a.is_set ≡ true → IsAnchor t j a = λ j a e is_set.
     let within : j < length now = get_within now j a e in
     let it = looked.done j a (omega arith) e in
@@ -151,7 +157,7 @@ looked_all local stay bytes keeps permissions k h access old now looked past s t
       | inr kept ↦
           let was : IsAnchor s j it.0 = watch.each j it.0 it.1 (ap (λ (x : Anchor). x.is_set) (sym kept.same) ∙ is_set) in
           let apart : (address : ℕ) → covers it.0.seen.touched address ≡ true → access_writes (accessed event) address ≡ false = λ address c.
-          ap (λ (o : Option Access). access_writes o address) (sym made) ∙ kept.apart address c in
+          unwritten first size address (covers it.0.seen.touched address) (access_writes (accessed event) address) (among address) (kept.apart address) c in
           let left : IsAnchor t j it.0 = anchor_left local stay keeps permissions s t j h event it.0 was step (not_own j h kept.other) (λ address c. bytes s t h event step address (apart address c)) in
           subst (λ (x : Anchor). IsAnchor t j x) (sym kept.same) left
     ] in

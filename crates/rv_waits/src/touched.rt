@@ -1,6 +1,5 @@
 //! What a hart touched: its instructions' bytes and those of its accesses, in a place that asks for no memory.
 ghost use Rattle.std.specs.Prelude.{◌≡◌, ◌+◌, ◌⊎◌, ℕ, true, false, Some, IfSome, IsSomeAnd, slice_get};
-ghost use Rattle.rv_hart.specs.StepLaws.{access_writes};
 ghost use Rattle.rv_waits.specs.Touched.{covers, in_instructions, in_ranges};
 ghost use Rattle.rv_waits.specs.Touches.{in_access, is_among};
 ghost use Rattle.rv_waits.specs.internal.Meets.{meets_some, overlaps};
@@ -120,17 +119,8 @@ fn is_in(range: &Range, address: u32) -> bool
     range.first <= address && u64::from(address) < u64::from(range.first) + u64::from(range.size)
 }
 
-/// Whether an access writes a byte that may have been touched.
-pub fn meets(touched: &Touched, access: Option<Access>) -> bool
-    ensures { result ≡ false → (address : ℕ) → covers touched.now address ≡ true → access_writes access address ≡ false }
-{
-    match access {
-        Some(it) => it.write && meets_touched(touched, it.first, it.size),
-        None => false,
-    }
-}
-
-fn meets_touched(touched: &Touched, first: u32, size: u8) -> bool
+/// Whether one of `size` bytes from `first` on may have been touched.
+pub fn meets(touched: &Touched, first: u32, size: u8) -> bool
     ensures { result ≡ false → (address : ℕ) → is_among first size address ≡ true → covers touched.now address ≡ false }
 {
     touched.is_all || meets_instructions(touched, first, size) || meets_some(touched, first, size)

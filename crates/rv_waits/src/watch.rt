@@ -1,5 +1,5 @@
 //! Which harts wait, told as they step.
-ghost use Rattle.std.specs.Prelude.{◌≡◌, ◌<◌, ◌↔◌, ℕ, true, false, None, Some, Ok, IfOk, IfSome, IsTrue, length};
+ghost use Rattle.std.specs.Prelude.{◌≡◌, ◌<◌, ◌*◌, ◌↔◌, ℕ, true, false, None, Some, Ok, IfOk, IfSome, IsTrue, length, min};
 ghost use Rattle.rv_hart.specs.NextAccess.{accessed};
 ghost use Rattle.rv_hart.specs.State.{State};
 ghost use Rattle.rv_hart.specs.Step.{step_of};
@@ -9,11 +9,11 @@ ghost use Rattle.rv_waits.specs.Touched.{covers};
 ghost use Rattle.rv_waits.specs.Touches.{Loads, Touches};
 ghost use Rattle.rv_waits.specs.internal.Anchored.{IsGoneOn, IsLooked, IsNew};
 ghost use Rattle.rv_waits.specs.internal.MayWrite.{may_write};
-ghost use Rattle.rv_waits.specs.internal.Moves.{IsMove, IsSetAt};
+ghost use Rattle.rv_waits.specs.internal.Moves.{IsMove, IsSetAt, WritesAmong};
 
 use crate::quiet::{Told, may_write, told_step};
 use crate::round::{Round, Seen, see};
-use crate::touched::{meets, touched_at};
+use crate::touched::{Range, meets, touched_at};
 use rv_hart::access::{Access, Common, Event, Noted};
 use rv_hart::hart::Hart;
 use rv_hart::laws::{steps_are_local, what_no_step_does};
@@ -161,7 +161,8 @@ impl Watch {
                 Ok(Event::Moved(access))
             }
             Told::Loud(event) => {
-                self.look(h, access_of(event));
+                let bytes = bytes_of(event);
+                self.look(h, bytes.first, bytes.size);
                 Ok(event)
             }
             Told::Refused(fault) => Err(fault),
@@ -169,8 +170,26 @@ impl Watch {
     }
 
     /// The round of a hart, where it is seen to wait in the machine's state: it stands where its anchor does. None says nothing.
-    /// The round may go over the same loop several times.
+    /// The round may go over the same loop several times. Most steps lead to another pc than the anchor's, which is all that is looked
+    /// at then.
+    #[inline(always)]
     pub fn round<S: ByteStore>(&self, machine: &Machine<S>, h: u8) -> Option<Round>
+        requires hart { h < length machine.now.state.harts }
+        requires watch { IsWatchOf self.now machine.now.state }
+        ensures round { IfSome result (λ round. IsRound machine.now.state h round.steps) }
+        ensures polls { IfSome result (λ round. IsTrue round.polls ↔ Loads h round.steps machine.now.state) }
+        ensures touched { IfSome result (λ round.
+            (address : ℕ) → Touches h round.steps machine.now.state address → covers round.touched address ≡ true) }
+    {
+        if self.anchors[h as usize].hart.pc != machine.pc(h) {
+            return None;
+        }
+        self.round_at_anchor(machine, h)
+    }
+
+    /// The same where it stands at the anchor's pc.
+    #[inline(never)]
+    fn round_at_anchor<S: ByteStore>(&self, machine: &Machine<S>, h: u8) -> Option<Round>
         requires hart { h < length machine.now.state.harts }
         requires watch { IsWatchOf self.now machine.now.state }
         ensures round { IfSome result (λ round. IsRound machine.now.state h round.steps) }
@@ -205,7 +224,7 @@ impl Watch {
             → IsWatchOf self.new machine.now.state }
     {
         if access.write {
-            self.look(h, Some(access));
+            self.look(h, access.first, access.size);
         } else {
             self.go_on(machine, h, pc, Some(access));
         }
@@ -225,17 +244,18 @@ impl Watch {
         gone_on(&mut self.anchors[h as usize], machine.hart(h), pc, access);
     }
 
-    /// After another step of a hart: it rests, and so does each whose bytes it wrote.
+    /// After another step of a hart, which wrote no more than these bytes: it rests, and so does each that touched one of them.
     #[inline(never)]
-    fn look(&mut self, h: u8, access: Option<Access>)
+    fn look(&mut self, h: u8, first: u32, size: u8)
         ensures { (before after : State) (event : Event) → IsWatchOf self.old before
-            → step_of before h ≡ Some (event, after) → access ≡ accessed event → IsWatchOf self.new after }
+            → step_of before h ≡ Some (event, after) → WritesAmong first size (accessed event)
+            → IsWatchOf self.new after }
     {
         steps_are_local();
         store_keeps_the_rest();
         what_no_step_does();
         for k in 0..self.anchors.len() {
-            looked(&mut self.anchors[k], k == h as usize, access);
+            looked(&mut self.anchors[k], k == h as usize, first, size);
         }
     }
 }
@@ -288,13 +308,15 @@ fn set_anew(anchor: &mut Anchor, hart: &Hart)
 }
 
 /// Twice as many, and no more than `most`.
-fn doubled(count: u32, most: u32) -> u32 {
-    if count >= most / 2 { most } else { 2 * count }
+fn doubled(count: u32, most: u32) -> u32
+    ensures { result ≡ min (2 * count) most }
+{
+    count.saturating_mul(2).min(most)
 }
 
 /// A hart's anchor after a step: it is given up where the step is its own, for longer each time, or wrote what it touched.
-fn looked(anchor: &mut Anchor, is_own: bool, access: Option<Access>)
-    ensures { IsLooked anchor.old is_own access anchor.new }
+fn looked(anchor: &mut Anchor, is_own: bool, first: u32, size: u8)
+    ensures { IsLooked anchor.old is_own first size anchor.new }
 {
     if !anchor.is_set {
         return;
@@ -302,7 +324,7 @@ fn looked(anchor: &mut Anchor, is_own: bool, access: Option<Access>)
     if is_own {
         give_up(anchor, anchor.rest);
         anchor.rest = doubled(anchor.rest, LONGEST_REST);
-    } else if meets(&anchor.seen.touched, access) {
+    } else if meets(&anchor.seen.touched, first, size) {
         give_up(anchor, FEWEST);
     }
 }
@@ -316,11 +338,15 @@ fn give_up(anchor: &mut Anchor, most: u32)
     anchor.most = most;
 }
 
-fn access_of(event: Event) -> Option<Access>
-    ensures { result ≡ accessed event }
+/// The bytes that a step accessed, none where it accessed nothing.
+fn bytes_of(event: Event) -> Range
+    ensures { WritesAmong result.first result.size (accessed event) }
 {
     match event {
-        Event::Moved(access) => access,
-        Event::Exited(_) | Event::Stopped(_) => None,
+        Event::Moved(Some(access)) => Range {
+            first: access.first,
+            size: access.size,
+        },
+        Event::Moved(None) | Event::Exited(_) | Event::Stopped(_) => Range { first: 0, size: 0 },
     }
 }

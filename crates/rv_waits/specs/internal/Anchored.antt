@@ -1,9 +1,8 @@
 use Rattle.std.specs.Prelude.{◌≡◌, ℕ, ◌+◌, ◌⊎◌, ◌||◌, Bool, true, false, Option}
-use Rattle.rv_hart.specs.StepLaws.{access_writes}
 use Rattle.rv_hart.specs.declared.access.Access.{Access}
 use Rattle.rv_hart.specs.declared.hart.Hart.{Hart}
 use Rattle.rv_waits.specs.Touched.{covers}
-use Rattle.rv_waits.specs.Touches.{is_read}
+use Rattle.rv_waits.specs.Touches.{is_among, is_read}
 use Rattle.rv_waits.specs.declared.watch.Anchor.{Anchor}
 use Rattle.rv_waits.specs.internal.Added.{IsAdded}
 
@@ -25,12 +24,12 @@ pub record IsOneMore (old new : Anchor) (pc : ℕ) (made : Option Access) : Type
 abbrev pub IsGoneOn : Anchor → Hart → ℕ → Option Access → Anchor → Type 0
 IsGoneOn old now pc access new = IsNew now new ⊎ (new.is_set ≡ false) ⊎ IsOneMore old new pc access
 
--- the anchor as it was, where another hart's access writes nothing that was touched since
-pub record IsKept (old new : Anchor) (is_own : Bool) (access : Option Access) : Type 0 where
+-- the anchor as it was, where the step is another hart's, and none of the bytes that it may have written was touched since
+pub record IsKept (old new : Anchor) (is_own : Bool) (first size : ℕ) : Type 0 where
   pub same : new ≡ old
   pub other : is_own ≡ false
-  pub apart : (address : ℕ) → covers old.seen.touched address ≡ true → access_writes access address ≡ false
+  pub apart : (address : ℕ) → is_among first size address ≡ true → covers old.seen.touched address ≡ false
 
 -- the anchor is not set, or is kept
-abbrev pub IsLooked : Anchor → Bool → Option Access → Anchor → Type 0
-IsLooked old is_own access new = (new.is_set ≡ false) ⊎ IsKept old new is_own access
+abbrev pub IsLooked : Anchor → Bool → ℕ → ℕ → Anchor → Type 0
+IsLooked old is_own first size new = (new.is_set ≡ false) ⊎ IsKept old new is_own first size

@@ -2,9 +2,11 @@ use Rattle.std.specs.Prelude.{◌≡◌, ℕ, true, Some, Option, List, IsSomeAn
 use Rattle.rv_hart.specs.SomeHart.{SomeHart}
 use Rattle.rv_hart.specs.State.{State}
 use Rattle.rv_hart.specs.Step.{step_of}
+use Rattle.rv_hart.specs.StepLaws.{access_writes}
 use Rattle.rv_hart.specs.declared.access.Access.{Access}
 use Rattle.rv_hart.specs.declared.access.Event.TheVariants.{Moved}
 use Rattle.rv_waits.specs.Round.{IsQuietStep}
+use Rattle.rv_waits.specs.Touches.{is_among}
 use Rattle.rv_waits.specs.declared.watch.Anchor.{Anchor}
 
 -- hart h has an anchor that is set
@@ -17,3 +19,7 @@ pub record IsMove (anchors : List Anchor) (s t : State) (h pc : ℕ) (access : O
   pub memory : t.memory ≡ s.memory
   pub quiet : IsSetAt anchors h → IsQuietStep h s t
   pub at_pc : SomeHart (λ hart. pc ≡ hart.pc) s h
+
+-- the access writes no byte but these
+abbrev pub WritesAmong : ℕ → ℕ → Option Access → Type 0
+WritesAmong first size access = (address : ℕ) → access_writes access address ≡ true → is_among first size address ≡ true

@@ -1,8 +1,8 @@
 use Rattle.std.proofs.Common.{◌≡◌, ◌+◌, false}
 use Rattle.rv_waits.specs.internal.Meets.{meets_some, overlaps}
 use Rattle.rv_waits.proofs.TouchedLemmas.{none_covered}
-use Rattle.rv_waits.proofs.touched.meets_touched.Goals.{then-touched, else-touched}
-use Rattle.rv_waits.proofs.touched.meets_touched.Goals as goal
+use Rattle.rv_waits.proofs.touched.meets.Goals.{then-touched, else-touched}
+use Rattle.rv_waits.proofs.touched.meets.Goals as goal
 
 pub returns-else-meets_instructions : goal.returns-else-meets_instructions
 returns-else-meets_instructions c = λ e.

@@ -4,8 +4,8 @@ use Rattle.std.proofs.lemmas.Option.{slice_get-get_or}
 use Rattle.rv_hart.specs.StepLaws.{SameButReservation}
 use Rattle.rv_waits.specs.declared.watch.Anchor.{Anchor}
 use Rattle.rv_waits.proofs.WatchLemmas.{IsFound, anchor_found}
-use Rattle.rv_waits.proofs.watch.Watch.round.Given as given
-use Rattle.rv_waits.proofs.watch.Watch.round.Goals as goal
+use Rattle.rv_waits.proofs.watch.Watch.round_at_anchor.Given as given
+use Rattle.rv_waits.proofs.watch.Watch.round_at_anchor.Goals as goal
 
 found : (g : given.Over) (c : goal.After-result-1 g) → IsFound c.args.h c.args.machine.now.state c.index-anchor.result.now.steps c.index-anchor.result.now.seen
 found g c =
