@@ -3,7 +3,8 @@ ghost use Rattle.std.specs.Prelude.{◌≡◌, ◌<◌, length};
 ghost use Rattle.rv_waits.specs.Watch.{IsWatchOf};
 
 use crate::assertion::assert_is;
-use crate::machines::{machine, regions};
+use crate::machines::{machine, page, region, regions, two};
+use rv_hart::hart::Status;
 use rv_hart::machine::Machine;
 use rv_memory::flat::Flat;
 use rv_memory::paged::Paged;
@@ -58,6 +59,25 @@ const NINE: [u32; 11] = [
     0x01c3_2283,
     0x0203_2283,
     0xfddf_f06f,
+];
+
+/// `addi x7,x0,1`, `sw x7,8(x6)`, and then a round of ten as a compiler leaves it that keeps each value in memory: `sw x6,12(x6)`,
+/// `lw x5,12(x6)`, `lw x5,0(x5)`, `sw x5,16(x6)`, `lw x5,16(x6)`, `sltiu x5,x5,1`, `andi x5,x5,255`, `sb x5,20(x6)`,
+/// `lbu x5,20(x6)`, `bne x5,x0,-36`
+const KEEPS: [u32; 13] = [
+    0x0002_0337,
+    0x0010_0393,
+    0x0073_2423,
+    0x0063_2623,
+    0x00c3_2283,
+    0x0002_a283,
+    0x0053_2823,
+    0x0103_2283,
+    0x0012_b293,
+    0x0ff2_f293,
+    0x0053_0a23,
+    0x0143_4283,
+    0xfc02_9ee3,
 ];
 
 /// What is told of a round: its steps, whether it polls, and whether its ranges were too many.
@@ -137,6 +157,8 @@ fn rounds(rt: HostRuntime) {
     assert_round(&rt, alloc, &PRINTS, None, "a hart that prints");
     assert_round(&rt, alloc, &CALLS, Some((4, true, false)), "a call");
     assert_round(&rt, alloc, &NINE, Some((10, true, true)), "nine words");
+    let kept = watched(&rt, alloc, &KEEPS, 100);
+    assert_is(&rt, kept, Some((10, true, false)), "values kept in memory");
 }
 
 fn assert_round(
@@ -191,6 +213,28 @@ const WAKES: [u32; 7] = [
     0x0000_006f,
 ];
 
+/// Hart 0 stores 0 without end; hart 1 stores its number there. `lui x6,0x20`, `bne x10,x0,12`, `sw x0,0(x6)`, `jal x0,-4`,
+/// `sw x10,0(x6)`, `jal x0,0`
+const STORES_ON: [u32; 6] = [
+    0x0002_0337,
+    0x0005_1663,
+    0x0003_2023,
+    0xffdf_f06f,
+    0x00a3_2023,
+    0x0000_006f,
+];
+
+/// Hart 0 is in a loop, and hart 1 stores its number, which is no instruction, over the first word of that. `auipc x6,0`,
+/// `bne x10,x0,12`, `addi x0,x0,0`, `jal x0,-4`, `sw x10,8(x6)`, `jal x0,0`
+const OVERWRITES: [u32; 6] = [
+    0x0000_0317,
+    0x0005_1663,
+    0x0000_0013,
+    0xffdf_f06f,
+    0x00a3_2423,
+    0x0000_006f,
+];
+
 /// So many steps of a hart, watched.
 fn steps(machine: &mut Machine<Flat>, watch: &mut Watch, h: u8, count: u32)
     requires hart { h < length machine.old.state.harts }
@@ -203,32 +247,53 @@ fn steps(machine: &mut Machine<Flat>, watch: &mut Watch, h: u8, count: u32)
     }
 }
 
+/// What hart 1 changes wakes hart 0: a word that it loads, one that it stores, and an instruction of its loop. Then it is parked,
+/// stores again, or is stopped.
 #[test]
 fn wakes(rt: HostRuntime) {
-    let mut machine = machine(&rt, rt.alloc(), &WAKES, &[0], 2);
-    assert_wakes(&rt, rt.alloc(), &mut machine);
+    let alloc = rt.alloc();
+    assert_wakes(&rt, alloc, &WAKES, Some((1, false, false)), "a load");
+    assert_wakes(&rt, alloc, &STORES_ON, Some((2, false, false)), "a store");
+    assert_wakes(&rt, alloc, &OVERWRITES, None, "an instruction");
 }
 
-fn assert_wakes(rt: &impl Abort, alloc: Global, machine: &mut Machine<Flat>) {
+fn assert_wakes(
+    rt: &impl Abort,
+    alloc: Global,
+    words: &[u32],
+    wanted: Option<(u32, bool, bool)>,
+    what: &str,
+) {
+    let mut machine = writable(rt, alloc, words);
+    assert_woken(rt, alloc, &mut machine, wanted, what);
+}
+
+/// A machine of two harts whose words they may write over.
+fn writable(rt: &impl Abort, alloc: Global, words: &[u32]) -> Machine<Flat> {
+    let mut text = region(rt, alloc, 0x10000, words, false);
+    text.w = true;
+    let data = page(rt, alloc, 0x20000, &[0]);
+    let regions = two(rt, alloc, text, data);
+    Machine::new(alloc, &regions, 0x10000, 2, 8).expect(rt, "a machine")
+}
+
+/// Hart 0 waits after 11 steps, and until the third of hart 1; what a watch sees of it next.
+fn assert_woken(
+    rt: &impl Abort,
+    alloc: Global,
+    machine: &mut Machine<Flat>,
+    wanted: Option<(u32, bool, bool)>,
+    what: &str,
+) {
     assert!(rt; machine.harts() == 2);
     let mut watch = Watch::new(alloc, machine).expect(rt, "memory");
     steps(machine, &mut watch, 0, 11);
     steps(machine, &mut watch, 1, 2);
-    assert_is(rt, watch.round(machine, 0).is_some(), true, "hart 0 spins");
+    let before = watch.round(machine, 0).is_some();
     steps(machine, &mut watch, 1, 1);
-    assert_is(
-        rt,
-        watch.round(machine, 0).is_some(),
-        false,
-        "the byte has changed",
-    );
-    steps(machine, &mut watch, 0, 10);
-    assert_is(
-        rt,
-        watch.round(machine, 0).is_some(),
-        true,
-        "hart 0 is parked",
-    );
+    let after = watch.round(machine, 0).is_some();
+    assert_is(rt, (before, after), (true, false), what);
+    assert_is(rt, seen(machine, &mut watch, 40), wanted, what);
 }
 
 /// What programs are drawn from: loads, stores, an AMO that changes nothing and one that does, LR, SC, branches, and
@@ -306,28 +371,52 @@ fn is_stuck(rt: &impl Abort, machine: &mut Machine<Paged>, watch: &Watch) -> boo
     first && second
 }
 
-/// From a stuck state drawn steps change neither word of data.
-fn assert_stays(rt: &impl Abort, machine: &mut Machine<Paged>, row: &mut u32) {
-    let before = (machine.number(0x20000, 4), machine.number(0x20004, 4));
-    for _ in 0..200 {
-        let _ = machine.step((draw(row) % 2) as u8);
-    }
-    let after = (machine.number(0x20000, 4), machine.number(0x20004, 4));
-    assert_is(rt, after, before, "a stuck machine stays as it is");
+/// What may change: both words of data, how much is printed, and how each hart stands.
+fn shown(machine: &Machine<Paged>) -> (Option<u32>, Option<u32>, usize, Status, Status)
+    requires { length machine.now.state.harts ≡ 2 }
+{
+    (
+        machine.number(0x20000, 4),
+        machine.number(0x20004, 4),
+        machine.output().len(),
+        machine.status(0),
+        machine.status(1),
+    )
 }
 
-/// A drawn program of two harts, watched for so many drawn steps, or until it is stuck; says whether it was.
-fn tries_drawn(rt: &impl Abort, alloc: Global, row: &mut u32) -> bool {
+/// From a stuck state drawn steps change nothing.
+fn assert_stays(rt: &impl Abort, machine: &mut Machine<Paged>, row: &mut u32, steps: u32)
+    requires { length machine.old.state.harts ≡ 2 }
+{
+    let before = shown(machine);
+    for _ in 0..steps {
+        let _ = machine.step((draw(row) % 2) as u8);
+    }
+    assert_is(
+        rt,
+        shown(machine) == before,
+        true,
+        "a stuck machine stays as it is",
+    );
+}
+
+/// How many programs were drawn, how many states they came to, and how many got stuck.
+#[derive(Clone, Copy)]
+struct Counts {
+    programs: u32,
+    states: u32,
+    stuck: u32,
+}
+
+/// A drawn program of two harts, watched for so many drawn steps, or until it is stuck.
+fn tries_drawn(rt: &impl Abort, alloc: Global, row: &mut u32, counts: &mut Counts) {
     let regions = regions(rt, alloc, &drawn_words(row), &[0, 1]);
     let mut machine: Machine<Paged> = Machine::new(alloc, &regions, 0x10000, 2, 8).expect(
         rt,
         "a machine",
     );
-    let is_stuck = watched_drawn(rt, alloc, &mut machine, row);
-    if is_stuck {
-        assert_stays(rt, &mut machine, row);
-    }
-    is_stuck
+    counts.programs = counts.programs.saturating_add(1);
+    watched_drawn(rt, alloc, &mut machine, row, counts);
 }
 
 fn watched_drawn(
@@ -335,10 +424,15 @@ fn watched_drawn(
     alloc: Global,
     machine: &mut Machine<Paged>,
     row: &mut u32,
-) -> bool {
+    counts: &mut Counts,
+) {
     assert!(rt; machine.harts() == 2);
     let mut watch = Watch::new(alloc, machine).expect(rt, "memory");
-    until_stuck(rt, machine, &mut watch, row)
+    if until_stuck(rt, machine, &mut watch, row, counts) {
+        let steps = if counts.stuck % 100 == 0 { 10_000 } else { 100 };
+        counts.stuck = counts.stuck.saturating_add(1);
+        assert_stays(rt, machine, row, steps);
+    }
 }
 
 fn until_stuck(
@@ -346,12 +440,15 @@ fn until_stuck(
     machine: &mut Machine<Paged>,
     watch: &mut Watch,
     row: &mut u32,
+    counts: &mut Counts,
 ) -> bool
     requires hart { length machine.old.state.harts ≡ 2 }
     requires watch { IsWatchOf watch.old machine.old.state }
+    ensures { length machine.new.state.harts ≡ 2 }
 {
     for _ in 0..100 {
         let _ = watch.step(machine, (draw(row) % 2) as u8);
+        counts.states = counts.states.saturating_add(1);
         if is_stuck(rt, machine, watch) {
             return true;
         }
@@ -359,15 +456,27 @@ fn until_stuck(
     false
 }
 
-/// Of 40 drawn programs some get stuck and some don't; whoever is seen to wait does.
+/// Of drawn programs of 100,000 states some get stuck and some don't; whoever is seen to wait does.
 #[test]
 fn drawn(rt: HostRuntime) {
     let mut row = 1;
-    let mut stuck = 0u32;
-    for _ in 0..40u32 {
-        if tries_drawn(&rt, rt.alloc(), &mut row) {
-            stuck = stuck.min(39) + 1;
+    let mut counts = Counts {
+        programs: 0,
+        states: 0,
+        stuck: 0,
+    };
+    for _ in 0..10_000u32 {
+        if counts.states < 100_000 {
+            tries_drawn(&rt, rt.alloc(), &mut row, &mut counts);
         }
     }
-    assert!(rt; 3 < stuck && stuck < 37, "{stuck} programs got stuck");
+    let Counts {
+        programs,
+        states,
+        stuck,
+    } = counts;
+    assert!(rt;
+        100_000 <= states && programs / 10 < stuck && stuck / 9 < programs / 10,
+        "{states} states of {programs} programs, of which {stuck} got stuck"
+    );
 }
