@@ -1,74 +1,111 @@
 -- The lines of an ignore list, one by one.
-use Rattle.std.proofs.Common.{◌≡◌, ℕ, ◌+◌, ◌≤◌, List, [], ◌∷◌, ◌++◌, Option, Some, None, Result, Ok, Err, refl, sym, ap, subst, ◌∙◌, arith}
-use Rattle.std.specs.Prelude.{IsOkAnd, drop, length, slice_get, ◌==◌}
-use Rattle.std.proofs.lemmas.List.{append_assoc}
+use Rattle.std.proofs.Common.{◌≡◌, ℕ, ◌+◌, ◌≤◌, Bool, true, false, List, [], ◌∷◌, ◌++◌, Option, Some, None, Result, Ok, Err, refl, sym, ap, ◌∙◌, arith}
+use Rattle.std.specs.Prelude.{drop, if◌then◌else◌, length, slice_get, ◌==◌}
+use Rattle.std.specs.Option.{option_map, option_map_or}
 use Rattle.std.proofs.lemmas.List.Splits.{length-slice_split}
 use Rattle.std.proofs.lemmas.List.Sums.{count_by-le-length}
 use Rattle.rv_elf.specs.Contents.{Contents}
-use Rattle.rv_memory.specs.Chain.{◌>>=◌}
+use Rattle.rv_memory.specs.Chain.{◌>>=◌, want}
 use Rattle.rv_text.specs.Pieces.{pieces_of}
-use Rattle.rv_hunt.specs.merge.FileFault.{IsTold, UnlessDevice, told_ignore}
-use Rattle.rv_hunt.specs.merge.Ignore.{at_line, line_of, lines_from, listed}
-use Rattle.rv_engines.specs.declared.fault.Fault.TheVariants as fault
-use Rattle.rv_hunt.specs.declared.merge.fault.FileFault.{FileFault}
-use Rattle.rv_hunt.specs.declared.merge.fault.FileFault.TheVariants.{Plain, Ignore}
+use Rattle.rv_hunt.specs.internal.Shaped.{after_line, ended, judged, listed_at, unknown_at, unknown_in}
+use Rattle.rv_hunt.specs.internal.Sought.{lines_in}
+use Rattle.rv_hunt.specs.merge.Ignore.{are_known, at_line, line_of, lines_from, listed, sides_of, words_in, words_of}
 use Rattle.rv_hunt.specs.declared.merge.fault.IgnoreFault.{IgnoreFault}
 use Rattle.rv_hunt.specs.declared.merge.fault.IgnoreKind.{IgnoreKind}
+use Rattle.rv_hunt.specs.declared.merge.fault.IgnoreKind.TheVariants.{Unknown}
 use Rattle.rv_hunt.specs.declared.merge.ignore.Line.{Line}
+use Rattle.rv_hunt.specs.declared.merge.ignore.ListedLine.{ListedLine}
 
 abbrev pub Read : Type 0
 Read = Result (List Line) IgnoreFault
 
--- lines before what is read
-abbrev pub after : List Line → Read → Read
-after before read = read >>= λ later. Ok (before ++ later)
-
-pub after_none : (read : Read) → after [] read ≡ read
-after_none (Ok lines) = refl
-after_none (Err given) = refl
+abbrev Pair : Type 0
+Pair = List ℕ × List ℕ
 
 -- ---- a line more
 
-append_more : (before : List Line) (said : Option Line) (read : Read) → after before (read >>= λ lines. Ok (listed said ++ lines)) ≡ after (before ++ listed said) read
-append_more before said (Ok lines) = ap Ok (sym (append_assoc before (listed said) lines))
-append_more before said (Err given) = refl
+judged_append : (image : Contents) (before more : List ListedLine) (read : Read) → judged image (before ++ more) read ≡ judged image before (judged image more read)
+judged_append image [] more read = refl
+judged_append image (x ∷ before) more read = ap (after_line image x) (judged_append image before more read)
 
-line_more : (image : Contents) (number : ℕ) (before : List Line) (later : List (List ℕ)) (r : Result (Option Line) IgnoreKind) (new : List Line) → IsOkAnd r (λ said. new ≡ before ++ listed said)
-    → after before (at_line number r >>= λ said. lines_from image (number + 1) later >>= λ lines. Ok (listed said ++ lines)) ≡ after new (lines_from image (number + 1) later)
-line_more image number before later (Ok said) new is = append_more before said (lines_from image (number + 1) later) ∙ ap (λ (lines : List Line). after lines (lines_from image (number + 1) later)) (sym is)
-line_more image number before later (Err kind) new is = absurd is
+-- what a line says, by its words
+abbrev said_by : Contents → Result (Option Pair) IgnoreKind → Result (Option Line) IgnoreKind
+said_by image r = r >>= λ pair. want (option_map_or (λ (words : Pair). are_known image (sides_of words)) pair true) Unknown >>= λ _. Ok (option_map sides_of pair)
 
-pub step : (image : Contents) (number : ℕ) (before new : List Line) (text : List ℕ) (later : List (List ℕ)) → IsOkAnd (line_of image text) (λ said. new ≡ before ++ listed said)
-    → after before (lines_from image number (text ∷ later)) ≡ after new (lines_from image (number + 1) later)
+-- what is read of a line and those after it
+abbrev with_later : ℕ → Result (Option Line) IgnoreKind → Read → Read
+with_later at said read = at_line at said >>= λ line. read >>= λ lines. Ok (listed line ++ lines)
+
+by_nothing : (at : ℕ) (read : Read) → with_later at (Ok None) read ≡ read
+by_nothing at (Ok lines) = refl
+by_nothing at (Err given) = refl
+
+by_known : (b : Bool) (line : Line) (at : ℕ) (read : Read) → with_later at (want b Unknown >>= λ _. Ok (Some line)) read ≡ (if b then (read >>= λ lines. Ok (line ∷ lines)) else Err (unknown_at at))
+by_known true line at read = refl
+by_known false line at read = refl
+
+by_words : (image : Contents) (at : ℕ) (pair : Option Pair) (read : Read) → with_later at (said_by image (Ok pair)) read ≡ judged image (listed_at at pair) read
+by_words image at None read = by_nothing at read
+by_words image at (Some pair) read = by_known (are_known image (sides_of pair)) (sides_of pair) at read
+
+by_shape : (image : Contents) (at : ℕ) (pair : Option Pair) (r : Result (Option Pair) IgnoreKind) (read : Read) → r ≡ Ok pair → with_later at (said_by image r) read ≡ judged image (listed_at at pair) read
+by_shape image at pair r read is = rw is (by_words image at pair read)
+
+pub step : (image : Contents) (at : ℕ) (before : List ListedLine) (pair : Option Pair) (text : List ℕ) (later : List (List ℕ)) → words_in (words_of text) ≡ Ok pair
+    → judged image before (lines_from image at (text ∷ later)) ≡ judged image (before ++ listed_at at pair) (lines_from image (at + 1) later)
+unfolding lines_from line_of
+step image at before pair text later is =
+    ap (judged image before) (by_shape image at pair (words_in (words_of text)) (lines_from image (at + 1) later) is)
+    ∙ sym (judged_append image before (listed_at at pair) (lines_from image (at + 1) later))
+
+-- ---- a line that has no shape, and none
+
+faulty_by : (image : Contents) (at : ℕ) (kind : IgnoreKind) (r : Result (Option Pair) IgnoreKind) (read : Read) → r ≡ Err kind → with_later at (said_by image r) read ≡ Err (record { line = at; kind = kind })
+faulty_by image at kind r read is = rw is refl
+
+pub faulty : (image : Contents) (at : ℕ) (before : List ListedLine) (kind : IgnoreKind) (text : List ℕ) (later : List (List ℕ)) → words_in (words_of text) ≡ Err kind
+    → judged image before (lines_from image at (text ∷ later)) ≡ judged image before (ended (Some (record { line = at; kind = kind })))
+unfolding lines_from line_of
+faulty image at before kind text later is =
+    ap (judged image before) (faulty_by image at kind (words_in (words_of text)) (lines_from image (at + 1) later) is)
+
+pub no_more : (image : Contents) (at : ℕ) (before : List ListedLine) → judged image before (lines_from image at []) ≡ judged image before (ended None)
 unfolding lines_from
-step image number before new text later is = line_more image number before later (line_of image text) new is
+no_more image at before = refl
 
--- ---- a fault
+-- ---- the names of the lines
 
-unless_device : (given : FileFault) (P Q : Type 0) → (P → Q) → UnlessDevice given P → UnlessDevice given Q
-unless_device (Plain fault.Read) P Q next said = tt
-unless_device (Plain fault.Write) P Q next said = tt
-unless_device (Plain fault.NoMemory) P Q next said = tt
-unless_device given P Q next said = next said
+unknown_step : (b : Bool) (here at : ℕ) (line : Line) (rest : Option ℕ) (read : Read) → (rest ≡ Some at → read ≡ Err (unknown_at at)) → (if b then rest else Some here) ≡ Some at
+    → (if b then (read >>= λ lines. Ok (line ∷ lines)) else Err (unknown_at here)) ≡ Err (unknown_at at)
+unknown_step true here at line rest read next is = rw (next is) refl
+unknown_step false here at line rest read next is =
+    let same : here ≡ at = cc in
+    ap (λ (n : ℕ). Err (unknown_at n)) same
 
-told_more : (image : Contents) (number : ℕ) (before : List Line) (later : List (List ℕ)) (r : Result (Option Line) IgnoreKind) (given : FileFault) → told_ignore (at_line number r) ≡ Err given
-    → told_ignore (after before (at_line number r >>= λ said. lines_from image (number + 1) later >>= λ lines. Ok (listed said ++ lines))) ≡ Err given
-told_more image number before later (Ok said) given is = cc
-told_more image number before later (Err kind) given is = ap Err (same_fault (Ignore (record { line = number; kind = kind })) given is)
-  where
-    same_fault : (one other : FileFault) → (let r : Result (Option Line) FileFault = Err one in r ≡ Err other) → one ≡ other
-    same_fault one other is = cc
+pub judged_unknown : (image : Contents) (lines : List ListedLine) (read : Read) (at : ℕ) → unknown_in image lines ≡ Some at → judged image lines read ≡ Err (unknown_at at)
+judged_unknown image [] read at is = absurd (cc)
+judged_unknown image (x ∷ lines) read at is =
+    unknown_step (are_known image x.line) x.at at x.line (unknown_in image lines) (judged image lines read) (judged_unknown image lines read at) is
 
-pub told : (image : Contents) (number : ℕ) (before : List Line) (text : List ℕ) (later : List (List ℕ)) (given : FileFault) → IsTold (told_ignore (at_line number (line_of image text))) given → IsTold (told_ignore (after before (lines_from image number (text ∷ later)))) given
-unfolding lines_from
-told image number before text later given is = unless_device given _ _ (told_more image number before later (line_of image text) given) is
+known_step : (b : Bool) (here : ℕ) (line : Line) (rest : Option ℕ) (read : Read) (lines : List Line) → (rest ≡ None → read ≡ Ok lines) → (if b then rest else Some here) ≡ None
+    → (if b then (read >>= λ later. Ok (line ∷ later)) else Err (unknown_at here)) ≡ Ok (line ∷ lines)
+known_step true here line rest read lines next is = rw (next is) refl
+known_step false here line rest read lines next is = absurd (cc)
 
-pub told_same : (one other : Read) (given : FileFault) → one ≡ other → IsTold (told_ignore other) given → IsTold (told_ignore one) given
-told_same one other given same is = subst (λ (read : Read). IsTold (told_ignore read) given) (sym same) is
+pub judged_known : (image : Contents) (lines : List ListedLine) → unknown_in image lines ≡ None → judged image lines (ended None) ≡ Ok (lines_in lines)
+judged_known image [] is = refl
+judged_known image (x ∷ lines) is =
+    known_step (are_known image x.line) x.at x.line (unknown_in image lines) (judged image lines (ended None)) (lines_in lines) (judged_known image lines) is
 
-pub ended : (image : Contents) (number : ℕ) (before : List Line) → after before (lines_from image number []) ≡ Ok (before ++ [])
-unfolding lines_from
-ended image number before = refl
+fault_step : (b : Bool) (here : ℕ) (line : Line) (rest : Option ℕ) (read : Read) (fault : IgnoreFault) → (rest ≡ None → read ≡ Err fault) → (if b then rest else Some here) ≡ None
+    → (if b then (read >>= λ later. Ok (line ∷ later)) else Err (unknown_at here)) ≡ Err fault
+fault_step true here line rest read fault next is = rw (next is) refl
+fault_step false here line rest read fault next is = absurd (cc)
+
+pub judged_fault : (image : Contents) (lines : List ListedLine) (fault : IgnoreFault) → unknown_in image lines ≡ None → judged image lines (ended (Some fault)) ≡ Err fault
+judged_fault image [] fault is = refl
+judged_fault image (x ∷ lines) fault is =
+    fault_step (are_known image x.line) x.at x.line (unknown_in image lines) (judged image lines (ended (Some fault))) fault (judged_fault image lines fault) is
 
 -- ---- the pieces
 

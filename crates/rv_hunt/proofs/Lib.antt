@@ -6,7 +6,6 @@ pub mod EngineLemmas
 pub mod FileLemmas
 pub mod FilterLemmas
 pub mod FoldLemmas
-pub mod HeldLemmas
 pub mod HuntLemmas
 pub mod IgnoreLemmas
 pub mod IgnoredRowLemmas
@@ -25,6 +24,7 @@ pub mod ResultLemmas
 pub mod Rows
 pub mod SavedLemmas
 pub mod SiteLemmas
-pub mod SpelledLemmas
+pub mod SoughtLemmas
 pub mod SummaryLemmas
+pub mod WordLemmas
 pub mod Written

@@ -2,8 +2,10 @@
 pub mod Adding
 pub mod Counting
 pub mod Drawn
-pub mod Held
 pub mod Lookup
 pub mod Lots
 pub mod MakeFault
 pub mod Opened
+pub mod Shaped
+pub mod Sought
+pub mod Words

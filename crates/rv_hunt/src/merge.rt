@@ -30,8 +30,9 @@ use std::io::{Read, Write};
 pub mod fault;
 pub mod ignore;
 pub mod parted;
-mod spelled;
+mod sought;
 pub mod table_file;
+mod words;
 
 /// Why `merge` does not write its table, and which file is at fault: the number of a table, from 0 on, that of all tables
 /// for the one with the races that are expected, and none for the output and for want of memory between the files and it.

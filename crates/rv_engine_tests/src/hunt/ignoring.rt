@@ -2,6 +2,7 @@
 use crate::assertion::assert_is;
 use crate::images::Named;
 use crate::padded::image;
+use rv_elf::Image;
 use rv_explain::symbol_table::SymbolTable;
 use rv_hunt::merge::ignore::read_ignores;
 use rv_memory::flagged::Flagged;
@@ -9,14 +10,16 @@ use rv_report::key::Key;
 use std::alloc::Global;
 use std::process::Abort;
 
-/// A start file's label without a size, a function, one that lies in it, a name with bytes that are not shown, and one of
-/// eight hexadecimal digits.
-const SYMBOLS: [Named; 5] = [
+/// A start file's label without a size, a function, one that lies in it, a name with bytes that are not shown, one of
+/// eight hexadecimal digits, and two of one name.
+const SYMBOLS: [Named; 7] = [
     ("_start", 0x10000, 0, 2),
     ("main", 0x10020, 0x20, 2),
     ("inner", 0x10030, 0x8, 2),
     ("a\\ b", 0x10100, 4, 2),
     ("00010000", 0x10104, 4, 2),
+    ("twin", 0x10200, 4, 2),
+    ("twin", 0x10300, 8, 2),
 ];
 
 /// A list, a race, and whether the list fits it.
@@ -43,6 +46,21 @@ const FITS: &[Fits] = &[
     ("a\\\\\\x20b *\n", 0x10100, None, true),
     ("00010000 *\n", 0x10104, None, false),
     ("\n  \n#\n* 00010ffc\nmain *\n", 0x10024, None, true),
+    ("twin *\n", 0x10203, None, true),
+    ("twin *\n", 0x10307, None, true),
+    ("twin *\n", 0x10204, None, false),
+    ("twin twin\n", 0x10200, Some(0x10304), true),
+    ("twin inner\ntwin main\n", 0x10300, Some(0x10020), true),
+    ("twin inner\ninner inner\n", 0x10300, Some(0x10020), false),
+];
+
+/// A list that is refused, and what is told of it.
+const REFUSED: &[(&str, &str)] = &[
+    ("main *\nnone *\nmain\n", "ignore line 2 Unknown"),
+    ("main *\nmain\nnone *\n", "ignore line 2 Shape"),
+    ("* none\nnone *\n", "ignore line 1 Unknown"),
+    ("main none * # three\n", "ignore line 1 Shape"),
+    ("twin *\n\n# none\ntwin none\n", "ignore line 4 Unknown"),
 ];
 
 fn assert_fits(rt: &impl Abort, alloc: Global, symbols: &SymbolTable, row: &Fits) {
@@ -50,9 +68,18 @@ fn assert_fits(rt: &impl Abort, alloc: Global, symbols: &SymbolTable, row: &Fits
     let ignores = read_ignores(alloc, symbols.image(), &mut Flagged::new(list.as_bytes()))
         .ok()
         .expect(rt, list);
-    let bytes = ignores.bytes(alloc, symbols.image()).expect(rt, "memory");
-    let found = ignores.fits(symbols, &bytes, &Key { first, second });
-    assert_is(rt, found, wanted, list);
+    let names = ignores.names(alloc, symbols.image()).expect(rt, "memory");
+    let found = ignores.fits(alloc, symbols, &names, &Key { first, second });
+    assert_is(rt, found.expect(rt, "memory"), wanted, list);
+}
+
+fn assert_refused(rt: &impl Abort, alloc: Global, image: &Image, row: &(&'static str, &str)) {
+    let (list, told) = *row;
+    let fault = read_ignores(alloc, image, &mut Flagged::new(list.as_bytes()))
+        .err()
+        .expect(rt, list);
+    let text = format!(in alloc; "{fault}").expect(rt, "memory");
+    assert_is(rt, text.as_str(), told, list);
 }
 
 #[test]
@@ -62,5 +89,14 @@ fn lists_fit_races(rt: HostRuntime) {
     let symbols = SymbolTable::new(alloc, &image).expect(&rt, "memory");
     for row in FITS {
         assert_fits(&rt, alloc, &symbols, row);
+    }
+}
+
+#[test]
+fn the_first_line_with_a_fault_is_told(rt: HostRuntime) {
+    let alloc = rt.alloc();
+    let image = image(&rt, alloc, &[], &SYMBOLS);
+    for row in REFUSED {
+        assert_refused(&rt, alloc, &image, row);
     }
 }

@@ -1,23 +1,30 @@
 //! Lists of races that are to be ignored. `specs/merge/Ignore.antt` has what they say.
-ghost use Rattle.std.specs.Prelude.{◌≡◌, ◌≤◌, ◌||◌, ◌++◌, false, Ok, Err, IfOk, IfErr, IfSome, IsOkAnd, OnOk, [], length, filter, drop, slice_get, map, option_map, ◌&&◌};
+//!
+//! A list and an image may both be long. So the words of a list have numbers, and one pass over the symbols of the image
+//! finds those of every name.
+ghost use Rattle.std.specs.Prelude.{◌≡◌, ◌≤◌, ◌||◌, ◌++◌, false, Ok, Err, IfOk, IfErr, IfSome, OnOk, [], length, filter, drop, slice_get, map, option_map};
+ghost use Rattle.std.specs.List.{AllZip};
 ghost use Rattle.std.specs.Option.{option_copied};
+ghost use Rattle.rv_elf.specs.Contents.{Contents};
 ghost use Rattle.rv_memory.specs.Flagged as flag;
 ghost use Rattle.rv_text.specs.Pieces.{pieces_of};
 ghost use Rattle.rv_hunt.specs.merge.FileFault.{IsTold, fails_by, is_read, is_write, told_ignore};
-ghost use Rattle.rv_hunt.specs.internal.Held as held;
+ghost use Rattle.rv_hunt.specs.internal.Shaped as shape;
+ghost use Rattle.rv_hunt.specs.internal.Sought as by_number;
+ghost use Rattle.rv_hunt.specs.internal.Words as numbers;
 ghost use Rattle.rv_hunt.specs.merge.Ignore as spec;
 
 use crate::merge::fault::{FileFault, IgnoreFault, IgnoreKind};
-use crate::merge::spelled::is_spelled;
-use rv_elf::{Image, Symbol};
+use crate::merge::sought::{Instruction, SoughtLine, SoughtSide, any_fits, first_unknown};
+use crate::merge::words::{NamedSymbol, Words, marks_at, marks_of, named_symbols};
+use rv_elf::Image;
 use rv_explain::symbol_table::SymbolTable;
 use rv_memory::flagged::{Flagged, INPUT_LIMIT, read_whole};
 use rv_memory::store::NoMemory;
-use rv_prune::named_bytes::NamedBytes;
 use rv_report::key::Key;
 use rv_text::hexadecimal::read_word;
 use rv_text::pieces::Pieces;
-use std::alloc::{AllocError, Global};
+use std::alloc::Global;
 use std::io::Read;
 use std::marker::Model;
 
@@ -50,26 +57,35 @@ pub struct Line {
     pub other: Side,
 }
 
-/// The bytes of the symbols that the two sides of a line name.
+/// A line of a list, and its number in the file.
 #[derive(Drop)]
-pub struct Held {
-    one: NamedBytes,
-    other: NamedBytes,
+pub struct ListedLine {
+    at: u64,
+    line: Line,
 }
 
 /// Lines of races that are to be ignored.
 #[derive(Drop)]
 pub struct Ignores {
-    lines: Vec<Line>,
+    lines: Vec<ListedLine>,
 }
 
 impl Model for Ignores {
-    ghost use Rattle.std.specs.Prelude.{List};
+    ghost use Rattle.std.specs.Prelude.{List, map};
     ghost use Rattle.rv_hunt.specs.declared.merge.ignore.Line.{Line};
+    ghost use Rattle.rv_hunt.specs.declared.merge.ignore.ListedLine.{ListedLine};
 
     ghost Value = { List Line };
 
-    ghost view = { λ i. i.lines.items };
+    ghost view = { λ i. map (λ (l : ListedLine). l.line) i.lines.items };
+}
+
+/// The words of a list by numbers, its lines in terms of these, and the symbols of an image that have them for names.
+#[derive(Drop)]
+pub struct Names<'a> {
+    words: Words<'a>,
+    lines: Vec<SoughtLine>,
+    symbols: Vec<NamedSymbol>,
 }
 
 impl SymbolName {
@@ -81,47 +97,10 @@ impl SymbolName {
         Ok(SymbolName { bytes })
     }
 
-    /// Whether a symbol has the name.
-    fn is_of(&self, symbol: &Symbol) -> bool
-        ensures { result ≡ spec.is_spelled self.now symbol.now }
+    fn word(&self) -> &[u8]
+        ensures { result.now ≡ self.now }
     {
-        is_spelled(symbol.name.as_bytes(), &self.bytes)
-    }
-
-    /// Whether a symbol of the image has the name.
-    fn is_known(&self, image: &Image) -> bool
-        ensures { result ≡ spec.has_name image.now self.now }
-    {
-        image.symbols().iter().any(|symbol| self.is_of(symbol))
-    }
-
-    /// The bytes of the symbols of the name.
-    fn bytes(&self, alloc: Global, image: &Image) -> Result<NamedBytes, NoMemory>
-        ensures { IfOk result (λ bytes. bytes ≡ held.ranges_of image.now self.now) }
-    {
-        let listed = self.ranges(alloc, image)?;
-        NamedBytes::of(alloc, listed)
-    }
-
-    fn ranges(&self, alloc: Global, image: &Image) -> Result<Vec<(u32, u32)>, AllocError>
-        ensures { IfOk result (λ listed. listed.items ≡ held.ranges_of image.now self.now) }
-    {
-        image
-            .symbols()
-            .iter()
-            .filter(|symbol| self.is_of(symbol))
-            .map(|symbol| (symbol.value, symbol.size))
-            .collect(alloc)
-    }
-
-    /// Whether `explain` tells the address by a symbol of the name.
-    fn tells(&self, symbols: &SymbolTable, address: u32) -> bool
-        ensures { result ≡ spec.is_told_by_name symbols.now self.now address }
-    {
-        match symbols.symbol_of(address) {
-            Some(symbol) => self.is_of(symbol),
-            None => false,
-        }
+        &self.bytes
     }
 }
 
@@ -139,86 +118,90 @@ impl Side {
         }
     }
 
-    fn is_known(&self, image: &Image) -> bool
-        ensures { result ≡ spec.is_known image.now self.now }
+    /// The side by the number of its word.
+    fn sought<'a>(&'a self, words: &mut Words<'a>) -> Result<SoughtSide, NoMemory>
+        requires { numbers.AreNumbered words.old }
+        ensures numbered { OnOk result (numbers.AreNumbered words.new) }
+        ensures is { IfOk result (λ side. by_number.sought_side words.new self.now ≡ Some side) }
+        ensures kept { OnOk result (numbers.Keeps words.old words.new) }
     {
         match self {
-            Side::Any | Side::Address(_) => true,
-            Side::Name(name) => name.is_known(image),
-        }
-    }
-
-    /// The bytes of the symbols that it names.
-    fn bytes(&self, alloc: Global, image: &Image) -> Result<NamedBytes, NoMemory>
-        ensures { IfOk result (λ bytes. bytes ≡ held.held_of image.now self.now) }
-    {
-        match self {
-            Side::Any | Side::Address(_) => NamedBytes::of(alloc, Vec::new(alloc)),
-            Side::Name(name) => name.bytes(alloc, image),
-        }
-    }
-
-    /// Whether the side fits an instruction, or one that is not known.
-    fn fits(&self, symbols: &SymbolTable, bytes: &NamedBytes, instruction: Option<u32>) -> bool
-        requires { bytes.now ≡ held.held_of symbols.now self.now }
-        ensures { result ≡ spec.fits_side symbols.now self.now instruction }
-    {
-        match (self, instruction) {
-            (Side::Any, _) => true,
-            (Side::Address(address), Some(at)) => at == *address,
-            (Side::Name(name), Some(at)) => bytes.has(at) || name.tells(symbols, at),
-            (_, None) => false,
+            Side::Any => Ok(SoughtSide::Any),
+            Side::Address(address) => Ok(SoughtSide::Address(*address)),
+            Side::Name(name) => Ok(SoughtSide::Word(words.number(name.word())?)),
         }
     }
 }
 
 impl Line {
     fn of(alloc: Global, one: &[u8], other: &[u8]) -> Result<Line, NoMemory>
-        ensures { IfOk result (λ line. line ≡ record { one = spec.side_of one.now; other = spec.side_of other.now }) }
+        ensures { IfOk result (λ line. line ≡ spec.sides_of (one.now, other.now)) }
     {
         let one = Side::of(alloc, one)?;
         let other = Side::of(alloc, other)?;
         Ok(Line { one, other })
     }
+}
 
-    fn are_known(&self, image: &Image) -> bool
-        ensures { result ≡ spec.are_known image.now self.now }
+impl ListedLine {
+    /// The line by the numbers of its words.
+    fn sought<'a>(&'a self, words: &mut Words<'a>) -> Result<SoughtLine, NoMemory>
+        requires { numbers.AreNumbered words.old }
+        ensures numbered { OnOk result (numbers.AreNumbered words.new) }
+        ensures is { IfOk result (λ line. by_number.IsSought words.new self.now line) }
+        ensures kept { OnOk result (numbers.Keeps words.old words.new) }
     {
-        self.one.is_known(image) && self.other.is_known(image)
+        let one = self.line.one.sought(words)?;
+        let other = self.line.other.sought(words)?;
+        let at = self.at;
+        Ok(SoughtLine { at, one, other })
+    }
+}
+
+/// The lines by the numbers of their words, each of which gets one.
+fn sought_lines<'a>(
+    alloc: Global,
+    words: &mut Words<'a>,
+    lines: &'a [ListedLine],
+) -> Result<Vec<SoughtLine>, NoMemory>
+    requires { numbers.AreNumbered words.old }
+    ensures numbered { OnOk result (numbers.AreNumbered words.new) }
+    ensures are { IfOk result (λ sought. AllZip (by_number.IsSought words.new) lines.now sought.items) }
+{
+    let mut sought = Vec::new(alloc);
+    for line in lines {
+        sought.push(line.sought(words)?)?;
+    }
+    Ok(sought)
+}
+
+impl<'a> Names<'a> {
+    /// The names that these lines say, of this image.
+    fn of(alloc: Global, image: &Image, lines: &'a [ListedLine]) -> Result<Names<'a>, NoMemory>
+        ensures { IfOk result (λ names. by_number.AreNames names image.now lines.now) }
+    {
+        let mut words = Words::new(alloc);
+        let lines = sought_lines(alloc, &mut words, lines)?;
+        let symbols = named_symbols(alloc, &words, image)?;
+        Ok(Names {
+            words,
+            lines,
+            symbols,
+        })
     }
 
-    /// The bytes of the symbols that its sides name.
-    fn bytes(&self, alloc: Global, image: &Image) -> Result<Held, NoMemory>
-        ensures { IfOk result (λ bytes. bytes ≡ held.held_by image.now self.now) }
-    {
-        let one = self.one.bytes(alloc, image)?;
-        let other = self.other.bytes(alloc, image)?;
-        Ok(Held { one, other })
-    }
-
-    /// Whether its sides fit these instructions, in this order.
-    fn fits_in_order(
+    /// An instruction, or one that is not known, with the names there.
+    fn instruction(
         &self,
+        alloc: Global,
         symbols: &SymbolTable,
-        bytes: &Held,
-        first: Option<u32>,
-        second: Option<u32>,
-    ) -> bool
-        requires { bytes.now ≡ held.held_by symbols.now self.now }
-        ensures { result ≡ (spec.fits_side symbols.now self.now.one first
-            && spec.fits_side symbols.now self.now.other second) }
+        at: Option<u32>,
+    ) -> Result<Instruction, NoMemory>
+        requires { by_number.AreNamesOf self.now symbols.now }
+        ensures { IfOk result (λ instruction. by_number.IsInstruction self.now symbols.now at instruction) }
     {
-        self.one.fits(symbols, &bytes.one, first) && self.other.fits(symbols, &bytes.other, second)
-    }
-
-    /// Whether the line fits the race.
-    fn fits(&self, symbols: &SymbolTable, bytes: &Held, key: &Key) -> bool
-        requires { bytes.now ≡ held.held_by symbols.now self.now }
-        ensures { result ≡ spec.fits symbols.now key.now self.now }
-    {
-        let first = Some(key.first);
-        self.fits_in_order(symbols, bytes, first, key.second)
-            || self.fits_in_order(symbols, bytes, key.second, first)
+        let marks = marks_at(alloc, &self.words, &self.symbols, symbols, at)?;
+        Ok(Instruction { at, marks })
     }
 }
 
@@ -232,42 +215,37 @@ impl Ignores {
         }
     }
 
-    /// The bytes of the symbols that each of the lines names, which are looked up once for all races.
-    pub fn bytes(&self, alloc: Global, image: &Image) -> Result<Vec<Held>, NoMemory>
-        ensures { IfOk result (λ bytes. bytes.items ≡ map (held.held_by image.now) self.now) }
+    /// The names that the lines say, which are looked for once for all races.
+    pub fn names<'a>(&'a self, alloc: Global, image: &Image) -> Result<Names<'a>, NoMemory>
+        ensures { IfOk result (λ names. by_number.AreTheNames names image.now self.now) }
     {
-        bytes_of(alloc, image, &self.lines)
+        Names::of(alloc, image, &self.lines)
     }
 
     /// Whether a line fits the race.
-    pub fn fits(&self, symbols: &SymbolTable, bytes: &[Held], key: &Key) -> bool
-        requires { bytes.now ≡ map (held.held_by symbols.now) self.now }
-        ensures { result ≡ spec.is_ignored symbols.now self.now key.now }
+    pub fn fits(
+        &self,
+        alloc: Global,
+        symbols: &SymbolTable,
+        names: &Names,
+        key: &Key,
+    ) -> Result<bool, NoMemory>
+        requires { by_number.AreTheNames names.now symbols.now self.now }
+        ensures { IfOk result (λ fits. fits ≡ spec.is_ignored symbols.now self.now key.now) }
     {
-        any_fits(symbols, &self.lines, bytes, key)
+        let first = names.instruction(alloc, symbols, Some(key.first))?;
+        let second = names.instruction(alloc, symbols, key.second)?;
+        Ok(any_fits(&names.lines, &first, &second))
     }
 }
 
-fn bytes_of(alloc: Global, image: &Image, lines: &[Line]) -> Result<Vec<Held>, NoMemory>
-    ensures { IfOk result (λ bytes. bytes.items ≡ map (held.held_by image.now) lines.now) }
+/// The number of the first line with a name that no symbol of the image has.
+fn unknown_in(alloc: Global, image: &Image, lines: &[ListedLine]) -> Result<Option<u64>, NoMemory>
+    ensures { IfOk result (λ line. line ≡ shape.unknown_in image.now lines.now) }
 {
-    let mut bytes = Vec::new(alloc);
-    for line in lines {
-        bytes.push(line.bytes(alloc, image)?)?;
-    }
-    Ok(bytes)
-}
-
-fn any_fits(symbols: &SymbolTable, lines: &[Line], bytes: &[Held], key: &Key) -> bool
-    requires { bytes.now ≡ map (held.held_by symbols.now) lines.now }
-    ensures { result ≡ spec.is_ignored symbols.now lines.now key.now }
-{
-    for (place, line) in lines.iter().enumerate() {
-        if line.fits(symbols, &bytes[place], key) {
-            return true;
-        }
-    }
-    false
+    let names = Names::of(alloc, image, lines)?;
+    let known = marks_of(alloc, names.words.count(), &names.symbols)?;
+    Ok(first_unknown(&names.lines, &known))
 }
 
 /// The line up to its comment.
@@ -311,66 +289,50 @@ fn words_of(line: &[u8]) -> Result<Option<(&[u8], &[u8])>, IgnoreKind>
     }
 }
 
-/// The fault of the line of that number.
-fn at(number: u64, kind: IgnoreKind) -> FileFault
-    ensures { result ≡ FileFault.Ignore (record { line = number; kind = kind }) }
-{
-    FileFault::Ignore(IgnoreFault { line: number, kind })
+/// The lines of a text up to the first that has not the shape of a line, and its fault.
+#[derive(Drop)]
+struct Shaped {
+    lines: Vec<ListedLine>,
+    fault: Option<IgnoreFault>,
 }
 
-/// What the line of that number says.
-#[tactic(auto, unfolding(crate::specs::merge::Ignore::line_of))]
-fn read_line(
-    alloc: Global,
-    image: &Image,
-    number: u64,
-    text: &[u8],
-) -> Result<Option<Line>, FileFault>
-    ensures ok { IfOk result (λ line. spec.line_of image.now text.now ≡ Ok line) }
-    ensures err { IfErr result (IsTold (told_ignore (spec.at_line number (spec.line_of image.now text.now)))) }
-    ensures reader { fails_by is_read result ≡ false }
-    ensures writer { fails_by is_write result ≡ false }
-{
-    let (one, other) = match words_of(text) {
-        Err(kind) => return Err(at(number, kind)),
-        Ok(None) => return Ok(None),
-        Ok(Some(words)) => words,
-    };
-    let line = Line::of(alloc, one, other)?;
-    if line.are_known(image) {
-        Ok(Some(line))
-    } else {
-        Err(at(number, IgnoreKind::Unknown))
-    }
-}
-
-/// Adds a line, where there is one.
-fn push(lines: &mut Vec<Line>, line: Option<Line>) -> Result<(), NoMemory>
-    ensures { OnOk result (lines.new.items ≡ lines.old.items ++ spec.listed line) }
-{
-    if let Some(line) = line {
-        lines.push(line)?;
-    }
-    Ok(())
-}
-
-/// Adds what the line of that number says.
+/// Adds the line of these words, where there are some.
 fn add_line(
     alloc: Global,
-    image: &Image,
-    number: u64,
-    text: &[u8],
-    lines: &mut Vec<Line>,
-) -> Result<(), FileFault>
-    ensures ok { OnOk result (IsOkAnd (spec.line_of image.now text.now) (λ line.
-        lines.new.items ≡ lines.old.items ++ spec.listed line)) }
-    ensures err { IfErr result (IsTold (told_ignore (spec.at_line number (spec.line_of image.now text.now)))) }
-    ensures reader { fails_by is_read result ≡ false }
-    ensures writer { fails_by is_write result ≡ false }
+    lines: &mut Vec<ListedLine>,
+    at: u64,
+    words: Option<(&[u8], &[u8])>,
+) -> Result<(), NoMemory>
+    ensures { OnOk result (lines.new.items ≡ lines.old.items
+        ++ shape.listed_at at (option_map (λ pair. (pair.0.now, pair.1.now)) words.entry)) }
 {
-    let line = read_line(alloc, image, number, text)?;
-    push(lines, line)?;
+    if let Some((one, other)) = words {
+        let line = Line::of(alloc, one, other)?;
+        lines.push(ListedLine { at, line })?;
+    }
     Ok(())
+}
+
+/// The lines of a text, whose names are not looked for yet.
+fn shaped_lines(alloc: Global, text: &[u8]) -> Result<Shaped, NoMemory>
+    requires { length text.now ≤ INPUT_LIMIT }
+    ensures { IfOk result (λ shaped. (image : Contents) → spec.lines_from image 1 (pieces_of 10 text.now)
+        ≡ shape.judged image shaped.lines.items (shape.ended shaped.fault)) }
+{
+    let mut lines = Vec::new(alloc);
+    let mut pieces = Pieces::of(text, b'\n');
+    let mut line = 1_u64;
+    while let Some(text) = pieces.next_piece() {
+        match words_of(text) {
+            Ok(words) => add_line(alloc, &mut lines, line, words)?,
+            Err(kind) => {
+                let fault = Some(IgnoreFault { line, kind });
+                return Ok(Shaped { lines, fault });
+            }
+        }
+        line += 1;
+    }
+    Ok(Shaped { lines, fault: None })
 }
 
 /// What the lines of a text say.
@@ -381,14 +343,15 @@ fn read_lines(alloc: Global, image: &Image, text: &[u8]) -> Result<Ignores, File
     ensures reader { fails_by is_read result ≡ false }
     ensures writer { fails_by is_write result ≡ false }
 {
-    let mut lines = Vec::new(alloc);
-    let mut pieces = Pieces::of(text, b'\n');
-    let mut number = 1_u64;
-    while let Some(line) = pieces.next_piece() {
-        add_line(alloc, image, number, line, &mut lines)?;
-        number += 1;
+    let Shaped { lines, fault } = shaped_lines(alloc, text)?;
+    if let Some(line) = unknown_in(alloc, image, &lines)? {
+        let kind = IgnoreKind::Unknown;
+        return Err(FileFault::Ignore(IgnoreFault { line, kind }));
     }
-    Ok(Ignores { lines })
+    match fault {
+        Some(fault) => Err(FileFault::Ignore(fault)),
+        None => Ok(Ignores { lines }),
+    }
 }
 
 /// Reads a list of races that are to be ignored. The image is the one that is hunted.

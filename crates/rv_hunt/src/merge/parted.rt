@@ -47,9 +47,10 @@ pub fn part_rows(
         told: Vec::new(alloc),
         ignored: Vec::new(alloc),
     };
-    let bytes = ignores.bytes(alloc, symbols.image())?;
+    let names = ignores.names(alloc, symbols.image())?;
     for row in rows {
-        add(&mut parted, *row, ignores.fits(symbols, &bytes, &row.0))?;
+        let is_ignored = ignores.fits(alloc, symbols, &names, &row.0)?;
+        add(&mut parted, *row, is_ignored)?;
     }
     Ok(parted)
 }
