@@ -134,15 +134,24 @@ def segments_end(image):
     return max(offset + size for at in (52, 84) for offset, _, _, size in [struct.unpack_from("<4I", image, at + 4)])
 
 
-def beside(code, symbols):
-    """This code beside so many symbols, `name0` and on, none of which lies at an address that is told."""
+def beside(code, offsets, strings):
+    """This code beside symbols whose names begin at these offsets of the strings, and none of which lies at an address that is told."""
+    return built.image_with([(0x10000, code, len(code), 5), RACING[1]], table_of(offsets, value=0x30000), strings)
+
+
+def beside_distinct(code, symbols):
+    """This code beside so many symbols, `name0` and on."""
     names = [b"name%d" % place for place in range(symbols)]
     offsets, at = [], 1
     for name in names:
         offsets.append(at)
         at += len(name) + 1
-    strings = b"\0" + b"\0".join(names) + b"\0"
-    return built.image_with([(0x10000, code, len(code), 5), RACING[1]], table_of(offsets, value=0x30000), strings)
+    return beside(code, offsets, b"\0" + b"\0".join(names) + b"\0")
+
+
+def beside_alike(code, symbols):
+    """This code beside so many symbols of one name, `w`."""
+    return beside(code, [1] * symbols, b"\0w\0")
 
 
 def listed(lines, symbols):
