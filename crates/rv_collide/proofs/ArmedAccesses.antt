@@ -2,12 +2,12 @@
 use Rattle.std.proofs.Common.{◌≡◌, ℕ, Bool, true, false, cond, List, length, Option, Some, None, refl, sym, ap, ◌∙◌}
 use Rattle.std.specs.Prelude.{slice_get, option_and_then, IsSomeAnd, IfSome, IfNone}
 use Rattle.std.specs.FinSet.{contains}
-use Rattle.rv_collide.specs.Answers.{IsArmedAccess}
+use Rattle.rv_collide.specs.Detected.{IsArmedAccess}
 use Rattle.rv_collide.specs.Armed.{armed}
 use Rattle.rv_collide.specs.Forced.{turn_entry, least_free}
 use Rattle.rv_collide.specs.Next.{next, plain}
 use Rattle.rv_collide.specs.StateAt.{state_at}
-use Rattle.rv_collide.specs.Stored.{Stored, setting_of}
+use Rattle.rv_collide.specs.Begun.{Begun, setting_of}
 use Rattle.rv_collide.specs.declared.entry.Entry.{Entry}
 use Rattle.rv_collide.specs.declared.entry.Entry.TheVariants.{Stepped, Paused}
 use Rattle.rv_hart.specs.Common.{NotesKept}
@@ -74,7 +74,7 @@ next_now start s xs n h at = ap (option_and_then (λ (t : State). next_access t 
 
 -- ---- at an armed address
 
-module _ (c : Stored) (s : State) (h pc : ℕ) (at : state_at (setting_of c).start c.entries (length c.entries) ≡ Some s) (there : IsSomeAnd (slice_get s.harts h) (λ hart. pc ≡ hart.pc)) where
+module _ (c : Begun) (s : State) (h pc : ℕ) (at : state_at (setting_of c).start c.entries (length c.entries) ≡ Some s) (there : IsSomeAnd (slice_get s.harts h) (λ hart. pc ≡ hart.pc)) where
   pub armed_some : (o : Option Access) → contains (armed (setting_of c).start c.entries) pc ≡ true → o ≡ next_plain s h → IfSome o (λ access. IsArmedAccess c h access)
   armed_some None in_set is = tt
   armed_some (Some access) in_set is =
@@ -99,13 +99,13 @@ module _ (c : Stored) (s : State) (h pc : ℕ) (at : state_at (setting_of c).sta
       ap (turn_entry (setting_of c) c.entries h) (plain_now (setting_of c).start s c.entries (length c.entries) h at)
       ∙ by_plain (next_plain s h) absent refl
 
-pub armed_turn : (c : Stored) (h : ℕ) (a : Access) → IsArmedAccess c h a → turn_entry (setting_of c) c.entries h (plain (setting_of c).start c.entries (length c.entries) h) ≡ Paused h (least_free c.plan.slots c.entries)
+pub armed_turn : (c : Begun) (h : ℕ) (a : Access) → IsArmedAccess c h a → turn_entry (setting_of c) c.entries h (plain (setting_of c).start c.entries (length c.entries) h) ≡ Paused h (least_free c.plan.slots c.entries)
 armed_turn c h a is =
     ap (turn_entry (setting_of c) c.entries h) is.is_plain
     ∙ ap (λ b. cond b (Paused h (least_free c.plan.slots c.entries)) (Stepped h)) is.is_armed
 
 -- the plain access that the hart would make, at an armed address
-pub plain_armed : (c : Stored) (s : State) (h : ℕ) (a : Access) → state_at (setting_of c).start c.entries (length c.entries) ≡ Some s → plain (setting_of c).start c.entries (length c.entries) h ≡ Some a → contains (armed (setting_of c).start c.entries) a.pc ≡ true → IsArmedAccess c h a
+pub plain_armed : (c : Begun) (s : State) (h : ℕ) (a : Access) → state_at (setting_of c).start c.entries (length c.entries) ≡ Some s → plain (setting_of c).start c.entries (length c.entries) h ≡ Some a → contains (armed (setting_of c).start c.entries) a.pc ≡ true → IsArmedAccess c h a
 plain_armed c s h a at is in_set =
     record {
       is_plain = is;
@@ -114,5 +114,5 @@ plain_armed c s h a at is in_set =
     }
 
 -- a plain access that a step was kept back from is the one that the hart would make
-pub kept_plain : (c : Stored) (s : State) (h : ℕ) (common : Common) (before after : Noted) → state_at (setting_of c).start c.entries (length c.entries) ≡ Some s → before.is_kept_back ≡ false → NotesKept s h common before after → after.is_kept_back ≡ true → plain (setting_of c).start c.entries (length c.entries) h ≡ Some after.access
+pub kept_plain : (c : Begun) (s : State) (h : ℕ) (common : Common) (before after : Noted) → state_at (setting_of c).start c.entries (length c.entries) ≡ Some s → before.is_kept_back ≡ false → NotesKept s h common before after → after.is_kept_back ≡ true → plain (setting_of c).start c.entries (length c.entries) h ≡ Some after.access
 kept_plain c s h common before after at free kept noted = plain_now (setting_of c).start s c.entries (length c.entries) h at ∙ (kept free noted).1

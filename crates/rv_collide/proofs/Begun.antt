@@ -1,5 +1,5 @@
 -- What the core keeps before its first entry.
-use Rattle.std.proofs.Common.{◌≡◌, ℕ, zero, suc, ◌+◌, [], ◌∷◌, length, map, Some, None, refl, sym, ap, ◌∙◌, arith, zero-le}
+use Rattle.std.proofs.Common.{◌≡◌, ℕ, zero, suc, ◌+◌, ◌≤◌, [], ◌∷◌, length, map, Some, None, refl, sym, ap, ◌∙◌, arith, zero-le}
 use Rattle.std.specs.FinSet.{len-empty}
 use Rattle.std.specs.Ordering.{nat_cmp}
 use Rattle.std.specs.List.{range_with_len}
@@ -20,15 +20,15 @@ unfolding slot_at openings openings_from
 none_claimed start first zero = refl
 none_claimed start first (suc count) = ap (λ (claims : Slots). None ∷ claims) (none_claimed start (first + 1) count)
 
-pub core_new : (setting : Setting) (m : Guest) (b : Breaks) → m.state ≡ setting.start → length setting.start.harts ≡ setting.plan.harts → m.limit ≡ setting.plan.steps → setting.start.output ≡ [] → b ≡ no_breaks setting.plan.slots → IsCore setting [] m b [] [] 0 0
+pub core_new : (setting : Setting) (m : Guest) (b : Breaks) → m.state ≡ setting.start → length setting.start.harts ≡ setting.plan.harts → length setting.start.output + setting.plan.steps ≤ m.limit → b ≡ no_breaks setting.plan.slots → IsCore setting [] m b [] [] 0 0
 unfolding state_at steps armed mentions places last_armed slots_of slot_at openings openings_from endings
-core_new setting m b is harts limit output none =
+core_new setting m b is harts limit none =
     record {
       legal = λ place entry there. cc;
       now = ap Some (sym is);
       harts = ap (λ (s : State). length s.harts) is ∙ harts;
       limit = limit;
-      output = (let size : length m.state.output ≡ 0 = ap (λ (s : State). length s.output) is ∙ ap length output in omega arith);
+      output = (let size : length m.state.output ≡ length setting.start.output = ap (λ (s : State). length s.output) is in omega arith);
       counted = refl;
       arms_counted = refl;
       armed_are = ap (λ (x : Breaks). x.armed) none;

@@ -1,14 +1,16 @@
--- What holds of each core, from its invariant and the laws of schedules.
-use Rattle.std.proofs.Common.{◌≡◌, ℕ, List, length, Option, Some, None, refl, sym, subst, arith}
+-- What holds of each detector, from its invariant and the laws of schedules.
+use Rattle.std.proofs.Common.{◌≡◌, ℕ, ◌+◌, ◌≤◌, List, length, Option, Some, None, refl, sym, subst, ◌∙◌, arith}
 use Rattle.std.specs.Prelude.{IsSome, option_and_then, option_map}
 use Rattle.rv_break.specs.declared.claim.Seen.{Seen}
-use Rattle.rv_collide.specs.Answers.{AreFacts, pause_of}
+use Rattle.rv_collide.specs.Answers.{pause_of}
+use Rattle.rv_collide.specs.Detected.{AreFacts}
+use Rattle.rv_collide.specs.Entries.{steps}
 use Rattle.rv_collide.specs.First.{paused_access}
-use Rattle.rv_collide.specs.Laws.{Reported, ReportsAreRaces, ReservationsAreHeld}
+use Rattle.rv_collide.specs.Laws.{Reported, ReportsAreRaces}
 use Rattle.rv_collide.specs.Legal.{IsLegal}
 use Rattle.rv_collide.specs.Pause.{Pause, pause_ended}
 use Rattle.rv_collide.specs.StateAt.{state_at}
-use Rattle.rv_collide.specs.Stored.{Stored, setting_of}
+use Rattle.rv_collide.specs.Begun.{Begun, setting_of}
 use Rattle.rv_collide.specs.Verdict.{ending, ending_at}
 use Rattle.rv_collide.specs.declared.ending.Ending.{Ending}
 use Rattle.rv_collide.specs.declared.ending.Verdict.TheVariants.{Hit}
@@ -42,13 +44,14 @@ reported : ReportsAreRaces → (start : State) (entries : List Entry) (pause : P
 unfolding ending
 reported races start entries pause access seen would hit = races start entries pause access seen would hit
 
-pub facts_of : ReservationsAreHeld → ReportsAreRaces → (c : Stored) (s : State) → IsLegal (setting_of c) c.entries → state_at (setting_of c).start c.entries (length c.entries) ≡ Some s → (told : ℕ) → HasRoom (setting_of c) c.entries told → AreFacts c
-facts_of held races c s legal at told room = record {
+pub facts_of : ReportsAreRaces → (c : Begun) (s : State) → IsLegal (setting_of c) c.entries → state_at c.start c.entries (length c.entries) ≡ Some s → length s.harts ≡ c.plan.harts → length s.output ≤ length c.start.output + length (steps c.entries) → (told : ℕ) → HasRoom (setting_of c) c.entries told → AreFacts c
+facts_of races c s legal at harts few told room = record {
   legal = legal;
   few = let f = room.few in let a = room.arms_left in let n = room.steps_left in omega arith;
   state = subst IsSome (sym at) refl;
-  reservations = λ t is. held c.image.segments c.image.entry c.plan.harts c.entries (length c.entries) t (omega arith) is;
+  harts = λ t is. subst (λ (u : State). length u.harts ≡ c.plan.harts) (some_same s t (sym at ∙ is)) harts;
+  printed = λ t is. subst (λ (u : State). length u.output ≤ length c.start.output + length (steps c.entries)) (some_same s t (sym at ∙ is)) few;
   reports = λ place told seen is hit.
-      let t = told_at (setting_of c).start c.entries place told is in
-      subst (λ (e : Ending). e.verdict ≡ Hit seen → Reported (setting_of c).start c.entries (pause_of e) e.access seen) t.is (reported races (setting_of c).start c.entries t.pause t.access seen t.would) hit;
+      let t = told_at c.start c.entries place told is in
+      subst (λ (e : Ending). e.verdict ≡ Hit seen → Reported c.start c.entries (pause_of e) e.access seen) t.is (reported races c.start c.entries t.pause t.access seen t.would) hit;
 }

@@ -11,7 +11,7 @@ use Rattle.rv_collide.specs.Forced.{Turn, forced, turn_entry, least_free}
 use Rattle.rv_collide.specs.Next.{plain, runs_at}
 use Rattle.rv_collide.specs.Pause.{openings}
 use Rattle.rv_collide.specs.StateAt.{state_at}
-use Rattle.rv_collide.specs.Stored.{Stored, setting_of}
+use Rattle.rv_collide.specs.Begun.{Begun, setting_of}
 use Rattle.rv_collide.specs.declared.entry.Entry.{Entry}
 use Rattle.rv_collide.specs.declared.entry.Entry.TheVariants.{Stepped, Paused}
 use Rattle.rv_collide.specs.declared.open_pause.OpenPause.{OpenPause}
@@ -48,12 +48,12 @@ unfolding runs_at
 runs_there start s xs n h at runs = ap (λ (o : Option State). option_map_or (λ (s : State). is_running_hart (slice_get s.harts h)) o false) at ∙ runs
 
 -- a turn that goes on was forced to be the step that was made
-pub step_forced : (c : Stored) (s : State) (h : ℕ) (p : Event × State) → state_at (setting_of c).start c.entries (length c.entries) ≡ Some s → length s.harts ≡ c.plan.harts → GoesOn c h → step_of s h ≡ Some p → forced (setting_of c) c.entries (Turn h) ≡ Ok (Stepped h)
+pub step_forced : (c : Begun) (s : State) (h : ℕ) (p : Event × State) → state_at (setting_of c).start c.entries (length c.entries) ≡ Some s → length s.harts ≡ c.plan.harts → GoesOn c h → step_of s h ≡ Some p → forced (setting_of c) c.entries (Turn h) ≡ Ok (Stepped h)
 step_forced c s h p at count goes made =
     let runs = runs_now s h p made in
     turn_ok (setting_of c) c.entries h (within s.harts h c.plan.harts count runs) (runs_there (setting_of c).start s c.entries (length c.entries) h at runs) goes.free goes.left ∙ ap Ok goes.passes
 
-by_access : (c : Stored) (h : ℕ) (o : Option Access) → len (armed (setting_of c).start c.entries) ≡ 0 → turn_entry (setting_of c) c.entries h o ≡ Stepped h
+by_access : (c : Begun) (h : ℕ) (o : Option Access) → len (armed (setting_of c).start c.entries) ≡ 0 → turn_entry (setting_of c) c.entries h o ≡ Stepped h
 by_access c h None none = refl
 by_access c h (Some access) none =
     ap (λ b. cond b (Paused h (least_free c.plan.slots c.entries)) (Stepped h)) (ap (λ s. contains s access.pc) (empty_of_len (armed (setting_of c).start c.entries) none) ∙ contains-empty nat_cmp access.pc)
@@ -62,7 +62,7 @@ is_zero : (n : ℕ) → (n == 0) ≡ true → n ≡ 0
 is_zero n h = grind (arith, nat_tests)
 
 -- where no address is armed, no turn is a pause
-pub unarmed : (c : Stored) (h : ℕ) → (len (armed (setting_of c).start c.entries) == 0) ≡ true → turn_entry (setting_of c) c.entries h (plain (setting_of c).start c.entries (length c.entries) h) ≡ Stepped h
+pub unarmed : (c : Begun) (h : ℕ) → (len (armed (setting_of c).start c.entries) == 0) ≡ true → turn_entry (setting_of c) c.entries h (plain (setting_of c).start c.entries (length c.entries) h) ≡ Stepped h
 unarmed c h none = by_access c h (plain (setting_of c).start c.entries (length c.entries) h) (is_zero (len (armed (setting_of c).start c.entries)) none)
 
 none_of : (opened : List OpenPause) (n : ℕ) → n ≡ length opened → (n == 0) ≡ true → opened ≡ []

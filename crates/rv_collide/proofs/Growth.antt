@@ -219,7 +219,7 @@ core_arm setting xs m b b' opened told sm am a c ok armed_now slots_now =
       now = state_quiet setting.start xs (Armed a) refl ∙ c.now;
       harts = c.harts;
       limit = c.limit;
-      output = subst (λ (ys : List ℕ). length m.state.output ≤ length ys) (sym same_steps) c.output;
+      output = subst (λ (ys : List ℕ). length m.state.output ≤ length setting.start.output + length ys) (sym same_steps) c.output;
       counted = c.counted ∙ sym (ap length same_steps);
       arms_counted = ap (λ n. n + 1) c.arms_counted ∙ sym count;
       armed_are = armed_now ∙ ap (λ s. insert s a) c.armed_are ∙ sym set_now;
@@ -249,7 +249,7 @@ core_disarm setting xs m b b' opened told sm am a c ok armed_now slots_now =
       now = state_quiet setting.start xs (Disarmed a) refl ∙ c.now;
       harts = c.harts;
       limit = c.limit;
-      output = subst (λ (ys : List ℕ). length m.state.output ≤ length ys) (sym same_steps) c.output;
+      output = subst (λ (ys : List ℕ). length m.state.output ≤ length setting.start.output + length ys) (sym same_steps) c.output;
       counted = c.counted ∙ sym (ap length same_steps);
       arms_counted = c.arms_counted ∙ sym count;
       armed_are = armed_now ∙ ap (λ s. remove s a) c.armed_are ∙ sym set_now;
@@ -297,8 +297,8 @@ core_step next_is output_law setting xs m m' b b' opened told sm am h event c ok
       legal = legal_push setting xs (Stepped h) c.legal ok;
       now = state_step setting.start m.state m'.state xs h event c.now step;
       harts = harts_now ∙ c.harts;
-      limit = limit_now ∙ c.limit;
-      output = (let g = grown output_law m.state m'.state h event (length (steps xs)) step c.output in omega arith);
+      limit = subst (λ (n : ℕ). length setting.start.output + setting.plan.steps ≤ n) (sym limit_now) c.limit;
+      output = (let g = grown output_law m.state m'.state h event (length setting.start.output + length (steps xs)) step c.output in omega arith);
       counted = ap (λ n. n + 1) c.counted ∙ sym more_steps;
       arms_counted = c.arms_counted ∙ sym count;
       armed_are = armed_now ∙ c.armed_are ∙ sym set_now;
@@ -368,7 +368,7 @@ core_pause setting xs m b b' opened told sm am h p c ok free own here would ther
       now = state_quiet setting.start xs (Paused h p.slot) refl ∙ c.now;
       harts = c.harts;
       limit = c.limit;
-      output = subst (λ (ys : List ℕ). length m.state.output ≤ length ys) (sym same_steps) c.output;
+      output = subst (λ (ys : List ℕ). length m.state.output ≤ length setting.start.output + length ys) (sym same_steps) c.output;
       counted = c.counted ∙ sym (ap length same_steps);
       arms_counted = c.arms_counted ∙ sym count;
       armed_are = armed_now ∙ ap (λ s. remove s p.access.pc) c.armed_are ∙ sym set_now;
@@ -424,7 +424,7 @@ core_resume setting xs m b b' opened told sm am h p told' c ok found armed_now s
       now = state_quiet setting.start xs (Resumed h) refl ∙ c.now;
       harts = c.harts;
       limit = c.limit;
-      output = subst (λ (ys : List ℕ). length m.state.output ≤ length ys) (sym same_steps) c.output;
+      output = subst (λ (ys : List ℕ). length m.state.output ≤ length setting.start.output + length ys) (sym same_steps) c.output;
       counted = c.counted ∙ sym (ap length same_steps);
       arms_counted = c.arms_counted ∙ sym count;
       armed_are = armed_now ∙ c.armed_are ∙ sym set_now;

@@ -5,6 +5,7 @@ pub mod Behind
 pub mod BoundLemmas
 pub mod Bytes
 pub mod Calls
+pub mod Collided
 pub mod ChangedLemmas
 pub mod CutLemmas
 pub mod EndingLemmas
@@ -15,7 +16,6 @@ pub mod EntriesSoFar
 pub mod EntryLineLemmas
 pub mod Facts
 pub mod Fits
-pub mod Forked
 pub mod FrontLemmas
 pub mod GoesOn
 pub mod GrammarLemmas

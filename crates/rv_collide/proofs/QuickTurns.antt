@@ -3,13 +3,13 @@ use Rattle.std.proofs.Common.{IfNone, ◌≡◌, ℕ, ◌+◌, ◌<◌, Bool, tr
 use Rattle.std.specs.Prelude.{◌==◌, find, nat_lt, is_ok, is_some, option_and_then, slice_get, IfSome}
 use Rattle.std.specs.FinSet.{contains}
 use Rattle.std.proofs.lemmas.Bool.Decides.{nat_tests}
-use Rattle.rv_collide.specs.Answers.{Adds, IsArmedAccess, IsEvent, IsWord, MayPause, StepsOn}
+use Rattle.rv_collide.specs.Detected.{Adds, IsArmedAccess, IsEvent, IsWord, MayPause, StepsOn}
 use Rattle.rv_collide.specs.Entries.{steps}
 use Rattle.rv_collide.specs.Armed.{armed}
 use Rattle.rv_collide.specs.Forced.{Setting, Turn, forced, least_free, turn_entry}
 use Rattle.rv_collide.specs.Next.{plain, runs_at}
 use Rattle.rv_collide.specs.Pause.{Opening, opening_of, openings, openings_from}
-use Rattle.rv_collide.specs.Stored.{Stored, added, setting_of}
+use Rattle.rv_collide.specs.Begun.{Begun, added, setting_of}
 use Rattle.rv_collide.specs.declared.entry.Entry.{Entry}
 use Rattle.rv_collide.specs.declared.entry.Entry.TheVariants.{Paused, Stepped}
 use Rattle.rv_collide.specs.declared.refused.Refused.{Refused}
@@ -69,7 +69,7 @@ may_turn setting xs h ok = by_answer setting xs h (forced setting xs (Turn h)) r
 
 -- ---- a step whose access no code breakpoint keeps back
 
-passes_by : (c : Stored) (h : ℕ) (o : Option Access) → IfSome o (λ access. contains (armed (setting_of c).start c.entries) access.pc ≡ false) → turn_entry (setting_of c) c.entries h o ≡ Stepped h
+passes_by : (c : Begun) (h : ℕ) (o : Option Access) → IfSome o (λ access. contains (armed (setting_of c).start c.entries) access.pc ≡ false) → turn_entry (setting_of c) c.entries h o ≡ Stepped h
 passes_by c h None passed = refl
 passes_by c h (Some access) passed = ap (λ b. cond b (Paused h (least_free c.plan.slots c.entries)) (Stepped h)) passed
 
@@ -78,7 +78,7 @@ if_some true o kept passed = passed
 if_some false o kept passed = tt
 
 -- then the hart's turn is a step
-pub plain_passes : (c : Stored) (s t : State) (h : ℕ) (event : Event) → state_at (setting_of c).start c.entries (length c.entries) ≡ Some s → step_of s h ≡ Some (event, t) → IfSome (accessed event) (λ access. contains (armed (setting_of c).start c.entries) access.pc ≡ false) → turn_entry (setting_of c) c.entries h (plain (setting_of c).start c.entries (length c.entries) h) ≡ Stepped h
+pub plain_passes : (c : Begun) (s t : State) (h : ℕ) (event : Event) → state_at (setting_of c).start c.entries (length c.entries) ≡ Some s → step_of s h ≡ Some (event, t) → IfSome (accessed event) (λ access. contains (armed (setting_of c).start c.entries) access.pc ≡ false) → turn_entry (setting_of c) c.entries h (plain (setting_of c).start c.entries (length c.entries) h) ≡ Stepped h
 unfolding plain next_plain next_access
 plain_passes c s t h event at step passed =
     let is_armed : ℕ → Bool = contains (armed (setting_of c).start c.entries) in
@@ -88,7 +88,7 @@ plain_passes c s t h event at step passed =
     ap (λ (o : Option Access). turn_entry (setting_of c) c.entries h o) plain_is ∙ passes_by c h (next_plain s h) (if_some (at_plain s.memory (slice_get s.harts h)) (access_of_step (step_of s h)) is_armed next)
 
 -- the turn goes on: it did before the step was made where nothing is watched, and else by the access that was made
-pub goes_on : (watched : Bool) (c : Stored) (s t : State) (h : ℕ) (event : Event) → is_ok (forced (setting_of c) c.entries (Turn h)) ≡ true → (watched ≡ false → GoesOn c h) → state_at (setting_of c).start c.entries (length c.entries) ≡ Some s → step_of s h ≡ Some (event, t) → (watched ≡ true → IfSome (accessed event) (λ access. contains (armed (setting_of c).start c.entries) access.pc ≡ false)) → GoesOn c h
+pub goes_on : (watched : Bool) (c : Begun) (s t : State) (h : ℕ) (event : Event) → is_ok (forced (setting_of c) c.entries (Turn h)) ≡ true → (watched ≡ false → GoesOn c h) → state_at (setting_of c).start c.entries (length c.entries) ≡ Some s → step_of s h ≡ Some (event, t) → (watched ≡ true → IfSome (accessed event) (λ access. contains (armed (setting_of c).start c.entries) access.pc ≡ false)) → GoesOn c h
 goes_on false c s t h event ok goes at step passed = goes refl
 goes_on true c s t h event ok goes at step passed =
     let may = may_turn (setting_of c) c.entries h ok in
@@ -96,17 +96,17 @@ goes_on true c s t h event ok goes at step passed =
 
 -- ---- a common step
 
-runs_after : MovesRunOn → (c : Stored) (h : ℕ) (event : Event) → IsEvent c h event → event ≡ Moved (accessed event) → runs_at (setting_of c).start (c.entries ++ Stepped h ∷ []) (length (c.entries ++ Stepped h ∷ [])) h ≡ true
+runs_after : MovesRunOn → (c : Begun) (h : ℕ) (event : Event) → IsEvent c h event → event ≡ Moved (accessed event) → runs_at (setting_of c).start (c.entries ++ Stepped h ∷ []) (length (c.entries ++ Stepped h ∷ [])) h ≡ true
 runs_after law c h event is moved =
     let at = state_step (setting_of c).start is.state is.after c.entries h event is.reached is.step in
     let step = is.step ∙ ap (λ (e : Event). Some (e, is.after)) moved in
     runs_there (setting_of c).start is.after (c.entries ++ Stepped h ∷ []) (length (c.entries ++ Stepped h ∷ [])) h at (law is.state is.after h (accessed event) step)
 
-pub steps_on : MovesRunOn → (old new : Stored) (h : ℕ) (event : Event) → forced (setting_of old) old.entries (Turn h) ≡ Ok (Stepped h) → IsEvent old h event → new ≡ added old (Stepped h) → event ≡ Moved (accessed event) → StepsOn old new h
+pub steps_on : MovesRunOn → (old new : Begun) (h : ℕ) (event : Event) → forced (setting_of old) old.entries (Turn h) ≡ Ok (Stepped h) → IsEvent old h event → new ≡ added old (Stepped h) → event ≡ Moved (accessed event) → StepsOn old new h
 steps_on law old new h event is_forced is_event is_added moved = record {
   event = event;
   turns = (record { is_forced = is_forced; is_added = is_added }, is_event);
-  runs = subst (λ (c : Stored). runs_at (setting_of c).start c.entries (length c.entries) h ≡ true) (sym is_added) (runs_after law old h event is_event moved);
+  runs = subst (λ (c : Begun). runs_at (setting_of c).start c.entries (length c.entries) h ≡ true) (sym is_added) (runs_after law old h event is_event moved);
 }
 
 -- the event of a common step that was made, which moves on
@@ -124,7 +124,7 @@ pub same_state : {s t : State} → Some s ≡ Some t → s ≡ t
 same_state same = cc
 
 -- a word that the machine has found
-pub word_found : (c : Stored) (s : State) (h : ℕ) (found : Option ℕ) → state_at (setting_of c).start c.entries (length c.entries) ≡ Some s → IfSome found (IsWordOf s h) → IfSome found (IsWord c h)
+pub word_found : (c : Begun) (s : State) (h : ℕ) (found : Option ℕ) → state_at (setting_of c).start c.entries (length c.entries) ≡ Some s → IfSome found (IsWordOf s h) → IfSome found (IsWord c h)
 word_found c s h None at is = tt
 word_found c s h (Some word) at is = record { state = s; reached = at; word_is = is }
 
@@ -139,7 +139,7 @@ pub not_kept : (s : State) (h : ℕ) (common : Common) (before after : Noted) �
 not_kept s h common before after free kept taken = is_kept after.is_kept_back (λ noted. taken (kept free noted).0)
 
 -- the turn of a hart that would make a plain access at an armed address is its pause
-pub may_pause : (c : Stored) (h : ℕ) (a : Access) → is_ok (forced (setting_of c) c.entries (Turn h)) ≡ true → IsArmedAccess c h a → forced (setting_of c) c.entries (Turn h) ≡ Ok (Paused h (least_free c.plan.slots c.entries))
+pub may_pause : (c : Begun) (h : ℕ) (a : Access) → is_ok (forced (setting_of c) c.entries (Turn h)) ≡ true → IsArmedAccess c h a → forced (setting_of c) c.entries (Turn h) ≡ Ok (Paused h (least_free c.plan.slots c.entries))
 may_pause c h a ok is =
     let may = may_turn (setting_of c) c.entries h ok in
     turn_ok (setting_of c) c.entries h (lt_is h c.plan.harts may.within) may.runs may.free may.left ∙ ap Ok (armed_turn c h a is)
@@ -167,21 +167,21 @@ paused_now xs h slot =
     ∙ found_last (λ (o : Opening). o.hart == h) (openings_from 0 xs) last (own h)
 
 -- where the turn was the hart's pause
-pub was_paused : (old new : Stored) (h : ℕ) → Adds old new (Turn h) (Paused h (least_free old.plan.slots old.entries)) → MayPause old new h
+pub was_paused : (old new : Begun) (h : ℕ) → Adds old new (Turn h) (Paused h (least_free old.plan.slots old.entries)) → MayPause old new h
 was_paused old new h adds =
     let slot = least_free old.plan.slots old.entries in
-    let now = ap (λ (v : Stored). is_some (opening_of v.entries h)) adds.is_added ∙ paused_now old.entries h slot in
+    let now = ap (λ (v : Begun). is_some (opening_of v.entries h)) adds.is_added ∙ paused_now old.entries h slot in
     record { paused = λ _. adds; still = λ closed. absurd (differ (sym now ∙ closed)) }
 
 -- where nothing was done and the hart is not paused
-pub was_still : (old new : Stored) (h : ℕ) → is_ok (forced (setting_of old) old.entries (Turn h)) ≡ true → new ≡ old → MayPause old new h
+pub was_still : (old new : Begun) (h : ℕ) → is_ok (forced (setting_of old) old.entries (Turn h)) ≡ true → new ≡ old → MayPause old new h
 was_still old new h ok same =
     let free = (may_turn (setting_of old) old.entries h ok).free in
-    let now = ap (λ (v : Stored). is_some (opening_of v.entries h)) same ∙ free in
+    let now = ap (λ (v : Begun). is_some (opening_of v.entries h)) same ∙ free in
     record { paused = λ held. absurd (differ (sym held ∙ now)); still = λ _. same }
 
 -- the hart was paused, or nothing was done
-pub may_pause_now : (old new : Stored) (h : ℕ) (paused : Option (Option ℕ)) → is_ok (forced (setting_of old) old.entries (Turn h)) ≡ true → IfSome paused (λ slot. slot ≡ least_free old.plan.slots old.entries) → IfSome paused (λ slot. forced (setting_of old) old.entries (Turn h) ≡ Ok (Paused h slot)) → IfSome paused (λ slot. new ≡ added old (Paused h slot)) → IfNone paused (new ≡ old) → MayPause old new h
+pub may_pause_now : (old new : Begun) (h : ℕ) (paused : Option (Option ℕ)) → is_ok (forced (setting_of old) old.entries (Turn h)) ≡ true → IfSome paused (λ slot. slot ≡ least_free old.plan.slots old.entries) → IfSome paused (λ slot. forced (setting_of old) old.entries (Turn h) ≡ Ok (Paused h slot)) → IfSome paused (λ slot. new ≡ added old (Paused h slot)) → IfNone paused (new ≡ old) → MayPause old new h
 may_pause_now old new h None ok least is_forced after same = was_still old new h ok same
 may_pause_now old new h (Some slot) ok least is_forced after same =
     was_paused old new h (record {

@@ -19,7 +19,7 @@ use Rattle.rv_elf.specs.Contents.{Contents}
 use Rattle.rv_collide.proofs.Growth.{legal_push}
 use Rattle.rv_collide.proofs.LawLemmas.{some_same, take_next}
 
-take_one : (xs : List Entry) (i : ℕ) (e : Entry) → slice_get xs i ≡ Some e → take (i + 1) xs ≡ take i xs ++ e ∷ []
+pub take_one : (xs : List Entry) (i : ℕ) (e : Entry) → slice_get xs i ≡ Some e → take (i + 1) xs ≡ take i xs ++ e ∷ []
 take_one xs i e there =
     let n = take_next xs i (slice_get_within xs i e there) in
     n.2 ∙ ap (λ (x : Entry). take i xs ++ x ∷ []) (some_same n.0 e (sym n.1 ∙ there))

@@ -8,7 +8,7 @@ use Rattle.rv_break.specs.Breakpoints.{Breaks, no_breaks}
 use Rattle.rv_collide.specs.Armed.{armed}
 use Rattle.rv_collide.specs.Entries.{steps}
 use Rattle.rv_collide.specs.Pause.{Opening, opening_of, openings}
-use Rattle.rv_collide.specs.Stored.{Stored, setting_of}
+use Rattle.rv_collide.specs.Begun.{Begun, setting_of}
 use Rattle.rv_collide.specs.declared.entry.Entry.{Entry}
 use Rattle.rv_collide.specs.declared.open_pause.OpenPause.{OpenPause}
 use Rattle.rv_collide.specs.internal.Core.{IsUntil, opening}
@@ -37,7 +37,7 @@ none_of_hart : (xs : List Entry) (h : ℕ) → openings xs ≡ [] → is_some (o
 unfolding opening_of
 none_of_hart xs h none = ap (λ (os : List Opening). is_some (find (λ (o : Opening). o.hart == h) os)) none
 
-pub free_goes_on : (c : Stored) (until : ℕ) (b : Breaks) (opened : List OpenPause) → map opening opened ≡ openings c.entries → b.armed ≡ armed (setting_of c).start c.entries → IsUntil c.plan.steps b opened until → nat_lt (length (steps c.entries)) until ≡ true → (h : ℕ) → GoesOn c h
+pub free_goes_on : (c : Begun) (until : ℕ) (b : Breaks) (opened : List OpenPause) → map opening opened ≡ openings c.entries → b.armed ≡ armed (setting_of c).start c.entries → IsUntil c.plan.steps b opened until → nat_lt (length (steps c.entries)) until ≡ true → (h : ℕ) → GoesOn c h
 free_goes_on c until b opened are armed_are (inl zero) lt h = absurd (never (length (steps c.entries)) until zero lt)
 free_goes_on c until b opened are armed_are (inr is) lt h = record {
   free = none_of_hart c.entries h (none_opened c.entries opened are is.1);

@@ -17,14 +17,13 @@ use Rattle.rv_collide.specs.declared.entry.Entry.{Entry}
 use Rattle.rv_collide.specs.declared.entry.Entry.TheVariants.{Stepped, Paused, Resumed}
 use Rattle.rv_collide.specs.declared.refused.Refused.{Refused}
 use Rattle.rv_collide.specs.declared.refused.Refused.TheVariants.{NoMemory}
-use Rattle.std.specs.FinSet.{contains, len}
+use Rattle.std.specs.FinSet.{len}
 use Rattle.rv_collide.specs.Armed.{armed}
-use Rattle.rv_collide.specs.Next.{next, plain, runs_at}
+use Rattle.rv_collide.specs.Next.{runs_at}
 use Rattle.rv_break.specs.declared.claim.Seen.{Seen}
 use Rattle.rv_hart.specs.Fetched.{IsWordOf}
 use Rattle.rv_hart.specs.ReservationLaws.{reservation_at}
 use Rattle.rv_hart.specs.State.{State}
-use Rattle.rv_hart.specs.declared.access.Access.{Access}
 use Rattle.rv_hart.specs.Step.{step_of}
 use Rattle.rv_hart.specs.declared.access.Event.{Event}
 
@@ -88,12 +87,6 @@ pub record Resumes (old new : Stored) (h : ℕ) (told : Ending) : Type 0 where
 -- the bytes printed
 abbrev pub IsOutput : Stored → List ℕ → Type 0
 IsOutput c output = IsSomeAnd (state_at (setting_of c).start c.entries (length c.entries)) (λ s. output ≡ s.output)
-
--- the hart would make the access, a plain one, at an armed address
-pub record IsArmedAccess (c : Stored) (h : ℕ) (access : Access) : Type 0 where
-  pub is_plain : plain (setting_of c).start c.entries (length c.entries) h ≡ Some access
-  pub is_next : next (setting_of c).start c.entries (length c.entries) h ≡ Some access
-  pub is_armed : contains (armed (setting_of c).start c.entries) access.pc ≡ true
 
 -- the hart's turn was its pause, and it is paused now; or it is not paused, and nothing has changed
 pub record MayPause (old new : Stored) (h : ℕ) : Type 0 where

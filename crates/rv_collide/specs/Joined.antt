@@ -3,6 +3,7 @@ use Rattle.std.specs.Prelude.{◌≡◌, ℕ, ◌+◌, ◌≤◌, ◌==◌, max,
 use Rattle.std.specs.FinSet.{len}
 use Rattle.rv_break.specs.declared.claim.Seen.{Seen}
 use Rattle.rv_collide.specs.Armed.{armed, arms}
+use Rattle.rv_collide.specs.Begun.{Begun}
 use Rattle.rv_collide.specs.Entries.{steps}
 use Rattle.rv_collide.specs.Forced.{Setting}
 use Rattle.rv_collide.specs.Legal.{IsLegal}
@@ -11,6 +12,7 @@ use Rattle.rv_collide.specs.Next.{next}
 use Rattle.rv_collide.specs.Pause.{Opening, openings}
 use Rattle.rv_collide.specs.Plan.{IsPlan, Numbers}
 use Rattle.rv_collide.specs.StateAt.{state_at}
+use Rattle.rv_collide.specs.Stored.{Stored, setting_of}
 use Rattle.rv_collide.specs.Verdict.{endings}
 use Rattle.rv_collide.specs.declared.ending.Ending.{Ending}
 use Rattle.rv_collide.specs.declared.ending.Verdict.{Verdict}
@@ -120,6 +122,12 @@ pub record Fork : Type 0 where
   pub start : State
   pub plan : Numbers
   pub end : State
+
+-- A detector that has made no call yet, at the state that a core is at.
+pub record IsForked (core : Stored) (plan : Numbers) (fork : Begun) : Type 0 where
+  pub at : state_at (setting_of core).start core.entries (length core.entries) ≡ Some fork.start
+  pub plan_is : fork.plan ≡ plan
+  pub none_yet : fork.entries ≡ []
 
 -- The run made its own entries behind the prefix, under a plan with no more than what was left of steps and arms.
 pub record GoesOnFrom (fork : Fork) (prefix : List Entry) (told : List Ending) (after : Numbers) (own : List Entry) (ended : List Ending) : Type 0 where

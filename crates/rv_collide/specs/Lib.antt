@@ -1,7 +1,9 @@
 pub mod Answers
 pub mod Armed
+pub mod Begun
 pub mod ChangedLaws
 pub mod Counts
+pub mod Detected
 pub mod Entries
 pub mod First
 pub mod Forced

@@ -1,5 +1,5 @@
 -- The plan of a run: the numbers that it is given.
-use Rattle.std.specs.Prelude.{◌≡◌, ℕ, ◌+◌, ◌*◌, ◌≤◌}
+use Rattle.std.specs.Prelude.{ℕ, ◌+◌, ◌*◌, ◌≤◌}
 use Rattle.rv_break.specs.declared.claim.TheConstants.{MOST_SLOTS}
 use Rattle.rv_hart.specs.declared.machine.TheConstants.{MOST_HARTS}
 use Rattle.rv_collide.specs.declared.plan.TheConstants.{MOST_ARMS, MOST_PAUSE, MOST_STEPS}
@@ -30,10 +30,3 @@ pub record IsPlan (n : Numbers) : Type 0 where
 -- is armed
 abbrev pub most_entries : Numbers → ℕ
 most_entries n = n.steps + 4 * n.arms
-
--- a plan of the same harts and slots, with no fewer steps and arms
-pub record IsNoSmaller (plan other : Numbers) : Type 0 where
-  pub same_harts : other.harts ≡ plan.harts
-  pub same_slots : other.slots ≡ plan.slots
-  pub more_steps : plan.steps ≤ other.steps
-  pub more_arms : plan.arms ≤ other.arms

@@ -7,6 +7,7 @@
 
 pub mod changed_laws;
 pub mod collider;
+pub mod detector;
 pub mod ending;
 pub mod entry;
 pub mod join;

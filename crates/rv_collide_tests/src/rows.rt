@@ -3,10 +3,11 @@ use crate::assertion::assert_is;
 use crate::rows::forks::assert_forks_show;
 use crate::samples::{slotted, told_over};
 use rv_collide::collider::{Collider, Finished};
+use rv_collide::ending::Ending;
 use rv_collide::entry::Entry;
 use rv_collide::texts::write_ending;
 use rv_hart::texts::write_state;
-use rv_memory::flagged::{Flagged, WriteFault};
+use rv_memory::flagged::{Flagged, WriteFault, write_whole};
 use rv_memory::flat::Flat;
 use rv_memory::paged::Paged;
 use rv_memory::store::ByteStore;
@@ -29,21 +30,22 @@ pub struct Row {
     pub text: &'static [u8],
 }
 
-/// Writes what is shown of a schedule that was told again: the endings, the harts and the output.
-fn write_shown<S: ByteStore>(
+/// Writes what is shown of a schedule: the endings, and then the harts and the output.
+fn write_shown(
     writer: &mut Flagged<Vec<u8>>,
-    collider: &Collider<S>,
+    endings: &[Ending],
+    state: &[u8],
 ) -> Result<(), WriteFault> {
-    for number in 0..collider.endings() {
-        write_ending(writer, u64::from(number), &collider.ending(number))?;
+    for (number, ending) in endings.iter().enumerate() {
+        write_ending(writer, number as u64, ending)?;
     }
-    write_state(writer, collider.machine())
+    write_whole(writer, state)
 }
 
-/// Asserts that a schedule that was told again shows the row's text.
-fn see_text<S: ByteStore>(rt: &impl Abort, alloc: Global, row: &Row, collider: &Collider<S>) {
+/// Asserts that the endings and the state's text are the row's text.
+fn see_shown(rt: &impl Abort, alloc: Global, row: &Row, endings: &[Ending], state: &[u8]) {
     let mut writer = Flagged::new(Vec::new(alloc));
-    let is_written = write_shown(&mut writer, collider).is_ok();
+    let is_written = write_shown(&mut writer, endings, state).is_ok();
     let text = writer.into_inner();
     assert_is(
         rt,
@@ -54,15 +56,19 @@ fn see_text<S: ByteStore>(rt: &impl Abort, alloc: Global, row: &Row, collider: &
 }
 
 /// Asserts that the row's entries, and as many endings, are handed out.
-fn see_finished(rt: &impl Abort, row: &Row, endings: u32, finished: &Finished) {
+fn see_finished(rt: &impl Abort, row: &Row, endings: usize, finished: &Finished) {
     assert_is(rt, finished.entries.as_slice(), row.entries, row.name);
-    assert_is(rt, finished.endings.len(), endings as usize, row.name);
+    assert_is(rt, finished.endings.len(), endings, row.name);
 }
 
 fn see<S: ByteStore>(rt: &impl Abort, alloc: Global, row: &Row, collider: Collider<S>) {
-    see_text(rt, alloc, row, &collider);
-    let endings = collider.endings();
-    see_finished(rt, row, endings, &collider.finish());
+    let mut state = Flagged::new(Vec::new(alloc));
+    let is_written = write_state(&mut state, collider.machine()).is_ok();
+    assert_is(rt, is_written, true, row.name);
+    let endings = collider.endings() as usize;
+    let finished = collider.finish();
+    see_shown(rt, alloc, row, &finished.endings, &state.into_inner());
+    see_finished(rt, row, endings, &finished);
 }
 
 /// Asserts what a row's schedule shows over a store with so many slots, and that its entries and endings are handed out.

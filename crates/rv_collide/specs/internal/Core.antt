@@ -16,7 +16,7 @@ use Rattle.rv_collide.specs.Legal.{IsLegal}
 use Rattle.rv_collide.specs.Next.{next}
 use Rattle.rv_collide.specs.Pause.{Opening, ended, openings}
 use Rattle.rv_collide.specs.StateAt.{state_at}
-use Rattle.rv_collide.specs.Stored.{Stored, setting_of}
+use Rattle.rv_collide.specs.Begun.{Begun, setting_of}
 use Rattle.rv_collide.specs.Verdict.{bytes_at, ending_at, endings}
 use Rattle.rv_collide.specs.declared.ending.Ending.{Ending}
 use Rattle.rv_collide.specs.declared.entry.Entry.{Entry}
@@ -88,8 +88,8 @@ pub record IsCore (setting : Setting) (entries : List Entry) (machine : Guest) (
   pub legal : IsLegal setting entries
   pub now : state_at setting.start entries (length entries) ≡ Some machine.state
   pub harts : length machine.state.harts ≡ setting.plan.harts
-  pub limit : machine.limit ≡ setting.plan.steps
-  pub output : length machine.state.output ≤ length (steps entries)
+  pub limit : length setting.start.output + setting.plan.steps ≤ machine.limit
+  pub output : length machine.state.output ≤ length setting.start.output + length (steps entries)
   pub counted : steps_made ≡ length (steps entries)
   pub arms_counted : arms_made ≡ count_by arms entries
   pub armed_are : breaks.armed ≡ armed setting.start entries
@@ -112,6 +112,6 @@ abbrev pub IsUntil : ℕ → Breaks → List OpenPause → ℕ → Type 0
 IsUntil most breaks opened until = (until ≡ 0) ⊎ ((until ≡ most) × (opened ≡ []) × ((len breaks.armed == 0) ≡ true))
 
 -- the ending that the next entry made is the last one
-pub record IsToldLast (old new : Stored) : Type 0 where
+pub record IsToldLast (old new : Begun) : Type 0 where
   pub some : 0 < length (endings (setting_of new).start new.entries)
   pub last : ending_at (setting_of new).start new.entries (length old.entries) ≡ slice_get (endings (setting_of new).start new.entries) (length (endings (setting_of new).start new.entries) - 1)

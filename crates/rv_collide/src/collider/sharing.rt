@@ -4,6 +4,7 @@ ghost use Rattle.rv_collide.specs.StateAt.{state_at};
 ghost use Rattle.rv_collide.specs.Stored.{setting_of};
 
 use super::Collider;
+use crate::walk_laws::steps_of_legal_schedules;
 use rv_hart::machine::Machine;
 use rv_memory::paged::Paged;
 use rv_memory::store::NoMemory;
@@ -16,8 +17,10 @@ impl Collider<Paged> {
         ensures equal { IfOk result (λ copy.
             state_at (setting_of self.old).start self.old.entries (length self.old.entries) ≡ Some copy.state) }
     {
-        let _plan = self.plan;
-        let printed = self.machine.output().len() as u32;
-        self.machine.share(printed)
+        self.facts();
+        steps_of_legal_schedules();
+        let _plan = self.plan();
+        let printed = self.machine().output().len() as u32;
+        self.detector.share_machine(printed)
     }
 }
