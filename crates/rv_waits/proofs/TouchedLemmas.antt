@@ -1,8 +1,8 @@
 -- What was touched stays so, where more is.
 use Rattle.std.proofs.Common.{◌≡◌, ℕ, zero, suc, ◌+◌, ◌⊎◌, inl, inr, Bool, true, false, List, [], ◌∷◌, Option, set, refl, subst, arith}
-use Rattle.std.specs.Prelude.{slice_get, IsSomeAnd, ◌||◌, ◌&&◌, nat_le, nat_lt}
+use Rattle.std.specs.Prelude.{slice_get, IsSomeAnd, ◌||◌, ◌&&◌, max, nat_le, nat_lt}
 use Rattle.std.proofs.lemmas.Bool.Decides.{nat_tests}
-use Rattle.rv_waits.specs.Touched.{covers, in_instructions, in_ranges}
+use Rattle.rv_waits.specs.Touched.{CoversSome, covers, in_instructions, in_ranges}
 use Rattle.rv_waits.specs.Touches.{is_among}
 use Rattle.rv_waits.specs.declared.touched.Range.{Range}
 use Rattle.rv_waits.specs.declared.touched.Touched.{Touched}
@@ -77,3 +77,35 @@ pub none_covered : (touched : Touched) (first size : ℕ) → touched.is_all ≡
 none_covered touched first size few instructions ranges address among =
     both_false touched.is_all _ few
     (both_false (in_instructions touched.least_pc touched.greatest_pc address) (in_ranges touched.data address) (among_both touched.least_pc (touched.greatest_pc + 4) first size address among instructions) (no_range touched.data first size address among ranges))
+
+-- ---- an access that may write some of it
+
+shared : (first end other other_end : ℕ) → overlaps first end other other_end ≡ true → (address : ℕ) × ((nat_le other address && nat_lt address other_end) ≡ true) × ((nat_le first address && nat_lt address end) ≡ true)
+shared first end other other_end e = (max first other, grind (arith, nat_tests), grind (arith, nat_tests))
+
+-- a byte of these that is one of the ranges
+abbrev HasRange : List Range → ℕ → ℕ → Type 0
+HasRange xs first size = (address : ℕ) × (is_among first size address ≡ true) × (in_ranges xs address ≡ true)
+
+one_of : (x : Range) (xs : List Range) (first size : ℕ) (here : Bool) → overlaps x.first (x.first + x.size) first (first + size) ≡ here → (here || meets_some xs first size) ≡ true → (meets_some xs first size ≡ true → HasRange xs first size) → HasRange (x ∷ xs) first size
+one_of x xs first size true e h more =
+    let it = shared x.first (x.first + x.size) first (first + size) e in
+    (it.0, it.1, or_left (is_among x.first x.size it.0) (in_ranges xs it.0) it.2)
+one_of x xs first size false e h more =
+    let it = more h in
+    (it.0, it.1, or_right (is_among x.first x.size it.0) (in_ranges xs it.0) it.2)
+
+some_range : (xs : List Range) (first size : ℕ) → meets_some xs first size ≡ true → HasRange xs first size
+some_range [] first size h = cc
+some_range (x ∷ xs) first size h = one_of x xs first size (overlaps x.first (x.first + x.size) first (first + size)) refl h (some_range xs first size)
+
+pub covers_instruction : (touched : Touched) (first size : ℕ) → overlaps touched.least_pc (touched.greatest_pc + 4) first (first + size) ≡ true → CoversSome touched first size
+covers_instruction touched first size h =
+    let it = shared touched.least_pc (touched.greatest_pc + 4) first (first + size) h in
+    let pcs = in_instructions touched.least_pc touched.greatest_pc it.0 in
+    (it.0, it.1, or_right touched.is_all (pcs || in_ranges touched.data it.0) (or_left pcs (in_ranges touched.data it.0) it.2))
+
+pub covers_data : (touched : Touched) (first size : ℕ) → meets_some touched.data first size ≡ true → CoversSome touched first size
+covers_data touched first size h =
+    let it = some_range touched.data first size h in
+    (it.0, it.1, covers_range touched.is_all (in_instructions touched.least_pc touched.greatest_pc it.0) (in_ranges touched.data it.0) it.2)

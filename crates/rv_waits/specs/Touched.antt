@@ -1,5 +1,5 @@
 -- What the least and greatest pc and a list of ranges say was touched.
-use Rattle.std.specs.Prelude.{ℕ, ◌+◌, Bool, ◌&&◌, ◌||◌, nat_le, nat_lt, List}
+use Rattle.std.specs.Prelude.{◌≡◌, ℕ, ◌+◌, Bool, true, ◌&&◌, ◌||◌, nat_le, nat_lt, List}
 use Rattle.std.specs.List.{list_any}
 use Rattle.rv_waits.specs.Touches.{is_among}
 use Rattle.rv_waits.specs.declared.touched.Range.{Range}
@@ -17,3 +17,7 @@ in_ranges ranges address = list_any (λ (range : Range). is_among range.first ra
 abbrev pub covers : Touched → ℕ → Bool
 covers touched address =
     touched.is_all || (in_instructions touched.least_pc touched.greatest_pc address || in_ranges touched.data address)
+
+-- one of `size` bytes from the first on may have been touched
+abbrev pub CoversSome : Touched → ℕ → ℕ → Type 0
+CoversSome touched first size = (address : ℕ) × (is_among first size address ≡ true) × (covers touched address ≡ true)

@@ -1,6 +1,6 @@
 //! What a hart touched: its instructions' bytes and those of its accesses, in a place that asks for no memory.
 ghost use Rattle.std.specs.Prelude.{◌≡◌, ◌+◌, ◌⊎◌, ℕ, true, false, Some, IfSome, IsSomeAnd, slice_get};
-ghost use Rattle.rv_waits.specs.Touched.{covers, in_instructions, in_ranges};
+ghost use Rattle.rv_waits.specs.Touched.{CoversSome, covers, in_instructions, in_ranges};
 ghost use Rattle.rv_waits.specs.Touches.{in_access, is_among};
 ghost use Rattle.rv_waits.specs.internal.Meets.{meets_some, overlaps};
 
@@ -28,7 +28,8 @@ pub struct Touched {
 
 /// The instruction at pc alone.
 pub fn touched_at(pc: u32) -> Touched
-    ensures { (address : ℕ) → is_among pc 4 address ≡ true → covers result address ≡ true }
+    ensures instruction { (address : ℕ) → is_among pc 4 address ≡ true → covers result address ≡ true }
+    ensures alone { (address : ℕ) → covers result address ≡ true → is_among pc 4 address ≡ true }
 {
     let none = Range { first: 0, size: 0 };
     Touched {
@@ -121,9 +122,16 @@ fn is_in(range: &Range, address: u32) -> bool
 
 /// Whether one of `size` bytes from `first` on may have been touched.
 pub fn meets(touched: &Touched, first: u32, size: u8) -> bool
-    ensures { result ≡ false → (address : ℕ) → is_among first size address ≡ true → covers touched.now address ≡ false }
+    ensures apart { result ≡ false → (address : ℕ) → is_among first size address ≡ true → covers touched.now address ≡ false }
+    ensures some { result ≡ true → touched.now.is_all ≡ false → CoversSome touched.now first size }
 {
-    touched.is_all || meets_instructions(touched, first, size) || meets_some(touched, first, size)
+    if touched.is_all {
+        return true;
+    }
+    if meets_instructions(touched, first, size) {
+        return true;
+    }
+    meets_some(touched, first, size)
 }
 
 fn meets_instructions(touched: &Touched, first: u32, size: u8) -> bool
@@ -157,9 +165,9 @@ fn meets_range(range: &Range, first: u32, size: u8) -> bool
     )
 }
 
-/// Whether the addresses from the one to before the other end meet those from the second to before its end.
+/// Whether some address lies from `first` to before `end`, and from `other` to before `other_end`.
 fn overlaps(first: u64, end: u64, other: u64, other_end: u64) -> bool
     ensures { result ≡ overlaps first end other other_end }
 {
-    other < end && first < other_end
+    first.max(other) < end.min(other_end)
 }
