@@ -384,12 +384,12 @@ fn shown(machine: &Machine<Paged>) -> (Option<u32>, Option<u32>, usize, Status, 
     )
 }
 
-/// From a stuck state drawn steps change nothing.
-fn assert_stays(rt: &impl Abort, machine: &mut Machine<Paged>, row: &mut u32, steps: u32)
+/// From a stuck state 10,000 drawn steps change nothing.
+fn assert_stays(rt: &impl Abort, machine: &mut Machine<Paged>, row: &mut u32)
     requires { length machine.old.state.harts ≡ 2 }
 {
     let before = shown(machine);
-    for _ in 0..steps {
+    for _ in 0..10_000 {
         let _ = machine.step((draw(row) % 2) as u8);
     }
     assert_is(
@@ -429,9 +429,8 @@ fn watched_drawn(
     assert!(rt; machine.harts() == 2);
     let mut watch = Watch::new(alloc, machine).expect(rt, "memory");
     if until_stuck(rt, machine, &mut watch, row, counts) {
-        let steps = if counts.stuck % 100 == 0 { 10_000 } else { 100 };
         counts.stuck = counts.stuck.saturating_add(1);
-        assert_stays(rt, machine, row, steps);
+        assert_stays(rt, machine, row);
     }
 }
 
@@ -456,7 +455,8 @@ fn until_stuck(
     false
 }
 
-/// Of drawn programs of 100,000 states some get stuck and some don't; whoever is seen to wait does.
+/// Of drawn programs of 100,000 states some get stuck and some don't; whoever is seen to wait does. It takes less than a second, but
+/// `rt try` wants more than a minute for it (`--seconds 600`).
 #[test]
 fn drawn(rt: HostRuntime) {
     let mut row = 1;
