@@ -4,10 +4,12 @@ ghost use Rattle.rv_collide.specs.Legal.{IsLegal};
 ghost use Rattle.rv_collide.specs.Numbers.{numbers};
 ghost use Rattle.rv_collide.specs.Replays.{IsReplayFault};
 ghost use Rattle.rv_collide.specs.Stored.{setting_of, stored};
+ghost use Rattle.rv_collide.specs.Verdict.{endings};
 ghost use Rattle.rv_debug.specs.internal.Session.{AreCheckpoints, HasOneMore, StandsAt};
 
 use crate::schedule::Schedule;
 use rv_collide::collider::Collider;
+use rv_collide::ending::Ending;
 use rv_collide::entry::Entry;
 use rv_collide::plan::Plan;
 use rv_collide::replay::{ReplayFault, replay_up_to};
@@ -21,15 +23,24 @@ use std::alloc::Global;
 /// How many entries stand between a checkpoint and the next.
 pub(crate) const CHECKPOINT_ENTRIES: u32 = 1024;
 
-/// The checkpoints of a list of entries, each of which is what its call adds; and how many entries there are.
-pub(crate) fn checkpoints_of(
+/// What one pass over a list of entries leaves: the checkpoints, the endings of its pauses, and how many entries there are.
+#[derive(Drop)]
+pub(crate) struct Passed {
+    pub(crate) checkpoints: Vec<Machine<Paged>>,
+    pub(crate) endings: Vec<Ending>,
+    pub(crate) count: u32,
+}
+
+/// One pass over a list of entries, each of which is what its call adds.
+pub(crate) fn pass_over(
     alloc: Global,
     image: &Image,
     plan: Plan,
     entries: &[Entry],
-) -> Result<(Vec<Machine<Paged>>, u32), ReplayFault>
-    ensures ok { IfOk result (λ made. AreCheckpoints (stored image.now (numbers plan) entries.now) made.0.items) }
-    ensures counted { IfOk result (λ made. made.1 ≡ length entries.now) }
+) -> Result<Passed, ReplayFault>
+    ensures ok { IfOk result (λ passed. AreCheckpoints (stored image.now (numbers plan) entries.now) passed.checkpoints.items) }
+    ensures endings { IfOk result (λ passed. passed.endings.items ≡ endings (setting_of (stored image.now (numbers plan) entries.now)).start entries.now) }
+    ensures counted { IfOk result (λ passed. passed.count ≡ length entries.now) }
     ensures legal { OnOk result (IsLegal (setting_of (stored image.now (numbers plan) [])) entries.now) }
     ensures err { IfErr result (λ fault. IsReplayFault (setting_of (stored image.now (numbers plan) [])) entries.now fault) }
 {
@@ -42,7 +53,11 @@ pub(crate) fn checkpoints_of(
     };
     add_checkpoints(&mut checkpoints, &mut collider, entries, count)?;
     collider.facts();
-    Ok((checkpoints, collider.entries()))
+    Ok(Passed {
+        checkpoints,
+        count: collider.entries(),
+        endings: collider.finish().endings,
+    })
 }
 
 /// Makes the calls of a list of entries on a new core, and adds the checkpoints on the way.

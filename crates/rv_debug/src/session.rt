@@ -8,17 +8,19 @@ ghost use Rattle.rv_collide.specs.Made.{made};
 ghost use Rattle.rv_collide.specs.Numbers.{numbers};
 ghost use Rattle.rv_collide.specs.Replays.{IsReplayFault};
 ghost use Rattle.rv_collide.specs.Stored.{setting_of, stored};
+ghost use Rattle.rv_collide.specs.Verdict.{endings};
 ghost use Rattle.rv_hart.specs.State.{State};
 ghost use Rattle.rv_debug.specs.Answers as answer;
 ghost use Rattle.rv_debug.specs.Placed.{moved, placed, setting, state, SomeState};
 ghost use Rattle.rv_debug.specs.declared.session.SessionFault.TheVariants as fault_is;
 
-use crate::checkpoints::{checkpoints_of, machine_at};
+use crate::checkpoints::{Passed, machine_at, pass_over};
 use crate::finding::next_touch;
 use crate::hart_view::HartView;
 use crate::listing::{has_lines, lines_of};
 use crate::schedule::Schedule;
 use crate::shown::{bytes_of, has_bytes, view_of};
+use rv_collide::ending::Ending;
 use rv_collide::entry::Entry;
 use rv_collide::plan::Plan;
 use rv_collide::replay::ReplayFault;
@@ -65,6 +67,8 @@ pub struct Session {
     machine: Machine<Paged>,
     /// Machines at the places that are multiples of 1,024.
     checkpoints: Vec<Machine<Paged>>,
+    /// The endings of all its pauses.
+    endings: Vec<Ending>,
 }
 
 impl Model for Session {
@@ -75,7 +79,7 @@ impl Model for Session {
 
     ghost view = { λ s. placed s.schedule.image s.schedule.plan s.schedule.entries s.place };
 
-    ghost invariant = { λ s. IsSession s.schedule s.place s.machine s.checkpoints.items };
+    ghost invariant = { λ s. IsSession s.schedule s.place s.machine s.checkpoints.items s.endings.items };
 }
 
 impl Session {
@@ -91,7 +95,11 @@ impl Session {
         ensures err { IfErr result (λ fault.
             IsReplayFault (setting_of (stored image.now (numbers plan) [])) entries.items fault) }
     {
-        let (mut checkpoints, count) = checkpoints_of(alloc, image, plan, &entries)?;
+        let Passed {
+            mut checkpoints,
+            endings,
+            count,
+        } = pass_over(alloc, image, plan, &entries)?;
         let schedule = Schedule::new(image, plan, entries, count);
         match machine_at(&schedule, &mut checkpoints, 0) {
             Err(_) => Err(ReplayFault::NoMemory),
@@ -100,6 +108,7 @@ impl Session {
                 place: 0,
                 machine,
                 checkpoints,
+                endings,
             }),
         }
     }
@@ -136,6 +145,13 @@ impl Session {
         ensures { result.now ≡ self.now.entries }
     {
         self.schedule.entries()
+    }
+
+    /// The endings of its pauses, in the order in which they ended.
+    pub fn endings(&self) -> &[Ending]
+        ensures { result.now ≡ endings (setting self.now).start self.now.entries }
+    {
+        self.endings.as_slice()
     }
 
     /// Goes to a place.

@@ -2,10 +2,12 @@
 -- entries around it.
 use Rattle.std.specs.Prelude.{ℕ, Bool, true, false, ◌==◌, min, max, if◌then◌else◌, Option, Some, None, List, [], ◌∷◌, ◌++◌, codes, map}
 use Rattle.std.specs.Fmt.{decimal}
+use Rattle.std.specs.Option.{option_map_or}
 use Rattle.rv_collide.specs.declared.ending.Ending.{Ending}
 use Rattle.rv_collide.specs.declared.ending.Verdict.{Verdict}
 use Rattle.rv_collide.specs.declared.ending.Verdict.TheVariants.{Hit, Changed, Quiet}
-use Rattle.rv_elf.specs.Contents.{Contents}
+use Rattle.rv_elf.specs.Contents.{Contents, Named as Symbol}
+use Rattle.rv_symbols.specs.Symbols.{symbol_of}
 use Rattle.rv_explain.specs.Names.{address_text, name_text}
 use Rattle.rv_explain.specs.Pieces.{joined}
 use Rattle.rv_explain.specs.Rows.{instruction_text, shown_line}
@@ -117,14 +119,21 @@ other_line image block =
     joined (codes "  hart " ∷ decimal block.other.hart ∷ codes " " ∷ did block.other.access.read block.other.access.write ∷ codes " "
     ∷ bytes_text block.other.access.size ∷ address_text image block.other.access.first ∷ codes ", entry " ∷ decimal block.second ∷ last_text block.ending.verdict ∷ [])
 
--- `    called from ADDR NAME`, where x1 names an instruction
-abbrev pub caller_text : Contents → Option ℕ → List ℕ
-caller_text image None = []
-caller_text image (Some address) = joined (codes "    called from " ∷ address_text image address ∷ codes "\n" ∷ [])
+-- one symbol tells two addresses
+abbrev pub are_told_by_one : Contents → ℕ → ℕ → Bool
+are_told_by_one image one other =
+    option_map_or (λ (symbol : Symbol). option_map_or (λ (second : Symbol). symbol.value == second.value) (symbol_of image other) false) (symbol_of image one) false
+
+-- `    called from ADDR NAME`, where x1 names an instruction, but none of the same function: that is left from a call which has
+-- returned
+abbrev pub caller_text : Contents → ℕ → Option ℕ → List ℕ
+caller_text image pc None = []
+caller_text image pc (Some address) =
+    if are_told_by_one image pc address then [] else joined (codes "    called from " ∷ address_text image address ∷ codes "\n" ∷ [])
 
 -- `    ADDR NAME: LINE`, and the caller
 abbrev pub side_text : Contents → Side → List ℕ
-side_text image side = joined (codes "    " ∷ instruction_text image side.access.pc side.word ∷ codes "\n" ∷ caller_text image side.caller ∷ [])
+side_text image side = joined (codes "    " ∷ instruction_text image side.access.pc side.word ∷ codes "\n" ∷ caller_text image side.access.pc side.caller ∷ [])
 
 -- ---- the bytes
 

@@ -221,19 +221,31 @@ fn other_line(alloc: Global, symbols: &SymbolTable, block: &Block) -> Result<Vec
     )
 }
 
+/// Whether two addresses are told by one symbol.
+fn are_told_by_one(symbols: &SymbolTable, one: u32, other: u32) -> bool
+    ensures { result ≡ spec.are_told_by_one symbols.now one other }
+{
+    match (symbols.symbol_of(one), symbols.symbol_of(other)) {
+        (Some(symbol), Some(second)) => symbol.value == second.value,
+        _ => false,
+    }
+}
+
+/// Where x1 names an instruction of the same function it is left from a call that has returned.
 fn caller_text(
     alloc: Global,
     symbols: &SymbolTable,
+    pc: u32,
     caller: Option<u32>,
 ) -> Result<Vec<u8>, NoMemory>
-    ensures { IfOk result (λ text. text.items ≡ spec.caller_text symbols.now caller) }
+    ensures { IfOk result (λ text. text.items ≡ spec.caller_text symbols.now pc caller) }
 {
     match caller {
-        None => Ok(Vec::new(alloc)),
-        Some(address) => {
+        Some(address) if !are_told_by_one(symbols, pc, address) => {
             let place = address_text(alloc, symbols, address)?;
             joined(alloc, &[b"    called from ", &place, b"\n"])
         }
+        Some(_) | None => Ok(Vec::new(alloc)),
     }
 }
 
@@ -241,7 +253,7 @@ fn side_text(alloc: Global, symbols: &SymbolTable, side: &Side) -> Result<Vec<u8
     ensures { IfOk result (λ text. text.items ≡ spec.side_text symbols.now side.now) }
 {
     let instruction = instruction_text(alloc, symbols, side.access.pc, side.word)?;
-    let caller = caller_text(alloc, symbols, side.caller)?;
+    let caller = caller_text(alloc, symbols, side.access.pc, side.caller)?;
     joined(alloc, &[b"    ", &instruction, b"\n", &caller])
 }
 

@@ -57,7 +57,7 @@ fn write_found<O: Output>(writer: &mut O, found: &RunRaces) -> Result<(), WriteF
         writer,
         found.races.len() as u64,
         found.reports,
-        u64::from(found.endings),
+        found.endings,
     )
 }
 

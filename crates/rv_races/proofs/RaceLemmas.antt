@@ -36,12 +36,12 @@ one_report image ranges ended n (Some r) is = rw is refl
 report_of_ending : (image : Contents) (ranges : List (ℕ × ℕ)) (ended : List Ending) (n : ℕ) (told : Ending) → slice_get ended n ≡ Some told → report_at image ranges ended n ≡ report_of image ranges n told
 report_of_ending image ranges ended n told there = rw there refl
 
-pub reports_more : (image : Contents) (ranges : List (ℕ × ℕ)) (ended : List Ending) (n : ℕ) (told : Ending) (o : Option Report) → slice_get ended n ≡ Some told → o ≡ report_of image ranges n told → reports_of image ranges ended (n + 1) ≡ reports_of image ranges ended n ++ option_to_list o
+pub reports_more : (image : Contents) (ranges : List (ℕ × ℕ)) (ended : List Ending) (n : ℕ) (o : Option Report) → o ≡ report_at image ranges ended n → reports_of image ranges ended (n + 1) ≡ reports_of image ranges ended n ++ option_to_list o
 unfolding reports_of
-reports_more image ranges ended n told o there is =
+reports_more image ranges ended n o is =
     ap (filter_map (report_at image ranges ended)) (range_from_0 n)
     ∙ filter_map-append (report_at image ranges ended) (range_with_len 0 n) (n ∷ [])
-    ∙ ap (λ (rs : List Report). filter_map (report_at image ranges ended) (range_with_len 0 n) ++ rs) (one_report image ranges ended n o (report_of_ending image ranges ended n told there ∙ sym is))
+    ∙ ap (λ (rs : List Report). filter_map (report_at image ranges ended) (range_with_len 0 n) ++ rs) (one_report image ranges ended n o (sym is))
 
 -- ---- races, one report more
 

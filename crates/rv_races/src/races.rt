@@ -1,14 +1,12 @@
 //! The races of a run, as `specs/Races.antt` has it.
-ghost use Rattle.std.specs.Prelude.{◌≡◌, ◌++◌, IfOk, OnOk, position};
+ghost use Rattle.std.specs.Prelude.{◌≡◌, ◌++◌, IfOk, OnOk, length, position};
 ghost use Rattle.std.specs.Option.{option_to_list};
-ghost use Rattle.rv_debug.specs.Placed.{placed};
 ghost use Rattle.rv_races.specs.Races as spec;
 
 use crate::classes::{RaceClass, class_of, rank};
-use rv_collide::collider::Collider;
 use rv_collide::ending::Ending;
+use rv_debug::session::Session;
 use rv_elf::Image;
-use rv_memory::flat::Flat;
 use rv_memory::store::NoMemory;
 use rv_prune::named_bytes::NamedBytes;
 use rv_report::key::{Key, key_of};
@@ -35,46 +33,46 @@ pub struct Race {
 pub struct RunRaces {
     pub races: Vec<Race>,
     pub reports: u64,
-    pub endings: u32,
+    pub endings: u64,
 }
 
-/// The races of the run that a core has made. The ranges are those of the listed names.
+/// The races of a session's run. The ranges are those of the listed names.
 pub fn races_in(
     alloc: Global,
     image: &Image,
-    collider: &Collider<Flat>,
+    session: &Session,
     ranges: &NamedBytes,
 ) -> Result<RunRaces, NoMemory>
-    requires { collider.now.image ≡ image.now }
-    ensures found { IfOk result (λ found.
-        spec.found_of found ≡ spec.found (spec.run_of (placed collider.now.image collider.now.plan collider.now.entries 0)) ranges.now) }
-    ensures told { IfOk result (λ found.
-        spec.AreTold (spec.run_of (placed collider.now.image collider.now.plan collider.now.entries 0)) found.races.items) }
+    requires { session.now.image ≡ image.now }
+    ensures found { IfOk result (λ found. spec.found_of found ≡ spec.found (spec.run_of session.now) ranges.now) }
+    ensures told { IfOk result (λ found. spec.AreTold (spec.run_of session.now) found.races.items) }
 {
-    let reports = reports_in(alloc, image, collider, ranges)?;
+    let reports = reports_of(alloc, image, ranges, session.endings())?;
     let races = races_of(alloc, &reports)?;
     Ok(RunRaces {
         races,
         reports: reports.len() as u64,
-        endings: collider.endings(),
+        endings: session.endings().len() as u64,
     })
 }
 
 /// The reports among the endings of a run.
-fn reports_in(
+pub fn reports_of(
     alloc: Global,
     image: &Image,
-    collider: &Collider<Flat>,
     ranges: &NamedBytes,
+    endings: &[Ending],
 ) -> Result<Vec<Report>, NoMemory>
-    requires { collider.now.image ≡ image.now }
     ensures { IfOk result (λ reports. reports.items
-        ≡ spec.reports (spec.run_of (placed collider.now.image collider.now.plan collider.now.entries 0)) ranges.now) }
+        ≡ spec.reports_of image.now ranges.now endings.now (length endings.now)) }
 {
     let mut reports = Vec::new(alloc);
-    for n in 0..collider.endings() {
-        let report = report_of(image, ranges, n, &collider.ending(n));
-        add_found(&mut reports, report)?;
+    for n in 0..endings.len() {
+        // A run has far fewer endings than 2^32.
+        let Ok(number) = u32::try_from(n) else {
+            return Err(NoMemory);
+        };
+        add_found(&mut reports, report_at(image, ranges, endings, number))?;
     }
     Ok(reports)
 }
@@ -100,6 +98,13 @@ fn report_of(image: &Image, ranges: &NamedBytes, n: u32, told: &Ending) -> Optio
         class: class_of(image, ranges, told),
         ending: *told,
     })
+}
+
+/// Ending n of a run as a report, where it is one.
+fn report_at(image: &Image, ranges: &NamedBytes, endings: &[Ending], n: u32) -> Option<Report>
+    ensures { result ≡ spec.report_at image.now ranges.now endings.now n }
+{
+    report_of(image, ranges, n, endings.get(n as usize)?)
 }
 
 /// The races of reports.

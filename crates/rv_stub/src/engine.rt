@@ -9,7 +9,6 @@ ghost use Rattle.rv_memory.specs.Flagged as flag;
 ghost use Rattle.rv_stub.specs.Heard.{opening};
 ghost use Rattle.rv_stub.specs.Talk as talk;
 
-use crate::state::met::endings_of;
 use crate::talk::converse;
 use rv_engines::debug::input::read_files;
 use rv_engines::fault::Fault;
@@ -19,8 +18,7 @@ use std::alloc::Global;
 use std::io::{Read, Write};
 
 /// Reads an image and then a schedule, and answers the packets of the third input, each before more is read. Where one
-/// of the files is refused, or no memory is found for the record's endings, no byte of it is read and nothing is
-/// written.
+/// of the files is refused, no byte of it is read and nothing is written.
 pub fn run_gdb<R: Read, Q: Read, C: Read, W: Write>(
     alloc: Global,
     image: &mut Flagged<R>,
@@ -49,9 +47,6 @@ pub fn run_gdb<R: Read, Q: Read, C: Read, W: Write>(
     ensures writer { buffer.has_failed writer.new ≡ (buffer.has_failed writer.old || fails_by is_write result) }
 {
     let files = read_files(alloc, image, schedule)?;
-    let Ok(endings) = endings_of(alloc, &files.image, files.plan, &files.session) else {
-        return Err(Fault::NoMemory);
-    };
-    converse(alloc, files.session, endings, commands, writer)?;
+    converse(alloc, files.session, commands, writer)?;
     Ok(())
 }

@@ -7,11 +7,9 @@ mod monitor;
 pub mod paused;
 
 ghost use Rattle.std.specs.Prelude.{◌≡◌};
-ghost use Rattle.rv_stub.specs.Met.{endings_of};
 ghost use Rattle.rv_stub.specs.Standing as spec;
 
 use crate::resume::Passed;
-use rv_collide::ending::Ending;
 use rv_debug::session::Session;
 use rv_gdb::chosen::Chosen;
 use rv_gdb::points::Points;
@@ -25,28 +23,23 @@ pub struct Talk {
     chosen: Chosen,
     points: Points,
     passed: Option<Passed>,
-    /// The endings of the record's pauses.
-    endings: Vec<Ending>,
 }
 
 impl Model for Talk {
-    ghost use Rattle.std.specs.Prelude.{◌≡◌, IfSome};
+    ghost use Rattle.std.specs.Prelude.{IfSome};
     ghost use Rattle.rv_stub.specs.Resumed.{IsPassed};
-    ghost use Rattle.rv_stub.specs.Met.{endings_of};
     ghost use Rattle.rv_stub.specs.Standing.{Standing};
 
     ghost Value = { Standing };
 
     ghost view = { λ t. record { run = t.session; chosen = t.chosen; points = t.points; passed = t.passed } };
 
-    ghost invariant = { λ t. IfSome t.passed (λ passed. IsPassed passed.way t.session passed)
-        × (t.endings.items ≡ endings_of t.session) };
+    ghost invariant = { λ t. IfSome t.passed (λ passed. IsPassed passed.way t.session passed) };
 }
 
 impl Talk {
-    /// Before the first packet. The caller gives the endings of the record's pauses.
-    pub fn new(alloc: Global, session: Session, endings: Vec<Ending>) -> Talk
-        requires { endings.items ≡ endings_of session }
+    /// Before the first packet.
+    pub fn new(alloc: Global, session: Session) -> Talk
         ensures { result ≡ spec.at_first session }
     {
         Talk {
@@ -54,7 +47,6 @@ impl Talk {
             chosen: Chosen::new(),
             points: Points::new(alloc),
             passed: None,
-            endings,
         }
     }
 }

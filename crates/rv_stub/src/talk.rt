@@ -6,12 +6,10 @@ ghost use Rattle.rv_memory.specs.Buffered as buffer;
 ghost use Rattle.rv_memory.specs.Flagged as flag;
 ghost use Rattle.rv_remote.specs.declared.framing.Heard.TheVariants as heard_is;
 ghost use Rattle.rv_stub.specs.Heard as spec;
-ghost use Rattle.rv_stub.specs.Met.{endings_of};
 ghost use Rattle.rv_stub.specs.Talk as talk;
 
 use crate::reply::Reply;
 use crate::state::Talk;
-use rv_collide::ending::Ending;
 use rv_debug::fault::TalkFault;
 use rv_debug::session::Session;
 use rv_gdb::packet::{Request, read_request};
@@ -89,12 +87,11 @@ fn kills(request: &Option<Request<'_>>) -> bool
 
 impl Conversation {
     /// Before the first byte.
-    pub fn new(alloc: Global, session: Session, endings: Vec<Ending>) -> Conversation
-        requires { endings.items ≡ endings_of session }
+    pub fn new(alloc: Global, session: Session) -> Conversation
         ensures { result ≡ spec.opening session }
     {
         Conversation {
-            talk: Talk::new(alloc, session, endings),
+            talk: Talk::new(alloc, session),
             reading: Reading::new(),
             acknowledges: true,
             last: None,
@@ -263,15 +260,13 @@ impl Conversation {
 }
 
 /// Answers the packets of the input up to the one that ends the talk, or to the end. A read gives what has come, and
-/// each packet in it is answered before more is read. The caller gives the endings of the record's pauses.
+/// each packet in it is answered before more is read.
 pub fn converse<C: Read, W: Write>(
     alloc: Global,
     session: Session,
-    endings: Vec<Ending>,
     commands: &mut Flagged<C>,
     writer: &mut Buffered<W>,
 ) -> Result<(), TalkFault>
-    requires { endings.items ≡ endings_of session }
     ensures text { OnOk result (IfSome (C.remaining (flag.device commands.old)) (λ input.
         talk.IsWhole (spec.opening session) input
         (Appends (buffer.written W.contents writer.old) (buffer.sent W.contents writer.new)))) }
@@ -281,6 +276,6 @@ pub fn converse<C: Read, W: Write>(
     ensures reader { flag.has_failed commands.new ≡ (flag.has_failed commands.old || fails_by is_read result) }
     ensures writer { buffer.has_failed writer.new ≡ (buffer.has_failed writer.old || fails_by is_write result) }
 {
-    let mut conversation = Conversation::new(alloc, session, endings);
+    let mut conversation = Conversation::new(alloc, session);
     conversation.hear_input(alloc, commands, writer)
 }

@@ -1,7 +1,9 @@
--- What a session keeps: a legal schedule, a machine at its place, and machines at some places before.
+-- What a session keeps: a legal schedule, a machine at its place, machines at some places before, and the endings of its pauses.
 use Rattle.std.specs.Prelude.{◌≡◌, ℕ, ◌+◌, ◌*◌, ◌/◌, ◌≤◌, Some, List, [], ◌∷◌, ◌++◌, length, slice_get}
 use Rattle.rv_collide.specs.StateAt.{state_at}
 use Rattle.rv_collide.specs.Stored.{Stored, setting_of}
+use Rattle.rv_collide.specs.Verdict.{endings}
+use Rattle.rv_collide.specs.declared.ending.Ending.{Ending}
 use Rattle.rv_debug.specs.declared.checkpoints.TheConstants.{CHECKPOINT_ENTRIES}
 use Rattle.rv_hart.specs.State.{Guest}
 
@@ -29,7 +31,8 @@ pub record HasOneMore (core : Stored) (old new : List Guest) : Type 0 where
   pub added : new ≡ old ++ checkpoint ∷ []
   pub state : HasStateAt core (length core.entries) checkpoint
 
-pub record IsSession (schedule : Stored) (place : ℕ) (machine : Guest) (checkpoints : List Guest) : Type 0 where
+pub record IsSession (schedule : Stored) (place : ℕ) (machine : Guest) (checkpoints : List Guest) (ended : List Ending) : Type 0 where
   pub within : place ≤ length schedule.entries
   pub here : StandsAt schedule place machine
   pub checkpoints_are : AreCheckpoints schedule checkpoints
+  pub endings_are : ended ≡ endings (setting_of schedule).start schedule.entries

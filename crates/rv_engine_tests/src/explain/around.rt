@@ -8,7 +8,7 @@ use rv_debug::session::Session;
 use rv_elf::Image;
 use rv_explain::explain::explain;
 use rv_explain::fault::ExplainFault;
-use rv_explain::races::races_of_run;
+use rv_explain::races::races_in;
 use rv_explain::symbol_table::SymbolTable;
 use rv_memory::flagged::Flagged;
 use std::alloc::Global;
@@ -54,9 +54,9 @@ fn told(
     let plan = Plan::new(2, 100, 1, 10, 4).expect(rt, "a plan");
     let entries = Vec::from_slice(alloc, &ENTRIES).expect(rt, "memory");
     let none = bytes_of(rt, alloc, &[]);
-    let found = races_of_run(alloc, image, plan, &entries, &none).expect(rt, "races");
     let symbols = SymbolTable::new(alloc, image).expect(rt, "memory");
     let mut session = Session::new(alloc, image, plan, entries).expect(rt, "a session");
+    let found = races_in(alloc, image, &session, &none).expect(rt, "races");
     let mut writer = Flagged::new(Vec::new(alloc));
     let outcome = explain(
         alloc,

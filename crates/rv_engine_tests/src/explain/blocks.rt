@@ -198,7 +198,7 @@ fn changed(rt: &impl Abort, alloc: Global) -> Block {
         class: RaceClass::Named,
         number: 0,
         ending: told(Verdict::Changed, None),
-        paused: side(1, LOADS, None, Some(0x10064)),
+        paused: side(1, LOADS, None, Some(0x10034)),
         other: side(0, SWAPS, SW, None),
         second: 66,
         lines: Vec::from_slice(alloc, &CHANGED_LINES).expect(rt, "memory"),
@@ -259,7 +259,7 @@ const CHANGED_TEXT: &str = "race 1: take+0x14/0x28, 1 report, named, first in ru
   named: the bytes are listed by --named
   hart 1 was about to load 4 bytes at 00020008 rings+0x8/0x200, ending 0
     00010074 take+0x14/0x28: unreadable
-    called from 00010064 take+0x4/0x28
+    called from 00010034 put+0x4/0x30
   hart 0 loaded and stored 4 bytes at 00020008 rings+0x8/0x200, entry 66, the last store
     00010054 put+0x24/0x30: sw x21, 0(x7)
   bytes 00000000 at entry 63, the pause; 00000001 at entry 106, its end; no data breakpoint

@@ -18,8 +18,9 @@ use crate::run::fault::CommandFault;
 use crate::run::lists::read_named;
 use rv_debug::session::Session;
 use rv_elf::Image;
-use rv_explain::races::{RunRaces, races_of_run};
+use rv_explain::races::{RunRaces, races_in};
 use rv_memory::flagged::Flagged;
+use rv_memory::store::NoMemory;
 use std::alloc::Global;
 use std::io::Read;
 
@@ -31,8 +32,7 @@ pub struct Opened {
     pub found: RunRaces,
 }
 
-/// Reads an image and then a schedule, and finds the races of the schedule. It goes twice over the entries: for the
-/// session, and for the endings.
+/// Reads an image and then a schedule, and finds the races of the schedule.
 pub fn open_run<'a, R: Read, Q: Read>(
     alloc: Global,
     options: &ExplainOptions<'a>,
@@ -56,13 +56,12 @@ pub fn open_run<'a, R: Read, Q: Read>(
 {
     let files = read_files(alloc, image, schedule)?;
     let ranges = read_named(alloc, &files.image, options.named)?;
-    let entries = files.session.entries();
-    match races_of_run(alloc, &files.image, files.plan, entries, &ranges) {
+    match races_in(alloc, &files.image, &files.session, &ranges) {
         Ok(found) => Ok(Opened {
             image: files.image,
             session: files.session,
             found,
         }),
-        Err(fault) => Err(CommandFault::from(Fault::from(fault))),
+        Err(NoMemory) => Err(CommandFault::Plain(Fault::NoMemory)),
     }
 }

@@ -1,6 +1,5 @@
 //! The endings of the record's pauses, and the accesses that met them.
 ghost use Rattle.std.specs.Prelude.{◌≡◌, ◌+◌, ◌-◌, ◌<◌, ◌≤◌, IfOk, IfSome, OnOk, length, slice_get};
-ghost use Rattle.rv_collide.specs.Numbers.{numbers};
 ghost use Rattle.rv_collide.specs.Entries.{stepped_at, stepped_hart};
 ghost use Rattle.rv_debug.specs.Placed.{setting};
 ghost use Rattle.rv_debug.specs.Visited.{IsVisit};
@@ -9,18 +8,12 @@ ghost use Rattle.rv_report.specs.OfPause.{IsOfPause};
 ghost use Rattle.rv_retrace.specs.Going.{last_in};
 ghost use Rattle.rv_stub.specs.Met as spec;
 
-use rv_collide::collider::Collider;
 use rv_collide::ending::{Ending, Verdict};
 use rv_collide::entry::Entry;
-use rv_collide::plan::Plan;
-use rv_collide::replay::{ReplayFault, replay};
 use rv_debug::session::Session;
 use rv_debug::session::visit::Visit;
-use rv_elf::Image;
-use rv_memory::paged::Paged;
 use rv_memory::store::NoMemory;
 use rv_report::exhibiting::{endings_are_of_pauses, writes_over};
-use std::alloc::Global;
 
 /// An access of a hart other than the paused one: the place of its entry, and the hart.
 #[derive(Clone, Copy)]
@@ -124,25 +117,6 @@ pub(crate) fn met_by(session: &mut Session, told: &Ending) -> Result<Option<Met>
     }
 }
 
-/// The endings of the pauses of a session's record, which is one of the image and the plan. The record is legal, so that
-/// nothing but memory can be wanting.
-pub fn endings_of(
-    alloc: Global,
-    image: &Image,
-    plan: Plan,
-    session: &Session,
-) -> Result<Vec<Ending>, NoMemory>
-    requires image { session.now.image ≡ image.now }
-    requires plan { session.now.plan ≡ numbers plan }
-    ensures { IfOk result (λ endings. endings.items ≡ spec.endings_of session.now) }
-{
-    let told: Result<Collider<Paged>, ReplayFault> = replay(alloc, image, plan, session.entries());
-    match told {
-        Ok(collider) => Ok(collider.finish().endings),
-        Err(_) => Err(NoMemory),
-    }
-}
-
 fn ending_at(endings: &[Ending], n: u32) -> Option<Ending>
     ensures { result ≡ slice_get endings.now n }
 {
@@ -150,12 +124,11 @@ fn ending_at(endings: &[Ending], n: u32) -> Option<Ending>
 }
 
 /// The ending of a number.
-pub(crate) fn ending_of(session: &Session, endings: &[Ending], n: u32) -> Option<Ending>
-    requires { endings.now ≡ spec.endings_of session.now }
+pub(crate) fn ending_of(session: &Session, n: u32) -> Option<Ending>
     ensures value { result ≡ slice_get (spec.endings_of session.now) n }
     ensures of_pause { IfSome result (IsOfPause (setting session.now).start session.now.entries) }
 {
     endings_are_of_pauses();
     session.facts();
-    ending_at(endings, n)
+    ending_at(session.endings(), n)
 }

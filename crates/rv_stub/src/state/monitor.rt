@@ -164,7 +164,7 @@ impl Talk {
         ensures ok { IfOk result (λ reply. spec.going_to_ending self.old n ≡ record { text = reply_text reply; after = self.new }) }
         ensures refused { OnErr result (self.new ≡ self.old) }
     {
-        let Some(told) = ending_of(&self.session, &self.endings, n) else {
+        let Some(told) = ending_of(&self.session, n) else {
             return Reply::of_digits(alloc, b"fault 6 NoEnding\n");
         };
         let place = told.paused_at + 1;
@@ -177,7 +177,7 @@ impl Talk {
         ensures ok { IfOk result (λ reply. spec.going_to_hit self.old n ≡ record { text = reply_text reply; after = self.new }) }
         ensures refused { OnErr result (self.new ≡ self.old) }
     {
-        let Some(told) = ending_of(&self.session, &self.endings, n) else {
+        let Some(told) = ending_of(&self.session, n) else {
             return Reply::of_digits(alloc, b"fault 6 NoEnding\n");
         };
         let Some(met) = met_by(&mut self.session, &told)? else {
