@@ -2,10 +2,10 @@
 use Rattle.std.proofs.Common.{◌≡◌, ℕ, zero, suc, ◌+◌, ◌⊎◌, inl, inr, List, [], ◌∷◌, ◌++◌, length, Option, None, Some, Result, Ok, Err, replicate, refl, sym, ap, subst, ◌∙◌}
 use Rattle.std.specs.Prelude.{IfOk, slice_get, slice_set}
 use Rattle.rv_campaign.specs.Kept.{AreKept, IsCoreOf, IsKept, Source}
+use Rattle.rv_campaign.specs.declared.kept.SeriesRun.{SeriesRun}
 use Rattle.rv_campaign.specs.internal.Series.{AreSlots, IsKeptAt}
 use Rattle.rv_collide.specs.Numbers.{numbers}
 use Rattle.rv_collide.specs.Stored.{Stored}
-use Rattle.rv_collide.specs.declared.plan.Plan.{Plan}
 
 -- no slot of an empty list of slots holds anything
 none_there : {X : Type 0} (n place : ℕ) (one : X) → slice_get (replicate n None) place ≡ Some (Some one) → ⊥
@@ -13,8 +13,8 @@ none_there zero place one there = cc
 none_there (suc n) zero one there = cc
 none_there (suc n) (suc place) one there = none_there n place one there
 
-pub empty : {K : Type 0} (keeps : Stored → K → Type 0) (source : Source) (first : ℕ) (plans : List Plan) (slots : List (Option K)) (n : ℕ) → slots ≡ replicate n None → AreSlots keeps source first plans slots
-empty keeps source first plans slots n is = λ place one there.
+pub empty : {T K : Type 0} (keeps : T → Stored → K → Type 0) (source : Source) (runs : List (SeriesRun T)) (slots : List (Option K)) (n : ℕ) → slots ≡ replicate n None → AreSlots keeps source runs slots
+empty keeps source runs slots n is = λ place one there.
     absurd (none_there n place one (ap (λ xs. slice_get xs place) (sym is) ∙ there))
 
 -- what is read of a list in which one element is replaced: that one, or what was there
@@ -33,23 +33,23 @@ same_some : {X : Type 0} (x y : X) → Some x ≡ Some y → x ≡ y
 same_some x y h = cc
 
 -- what is kept of the core of the plan's run, where something is
-pub kept_of : {K E : Type 0} (keeps : Stored → K → Type 0) (source : Source) (first : ℕ) (plans : List Plan) (place : ℕ) (plan : Plan) (core : Stored) (r : Result K E) → slice_get plans place ≡ Some plan
-    → IsCoreOf source (numbers plan) (first + place) core → IfOk r (λ kept. keeps core kept) → IfOk r (λ kept. IsKeptAt keeps source first plans place kept)
-kept_of keeps source first plans place plan core (Err e) there is_core is_kept = tt
-kept_of keeps source first plans place plan core (Ok kept) there is_core is_kept = λ other there_too.
-    subst (λ (p : Plan). IsKept keeps source (numbers p) (first + place) kept) (same_some plan other (sym there ∙ there_too)) (record { core = core; is_core = is_core; is_kept = is_kept })
+pub kept_of : {T K E : Type 0} (keeps : T → Stored → K → Type 0) (source : Source) (runs : List (SeriesRun T)) (place : ℕ) (run : SeriesRun T) (core : Stored) (r : Result K E) → slice_get runs place ≡ Some run
+    → IsCoreOf source (numbers run.plan) run.number core → IfOk r (λ kept. keeps run.keep.now core kept) → IfOk r (λ kept. IsKeptAt keeps source runs place kept)
+kept_of keeps source runs place run core (Err e) there is_core is_kept = tt
+kept_of keeps source runs place run core (Ok kept) there is_core is_kept = λ other there_too.
+    subst (λ (r : SeriesRun _). IsKept (keeps r.keep.now) source (numbers r.plan) r.number kept) (same_some run other (sym there ∙ there_too)) (record { core = core; is_core = is_core; is_kept = is_kept })
 
-pub filled_one : {K : Type 0} (keeps : Stored → K → Type 0) (source : Source) (first : ℕ) (plans : List Plan) (old new' : List (Option K)) (at : ℕ) (kept : K) → new' ≡ slice_set old at (Some kept) → IsKeptAt keeps source first plans at kept → AreSlots keeps source first plans old → AreSlots keeps source first plans new'
-filled_one keeps source first plans old new' at kept is here before = λ place one there.
+pub filled_one : {T K : Type 0} (keeps : T → Stored → K → Type 0) (source : Source) (runs : List (SeriesRun T)) (old new' : List (Option K)) (at : ℕ) (kept : K) → new' ≡ slice_set old at (Some kept) → IsKeptAt keeps source runs at kept → AreSlots keeps source runs old → AreSlots keeps source runs new'
+filled_one keeps source runs old new' at kept is here before = λ place one there.
     elim (read_set old at place (Some kept) (Some one) (ap (λ xs. slice_get xs place) (sym is) ∙ there)) [
       | inl both ↦
-          subst (λ (n : ℕ). IsKeptAt keeps source first plans n one) (sym both.0)
-          (subst (λ x. IsKeptAt keeps source first plans at x) (same_some kept one both.1) here)
+          subst (λ (n : ℕ). IsKeptAt keeps source runs n one) (sym both.0)
+          (subst (λ x. IsKeptAt keeps source runs at x) (same_some kept one both.1) here)
       | inr there_before ↦ before place one there_before
     ]
 
-pub taken_one : {K : Type 0} (keeps : Stored → K → Type 0) (source : Source) (first : ℕ) (plans : List Plan) (old new' : List (Option K)) (at : ℕ) → new' ≡ slice_set old at None → AreSlots keeps source first plans old → AreSlots keeps source first plans new'
-taken_one keeps source first plans old new' at is before = λ place one there.
+pub taken_one : {T K : Type 0} (keeps : T → Stored → K → Type 0) (source : Source) (runs : List (SeriesRun T)) (old new' : List (Option K)) (at : ℕ) → new' ≡ slice_set old at None → AreSlots keeps source runs old → AreSlots keeps source runs new'
+taken_one keeps source runs old new' at is before = λ place one there.
     elim (read_set old at place None (Some one) (ap (λ xs. slice_get xs place) (sym is) ∙ there)) [
       | inl both ↦ (let no : None ≡ Some one = both.1 in cc)
       | inr there_before ↦ before place one there_before
@@ -66,20 +66,20 @@ more (y ∷ xs) x (suc place) one there =
       | inr both ↦ inr (ap (λ n. suc n) both.0, both.1)
     ]
 
-abbrev pub Kept : {K : Type 0} → (Stored → K → Type 0) → Source → ℕ → List Plan → List K → Type 0
-Kept {K = K} keeps source first plans kept = (place : ℕ) (one : K) → slice_get kept place ≡ Some one → IsKeptAt keeps source first plans place one
+abbrev pub Kept : {T K : Type 0} → (T → Stored → K → Type 0) → Source → List (SeriesRun T) → List K → Type 0
+Kept {K = K} keeps source runs kept = (place : ℕ) (one : K) → slice_get kept place ≡ Some one → IsKeptAt keeps source runs place one
 
-pub kept_one : {K : Type 0} (keeps : Stored → K → Type 0) (source : Source) (first : ℕ) (plans : List Plan) (xs all : List K) (x : K) (at : ℕ) → all ≡ xs ++ x ∷ [] → length xs ≡ at → IsKeptAt keeps source first plans at x → Kept keeps source first plans xs → Kept keeps source first plans all
-kept_one keeps source first plans xs all x at is count here before = λ place one there.
+pub kept_one : {T K : Type 0} (keeps : T → Stored → K → Type 0) (source : Source) (runs : List (SeriesRun T)) (xs all : List K) (x : K) (at : ℕ) → all ≡ xs ++ x ∷ [] → length xs ≡ at → IsKeptAt keeps source runs at x → Kept keeps source runs xs → Kept keeps source runs all
+kept_one keeps source runs xs all x at is count here before = λ place one there.
     elim (more xs x place one (ap (λ ys. slice_get ys place) (sym is) ∙ there)) [
       | inl there_before ↦ before place one there_before
       | inr both ↦
-          subst (λ (n : ℕ). IsKeptAt keeps source first plans n one) (sym (both.0 ∙ count))
-          (subst (λ y. IsKeptAt keeps source first plans at y) both.1 here)
+          subst (λ (n : ℕ). IsKeptAt keeps source runs n one) (sym (both.0 ∙ count))
+          (subst (λ y. IsKeptAt keeps source runs at y) both.1 here)
     ]
 
-pub are_kept : {K : Type 0} (keeps : Stored → K → Type 0) (source : Source) (first : ℕ) (plans : List Plan) (kept : List K) → length kept ≡ length plans → Kept keeps source first plans kept → AreKept keeps source first plans kept
-are_kept keeps source first plans kept count each = record {
+pub are_kept : {T K : Type 0} (keeps : T → Stored → K → Type 0) (source : Source) (runs : List (SeriesRun T)) (kept : List K) → length kept ≡ length runs → Kept keeps source runs kept → AreKept keeps source runs kept
+are_kept keeps source runs kept count each = record {
   count = count;
-  each = λ place plan one there kept_there. each place one kept_there plan there;
+  each = λ place run one there kept_there. each place one kept_there run there;
 }

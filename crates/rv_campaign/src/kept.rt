@@ -1,5 +1,5 @@
-//! Runs of consecutive numbers, each with a plan of its own, of which a caller keeps what it wants.
-ghost use Rattle.std.specs.Prelude.{◌≡◌, ◌+◌, ◌≤◌, ◌^◌, length, IfOk};
+//! Runs of any numbers, each with a plan of its own, of which a caller keeps what it wants.
+ghost use Rattle.std.specs.Prelude.{◌≡◌, ◌≤◌, IfOk};
 ghost use Rattle.rv_campaign.specs.Kept.{AreKept};
 
 use crate::series::{all_made, in_order, longest_first};
@@ -54,16 +54,21 @@ impl<T: Drop> From<AllocFailed<T>> for SeriesFault {
     }
 }
 
-/// A series of runs: the image, the seed and the sites that each is made of, the number of the first, a plan for each,
-/// and what is kept of them.
+/// A run of a series: its number, its plan, and what is kept of it.
+#[derive(Drop)]
+pub struct SeriesRun<'a, K> {
+    pub number: u32,
+    pub plan: Plan,
+    pub keep: &'a K,
+}
+
+/// A series of runs: the image, the seed and the sites that each is made of, and the runs themselves.
 #[derive(Drop)]
 pub struct Series<'a, K: Keep> {
     pub image: &'a Image,
     pub seed: u64,
     pub sampler: &'a Sampler,
-    pub first: u32,
-    pub plans: &'a [Plan],
-    pub keep: &'a K,
+    pub runs: &'a [SeriesRun<'a, K>],
 }
 
 /// What is kept of the runs of a series, in order: of each number the one run, whatever the number of workers (1 to
@@ -75,15 +80,14 @@ pub fn kept_runs<R: Threads + Wait, K: Keep>(
     series: &Series<'_, K>,
     workers: u8,
 ) -> Result<Vec<K::Kept>, SeriesFault>
-    requires numbers { series.now.first + length series.now.plans.now ≤ 2 ^ 32 }
-    requires workers { workers ≤ 16 }
-    ensures { IfOk result (λ kept. AreKept (K.keeps series.now.keep.now) (record {
+    requires { workers ≤ 16 }
+    ensures { IfOk result (λ kept. AreKept K.keeps (record {
       image = series.now.image.now;
       sites = series.now.sampler.now;
       seed = series.now.seed;
-    }) series.now.first series.now.plans.now kept.items) }
+    }) series.now.runs.now kept.items) }
 {
-    let turns = longest_first(alloc, series.plans)?;
+    let turns = longest_first(alloc, series.runs)?;
     let next = AtomicU64::new(0);
     let made = all_made(rt, alloc, series, &turns, &next, workers)?;
     Ok(in_order(alloc, series, made)?)

@@ -12,8 +12,8 @@ mod runs;
 mod series;
 mod workers;
 
-pub use kept::{Keep, Series, SeriesFault, kept_runs};
-pub use run::run_one;
+pub use kept::{Keep, Series, SeriesFault, SeriesRun, kept_runs};
+pub use run::{left_by, run_one};
 pub use runs::{
     CampaignFault, Hunt, MOST_RUNS, MOST_WORKERS, NumberFault, campaign, kept_campaign,
 };

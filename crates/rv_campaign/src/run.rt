@@ -1,9 +1,9 @@
-ghost use Rattle.std.specs.Prelude.{◌≡◌, ◌<◌, ◌≤◌, true, false, None, length, IfOk};
-ghost use Rattle.rv_campaign.specs.Kept.{IsCoreOf};
+ghost use Rattle.std.specs.Prelude.{◌≡◌, ◌<◌, ◌≤◌, ℕ, true, false, None, length, IfOk};
+ghost use Rattle.rv_campaign.specs.Kept.{IsCoreOf, Source};
 ghost use Rattle.rv_campaign.specs.Run.{IsRun, IsRunOver, sampling_of};
 ghost use Rattle.rv_campaign.specs.internal.Driving.{IsDriving, SameRun};
 ghost use Rattle.rv_drive.specs.Drawn.{driven};
-ghost use Rattle.rv_collide.specs.Plan.{most_entries};
+ghost use Rattle.rv_collide.specs.Plan.{Numbers, most_entries};
 ghost use Rattle.rv_collide.specs.Stored.{setting_of};
 ghost use Rattle.rv_collide.specs.Numbers.{numbers};
 
@@ -35,22 +35,18 @@ pub fn run_one(
     }) run told) }
 {
     let sampler = Sampler::sites(alloc, image, excluded)?;
-    run_sampled(alloc, image, plan, seed, run, &sampler)
+    let core = core_sampled(alloc, image, plan, seed, run, &sampler)?;
+    Ok(left_by(core))
 }
 
-/// A run over the sites of a sampler.
-fn run_sampled(
-    alloc: Global,
-    image: &Image,
-    plan: Plan,
-    seed: u64,
-    run: u32,
-    sampler: &Sampler,
-) -> Result<Finished, NoMemory>
-    ensures { IfOk result (λ told. IsRunOver image.now (numbers plan) sampler.now seed run told) }
+/// What the run leaves that is over with a core.
+pub fn left_by(core: Collider<Flat>) -> Finished
+    ensures plan { numbers result.plan ≡ core.plan }
+    ensures entries { result.entries.items ≡ core.entries }
+    ensures run { (source : Source) (plan : Numbers) (run : ℕ) → IsCoreOf source plan run core
+        → IsRunOver source.image plan source.sites source.seed run result }
 {
-    let core = core_sampled(alloc, image, plan, seed, run, sampler)?;
-    Ok(core.finish())
+    core.finish()
 }
 
 /// The core at the end of a run over the sites of a sampler.

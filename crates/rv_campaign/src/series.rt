@@ -1,12 +1,12 @@
 //! The runs of a series by workers, each in a thread of its own, which take one run after another.
-ghost use Rattle.std.specs.Prelude.{◌≡◌, ◌+◌, ◌≤◌, ◌<◌, ◌^◌, None, Some, length, All, IfOk, replicate, slice_get, slice_set};
+ghost use Rattle.std.specs.Prelude.{◌≡◌, ◌<◌, None, Some, length, All, IfOk, replicate, slice_get, slice_set};
 ghost use Rattle.std.specs.Thread.{IsSend, IsSync};
 ghost use Rattle.rv_campaign.specs.Kept.{AreKept};
 ghost use Rattle.rv_campaign.specs.internal.Series.{AreSlots, IsKeptAt};
 
-use crate::kept::{Keep, Series, SeriesFault};
+use crate::kept::{Keep, Series, SeriesFault, SeriesRun};
 use crate::run::core_sampled;
-use rv_collide::plan::{MOST_STEPS, Plan};
+use rv_collide::plan::MOST_STEPS;
 use rv_memory::store::NoMemory;
 use std::alloc::Global;
 use std::sync::Wait;
@@ -36,18 +36,21 @@ struct Share<'a, 's, K: Keep> {
 }
 
 impl<'a, 's, K: Keep> Promise<Result<Vec<Made<K::Kept>>, NoMemory>> for Share<'a, 's, K> {
-    ghost kept_by = { λ p told. IfOk told (λ made. All (λ one. IsKeptAt (K.keeps p.series.now.keep.now) (record {
+    ghost kept_by = { λ p told. IfOk told (λ made. All (λ one. IsKeptAt K.keeps (record {
       image = p.series.now.image.now;
       sites = p.series.now.sampler.now;
       seed = p.series.now.seed;
-    }) p.series.now.first p.series.now.plans.now one.place one.kept) made.items) };
+    }) p.series.now.runs.now one.place one.kept) made.items) };
 }
 
-/// The runs of plans in the order in which they are taken.
-pub(crate) fn longest_first(alloc: Global, plans: &[Plan]) -> Result<Vec<Turn>, NoMemory> {
+/// The runs in the order in which they are taken.
+pub(crate) fn longest_first<K>(
+    alloc: Global,
+    runs: &[SeriesRun<'_, K>],
+) -> Result<Vec<Turn>, NoMemory> {
     let mut turns = Vec::new(alloc);
-    for (place, plan) in (0..u32::MAX).zip(plans) {
-        let fewer = MOST_STEPS.saturating_sub(plan.steps);
+    for (place, run) in (0..u32::MAX).zip(runs) {
+        let fewer = MOST_STEPS.saturating_sub(run.plan.steps);
         turns.push(Turn { fewer, place })?;
     }
     turns.sort()?;
@@ -62,19 +65,24 @@ fn taken(turns: &[Turn], next: &AtomicU64) -> Option<u32> {
 
 impl<K: Keep> Series<'_, K> {
     /// What is kept of the run at a place.
-    fn make(&self, alloc: Global, place: u32) -> Result<K::Kept, NoMemory>
-        requires numbers { self.now.first + length self.now.plans.now ≤ 2 ^ 32 }
-        requires place { place < length self.now.plans.now }
-        ensures { IfOk result (λ kept. IsKeptAt (K.keeps self.now.keep.now) (record {
+    fn make(&self, alloc: Global, place: usize) -> Result<K::Kept, NoMemory>
+        requires place { place < length self.now.runs.now }
+        ensures { IfOk result (λ kept. IsKeptAt K.keeps (record {
           image = self.now.image.now;
           sites = self.now.sampler.now;
           seed = self.now.seed;
-        }) self.now.first self.now.plans.now place kept) }
+        }) self.now.runs.now place kept) }
     {
-        let plan = self.plans[place as usize];
-        let run = self.first + place;
-        let core = core_sampled(alloc, self.image, plan, self.seed, run, self.sampler)?;
-        self.keep.keep(alloc, core)
+        let run = &self.runs[place];
+        let core = core_sampled(
+            alloc,
+            self.image,
+            run.plan,
+            self.seed,
+            run.number,
+            self.sampler,
+        )?;
+        run.keep.keep(alloc, core)
     }
 
     /// The runs that a worker takes.
@@ -84,20 +92,19 @@ impl<K: Keep> Series<'_, K> {
         turns: &[Turn],
         next: &AtomicU64,
     ) -> Result<Vec<Made<K::Kept>>, NoMemory>
-        requires { self.now.first + length self.now.plans.now ≤ 2 ^ 32 }
-        ensures { IfOk result (λ made. All (λ one. IsKeptAt (K.keeps self.now.keep.now) (record {
+        ensures { IfOk result (λ made. All (λ one. IsKeptAt K.keeps (record {
           image = self.now.image.now;
           sites = self.now.sampler.now;
           seed = self.now.seed;
-        }) self.now.first self.now.plans.now one.place one.kept) made.items) }
+        }) self.now.runs.now one.place one.kept) made.items) }
     {
         let mut made = Vec::new(alloc);
         for _ in 0..turns.len() {
             let Some(place) = taken(turns, next) else {
                 return Ok(made);
             };
-            if (place as usize) < self.plans.len() {
-                let kept = self.make(alloc, place)?;
+            if (place as usize) < self.runs.len() {
+                let kept = self.make(alloc, place as usize)?;
                 made.push(Made { place, kept })?;
             }
         }
@@ -114,12 +121,11 @@ pub(crate) fn all_made<R: Threads + Wait, K: Keep>(
     next: &AtomicU64,
     workers: u8,
 ) -> Result<Vec<Made<K::Kept>>, SeriesFault>
-    requires { series.now.first + length series.now.plans.now ≤ 2 ^ 32 }
-    ensures { IfOk result (λ made. All (λ one. IsKeptAt (K.keeps series.now.keep.now) (record {
+    ensures { IfOk result (λ made. All (λ one. IsKeptAt K.keeps (record {
       image = series.now.image.now;
       sites = series.now.sampler.now;
       seed = series.now.seed;
-    }) series.now.first series.now.plans.now one.place one.kept) made.items) }
+    }) series.now.runs.now one.place one.kept) made.items) }
 {
     if workers == 0 {
         return Ok(Vec::new(alloc));
@@ -128,19 +134,18 @@ pub(crate) fn all_made<R: Threads + Wait, K: Keep>(
         thread::scope_env(),
         rt,
         |scope| -> Result<Vec<Made<K::Kept>>, SeriesFault>
-            requires { IsSync K.row × IsSend K.Kept.row × (0 < workers)
-                × (series.now.first + length series.now.plans.now ≤ 2 ^ 32) }
-            ensures { IfOk result (λ made. All (λ one. IsKeptAt (K.keeps series.entry.now.keep.now) (record {
+            requires { IsSync K.row × IsSend K.Kept.row × (0 < workers) }
+            ensures { IfOk result (λ made. All (λ one. IsKeptAt K.keeps (record {
               image = series.entry.now.image.now;
               sites = series.entry.now.sampler.now;
               seed = series.entry.now.seed;
-            }) series.entry.now.first series.entry.now.plans.now one.place one.kept) made.items) }
+            }) series.entry.now.runs.now one.place one.kept) made.items) }
         {
             let started = scope.spawn_with(
                 Share { series },
-                move || -> Result<Vec<Made<K::Kept>>, NoMemory>
-                    requires { series.now.first + length series.now.plans.now ≤ 2 ^ 32 }
-                { series.share(alloc, turns, next) },
+                move || -> Result<Vec<Made<K::Kept>>, NoMemory> {
+                    series.share(alloc, turns, next)
+                },
             );
             let Ok(started) = started else {
                 return Err(SeriesFault::NoThread);
@@ -188,19 +193,19 @@ fn filled<K: Keep>(
     series: &Series<'_, K>,
     mut made: Vec<Made<K::Kept>>,
 ) -> Result<Vec<Option<K::Kept>>, NoMemory>
-    requires { All (λ one. IsKeptAt (K.keeps series.now.keep.now) (record {
+    requires { All (λ one. IsKeptAt K.keeps (record {
       image = series.now.image.now;
       sites = series.now.sampler.now;
       seed = series.now.seed;
-    }) series.now.first series.now.plans.now one.place one.kept) made.items }
-    ensures slots { IfOk result (λ slots. AreSlots (K.keeps series.now.keep.now) (record {
+    }) series.now.runs.now one.place one.kept) made.items }
+    ensures slots { IfOk result (λ slots. AreSlots K.keeps (record {
       image = series.now.image.now;
       sites = series.now.sampler.now;
       seed = series.now.seed;
-    }) series.now.first series.now.plans.now slots.items) }
-    ensures count { IfOk result (λ slots. length slots.items ≡ length series.now.plans.now) }
+    }) series.now.runs.now slots.items) }
+    ensures count { IfOk result (λ slots. length slots.items ≡ length series.now.runs.now) }
 {
-    let mut slots: Vec<Option<K::Kept>> = empty_slots(alloc, series.plans.len())?;
+    let mut slots: Vec<Option<K::Kept>> = empty_slots(alloc, series.runs.len())?;
     while let Some(one) = made.pop() {
         put(&mut slots, one.place as usize, one.kept);
     }
@@ -215,29 +220,28 @@ fn kept_at<K: Keep>(
     slots: &mut Vec<Option<K::Kept>>,
     place: usize,
 ) -> Result<K::Kept, NoMemory>
-    requires numbers { series.now.first + length series.now.plans.now ≤ 2 ^ 32 }
-    requires place { place < length series.now.plans.now }
-    requires count { length slots.old.items ≡ length series.now.plans.now }
-    requires slots { AreSlots (K.keeps series.now.keep.now) (record {
+    requires place { place < length series.now.runs.now }
+    requires count { length slots.old.items ≡ length series.now.runs.now }
+    requires slots { AreSlots K.keeps (record {
       image = series.now.image.now;
       sites = series.now.sampler.now;
       seed = series.now.seed;
-    }) series.now.first series.now.plans.now slots.old.items }
-    ensures kept { IfOk result (λ one. IsKeptAt (K.keeps series.now.keep.now) (record {
+    }) series.now.runs.now slots.old.items }
+    ensures kept { IfOk result (λ one. IsKeptAt K.keeps (record {
       image = series.now.image.now;
       sites = series.now.sampler.now;
       seed = series.now.seed;
-    }) series.now.first series.now.plans.now place one) }
-    ensures slots { AreSlots (K.keeps series.now.keep.now) (record {
+    }) series.now.runs.now place one) }
+    ensures slots { AreSlots K.keeps (record {
       image = series.now.image.now;
       sites = series.now.sampler.now;
       seed = series.now.seed;
-    }) series.now.first series.now.plans.now slots.new.items }
-    ensures count { length slots.new.items ≡ length series.now.plans.now }
+    }) series.now.runs.now slots.new.items }
+    ensures count { length slots.new.items ≡ length series.now.runs.now }
 {
     match take(slots, place) {
         Some(one) => Ok(one),
-        None => series.make(alloc, place as u32),
+        None => series.make(alloc, place),
     }
 }
 
@@ -247,21 +251,20 @@ pub(crate) fn in_order<K: Keep>(
     series: &Series<'_, K>,
     made: Vec<Made<K::Kept>>,
 ) -> Result<Vec<K::Kept>, NoMemory>
-    requires numbers { series.now.first + length series.now.plans.now ≤ 2 ^ 32 }
-    requires made { All (λ one. IsKeptAt (K.keeps series.now.keep.now) (record {
+    requires made { All (λ one. IsKeptAt K.keeps (record {
       image = series.now.image.now;
       sites = series.now.sampler.now;
       seed = series.now.seed;
-    }) series.now.first series.now.plans.now one.place one.kept) made.items }
-    ensures { IfOk result (λ kept. AreKept (K.keeps series.now.keep.now) (record {
+    }) series.now.runs.now one.place one.kept) made.items }
+    ensures { IfOk result (λ kept. AreKept K.keeps (record {
       image = series.now.image.now;
       sites = series.now.sampler.now;
       seed = series.now.seed;
-    }) series.now.first series.now.plans.now kept.items) }
+    }) series.now.runs.now kept.items) }
 {
     let mut slots = filled(alloc, series, made)?;
-    let mut kept = Vec::with_capacity(alloc, series.plans.len())?;
-    for place in 0..series.plans.len() {
+    let mut kept = Vec::with_capacity(alloc, series.runs.len())?;
+    for place in 0..series.runs.len() {
         let one = kept_at(alloc, series, &mut slots, place)?;
         kept.push(one)?;
     }

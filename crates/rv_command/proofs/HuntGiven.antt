@@ -16,7 +16,7 @@ use Rattle.rv_command.proofs.RunGiven.{given_holds, line_given, map_holds, numbe
 use Rattle.rv_command.specs.Command.{Asked, IsGiven, hunt_of, options_job}
 use Rattle.rv_command.specs.HuntLine.{GivesLengths, Hunting, IsFlagGiven, IsHuntGiven, IsLimitGiven, flag_at, hunting_at, lengths_at, lengths_in, limit_at, limit_by, runs_from}
 use Rattle.rv_command.specs.RunLine.{Gives, GivesNumber, number_if, number_or}
-use Rattle.rv_command.specs.declared.command.hunt.TheConstants.{DEFAULT_BUDGET, DEFAULT_SEED, LAST_RUN}
+use Rattle.rv_command.specs.declared.command.hunt.TheConstants.{DEFAULT_BLOCKS, DEFAULT_BUDGET, DEFAULT_SEED, LAST_RUN, MOST_BLOCKS}
 use Rattle.rv_command.specs.declared.command.run.TheConstants.{MOST_SEED}
 
 -- ---- the arguments of `hunt`
@@ -52,18 +52,21 @@ hunt_told = (
                           (
                             record { flag = inl (refl, (refl, refl)); aliases = refl; short_aliases = refl; acts = inl refl; long = inr (refl, inl (refl, refl)); short = inl refl; most = omega arith; place = inl refl },
                             (
-                              record { flag = inr (refl, (refl, refl)); aliases = refl; short_aliases = refl; acts = inr (inr refl); long = inr (refl, inr refl); short = inl refl; most = omega arith; place = inl refl },
+                              record { flag = inl (refl, (refl, refl)); aliases = refl; short_aliases = refl; acts = inl refl; long = inr (refl, inl (refl, refl)); short = inl refl; most = omega arith; place = inl refl },
                               (
                                 record { flag = inr (refl, (refl, refl)); aliases = refl; short_aliases = refl; acts = inr (inr refl); long = inr (refl, inr refl); short = inl refl; most = omega arith; place = inl refl },
                                 (
                                   record { flag = inr (refl, (refl, refl)); aliases = refl; short_aliases = refl; acts = inr (inr refl); long = inr (refl, inr refl); short = inl refl; most = omega arith; place = inl refl },
                                   (
-                                    record { flag = inl (refl, (refl, refl)); aliases = refl; short_aliases = refl; acts = inl refl; long = inr (refl, inl (refl, refl)); short = inl refl; most = omega arith; place = inl refl },
+                                    record { flag = inr (refl, (refl, refl)); aliases = refl; short_aliases = refl; acts = inr (inr refl); long = inr (refl, inr refl); short = inl refl; most = omega arith; place = inl refl },
                                     (
-                                      record { flag = inr (refl, (refl, refl)); aliases = refl; short_aliases = refl; acts = inr (inr refl); long = inr (refl, inr refl); short = inl refl; most = omega arith; place = inl refl },
+                                      record { flag = inl (refl, (refl, refl)); aliases = refl; short_aliases = refl; acts = inl refl; long = inr (refl, inl (refl, refl)); short = inl refl; most = omega arith; place = inl refl },
                                       (
-                                        record { flag = inl (refl, (refl, refl)); aliases = refl; short_aliases = refl; acts = inr (inl refl); long = inr (refl, inl (refl, refl)); short = inr (refl, refl); most = omega arith; place = inl refl },
-                                        tt,
+                                        record { flag = inr (refl, (refl, refl)); aliases = refl; short_aliases = refl; acts = inr (inr refl); long = inr (refl, inr refl); short = inl refl; most = omega arith; place = inl refl },
+                                        (
+                                          record { flag = inl (refl, (refl, refl)); aliases = refl; short_aliases = refl; acts = inr (inl refl); long = inr (refl, inl (refl, refl)); short = inr (refl, refl); most = omega arith; place = inl refl },
+                                          tt,
+                                        ),
                                       ),
                                     ),
                                   ),
@@ -125,7 +128,8 @@ module _ (words : List Text) (rows : List Row) (stand : RowsStand words rows) wh
       then_holds (IsLimitGiven words first) Given _ (limit_at first rows) (limit_given first) (λ limit l.
       then_holds _ Given _ (number_if (codes "workers") 1 MOST_WORKERS rows) (number_if_given words rows stand (codes "workers") 1 MOST_WORKERS (refl, refl)) (λ workers w.
       then_holds _ Given _ (lengths_at rows) lengths_given (λ lengths p.
-      map_holds _ Given _ (number_or DEFAULT_SLOTS (codes "slots") 1 MOST_SLOTS rows) (number_or_default words rows stand DEFAULT_SLOTS (codes "slots") 1 MOST_SLOTS (refl, refl)) (λ slots o.
+      then_holds _ Given _ (number_or DEFAULT_SLOTS (codes "slots") 1 MOST_SLOTS rows) (number_or_default words rows stand DEFAULT_SLOTS (codes "slots") 1 MOST_SLOTS (refl, refl)) (λ slots o.
+      map_holds _ Given _ (number_or DEFAULT_BLOCKS (codes "blocks") 0 MOST_BLOCKS rows) (number_or_default words rows stand DEFAULT_BLOCKS (codes "blocks") 0 MOST_BLOCKS (refl, refl)) (λ blocks b.
       record {
         image = stands;
         harts = h;
@@ -140,12 +144,13 @@ module _ (words : List Text) (rows : List Row) (stand : RowsStand words rows) wh
         ignore = text_given (codes "ignore") (refl, refl);
         save_to = text_given (codes "save-to") (refl, refl);
         page = text_given (codes "page") (refl, refl);
+        blocks = b;
         shows_table = flag_given (codes "table") refl refl;
         checks = flag_given (codes "check") refl refl;
         checks_all = flag_given (codes "check-all") refl refl;
         expect = text_given (codes "expect") (refl, refl);
         is_quiet = flag_given (codes "quiet") refl refl;
-      })))))))
+      }))))))))
     where
       Given : Hunting → Type 0
       Given = IsHuntGiven words path

@@ -14,7 +14,7 @@ use Rattle.rv_break.specs.declared.claim.TheConstants.{MOST_SLOTS}
 use Rattle.rv_hart.specs.declared.machine.TheConstants.{MOST_HARTS}
 use Rattle.rv_command.specs.RunLine.{Gives, GivesNumber, if_given, number_in, number_if, number_or}
 use Rattle.rv_command.specs.declared.command.hunt.HuntLine.{HuntLine}
-use Rattle.rv_command.specs.declared.command.hunt.TheConstants.{DEFAULT_BUDGET, DEFAULT_SEED, LAST_RUN}
+use Rattle.rv_command.specs.declared.command.hunt.TheConstants.{DEFAULT_BLOCKS, DEFAULT_BUDGET, DEFAULT_SEED, LAST_RUN, MOST_BLOCKS}
 use Rattle.rv_command.specs.declared.command.run.TheConstants.{MOST_SEED}
 
 -- What a line of `hunt` asks for, beside its image.
@@ -31,6 +31,7 @@ pub record Hunting : Type 0 where
   pub ignore : Option Text
   pub save_to : Option Text
   pub page : Option Text
+  pub blocks : ℕ
   pub shows_table : Bool
   pub checks : Bool
   pub checks_all : Bool
@@ -52,6 +53,7 @@ hunting line = record {
   ignore = option_map (λ path. path.0.now) line.ignore;
   save_to = option_map (λ path. path.0.now) line.save_to;
   page = option_map (λ path. path.0.now) line.page;
+  blocks = line.blocks;
   shows_table = line.shows_table;
   checks = line.checks;
   checks_all = line.checks_all;
@@ -99,7 +101,7 @@ flag_at name rows = option_map_or (λ text. bytes_eq text (codes "true")) (first
 
 abbrev pub hunting_at : List Row → Option Hunting
 hunting_at rows =
-    option_and_then (λ harts. option_and_then (λ seed. option_and_then (λ first. option_and_then (λ limit. option_and_then (λ workers. option_and_then (λ lengths. option_map (λ slots.
+    option_and_then (λ harts. option_and_then (λ seed. option_and_then (λ first. option_and_then (λ limit. option_and_then (λ workers. option_and_then (λ lengths. option_and_then (λ slots. option_map (λ blocks.
     record {
       harts = harts;
       seed = seed;
@@ -113,12 +115,14 @@ hunting_at rows =
       ignore = first_of (codes "ignore") rows;
       save_to = first_of (codes "save-to") rows;
       page = first_of (codes "page") rows;
+      blocks = blocks;
       shows_table = flag_at (codes "table") rows;
       checks = flag_at (codes "check") rows;
       checks_all = flag_at (codes "check-all") rows;
       expect = first_of (codes "expect") rows;
       is_quiet = flag_at (codes "quiet") rows;
     })
+    (number_or DEFAULT_BLOCKS (codes "blocks") 0 MOST_BLOCKS rows))
     (number_or DEFAULT_SLOTS (codes "slots") 1 MOST_SLOTS rows))
     (lengths_at rows))
     (number_if (codes "workers") 1 MOST_WORKERS rows))
@@ -159,6 +163,7 @@ pub record IsHuntGiven (words : List Text) (path : Text) (wanted : Hunting) : Ty
   pub ignore : IfSome wanted.ignore (Gives words (codes "ignore"))
   pub save_to : IfSome wanted.save_to (Gives words (codes "save-to"))
   pub page : IfSome wanted.page (Gives words (codes "page"))
+  pub blocks : (wanted.blocks ≡ DEFAULT_BLOCKS) ⊎ GivesNumber words (codes "blocks") 0 MOST_BLOCKS wanted.blocks
   pub shows_table : IsFlagGiven words (codes "table") wanted.shows_table
   pub checks : IsFlagGiven words (codes "check") wanted.checks
   pub checks_all : IsFlagGiven words (codes "check-all") wanted.checks_all

@@ -1,5 +1,5 @@
 -- Which of several devices have failed.
-use Rattle.std.proofs.Common.{◌≡◌, Bool, true, false, refl, sym}
+use Rattle.std.proofs.Common.{◌≡◌, Bool, true, false, refl}
 use Rattle.std.specs.Prelude.{◌||◌}
 
 second : (i g e y : Bool) → (((i || false) || (g || y)) || e) ≡ (((i || g) || e) || y)

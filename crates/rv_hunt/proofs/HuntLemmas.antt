@@ -11,18 +11,18 @@ use Rattle.rv_campaign.specs.Kept.{AreKept, IsCoreOf, IsKept}
 use Rattle.rv_collide.specs.Numbers.{numbers}
 use Rattle.rv_collide.specs.Plan.{Numbers}
 use Rattle.rv_collide.specs.Stored.{Stored}
-use Rattle.rv_collide.specs.declared.plan.Plan.{Plan}
+use Rattle.rv_campaign.specs.declared.kept.SeriesRun.{SeriesRun}
+use Rattle.rv_hunt.specs.declared.kept_run.Keeper.{Keeper}
 use Rattle.rv_hunt.specs.Hunted.{AreNumbers, AreRuns, Hunt, IsHunt, IsOfRun, IsSoFar, is_due, rows_from, rows_of, seen_in, summed}
 use Rattle.rv_hunt.specs.KeptRun.{IsKeptRun}
 use Rattle.rv_hunt.specs.Rows as rows
 use Rattle.rv_hunt.specs.declared.hunted.Hunted.{Hunted}
 use Rattle.rv_hunt.specs.declared.kept_run.KeptRun.{KeptRun}
 use Rattle.rv_hunt.specs.declared.row.RaceRow.{RaceRow}
-use Rattle.rv_hunt.specs.internal.Lots.{ArePlans, IsLot, with_run}
+use Rattle.rv_hunt.specs.internal.Lots.{AreNext, IsLot, IsNext, with_run}
 use Rattle.rv_report.specs.declared.key.Key.{Key}
 use Rattle.rv_tally.specs.GoesOn.{goes_on}
 use Rattle.rv_collide.specs.Counts.{saturated}
-use Rattle.rv_tally.specs.Plans.{plan_of}
 use Rattle.rv_hunt.specs.Tally.{Tally, added, cost, is_hopeless, nothing, reached, tally_of}
 use Rattle.rv_tally.specs.declared.limit.Limit.{Limit}
 use Rattle.rv_tally.specs.declared.limit.Limit.TheVariants.{Runs, Budget}
@@ -165,21 +165,26 @@ there_is [] n within = absurd (omega (arith, within))
 there_is (x ∷ xs) zero within = (x, refl)
 there_is (x ∷ xs) (suc n) within = there_is xs n (omega (arith, within))
 
-kept_run : (hunt : Hunt) (plan : Numbers) (run : ℕ) (kept : KeptRun) → plan ≡ plan_of hunt.given run → IsKept (λ (core : Stored) (k : KeptRun). core.image ≡ hunt.source.image → IsKeptRun hunt.ranges core k) hunt.source plan run kept → IsOfRun hunt run kept
-kept_run hunt plan run kept is here = record {
+abbrev Keeps : Keeper → Stored → KeptRun → Type 0
+Keeps keep core kept = core.image ≡ keep.image.now → IsKeptRun keep.ranges.now core kept
+
+kept_run : (hunt : Hunt) (keep : Keeper) (number : ℕ) (run : SeriesRun Keeper) (kept : KeptRun) → keep.image.now ≡ hunt.source.image → keep.ranges.now ≡ hunt.ranges → IsNext hunt.given number keep run → IsKept (Keeps run.keep.now) hunt.source (numbers run.plan) run.number kept → IsOfRun hunt number kept
+kept_run hunt keep number run kept image ranges is here = record {
   core = here.core;
-  is_core = subst (λ (p : Numbers). IsCoreOf hunt.source p run here.core) is here.is_core;
-  is_kept = here.is_kept here.is_core.image_is;
+  is_core = subst (λ (p : Numbers). IsCoreOf hunt.source p number here.core) is.plan_is
+      (subst (λ (n : ℕ). IsCoreOf hunt.source (numbers run.plan) n here.core) is.number_is here.is_core);
+  is_kept = subst (λ (r : List (ℕ × ℕ)). IsKeptRun r here.core kept) ranges
+      (subst (λ (k : Keeper). Keeps k here.core kept) is.keep_is here.is_kept (here.is_core.image_is ∙ sym image));
 }
 
-pub lot_is : (hunt : Hunt) (next : ℕ) (plans given : List Plan) (lot : List KeptRun) → given ≡ plans → ArePlans hunt.given next plans → AreKept (λ (core : Stored) (k : KeptRun). core.image ≡ hunt.source.image → IsKeptRun hunt.ranges core k) hunt.source next given lot → IsLot hunt next lot
-lot_is hunt next plans given lot same are_plans are_kept = λ place kept there.
+pub lot_is : (hunt : Hunt) (keep : Keeper) (next : ℕ) (runs given : List (SeriesRun Keeper)) (lot : List KeptRun) → given ≡ runs → keep.image.now ≡ hunt.source.image → keep.ranges.now ≡ hunt.ranges → AreNext hunt.given next keep runs → AreKept Keeps hunt.source given lot → IsLot hunt next lot
+lot_is hunt keep next runs given lot same image ranges are_next are_kept = λ place kept there.
     let below = slice_get_within lot place kept there in
     let count = are_kept.count in
-    let plan = there_is given place (omega (arith, below, count)) in
-    kept_run hunt (numbers plan.0) (next + place) kept
-    (are_plans place plan.0 (ap (λ ps. slice_get ps place) (sym same) ∙ plan.1))
-    (are_kept.each place plan.0 kept plan.1 there)
+    let run = there_is given place (omega (arith, below, count)) in
+    kept_run hunt keep (next + place) run.0 kept image ranges
+    (are_next place run.0 (ap (λ rs. slice_get rs place) (sym same) ∙ run.1))
+    (are_kept.each place run.0 kept run.1 there)
 
 pub none_yet : (hunt : Hunt) (hunted : Hunted) → hunted ≡ record { tally = summed []; table = [] } → IsSoFar hunt hunted
 unfolding seen_in rows_from rows.table_of
@@ -192,11 +197,12 @@ none_yet hunt hunted is = record {
   seen = is;
 }
 
--- the plans so far, and one more
-pub plans_next : (given : _) (next : ℕ) (plans all : List Plan) (plan : Plan) (count : ℕ) → all ≡ plans ++ plan ∷ [] → length plans ≡ count → numbers plan ≡ plan_of given (next + count) → ArePlans given next plans → ArePlans given next all
-plans_next given next plans all plan count is long here before = λ place one there.
-    elim (more plans plan place one (ap (λ ps. slice_get ps place) (sym is) ∙ there)) [
+-- the runs so far, and one more
+pub runs_next : (given : _) (next : ℕ) (keep : Keeper) (runs all : List (SeriesRun Keeper)) (run : SeriesRun Keeper) (count : ℕ) → all ≡ runs ++ run ∷ [] → length runs ≡ count → IsNext given (next + count) keep run → AreNext given next keep runs → AreNext given next keep all
+runs_next given next keep runs all run count is long here before = λ place one there.
+    elim (more runs run place one (ap (λ rs. slice_get rs place) (sym is) ∙ there)) [
       | inl earlier ↦ before place one earlier
       | inr both ↦
-          ap numbers (sym both.1) ∙ here ∙ ap (λ (n : ℕ). plan_of given (next + n)) (sym (both.0 ∙ long))
+          subst (λ (r : SeriesRun Keeper). IsNext given (next + place) keep r) both.1
+          (subst (λ (n : ℕ). IsNext given (next + n) keep run) (sym (both.0 ∙ long)) here)
     ]

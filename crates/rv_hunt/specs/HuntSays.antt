@@ -1,6 +1,10 @@
 -- What a hunt says at its end.
 use Rattle.std.specs.Fmt.{decimal}
-use Rattle.std.specs.Prelude.{ℕ, ◌+◌, ◌==◌, if◌then◌else◌, List, [], ◌∷◌, ◌++◌, codes, flat_map, length}
+use Rattle.std.specs.Prelude.{ℕ, ◌+◌, ◌==◌, ◌||◌, nat_lt, if◌then◌else◌, Option, Some, None, List, [], ◌∷◌, ◌++◌, codes, flat_map, length}
+use Rattle.rv_elf.specs.Contents.{Contents}
+use Rattle.rv_explain.specs.Blocks.{class_word}
+use Rattle.rv_explain.specs.Names.{name_text}
+use Rattle.rv_explain.specs.Picture.{counted as each}
 use Rattle.rv_explain.specs.Pieces.{joined}
 use Rattle.rv_races.specs.declared.classes.RaceClass.TheVariants.{Named}
 use Rattle.rv_hunt.specs.EndedText.{ended_text}
@@ -67,9 +71,37 @@ saw_text sites t = joined (ended_text t.ended ∷ seen_line sites t ∷ [])
 unfoldable pub behind_text : Outcome → List ℕ
 behind_text outcome = joined (apart_text outcome ∷ saw_text outcome.sites outcome.saw ∷ [])
 
+-- ---- the index
+
+-- the names of a race's instructions, the lower address first
+abbrev pub second_name : Contents → Option ℕ → List ℕ
+second_name image None = []
+second_name image (Some address) = codes " and " ++ name_text image address
+
+abbrev pub names_of : Contents → Key → List ℕ
+names_of image key = name_text image key.first ++ second_name image key.second
+
+-- the data that its report was about
+abbrev pub data_words : Contents → Option ℕ → List ℕ
+data_words image None = []
+data_words image (Some address) = codes ", on " ++ name_text image address
+
+-- `K CLASS, M reports, on DATA: NAMES`
+unfoldable pub index_line : Contents → ℕ → Key × RaceRow → List ℕ
+index_line image k row =
+    joined (decimal k ∷ codes " " ∷ class_word row.1.class ∷ codes ", " ∷ counted row.1.count (codes "report") ∷ data_words image row.1.address ∷ codes ": " ∷ names_of image row.0 ∷ codes "\n" ∷ [])
+
+abbrev pub index_lines : Contents → List (Key × RaceRow) → List ℕ
+index_lines image told = each (index_line image) 1 told
+
+-- an empty line, and a line of each race, where there is more than one, or one that is not shown in full
+abbrev pub index_text : Contents → ℕ → List (Key × RaceRow) → List ℕ
+index_text image full told = if nat_lt 1 (length told) || nat_lt full (length told) then 10 ∷ index_lines image told else []
+
 -- ---- the whole
 
--- The first line; the blocks of the races, before each of which an empty line stands; an empty line, and what is behind
--- them.
-unfoldable pub hunt_text : Outcome → List ℕ → List ℕ
-hunt_text outcome blocks = joined (summary_line outcome.saw outcome.rows ∷ blocks ∷ codes "\n" ∷ behind_text outcome ∷ [])
+-- The first line; the index; the blocks of the races, before each of which an empty line stands; an empty line, and what is
+-- behind them.
+unfoldable pub hunt_text : Outcome → List ℕ → List ℕ → List ℕ
+hunt_text outcome index blocks =
+    joined (summary_line outcome.saw outcome.rows ∷ index ∷ blocks ∷ codes "\n" ∷ behind_text outcome ∷ [])

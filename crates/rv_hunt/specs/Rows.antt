@@ -1,5 +1,5 @@
 -- The rows of a hunt table, as a function of the whole list of rows that were added to it.
-use Rattle.std.specs.Prelude.{ℕ, ◌+◌, Bool, if◌then◌else◌, List, [], ◌∷◌}
+use Rattle.std.specs.Prelude.{ℕ, ◌+◌, Bool, if◌then◌else◌, Some, List, [], ◌∷◌}
 use Rattle.std.specs.List.{fold, list_any}
 use Rattle.rv_explain.specs.Classes.{rank}
 use Rattle.rv_races.specs.declared.races.Report.{Report}
@@ -12,7 +12,7 @@ pub use Rattle.rv_tally.specs.Strongest as strongest
 -- the row of a single report of a run
 abbrev pub row_of : ℕ → Report → Key × RaceRow
 row_of run report =
-    (report.key, record { count = 1; class = report.class; run = run; entry = report.ending.paused_at; old = report.ending.old; new = report.ending.new })
+    (report.key, record { count = 1; class = report.class; run = run; entry = report.ending.paused_at; old = report.ending.old; new = report.ending.new; address = Some report.ending.access.first })
 
 -- of two rows of a race the one that it is told by: the later only where its class is the stronger
 abbrev pub told_by : RaceRow → RaceRow → RaceRow

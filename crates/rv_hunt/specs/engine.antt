@@ -1,10 +1,8 @@
 -- What the engine of `hunt` makes: its text, its files and its page, and why it makes none.
 pub mod Asked
 pub mod FolderFault
-pub mod HuntBlocks
 pub mod HuntFault
 pub mod Hunting
 pub mod Late
 pub mod OnwardText
-pub mod Paged
-pub mod Saved
+pub mod Shown

@@ -1,11 +1,11 @@
 -- What only private contracts cite: no reader has to believe it.
 pub mod Adding
 pub mod Counting
-pub mod Drawn
 pub mod Lookup
 pub mod Lots
 pub mod MakeFault
 pub mod Opened
 pub mod Shaped
+pub mod Showing
 pub mod Sought
 pub mod Words

@@ -1,7 +1,6 @@
 -- The page of a hunt. A text stands in it as rv_markup has it.
 pub use Rattle.rv_markup.specs.Escaped
 pub mod Elements
-pub mod Parts
 pub mod RacesShown
 pub mod RunsShown
 pub mod PageText

@@ -6,13 +6,11 @@ ghost use Rattle.std.specs.Prelude.{◌≡◌, ◌||◌, true, false, is_err, is
 ghost use Rattle.std.specs.Io.KnownBytes.{Appends, Keeps};
 ghost use Rattle.rv_memory.specs.Buffered as buffer;
 ghost use Rattle.rv_engines.specs.Campaigns.{passes};
-ghost use Rattle.rv_hunt.specs.engine.Asked.{AreLegal, asked, parts};
+ghost use Rattle.rv_hunt.specs.engine.Asked.{AreLegal, asked};
 ghost use Rattle.rv_hunt.specs.engine.HuntFault.{IsTold, fails_by, is_of_files, is_read, is_write};
 ghost use Rattle.rv_hunt.specs.engine.Hunting as spec;
-ghost use Rattle.rv_hunt.specs.engine.Late.{IfKept, IfMade};
-ghost use Rattle.rv_hunt.specs.engine.Paged.{IsPaged};
-ghost use Rattle.rv_hunt.specs.engine.Saved.{AreSaved};
-ghost use Rattle.rv_hunt.specs.internal.Opened.{IsMade, hunt_in, hunting_with};
+ghost use Rattle.rv_hunt.specs.engine.Late.{IfPaged, IfSaved};
+ghost use Rattle.rv_hunt.specs.internal.Opened.{hunt_in, hunting_with, texts_in};
 
 use crate::engine::fault::HuntFault;
 use crate::engine::folder::Folder;
@@ -32,8 +30,6 @@ use std::io::{Read, Write};
 use std::sync::Wait;
 use std::thread::Threads;
 
-pub mod blocks;
-mod drawn;
 pub mod fault;
 pub mod folder;
 pub mod found;
@@ -43,9 +39,8 @@ mod making;
 mod onward;
 mod opening;
 pub mod options;
-pub mod paging;
-mod saving;
-mod sites;
+mod showing;
+pub mod shown;
 mod texts;
 
 /// Writes the notes to their last byte, and then the text.
@@ -105,10 +100,8 @@ fn make<'a, T: Threads + Wait + Sync, R: Read, D: Folder, F: NewFile, P: Watch>(
     requires { AreLegal options.now }
     ensures made { IfOk result (λ made. IfSome (spec.files_of R.remaining inputs.old) (λ files.
         (hunting : spec.Hunting) × spec.IsHuntingOf (asked options.now) files hunting
-        × IsMade (parts options.now.line) options.now.shows hunting
-        (λ rows. IfSome folder.new (λ saved. AreSaved hunting.hunt (IfKept D.has_failed D.Holds saved) rows))
-        (λ came rows. IfSome page.new (λ file. IsPaged (parts options.now.line) hunting.hunt came rows (IfMade F.has_failed F.Holds file)))
-        made)) }
+        × spec.IsMade (spec.showing_of options.now (is_some folder.old) (is_some page.old)) hunting
+        (IfSaved D.has_failed D.Holds folder.new) (IfPaged F.has_failed F.Holds page.new) made.found (texts_in made))) }
     ensures wanted { (is_some folder.new ≡ is_some folder.old) × (is_some page.new ≡ is_some page.old) }
     ensures refused { IfErr result (λ fault. IfSome (spec.files_of R.remaining inputs.old) (λ files.
         IsTold (asked options.now) files fault)) }
@@ -161,11 +154,10 @@ pub fn run_hunt<
     requires { AreLegal options.now }
     ensures told { IfOk result (λ found. IfSome (spec.files_of R.remaining inputs.old) (λ files.
         (hunting : spec.Hunting) × spec.IsHuntingOf (asked options.now) files hunting
-        × spec.IsTold (parts options.now.line) options.now.shows hunting found
+        × spec.IsTold (spec.showing_of options.now (is_some folder.old) (is_some page.old)) hunting found
         (Appends (buffer.written W.contents writer.old) (buffer.sent W.contents writer.new))
         (Appends (buffer.written E.contents notes.old) (buffer.sent E.contents notes.new))
-        (λ rows. IfSome folder.new (λ made. AreSaved hunting.hunt (IfKept D.has_failed D.Holds made) rows))
-        (λ came rows. IfSome page.new (λ file. IsPaged (parts options.now.line) hunting.hunt came rows (IfMade F.has_failed F.Holds file))))) }
+        (IfSaved D.has_failed D.Holds folder.new) (IfPaged F.has_failed F.Holds page.new))) }
     ensures wanted { (is_some folder.new ≡ is_some folder.old) × (is_some page.new ≡ is_some page.old) }
     ensures refused { IfErr result (λ fault. IfSome (spec.files_of R.remaining inputs.old) (λ files.
         IsTold (asked options.now) files fault)) }

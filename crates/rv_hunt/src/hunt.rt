@@ -6,8 +6,7 @@ ghost use Rattle.rv_hunt.specs.internal.Lots as internal;
 use crate::hunted::Hunted;
 use crate::kept_run::{Keeper, KeptRun};
 use crate::tally::COST_OF_A_RUN;
-use rv_campaign::{Series, SeriesFault, kept_runs};
-use rv_collide::plan::Plan;
+use rv_campaign::{Series, SeriesFault, SeriesRun, kept_runs};
 use rv_elf::Image;
 use rv_memory::store::NoMemory;
 use rv_prune::named_bytes::NamedBytes;
@@ -59,19 +58,33 @@ impl<'a> Model for Hunt<'a> {
 pub trait Watch {
     /// One more run has been added up.
     fn saw(&mut self, hunted: &Hunted);
+
+    /// Of so many races that are shown in full some have been.
+    fn shows(&mut self, shown: usize, all: usize);
 }
 
-/// The plans of so many runs from a number on.
-fn plans_from(alloc: Global, plans: &Plans, next: u32, count: u32) -> Result<Vec<Plan>, NoMemory>
+/// So many runs from a number on, each with its plan.
+fn runs_from<'a>(
+    alloc: Global,
+    plans: &Plans,
+    next: u32,
+    count: u32,
+    keep: &'a Keeper<'a>,
+) -> Result<Vec<SeriesRun<'a, Keeper<'a>>>, NoMemory>
     requires { next + count ≤ 2 ^ 32 }
-    ensures are { IfOk result (λ made. internal.ArePlans plans.now next made.items) }
-    ensures count { IfOk result (λ made. length made.items ≡ count) }
+    ensures are { IfOk result (λ runs. internal.AreNext plans.now next keep.now runs.items) }
+    ensures count { IfOk result (λ runs. length runs.items ≡ count) }
 {
-    let mut made = Vec::new(alloc);
+    let mut runs = Vec::new(alloc);
     for place in 0..count {
-        made.push(plans.plan(next + place))?;
+        let number = next + place;
+        runs.push(SeriesRun {
+            number,
+            plan: plans.plan(number),
+            keep,
+        })?;
     }
-    Ok(made)
+    Ok(runs)
 }
 
 impl Hunt<'_> {
@@ -153,18 +166,16 @@ impl Hunt<'_> {
         ensures numbers { IfOk result (λ lot. next + length lot.items ≤ 2 ^ 32) }
     {
         let count = self.lot_len(hunted, next, workers);
-        let plans = plans_from(alloc, self.plans, next, count)?;
         let keep = Keeper {
             image: self.image,
             ranges: self.ranges,
         };
+        let runs = runs_from(alloc, self.plans, next, count, &keep)?;
         let series = Series {
             image: self.image,
             seed: self.seed,
             sampler: self.sampler,
-            first: next,
-            plans: &plans,
-            keep: &keep,
+            runs: &runs,
         };
         let lot = kept_runs(rt, alloc, &series, workers)?;
         Ok(lot)

@@ -23,7 +23,6 @@ pub mod merge;
 mod number;
 pub mod page;
 pub mod reading;
-pub mod remade;
 pub mod row;
 pub mod saying;
 pub mod summary;

@@ -263,6 +263,7 @@ fn row_within(said: &Said) -> Option<(Key, RaceRow)>
         entry,
         old: said.values.old,
         new: said.values.new,
+        address: None,
     };
     Some((said.key, row))
 }

@@ -1,21 +1,24 @@
 //! The page that a hunt leaves: one HTML file that stands alone, for whoever looks at a nightly job's results.
 //!
 //! What `page_text` makes is the text of `specs/page/PageText.antt`, a function of the command line, of what the hunt came
-//! to, and of the races that are told. Texts from files stand in it as `rv_markup` has it; pictures stand as they are given,
+//! to, of the races that are told, and of those that are shown in full. Texts from files stand in it as `rv_markup` has it; pictures stand as they are given,
 //! escaped by their maker.
 ghost use Rattle.std.specs.Prelude.{◌≡◌, IfOk};
 ghost use Rattle.rv_hunt.specs.page.PageText as spec;
-ghost use Rattle.rv_hunt.specs.page.Parts.{parts};
 
+use crate::engine::shown::ShownRace;
 use crate::page::elements::code;
-use crate::page::parts::{Outcome, RacePart};
+use crate::page::parts::Outcome;
 use crate::page::races::{races_part, races_shown};
 use crate::page::runs::{aside_part, ended_part, seen_part, warnings_part};
 use crate::page::style::STYLE;
+use crate::row::RaceRow;
 use crate::saying::lines::summary_line;
 use rv_explain::pieces::joined;
+use rv_explain::symbol_table::SymbolTable;
 use rv_markup::escaped::escaped;
 use rv_memory::store::NoMemory;
+use rv_report::key::Key;
 use std::alloc::Global;
 
 mod elements;
@@ -92,23 +95,26 @@ fn runs_text(alloc: Global, outcome: &Outcome) -> Result<Vec<u8>, NoMemory>
     joined(alloc, &[&aside, &ended, &seen])
 }
 
-/// The page of what a hunt came to. `races` are those that are told, in their order, and `command` is the command line that
-/// asks for the page.
+/// The page of what a hunt came to. The races that are told stand in their order, the first of them in full; `command` is the
+/// command line that asks for the page.
 #[tactic(auto, unfolding(crate::specs::page::PageText::page_text))]
 pub fn page_text(
     alloc: Global,
     command: &[u8],
+    symbols: &SymbolTable,
     outcome: &Outcome,
-    races: &[RacePart],
+    told: &[(Key, RaceRow)],
+    shown: &[ShownRace],
 ) -> Result<Vec<u8>, NoMemory>
-    ensures { IfOk result (λ text. text.items ≡ spec.page_text command.now outcome.now (parts races.now)) }
+    ensures { IfOk result (λ text. text.items
+        ≡ spec.page_text command.now symbols.now outcome.now told.now shown.now) }
 {
     let front = front_text(alloc, command, outcome)?;
-    let listed = races_part(alloc, races)?;
-    let shown = races_shown(alloc, races)?;
+    let listed = races_part(alloc, symbols, shown.len(), told)?;
+    let races = races_shown(alloc, symbols, told, shown)?;
     let runs = runs_text(alloc, outcome)?;
     joined(
         alloc,
-        &[&front, &listed, &shown, &runs, b"</body>\n</html>\n"],
+        &[&front, &listed, &races, &runs, b"</body>\n</html>\n"],
     )
 }

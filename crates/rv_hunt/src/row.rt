@@ -11,7 +11,7 @@ use rv_tally::strongest;
 /// What a table keeps of a race: how many reports there were, up to 2^64 - 1, and one of them: its class, its run,
 /// the place of its pause in that run, and its access's bytes when the pause began and ended. It is the first of
 /// those that have the strongest class. A race of two instructions is of hits, one of a single instruction of
-/// reports that found their bytes changed.
+/// reports that found their bytes changed. `address` is that of the access's first byte, which no text of a table has.
 #[derive(Clone, Copy)]
 pub struct RaceRow {
     pub count: u64,
@@ -20,6 +20,7 @@ pub struct RaceRow {
     pub entry: u32,
     pub old: u32,
     pub new: u32,
+    pub address: Option<u32>,
 }
 
 /// The row of a single report of a run.
@@ -33,6 +34,7 @@ pub fn row_of(run: u32, report: &Report) -> (Key, RaceRow)
         entry: report.ending.paused_at,
         old: report.ending.old,
         new: report.ending.new,
+        address: Some(report.ending.access.first),
     };
     (report.key, row)
 }
@@ -56,5 +58,6 @@ pub(crate) fn joined(first: &RaceRow, later: &RaceRow) -> RaceRow
         entry: told.entry,
         old: told.old,
         new: told.new,
+        address: told.address,
     }
 }

@@ -1,6 +1,7 @@
 //! What a hunt says at its end, as `specs/HuntSays.antt`, `EndedText.antt` and `WarningText.antt` have it. Each text is made
 //! whole, since nothing of it is written before all of it is there.
 pub mod ended;
+pub(crate) mod index;
 pub mod lines;
 pub mod order;
 pub mod warnings;

@@ -229,10 +229,10 @@ impl Tally {
     }
 
     /// Whether fewer than half of so many sites were ever armed.
-    pub fn armed_few(&self, sites: u32) -> bool
+    pub fn armed_few(&self, sites: u64) -> bool
         ensures { result ≡ warning.armed_few sites self.now }
     {
-        let half = (u64::from(sites) + 1) / 2;
+        let half = sites / 2 + sites % 2;
         self.armed.count() < half
     }
 

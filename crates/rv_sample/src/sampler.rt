@@ -1,4 +1,4 @@
-ghost use Rattle.std.specs.Prelude.{◌≡◌, IfOk};
+ghost use Rattle.std.specs.Prelude.{◌≡◌, IfOk, length};
 ghost use Rattle.rv_sample.specs.Sites.{sites, picked};
 
 use crate::scan::scanned;
@@ -30,6 +30,13 @@ impl Sampler {
         Ok(Sampler {
             sites: scanned(alloc, image, excluded)?,
         })
+    }
+
+    /// How many sites there are.
+    pub fn len(&self) -> usize
+        ensures { result ≡ length self.now }
+    {
+        self.sites.len()
     }
 
     /// The site that a word picks: the one at index word modulo their count, or None where there is none.

@@ -67,6 +67,12 @@ impl Watch for Progress<'_> {
             self.tell(hunted);
         }
     }
+
+    fn shows(&mut self, shown: usize, all: usize) {
+        if self.is_shown && shown > 0 {
+            let _ = eprintln!(self.rt; "races shown {shown} of {all}");
+        }
+    }
 }
 
 /// How many threads make the runs: as many as are asked for, else as many as the machine has processors.
@@ -96,6 +102,7 @@ fn options_of<'a, 'b>(
         named: line.named,
         skip: line.skip,
         shows: shown_by(line),
+        blocks: line.blocks,
         line: parts,
     };
     if options.is_legal() {

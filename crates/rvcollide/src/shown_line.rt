@@ -13,6 +13,7 @@ use std::alloc::{AllocError, Global};
 pub struct ShownLine {
     command: String,
     image: String,
+    nested_image: String,
     options: String,
     folder: Option<String>,
 }
@@ -26,7 +27,8 @@ impl ShownLine {
     ) -> Result<ShownLine, AllocError> {
         Ok(ShownLine {
             command: command_of(alloc, words)?,
-            image: format!(in alloc; "{}", Shown(image.0))?,
+            image: shell_word(alloc, image.0)?,
+            nested_image: nested(alloc, image.0)?,
             options: options_of(alloc, line)?,
             folder: folder_of(alloc, line.save_to)?,
         })
@@ -37,6 +39,7 @@ impl ShownLine {
         LineParts {
             command: self.command.as_str(),
             image: self.image.as_str(),
+            nested_image: self.nested_image.as_str(),
             options: self.options.as_str(),
             folder: self.folder.as_deref(),
         }
@@ -53,10 +56,44 @@ fn command_of(alloc: Global, words: &[&str]) -> Result<String, AllocError> {
     Ok(text)
 }
 
-/// The folder, where one is given.
+/// Whether a shell takes the character as it is.
+fn is_plain(character: char) -> bool {
+    character.is_ascii_alphanumeric() || "_@%+=:,./-".contains(character)
+}
+
+/// The text without single quotes: each ends the quotes, stands by itself, and begins them anew.
+fn without_quotes(alloc: Global, text: &str) -> Result<String, AllocError> {
+    let mut rest = String::new(alloc);
+    for character in text.chars() {
+        if character == '\'' {
+            rest.push_str("'\\''")?;
+        } else {
+            rest.push(character)?;
+        }
+    }
+    Ok(rest)
+}
+
+/// A text, as messages show it, that a shell takes as one word.
+fn shell_word(alloc: Global, text: &str) -> Result<String, AllocError> {
+    let shown = format!(in alloc; "{}", Shown(text))?;
+    if !shown.is_empty() && shown.chars().all(is_plain) {
+        return Ok(shown);
+    }
+    let inside = without_quotes(alloc, shown.as_str())?;
+    format!(in alloc; "'{inside}'")
+}
+
+/// The same within the single quotes of another command.
+fn nested(alloc: Global, text: &str) -> Result<String, AllocError> {
+    let word = shell_word(alloc, text)?;
+    without_quotes(alloc, word.as_str())
+}
+
+/// The folder within the quotes of another command, where one is given.
 fn folder_of(alloc: Global, folder: Option<FolderPath<'_>>) -> Result<Option<String>, AllocError> {
     match folder {
-        Some(path) => Ok(Some(format!(in alloc; "{}", Shown(path.0))?)),
+        Some(path) => Ok(Some(nested(alloc, path.0)?)),
         None => Ok(None),
     }
 }
@@ -86,7 +123,8 @@ fn push_text(
     let Some(value) = value else {
         return Ok(());
     };
-    let option = format!(in alloc; " --{name} {}", Shown(value))?;
+    let word = shell_word(alloc, value)?;
+    let option = format!(in alloc; " --{name} {word}")?;
     text.push_str(option.as_str())
 }
 

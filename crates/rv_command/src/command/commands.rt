@@ -218,6 +218,11 @@ pub const COMMANDS: [Subcommand; 12] = [
                 value: "FILE",
                 help: "HTML file to write, with the reports and a picture of each race",
             },
+            Argument::Optional {
+                name: "blocks",
+                value: "N",
+                help: "Races shown in full, 0 to 10000; the others by a line each [default: 50]",
+            },
             Argument::Flag {
                 name: "table",
                 help: "Print the table of the races, and what was seen on the standard error",

@@ -25,6 +25,18 @@ pub const LAST_RUN: u32 = 4_294_967_295;
 /// How many steps a hunt makes where the line does not say.
 pub const DEFAULT_BUDGET: u64 = 50_000_000;
 
+/// How many races are shown in full where the line does not say.
+pub const DEFAULT_BLOCKS: u32 = 50;
+
+/// The most races that are shown in full.
+pub const MOST_BLOCKS: u32 = 10_000;
+
+pub const BLOCKS: NumberOption = NumberOption {
+    name: "blocks",
+    least: 0,
+    most: MOST_BLOCKS as u64,
+};
+
 pub const FIRST: NumberOption = NumberOption {
     name: "first",
     least: 0,
@@ -61,6 +73,8 @@ pub struct HuntLine<'a> {
     pub save_to: Option<FolderPath<'a>>,
     /// The file for the page.
     pub page: Option<PagePath<'a>>,
+    /// How many races are shown in full.
+    pub blocks: u32,
     /// The standard output is the table alone.
     pub shows_table: bool,
     /// A race that may be a bug gives the status 5.
@@ -97,6 +111,7 @@ fn line_of<'a>(given: &ArgMatches<'a>) -> Result<HuntLine<'a>, Complaint<'a>>
     let workers = number_if(given, WORKERS)?;
     let lengths = lengths_of(given)?;
     let slots = number_or(given, SLOTS, u64::from(DEFAULT_SLOTS))?;
+    let blocks = number_or(given, BLOCKS, u64::from(DEFAULT_BLOCKS))?;
     Ok(HuntLine {
         harts: harts.map(|n| n as u8),
         seed: seed as u32,
@@ -110,6 +125,7 @@ fn line_of<'a>(given: &ArgMatches<'a>) -> Result<HuntLine<'a>, Complaint<'a>>
         ignore: ignore_of(given),
         save_to: folder_of(given),
         page: page_of(given),
+        blocks: blocks as u32,
         shows_table: flag_of(given, "table"),
         checks: flag_of(given, "check"),
         checks_all: flag_of(given, "check-all"),

@@ -19,6 +19,7 @@ const PLAIN: HuntLine = HuntLine {
     ignore: None,
     save_to: None,
     page: None,
+    blocks: 50,
     shows_table: false,
     checks: false,
     checks_all: false,
@@ -58,6 +59,7 @@ const ALL: HuntLine = HuntLine {
     ignore: Some(IgnorePath("i.txt")),
     save_to: Some(FolderPath("d")),
     page: Some(PagePath("p.html")),
+    blocks: 7,
     shows_table: true,
     checks: true,
     checks_all: true,
@@ -80,7 +82,7 @@ const LINES: &[(&str, HuntLine)] = &[
     ("rvcollide hunt a.elf --budget 1000000000000000", MOST_STEPS),
     (
         "rvcollide hunt --quiet --expect=t.txt --check-all --check --table \
---page=p.html --save-to=d --ignore=i.txt --skip=00010000,x --named=a,,b --slots=8 --plan=02000,064,100 --workers=6 --runs=3 \
+--blocks=7 --page=p.html --save-to=d --ignore=i.txt --skip=00010000,x --named=a,,b --slots=8 --plan=02000,064,100 --workers=6 --runs=3 \
 --first=12 --seed=7 --harts=2 -- a.elf",
         ALL,
     ),
@@ -90,7 +92,7 @@ const LINES: &[(&str, HuntLine)] = &[
 const GIVEN: &str =
     "rvcollide hunt a.elf --harts 2 --seed 7 --first 12 --runs 3 --budget 5 --workers 6 \
 --plan 2000,64,100 --slots 8 --named a,,b --skip 00010000,x --ignore i.txt --save-to d \
---page p.html --table --check --check-all --expect t.txt --quiet";
+--page p.html --blocks 7 --table --check --check-all --expect t.txt --quiet";
 
 /// All options left out, all given, in any order, with and without `=`.
 #[test]

@@ -36,6 +36,8 @@ struct Unseen;
 
 impl Watch for Unseen {
     fn saw(&mut self, _: &Hunted) {}
+
+    fn shows(&mut self, _: usize, _: usize) {}
 }
 
 const LENGTHS: Lengths = Lengths {
@@ -55,9 +57,11 @@ fn options(rt: &impl Abort) -> HuntOptions<'static, 'static> {
         named: None,
         skip: None,
         shows: Shows::Text,
+        blocks: 50,
         line: LineParts {
             command: "rvcollide hunt a.elf --seed 0",
             image: "a.elf",
+            nested_image: "a.elf",
             options: " --seed 0",
             folder: None,
         },

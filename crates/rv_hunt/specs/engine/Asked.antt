@@ -29,11 +29,12 @@ asked options = record {
   skip = option_map (λ text. text.now) options.skip;
 }
 
--- The command line, the image's path, the options that make the runs what they are, and the folder for schedules, where
+-- The command line, the image's path, the same within the quotes of another command, the options that make the runs what they are, and the folder for schedules, where
 -- one is given.
 pub record Onward : Type 0 where
   pub command : List ℕ
   pub image : List ℕ
+  pub nested : List ℕ
   pub options : List ℕ
   pub folder : Option (List ℕ)
 
@@ -42,6 +43,7 @@ abbrev pub parts : LineParts → Onward
 parts line = record {
   command = line.command.now;
   image = line.image.now;
+  nested = line.nested_image.now;
   options = line.options.now;
   folder = option_map (λ text. text.now) line.folder;
 }

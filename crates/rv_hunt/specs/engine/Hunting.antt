@@ -1,8 +1,8 @@
 -- What `hunt` makes of the bytes of an image and its options.
-use Rattle.std.specs.Prelude.{◌≡◌, ℕ, Bool, false, ◌||◌, Option, Some, None, option_and_then, option_map, Result, Ok, List, [], ◌++◌, filter, length}
+use Rattle.std.specs.Prelude.{◌≡◌, ℕ, Bool, false, ◌||◌, Option, Some, None, option_and_then, option_map, Result, Ok, if◌then◌else◌, List, [], ◌++◌, filter, length, take}
 use Rattle.std.specs.Option.{option_map_or}
 use Rattle.rv_elf.specs.Contents.{Contents}
-use Rattle.rv_hunt.specs.HuntSays.{Outcome, behind_text, hunt_text}
+use Rattle.rv_hunt.specs.HuntSays.{Outcome, behind_text, hunt_text, index_text}
 use Rattle.rv_hunt.specs.HuntText.{table_text}
 use Rattle.rv_hunt.specs.Hunted.{Hunt, IsHunted}
 use Rattle.rv_hunt.specs.ToldOrder.{benign, bugs, told_rows}
@@ -15,11 +15,15 @@ use Rattle.rv_sample.specs.Sites.{sites}
 use Rattle.rv_engines.specs.Campaigns.{elements, listed, skipped}
 use Rattle.rv_engines.specs.CommandFault.{Refusal, plainly}
 use Rattle.rv_engines.specs.Images.{image_of}
-use Rattle.rv_hunt.specs.engine.Asked.{Asked, Onward}
-use Rattle.rv_hunt.specs.engine.HuntBlocks.{AreBlocks}
+use Rattle.rv_hunt.specs.engine.Asked.{Asked, Onward, parts}
 use Rattle.rv_hunt.specs.engine.OnwardText.{keep_text}
+use Rattle.rv_hunt.specs.engine.Shown.{AreShown, blocks_text}
+use Rattle.rv_hunt.specs.page.PageText.{page_text}
+use Rattle.rv_hunt.specs.declared.engine.shown.ShownRace.{ShownRace}
+use Rattle.rv_hunt.specs.declared.engine.shown.TheConstants.{MOST_PICTURES}
 use Rattle.rv_hunt.specs.declared.engine.found.Found.{Found}
 use Rattle.rv_hunt.specs.declared.engine.inputs.Inputs.{Inputs}
+use Rattle.rv_hunt.specs.declared.engine.options.HuntOptions.{HuntOptions}
 use Rattle.rv_hunt.specs.declared.engine.options.Shows.{Shows}
 use Rattle.rv_hunt.specs.declared.engine.options.Shows.TheVariants.{Text, Table}
 use Rattle.rv_hunt.specs.merge.Ignore.{ignores_of, is_ignored, is_told}
@@ -109,25 +113,27 @@ pub record Texts : Type 0 where
 abbrev pub keep : Onward → List ℕ
 keep line = keep_text line.image line.options line.folder
 
--- the races one by one, and how a run is kept; the notes are the warnings
-abbrev pub told_one_by_one : Onward → Outcome → List ℕ → Texts
-told_one_by_one line o blocks = record { text = hunt_text o blocks ++ keep line; notes = warnings_text o.sites o.saw }
+-- how many races are shown in full: none where only the table is wanted
+abbrev pub full_of : Shows → Bool → ℕ → ℕ
+full_of Text files blocks = blocks
+full_of Table files blocks = if files then blocks else 0
 
--- the table; behind the warnings stands what the other text has behind its blocks
-abbrev pub told_as_table : Onward → Outcome → Texts
-told_as_table line o = record { text = table_text o.rows; notes = (warnings_text o.sites o.saw ++ behind_text o) ++ keep line }
+-- how many have pictures, which only a page shows
+abbrev pub pictures_of : Bool → ℕ
+pictures_of page = if page then MOST_PICTURES else 0
 
--- These are the texts of what a hunt came to, in one of the two ways, with the races that are told one by one.
-abbrev pub AreTextsOf : Onward → Shows → Hunt → Outcome → List (Key × RaceRow) → Texts → Type 0
-AreTextsOf line Text hunt o told texts = (blocks : List ℕ) × AreBlocks line hunt 1 told blocks × (texts ≡ told_one_by_one line o blocks)
-AreTextsOf line Table hunt o told texts = texts ≡ told_as_table line o
+-- The races one by one, and how a run is kept; the notes are the warnings. Of the table the text is the table, and behind the
+-- warnings stands what the other text has behind its blocks.
+abbrev pub texts_of : Onward → Shows → Contents → Outcome → List (Key × RaceRow) → List ShownRace → Texts
+texts_of line Text image o told shown = record {
+  text = hunt_text o (index_text image (length shown) told) (blocks_text shown) ++ keep line;
+  notes = warnings_text o.sites o.saw;
+}
+texts_of line Table image o told shown = record { text = table_text o.rows; notes = (warnings_text o.sites o.saw ++ behind_text o) ++ keep line }
 
--- the races that are told one by one, in their order
+-- the races that are told, in their order
 abbrev pub told_of : Hunting → Hunted → List (Key × RaceRow)
-told_of hunting saw = told_rows (told_in hunting saw)
-
-abbrev pub AreTexts : Onward → Shows → Hunting → Hunted → Texts → Type 0
-AreTexts line shows hunting saw texts = AreTextsOf line shows hunting.hunt (outcome hunting saw) (told_of hunting saw) texts
+told_of hunting saw = told_rows hunting.hunt.source.image (told_in hunting saw)
 
 -- how many races may be a bug, how many are likely benign, and whether one that may be a bug is not expected
 abbrev pub found_in : Option (List (Key × RaceRow)) → List (Key × RaceRow) → Found
@@ -136,15 +142,36 @@ found_in expected rows = record { bugs = bugs rows; benign = benign rows; is_une
 abbrev pub found_of : Hunting → Hunted → Found
 found_of hunting saw = found_in hunting.expected (told_in hunting saw)
 
--- The runs of the hunt are made; what they saw is told and counted, the runs of the races that are told are saved, and the
--- page is made.
-pub record IsTold (line : Onward) (shows : Shows) (hunting : Hunting) (found : Found) (Writes Notes : List ℕ → Type 0) (Saves : List (Key × RaceRow) → Type 0) (Pages : Outcome → List (Key × RaceRow) → Type 0) : Type 0 where
+-- how a race is shown: how many are in full, with how many pictures, and by which words of the command line
+pub record Showing : Type 0 where
+  pub line : Onward
+  pub shows : Shows
+  pub full : ℕ
+  pub most : ℕ
+
+-- the same by the options, where a folder or a page is given
+abbrev pub showing_of : HuntOptions → Bool → Bool → Showing
+showing_of options folder page = record {
+  line = parts options.line;
+  shows = options.shows;
+  full = full_of options.shows (folder || page) options.blocks;
+  most = pictures_of page;
+}
+
+-- What is made of a hunt: its runs, what they saw, and the races that are shown in full.
+pub record IsMade (way : Showing) (hunting : Hunting) (Saves : ℕ → List ℕ → Type 0) (Pages : List ℕ → Type 0) (found : Found) (texts : Texts) : Type 0 where
   pub saw : Hunted
   pub hunted : IsHunted hunting.hunt saw
+  pub shown : List ShownRace
+  pub are_shown : AreShown way.line hunting.hunt way.most Saves (take way.full (told_of hunting saw)) shown
+  pub texts_are : texts ≡ texts_of way.line way.shows hunting.hunt.source.image (outcome hunting saw) (told_of hunting saw) shown
+  pub paged : Pages (page_text way.line.command hunting.hunt.source.image (outcome hunting saw) (told_of hunting saw) shown)
+  pub found_is : found ≡ found_of hunting saw
+
+-- The runs of the hunt are made; what they saw is told and counted, the runs of the races that are shown in full are saved,
+-- and the page is made.
+pub record IsTold (way : Showing) (hunting : Hunting) (found : Found) (Writes Notes : List ℕ → Type 0) (Saves : ℕ → List ℕ → Type 0) (Pages : List ℕ → Type 0) : Type 0 where
   pub texts : Texts
-  pub are_texts : AreTexts line shows hunting saw texts
+  pub made : IsMade way hunting Saves Pages found texts
   pub written : Writes texts.text
   pub noted : Notes texts.notes
-  pub saved : Saves (told_of hunting saw)
-  pub paged : Pages (outcome hunting saw) (told_of hunting saw)
-  pub found_is : found ≡ found_of hunting saw

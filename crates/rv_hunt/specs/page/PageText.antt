@@ -1,10 +1,13 @@
 -- The page of a hunt: one HTML file that stands alone. It runs no script and fetches nothing.
-use Rattle.std.specs.Prelude.{ℕ, List, [], ◌∷◌, codes}
+use Rattle.std.specs.Prelude.{ℕ, List, [], ◌∷◌, codes, length}
+use Rattle.rv_elf.specs.Contents.{Contents}
 use Rattle.rv_explain.specs.Pieces.{joined}
 use Rattle.rv_hunt.specs.HuntSays.{Outcome, summary_line}
 use Rattle.rv_hunt.specs.page.Elements.{code}
 use Rattle.rv_markup.specs.Escaped.{escaped}
-use Rattle.rv_hunt.specs.page.Parts.{Part}
+use Rattle.rv_hunt.specs.declared.engine.shown.ShownRace.{ShownRace}
+use Rattle.rv_hunt.specs.declared.row.RaceRow.{RaceRow}
+use Rattle.rv_report.specs.declared.key.Key.{Key}
 use Rattle.rv_hunt.specs.page.RacesShown.{races_part, races_shown}
 use Rattle.rv_hunt.specs.page.RunsShown.{aside_part, ended_part, seen_part, warnings_part}
 use Rattle.rv_hunt.specs.declared.page.style.TheConstants.{STYLE}
@@ -32,7 +35,8 @@ front_text command outcome =
 unfoldable pub runs_text : Outcome → List ℕ
 runs_text outcome = joined (aside_part outcome ∷ ended_part outcome.saw.ended ∷ seen_part outcome.sites outcome.saw ∷ [])
 
--- The page of what a hunt came to, of its races in the order in which they are told, and of the command line.
-unfoldable pub page_text : List ℕ → Outcome → List Part → List ℕ
-page_text command outcome races =
-    joined (front_text command outcome ∷ races_part races ∷ races_shown races ∷ runs_text outcome ∷ codes "</body>\n</html>\n" ∷ [])
+-- The page of what a hunt came to, of its races in the order in which they are told, the first of which are shown in full, and
+-- of the command line.
+unfoldable pub page_text : List ℕ → Contents → Outcome → List (Key × RaceRow) → List ShownRace → List ℕ
+page_text command image outcome told shown =
+    joined (front_text command outcome ∷ races_part image (length shown) told ∷ races_shown image told shown ∷ runs_text outcome ∷ codes "</body>\n</html>\n" ∷ [])

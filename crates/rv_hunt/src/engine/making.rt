@@ -1,38 +1,33 @@
-//! The runs of a hunt, and the texts of what they saw.
-ghost use Rattle.std.specs.Prelude.{◌≡◌, ◌||◌, All, IfOk, IfSome, is_err, is_some, true};
+//! The runs of a hunt, and the texts and the files of what they saw.
+ghost use Rattle.std.specs.Prelude.{◌≡◌, ◌||◌, IfOk, OnOk, is_err, is_some, take, true};
 ghost use Rattle.rv_engines.specs.Campaigns.{passes};
 ghost use Rattle.rv_hunt.specs.Hunted.{IsHunted};
-ghost use Rattle.rv_sample.specs.Sites.{sites};
 ghost use Rattle.rv_hunt.specs.engine.Asked.{AreLegal, asked, parts};
 ghost use Rattle.rv_hunt.specs.engine.FolderFault as looking;
-ghost use Rattle.rv_hunt.specs.engine.HuntBlocks.{AreBlocks};
 ghost use Rattle.rv_hunt.specs.engine.Hunting as spec;
-ghost use Rattle.rv_hunt.specs.engine.Late.{IfKept, IfMade};
-ghost use Rattle.rv_hunt.specs.engine.Paged.{IsPaged};
-ghost use Rattle.rv_hunt.specs.engine.Saved.{AreSaved};
+ghost use Rattle.rv_hunt.specs.engine.Late.{IfPaged, IfSaved};
 ghost use Rattle.rv_hunt.specs.internal.MakeFault.{fails_by_write};
-ghost use Rattle.rv_hunt.specs.internal.Opened.{HasRace, IsMade, hunt_in, hunting_with};
+ghost use Rattle.rv_hunt.specs.internal.Opened.{hunt_in, hunting_with, texts_in};
+ghost use Rattle.rv_hunt.specs.page.PageText.{page_text};
 
-use crate::engine::blocks::blocks_of;
 use crate::engine::fault::MakeFault;
 use crate::engine::folder::{Folder, FolderFault};
 use crate::engine::found::Found;
 use crate::engine::lists::Lists;
 use crate::engine::opening::Opened;
 use crate::engine::options::{HuntOptions, LineParts, Shows};
-use crate::engine::paging::page_races;
-use crate::engine::saving::save_races;
-use crate::engine::sites::count_of;
+use crate::engine::shown::{InFull, MOST_PICTURES, ShownRace};
 use crate::engine::texts::{hunt_text, table_notes, table_of};
 use crate::expected::is_unexpected;
 use crate::hunt::{Hunt, Watch};
 use crate::hunted::Hunted;
-use crate::laws::hunts_have_one_result;
 use crate::merge::parted::{Parted, part_rows};
+use crate::page::page_text;
 use crate::page::parts::Outcome;
 use crate::row::RaceRow;
 use crate::saying::order::{benign, bugs, told_rows};
 use crate::saying::warnings::warnings_text;
+use rv_campaign::SeriesFault;
 use rv_engines::new_file::NewFile;
 use rv_explain::symbol_table::SymbolTable;
 use rv_memory::flagged::WriteFault;
@@ -51,68 +46,29 @@ pub(crate) struct Made {
     pub(crate) notes: Vec<u8>,
 }
 
-/// The texts of what a hunt came to. `told` are the races that are told one by one.
-fn texts(
+/// The text and the notes of what a hunt came to. Of the races that are told the first are shown in full.
+fn texts_of(
     alloc: Global,
-    hunt: &Hunt,
+    shows: Shows,
+    line: &LineParts<'_>,
     symbols: &SymbolTable,
-    excluded: &[u32],
-    options: &HuntOptions<'_, '_>,
     outcome: &Outcome,
     told: &[(Key, RaceRow)],
-) -> Result<(Vec<u8>, Vec<u8>), NoMemory>
-    requires sites { hunt.now.source.sites ≡ sites hunt.now.source.image excluded.now }
-    requires image { symbols.now ≡ hunt.now.source.image }
-    requires races { All (HasRace hunt.now) told.now }
-    ensures { IfOk result (λ texts. spec.AreTextsOf (parts options.now.line) options.now.shows hunt.now outcome.now told.now
-        (record { text = texts.0.items; notes = texts.1.items })) }
-{
-    match options.shows {
-        Shows::Text => texts_one_by_one(
-            alloc,
-            hunt,
-            symbols,
-            excluded,
-            &options.line,
-            outcome,
-            told,
-        ),
-        Shows::Table => texts_as_table(alloc, &options.line, outcome),
-    }
-}
-
-/// The same where the races are told one by one.
-fn texts_one_by_one(
-    alloc: Global,
-    hunt: &Hunt,
-    symbols: &SymbolTable,
-    excluded: &[u32],
-    line: &LineParts<'_>,
-    outcome: &Outcome,
-    told: &[(Key, RaceRow)],
-) -> Result<(Vec<u8>, Vec<u8>), NoMemory>
-    requires sites { hunt.now.source.sites ≡ sites hunt.now.source.image excluded.now }
-    requires image { symbols.now ≡ hunt.now.source.image }
-    requires races { All (HasRace hunt.now) told.now }
-    ensures { IfOk result (λ texts. spec.AreTextsOf (parts line.now) Shows.Text hunt.now outcome.now told.now
-        (record { text = texts.0.items; notes = texts.1.items })) }
-{
-    let blocks = blocks_of(alloc, hunt, symbols, excluded, line, told)?;
-    let text = hunt_text(alloc, line, outcome, &blocks)?;
-    Ok((text, warnings_text(alloc, outcome.sites, outcome.saw)?))
-}
-
-/// The same as a table.
-fn texts_as_table(
-    alloc: Global,
-    line: &LineParts<'_>,
-    outcome: &Outcome,
+    shown: &[ShownRace],
 ) -> Result<(Vec<u8>, Vec<u8>), NoMemory>
     ensures { IfOk result (λ texts. record { text = texts.0.items; notes = texts.1.items }
-        ≡ spec.told_as_table (parts line.now) outcome.now) }
+        ≡ spec.texts_of (parts line.now) shows symbols.now outcome.now told.now shown.now) }
 {
-    let text = table_of(alloc, outcome.rows)?;
-    Ok((text, table_notes(alloc, line, outcome)?))
+    match shows {
+        Shows::Text => {
+            let text = hunt_text(alloc, line, symbols, outcome, told, shown)?;
+            Ok((text, warnings_text(alloc, outcome.sites, outcome.saw)?))
+        }
+        Shows::Table => {
+            let text = table_of(alloc, outcome.rows)?;
+            Ok((text, table_notes(alloc, line, outcome)?))
+        }
+    }
 }
 
 /// The rows of what a hunt saw: those that are told, and those that are ignored.
@@ -142,74 +98,106 @@ fn found_in(lists: &Lists, rows: &[(Key, RaceRow)]) -> Found
     }
 }
 
-/// The texts of what a hunt came to. They are made first, then the schedules of the races that are told are saved, and the
-/// page is made last: what wants memory comes before a file. Where a file can't be made that is noted, and the others are.
-fn texts_and_files<D: Folder, F: NewFile>(
-    alloc: Global,
-    hunt: &Hunt,
-    symbols: &SymbolTable,
-    excluded: &[u32],
-    options: &HuntOptions<'_, '_>,
-    outcome: &Outcome,
-    told: &[(Key, RaceRow)],
-    folder: &mut Option<D>,
-    page: &mut Option<F>,
-) -> Result<(Vec<u8>, Vec<u8>), NoMemory>
-    requires sites { hunt.now.source.sites ≡ sites hunt.now.source.image excluded.now }
-    requires image { symbols.now ≡ hunt.now.source.image }
-    requires races { All (HasRace hunt.now) told.now }
-    ensures texts { IfOk result (λ texts. spec.AreTextsOf (parts options.now.line) options.now.shows hunt.now outcome.now told.now
-        (record { text = texts.0.items; notes = texts.1.items })) }
-    ensures saved { IfOk result (λ _. IfSome folder.new (λ made. AreSaved hunt.now (IfKept D.has_failed D.Holds made) told.now)) }
-    ensures paged { IfOk result (λ _. IfSome page.new (λ file.
-        IsPaged (parts options.now.line) hunt.now outcome.now told.now (IfMade F.has_failed F.Holds file))) }
-    ensures wanted { (is_some folder.new ≡ is_some folder.old) × (is_some page.new ≡ is_some page.old) }
+/// How many races are shown in full: none where only the table is wanted.
+fn full_of(shows: Shows, has_files: bool, blocks: u32) -> usize
+    ensures { result ≡ spec.full_of shows has_files blocks }
 {
-    let texts = texts(alloc, hunt, symbols, excluded, options, outcome, told)?;
-    save_races(alloc, hunt, excluded, told, folder)?;
-    page_races(
-        alloc,
-        hunt,
-        symbols,
-        excluded,
-        &options.line,
-        outcome,
-        told,
-        page,
-    )?;
-    Ok(texts)
+    match shows {
+        Shows::Table if !has_files => 0,
+        Shows::Text | Shows::Table => blocks as usize,
+    }
 }
 
-/// What is told of all that a hunt's runs saw.
-fn told<D: Folder, F: NewFile>(
+/// How many races have pictures, which only a page shows.
+fn pictures_of(has_page: bool) -> u64
+    ensures { result ≡ spec.pictures_of has_page }
+{
+    if has_page { MOST_PICTURES } else { 0 }
+}
+
+/// The first rows, at most so many.
+fn first_of(rows: &[(Key, RaceRow)], most: usize) -> &[(Key, RaceRow)]
+    ensures { result.now ≡ take most rows.now }
+{
+    &rows[..rows.len().min(most)]
+}
+
+/// Makes the page, where one is wanted. Where it can't be made the file has that noted.
+fn make_page<F: NewFile>(
+    alloc: Global,
+    command: &str,
+    symbols: &SymbolTable,
+    outcome: &Outcome,
+    told: &[(Key, RaceRow)],
+    shown: &[ShownRace],
+    page: &mut Option<F>,
+) -> Result<(), NoMemory>
+    ensures paged { OnOk result (IfPaged F.has_failed F.Holds page.new
+        (page_text command.now symbols.now outcome.now told.now shown.now)) }
+    ensures wanted { is_some page.new ≡ is_some page.old }
+{
+    if let Some(file) = page {
+        let text = page_text(alloc, command.as_bytes(), symbols, outcome, told, shown)?;
+        let _ = file.make(&text);
+    }
+    Ok(())
+}
+
+/// What a hunt shows of all that its runs saw. The schedules of the races in full are saved while these are made again, and the
+/// page is made last: what wants memory comes before it. Where a file can't be made that is noted, and the others are.
+fn made_of<R: Threads + Wait, D: Folder, F: NewFile, P: Watch>(
+    rt: &R,
     alloc: Global,
     hunt: &Hunt,
-    excluded: &[u32],
     options: &HuntOptions<'_, '_>,
     lists: &Lists,
     saw: &Hunted,
     folder: &mut Option<D>,
     page: &mut Option<F>,
-) -> Result<Made, NoMemory>
-    requires sites { hunt.now.source.sites ≡ sites hunt.now.source.image excluded.now }
+    watch: &mut P,
+) -> Result<Made, SeriesFault>
+    requires legal { AreLegal options.now }
     requires hunted { IsHunted hunt.now saw.now }
-    ensures made { IfOk result (IsMade (parts options.now.line) options.now.shows (hunting_with hunt.now lists.now)
-        (λ rows. IfSome folder.new (λ made. AreSaved hunt.now (IfKept D.has_failed D.Holds made) rows))
-        (λ came rows. IfSome page.new (λ file. IsPaged (parts options.now.line) hunt.now came rows (IfMade F.has_failed F.Holds file)))) }
+    ensures made { IfOk result (λ made. spec.IsMade
+        (spec.showing_of options.now (is_some folder.old) (is_some page.old)) (hunting_with hunt.now lists.now)
+        (IfSaved D.has_failed D.Holds folder.new) (IfPaged F.has_failed F.Holds page.new) made.found (texts_in made)) }
     ensures wanted { (is_some folder.new ≡ is_some folder.old) × (is_some page.new ≡ is_some page.old) }
 {
-    hunts_have_one_result();
     let symbols = SymbolTable::new(alloc, hunt.image)?;
     let parted = parted_rows(alloc, hunt, &symbols, lists, saw)?;
-    let told = told_rows(alloc, &parted.told)?;
+    let told = told_rows(alloc, &symbols, &parted.told)?;
     let outcome = Outcome {
-        sites: count_of(hunt.sampler),
+        sites: hunt.sampler.len() as u64,
         saw: &saw.tally,
         rows: &parted.told,
         ignored: &parted.ignored,
     };
-    let (text, notes) = texts_and_files(
-        alloc, hunt, &symbols, excluded, options, &outcome, &told, folder, page,
+    let has_files = folder.is_some() || page.is_some();
+    let full = InFull {
+        hunt,
+        symbols: &symbols,
+        line: &options.line,
+        rows: first_of(&told, full_of(options.shows, has_files, options.blocks)),
+        pictures: pictures_of(page.is_some()),
+    };
+    let shown = full.show(rt, alloc, options.workers, folder, watch)?;
+    let (text, notes) = texts_of(
+        alloc,
+        options.shows,
+        &options.line,
+        &symbols,
+        &outcome,
+        &told,
+        &shown,
+    )?;
+    make_page(
+        alloc,
+        options.line.command,
+        &symbols,
+        &outcome,
+        &told,
+        &shown,
+        page,
     )?;
     Ok(Made {
         found: found_in(lists, &parted.told),
@@ -242,8 +230,8 @@ fn look_at_page<F: NewFile>(page: &mut Option<F>) -> Result<(), WriteFault>
     }
 }
 
-/// Looks at the folder and the page, and makes the runs of a hunt of what was opened, the schedules of the races that are told, and the
-/// texts of what they saw.
+/// Looks at the folder and the page, and makes the runs of a hunt of what was opened, the schedules of the races that are shown in
+/// full, the page, and the texts of what the runs saw.
 pub(crate) fn make_hunt<T: Threads + Wait + Sync, P: Watch, D: Folder, F: NewFile>(
     rt: &T,
     alloc: Global,
@@ -255,11 +243,10 @@ pub(crate) fn make_hunt<T: Threads + Wait + Sync, P: Watch, D: Folder, F: NewFil
     watch: &mut P,
 ) -> Result<Made, MakeFault>
     requires { AreLegal options.now }
-    ensures made { IfOk result (IsMade (parts options.now.line) options.now.shows
+    ensures made { IfOk result (λ made. spec.IsMade
+        (spec.showing_of options.now (is_some folder.old) (is_some page.old))
         (hunting_with (hunt_in (asked options.now) opened.now) lists.now)
-        (λ rows. IfSome folder.new (λ made. AreSaved (hunt_in (asked options.now) opened.now) (IfKept D.has_failed D.Holds made) rows))
-        (λ came rows. IfSome page.new (λ file.
-        IsPaged (parts options.now.line) (hunt_in (asked options.now) opened.now) came rows (IfMade F.has_failed F.Holds file)))) }
+        (IfSaved D.has_failed D.Holds folder.new) (IfPaged F.has_failed F.Holds page.new) made.found (texts_in made)) }
     ensures wanted { (is_some folder.new ≡ is_some folder.old) × (is_some page.new ≡ is_some page.old) }
     ensures failed { fails_by_write result ≡ true
         → (passes D.has_failed folder.new || passes F.has_failed page.new) ≡ true }
@@ -277,16 +264,7 @@ pub(crate) fn make_hunt<T: Threads + Wait + Sync, P: Watch, D: Folder, F: NewFil
         limit: options.limit,
     };
     let saw = hunt.hunted(rt, alloc, options.workers, watch)?;
-    let made = told(
-        alloc,
-        &hunt,
-        &opened.lists.excluded,
-        options,
-        lists,
-        &saw,
-        folder,
-        page,
-    );
+    let made = made_of(rt, alloc, &hunt, options, lists, &saw, folder, page, watch);
     // It has many parts, which are let go by one call.
     drop(saw);
     match made {

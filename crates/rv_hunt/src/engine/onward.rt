@@ -43,8 +43,8 @@ pub(crate) fn push_keep_text(
 
 /// The front of that line, up to the folder.
 #[tactic(auto, unfolding(crate::specs::engine::OnwardText::gdb_front))]
-fn gdb_front(alloc: Global, image: &str) -> Result<Vec<u8>, NoMemory>
-    ensures { IfOk result (λ text. text.items ≡ spec.gdb_front image.now) }
+fn gdb_front(alloc: Global, image: &str, nested: &str) -> Result<Vec<u8>, NoMemory>
+    ensures { IfOk result (λ text. text.items ≡ spec.gdb_front image.now nested.now) }
 {
     joined(
         alloc,
@@ -52,7 +52,7 @@ fn gdb_front(alloc: Global, image: &str) -> Result<Vec<u8>, NoMemory>
             b"  gdb: gdb-multiarch ",
             image.as_bytes(),
             b" -ex 'set remotetimeout 60' -ex 'target remote | rvcollide gdb ",
-            image.as_bytes(),
+            nested.as_bytes(),
             b" ",
         ],
     )
@@ -78,15 +78,16 @@ fn gdb_back(alloc: Global, ending: u32) -> Result<Vec<u8>, NoMemory>
 #[tactic(auto, unfolding(crate::specs::engine::OnwardText::gdb_line))]
 fn gdb_line(
     alloc: Global,
-    image: &str,
+    line: &LineParts<'_>,
     folder: &str,
     number: u64,
     ending: u32,
 ) -> Result<Vec<u8>, NoMemory>
-    ensures { IfOk result (λ text. text.items ≡ spec.gdb_line image.now folder.now number ending) }
+    ensures { IfOk result (λ text. text.items
+        ≡ spec.gdb_line line.now.image.now line.now.nested_image.now folder.now number ending) }
 {
     let number = Decimal::new(number);
-    let front = gdb_front(alloc, image)?;
+    let front = gdb_front(alloc, line.image, line.nested_image)?;
     let back = gdb_back(alloc, ending)?;
     joined(
         alloc,
@@ -109,10 +110,10 @@ pub(crate) fn push_gdb_text(
     ending: u32,
 ) -> Result<(), NoMemory>
     ensures { OnOk result (text.new.items ≡ text.old.items
-        ++ spec.gdb_text line.now.image.now (option_map (λ folder. folder.now) line.now.folder) number ending) }
+        ++ spec.gdb_text line.now.image.now line.now.nested_image.now (option_map (λ folder. folder.now) line.now.folder) number ending) }
 {
     if let Some(folder) = line.folder {
-        let going = gdb_line(alloc, line.image, folder, number, ending)?;
+        let going = gdb_line(alloc, line, folder, number, ending)?;
         text.extend_from_slice(&going)?;
     }
     Ok(())

@@ -16,16 +16,19 @@ pub enum Shows {
     Table,
 }
 
-/// Parts of the command line, as messages show them, by which the text tells how to go on.
+/// Parts of the command line, as messages show them, by which the text tells how to go on. In commands a shell takes each as
+/// one word.
 #[derive(Clone, Copy)]
 pub struct LineParts<'a> {
     /// All of it.
     pub command: &'a str,
     /// The path of the image.
     pub image: &'a str,
+    /// The same within the single quotes of another command.
+    pub nested_image: &'a str,
     /// The options that make the runs what they are, with a blank before each word.
     pub options: &'a str,
-    /// The folder for schedules, where one is given.
+    /// The folder for schedules, within such quotes, where one is given.
     pub folder: Option<&'a str>,
 }
 
@@ -48,6 +51,8 @@ pub struct HuntOptions<'a, 'b> {
     pub skip: Option<&'a str>,
     /// What is written to the standard output.
     pub shows: Shows,
+    /// How many races are shown in full.
+    pub blocks: u32,
     /// What the text tells of the command line.
     pub line: LineParts<'b>,
 }

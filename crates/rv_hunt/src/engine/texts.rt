@@ -1,21 +1,25 @@
 //! The texts of what a hunt came to. All of it is made before a byte is written.
-ghost use Rattle.std.specs.Prelude.{◌≡◌, ◌++◌, IfOk};
+ghost use Rattle.std.specs.Prelude.{◌≡◌, ◌++◌, ◌∷◌, IfOk, OnOk, length};
 ghost use Rattle.rv_hunt.specs.HuntSays as spec;
 ghost use Rattle.rv_hunt.specs.HuntText as table;
 ghost use Rattle.rv_hunt.specs.WarningText as warning;
 ghost use Rattle.rv_hunt.specs.engine.Asked.{parts};
 ghost use Rattle.rv_hunt.specs.engine.Hunting.{keep};
+ghost use Rattle.rv_hunt.specs.engine.Shown.{blocks_text};
 
 use crate::engine::onward::push_keep_text;
 use crate::engine::options::LineParts;
+use crate::engine::shown::ShownRace;
 use crate::page::parts::Outcome;
 use crate::row::RaceRow;
+use crate::saying::index::index_text;
 use crate::saying::lines::{apart_line, saw_text, summary_line};
 use crate::saying::order::of_class;
 use crate::saying::warnings::warnings_text;
 use crate::table::write_table;
 use rv_explain::block::RaceClass;
 use rv_explain::pieces::joined;
+use rv_explain::symbol_table::SymbolTable;
 use rv_memory::flagged::Flagged;
 use rv_memory::store::NoMemory;
 use rv_report::key::Key;
@@ -41,26 +45,56 @@ fn behind_text(alloc: Global, outcome: &Outcome) -> Result<Vec<u8>, NoMemory>
     joined(alloc, &[&apart, &saw])
 }
 
-/// The text of a hunt with these blocks.
+/// Adds an empty line and a block.
+fn push_block(text: &mut Vec<u8>, block: &[u8]) -> Result<(), NoMemory>
+    ensures { OnOk result (text.new.items ≡ text.old.items ++ (10 ∷ block.now)) }
+{
+    text.push(b'\n')?;
+    text.extend_from_slice(block)?;
+    Ok(())
+}
+
+/// The blocks of races, before each of which an empty line stands.
+fn blocks_text(alloc: Global, shown: &[ShownRace]) -> Result<Vec<u8>, NoMemory>
+    ensures { IfOk result (λ text. text.items ≡ blocks_text shown.now) }
+{
+    let mut text = Vec::new(alloc);
+    for race in shown {
+        push_block(&mut text, &race.block)?;
+    }
+    Ok(text)
+}
+
+/// The text of a hunt with this index and these blocks.
 #[tactic(auto, unfolding(crate::specs::HuntSays::hunt_text))]
-fn plain_text(alloc: Global, outcome: &Outcome, blocks: &[u8]) -> Result<Vec<u8>, NoMemory>
-    ensures { IfOk result (λ text. text.items ≡ spec.hunt_text outcome.now blocks.now) }
+fn plain_text(
+    alloc: Global,
+    outcome: &Outcome,
+    index: &[u8],
+    blocks: &[u8],
+) -> Result<Vec<u8>, NoMemory>
+    ensures { IfOk result (λ text. text.items ≡ spec.hunt_text outcome.now index.now blocks.now) }
 {
     let summary = summary_line(alloc, outcome.saw, outcome.rows)?;
     let behind = behind_text(alloc, outcome)?;
-    joined(alloc, &[&summary, blocks, b"\n", &behind])
+    joined(alloc, &[&summary, index, blocks, b"\n", &behind])
 }
 
-/// The text of a hunt with these blocks, and how a run is kept.
+/// The text of a hunt, and how a run is kept. Of the races that are told the first are shown in full.
 pub(crate) fn hunt_text(
     alloc: Global,
     line: &LineParts<'_>,
+    symbols: &SymbolTable,
     outcome: &Outcome,
-    blocks: &[u8],
+    told: &[(Key, RaceRow)],
+    shown: &[ShownRace],
 ) -> Result<Vec<u8>, NoMemory>
-    ensures { IfOk result (λ text. text.items ≡ spec.hunt_text outcome.now blocks.now ++ keep (parts line.now)) }
+    ensures { IfOk result (λ text. text.items ≡ spec.hunt_text outcome.now
+        (spec.index_text symbols.now (length shown.now) told.now) (blocks_text shown.now) ++ keep (parts line.now)) }
 {
-    let mut text = plain_text(alloc, outcome, blocks)?;
+    let index = index_text(alloc, symbols, shown.len(), told)?;
+    let blocks = blocks_text(alloc, shown)?;
+    let mut text = plain_text(alloc, outcome, &index, &blocks)?;
     push_keep_text(alloc, &mut text, line)?;
     Ok(text)
 }

@@ -1,15 +1,18 @@
 //! The races in the page, as `specs/page/RacesShown.antt` has them.
-ghost use Rattle.std.specs.Prelude.{◌≡◌, IfOk};
-ghost use Rattle.rv_hunt.specs.page.Parts.{part_of, parts};
+ghost use Rattle.std.specs.Prelude.{◌≡◌, ◌+◌, IfOk};
 ghost use Rattle.rv_hunt.specs.page.RacesShown as spec;
 
+use crate::engine::shown::ShownRace;
 use crate::expected::is_likely_benign;
 use crate::page::elements::{cell, code, code_cell, number_cell, part, row, table};
-use crate::page::parts::RacePart;
+use crate::row::RaceRow;
+use crate::saying::index::names_of;
 use rv_explain::blocks::class_word;
 use rv_explain::pieces::joined;
+use rv_explain::symbol_table::SymbolTable;
 use rv_markup::escaped::escaped;
 use rv_memory::store::NoMemory;
+use rv_report::key::Key;
 use rv_text::decimal::Decimal;
 use std::alloc::Global;
 
@@ -22,20 +25,26 @@ fn race_id(alloc: Global, number: u64) -> Result<Vec<u8>, NoMemory>
     joined(alloc, &[b"race-", number.as_bytes()])
 }
 
-/// A link to a race.
+/// A link to a race that is shown in full, or its number.
 #[tactic(auto, unfolding(crate::specs::page::RacesShown::link_cell))]
-fn link_cell(alloc: Global, number: u64) -> Result<Vec<u8>, NoMemory>
-    ensures { IfOk result (λ cell. cell.items ≡ spec.link_cell number) }
+fn link_cell(alloc: Global, is_full: bool, number: u64) -> Result<Vec<u8>, NoMemory>
+    ensures { IfOk result (λ cell. cell.items ≡ spec.link_cell is_full number) }
 {
+    let digits = Decimal::new(number);
+    if !is_full {
+        return joined(
+            alloc,
+            &[b"<td class='link'>race ", digits.as_bytes(), b"</td>"],
+        );
+    }
     let id = race_id(alloc, number)?;
-    let number = Decimal::new(number);
     joined(
         alloc,
         &[
             b"<td class='link'><a href='#",
             &id,
             b"'>race ",
-            number.as_bytes(),
+            digits.as_bytes(),
             b"</a></td>",
         ],
     )
@@ -43,12 +52,19 @@ fn link_cell(alloc: Global, number: u64) -> Result<Vec<u8>, NoMemory>
 
 /// The row of a race.
 #[tactic(auto, unfolding(crate::specs::page::RacesShown::race_row))]
-fn race_row(alloc: Global, number: u64, race: &RacePart) -> Result<Vec<u8>, NoMemory>
-    ensures { IfOk result (λ row. row.items ≡ spec.race_row number (part_of race.now)) }
+fn race_row(
+    alloc: Global,
+    symbols: &SymbolTable,
+    full: usize,
+    number: u64,
+    race: &(Key, RaceRow),
+) -> Result<Vec<u8>, NoMemory>
+    ensures { IfOk result (λ row. row.items ≡ spec.race_row symbols.now full number race.now) }
 {
-    let (_key, counted) = &race.row;
-    let link = link_cell(alloc, number)?;
-    let names = code_cell(alloc, &race.names)?;
+    let (key, counted) = race;
+    let link = link_cell(alloc, number <= full as u64, number)?;
+    let names = names_of(alloc, symbols, key)?;
+    let names = code_cell(alloc, &names)?;
     let class = cell(alloc, class_word(counted.class))?;
     let reports = number_cell(alloc, counted.count)?;
     let run = number_cell(alloc, u64::from(counted.run))?;
@@ -56,12 +72,17 @@ fn race_row(alloc: Global, number: u64, race: &RacePart) -> Result<Vec<u8>, NoMe
 }
 
 /// The rows of all races.
-fn race_rows(alloc: Global, races: &[RacePart]) -> Result<Vec<u8>, NoMemory>
-    ensures { IfOk result (λ rows. rows.items ≡ spec.race_rows (parts races.now)) }
+fn race_rows(
+    alloc: Global,
+    symbols: &SymbolTable,
+    full: usize,
+    told: &[(Key, RaceRow)],
+) -> Result<Vec<u8>, NoMemory>
+    ensures { IfOk result (λ rows. rows.items ≡ spec.race_rows symbols.now full told.now) }
 {
     let mut rows = Vec::new(alloc);
-    for (n, race) in races.iter().enumerate() {
-        rows.extend_from_slice(&race_row(alloc, n as u64 + 1, race)?)?;
+    for (n, race) in told.iter().enumerate() {
+        rows.extend_from_slice(&race_row(alloc, symbols, full, n as u64 + 1, race)?)?;
     }
     Ok(rows)
 }
@@ -71,22 +92,32 @@ const HEAD: &[u8] =
 
 /// The table of the races, or that there is none.
 #[tactic(auto, unfolding(crate::specs::page::RacesShown::races_listed))]
-fn races_listed(alloc: Global, races: &[RacePart]) -> Result<Vec<u8>, NoMemory>
-    ensures { IfOk result (λ text. text.items ≡ spec.races_listed (parts races.now)) }
+fn races_listed(
+    alloc: Global,
+    symbols: &SymbolTable,
+    full: usize,
+    told: &[(Key, RaceRow)],
+) -> Result<Vec<u8>, NoMemory>
+    ensures { IfOk result (λ text. text.items ≡ spec.races_listed symbols.now full told.now) }
 {
-    if races.is_empty() {
+    if told.is_empty() {
         return joined(alloc, &[b"<p>There is no race to show.</p>\n"]);
     }
-    let rows = race_rows(alloc, races)?;
+    let rows = race_rows(alloc, symbols, full, told)?;
     table(alloc, HEAD, &rows)
 }
 
-/// The part with that table.
+/// The part with that table. So many of the races are shown in full.
 #[tactic(auto, unfolding(crate::specs::page::RacesShown::races_part))]
-pub(crate) fn races_part(alloc: Global, races: &[RacePart]) -> Result<Vec<u8>, NoMemory>
-    ensures { IfOk result (λ text. text.items ≡ spec.races_part (parts races.now)) }
+pub(crate) fn races_part(
+    alloc: Global,
+    symbols: &SymbolTable,
+    full: usize,
+    told: &[(Key, RaceRow)],
+) -> Result<Vec<u8>, NoMemory>
+    ensures { IfOk result (λ text. text.items ≡ spec.races_part symbols.now full told.now) }
 {
-    let listed = races_listed(alloc, races)?;
+    let listed = races_listed(alloc, symbols, full, told)?;
     part(alloc, b"races", b"Races", &listed)
 }
 
@@ -125,24 +156,23 @@ fn pictured(alloc: Global, picture: &[u8], block: &[u8]) -> Result<Vec<u8>, NoMe
 }
 
 /// What is shown of a race below its title.
-fn content_of(alloc: Global, race: &RacePart) -> Result<Vec<u8>, NoMemory>
-    ensures { IfOk result (λ text. text.items
-        ≡ spec.content_with (part_of race.now).picture (part_of race.now).block) }
+fn content_of(alloc: Global, shown: &ShownRace) -> Result<Vec<u8>, NoMemory>
+    ensures { IfOk result (λ text. text.items ≡ spec.content_of shown.now) }
 {
-    match &race.picture {
-        Some(picture) => pictured(alloc, picture, &race.block),
-        None => block_element(alloc, &race.block),
+    match &shown.picture {
+        Some(picture) => pictured(alloc, picture, &shown.block),
+        None => block_element(alloc, &shown.block),
     }
 }
 
 /// A race that may be a bug.
 #[tactic(auto, unfolding(crate::specs::page::RacesShown::open_race))]
-fn open_race(alloc: Global, number: u64, race: &RacePart) -> Result<Vec<u8>, NoMemory>
-    ensures { IfOk result (λ text. text.items ≡ spec.open_race number (part_of race.now)) }
+fn open_race(alloc: Global, number: u64, shown: &ShownRace) -> Result<Vec<u8>, NoMemory>
+    ensures { IfOk result (λ text. text.items ≡ spec.open_race number shown.now) }
 {
     let id = race_id(alloc, number)?;
     let number = Decimal::new(number);
-    let content = content_of(alloc, race)?;
+    let content = content_of(alloc, shown)?;
     joined(
         alloc,
         &[
@@ -180,13 +210,20 @@ fn folded_title(alloc: Global, number: u64, names: &[u8], class: &[u8]) -> Resul
 
 /// A race that is likely benign.
 #[tactic(auto, unfolding(crate::specs::page::RacesShown::folded_race))]
-fn folded_race(alloc: Global, number: u64, race: &RacePart) -> Result<Vec<u8>, NoMemory>
-    ensures { IfOk result (λ text. text.items ≡ spec.folded_race number (part_of race.now)) }
+fn folded_race(
+    alloc: Global,
+    symbols: &SymbolTable,
+    number: u64,
+    race: &(Key, RaceRow),
+    shown: &ShownRace,
+) -> Result<Vec<u8>, NoMemory>
+    ensures { IfOk result (λ text. text.items ≡ spec.folded_race symbols.now number race.now shown.now) }
 {
-    let (_key, counted) = &race.row;
+    let (key, counted) = race;
     let id = race_id(alloc, number)?;
-    let title = folded_title(alloc, number, &race.names, class_word(counted.class))?;
-    let content = content_of(alloc, race)?;
+    let names = names_of(alloc, symbols, key)?;
+    let title = folded_title(alloc, number, &names, class_word(counted.class))?;
+    let content = content_of(alloc, shown)?;
     joined(
         alloc,
         &[
@@ -200,24 +237,51 @@ fn folded_race(alloc: Global, number: u64, race: &RacePart) -> Result<Vec<u8>, N
     )
 }
 
-/// A race.
-fn race_shown(alloc: Global, number: u64, race: &RacePart) -> Result<Vec<u8>, NoMemory>
-    ensures { IfOk result (λ text. text.items ≡ spec.race_shown number (part_of race.now)) }
+/// A race of that number.
+fn race_shown(
+    alloc: Global,
+    symbols: &SymbolTable,
+    number: u64,
+    race: &(Key, RaceRow),
+    shown: &ShownRace,
+) -> Result<Vec<u8>, NoMemory>
+    ensures { IfOk result (λ text. text.items ≡ spec.race_shown symbols.now number race.now shown.now) }
 {
-    if is_likely_benign(race.row.1.class) {
-        folded_race(alloc, number, race)
+    if is_likely_benign(race.1.class) {
+        folded_race(alloc, symbols, number, race, shown)
     } else {
-        open_race(alloc, number, race)
+        open_race(alloc, number, shown)
     }
 }
 
-/// The races, one by one.
-pub(crate) fn races_shown(alloc: Global, races: &[RacePart]) -> Result<Vec<u8>, NoMemory>
-    ensures { IfOk result (λ text. text.items ≡ spec.races_shown (parts races.now)) }
+/// Race n, from 0 on, of those that are told.
+fn race_at(
+    alloc: Global,
+    symbols: &SymbolTable,
+    told: &[(Key, RaceRow)],
+    n: usize,
+    shown: &ShownRace,
+) -> Result<Vec<u8>, NoMemory>
+    ensures { IfOk result (λ text. text.items ≡ spec.race_of symbols.now told.now (n + 1) shown.now) }
+{
+    match told.get(n) {
+        Some(race) => race_shown(alloc, symbols, n as u64 + 1, race, shown),
+        None => Ok(Vec::new(alloc)),
+    }
+}
+
+/// The races that are shown in full, one by one: the first of those that are told.
+pub(crate) fn races_shown(
+    alloc: Global,
+    symbols: &SymbolTable,
+    told: &[(Key, RaceRow)],
+    shown: &[ShownRace],
+) -> Result<Vec<u8>, NoMemory>
+    ensures { IfOk result (λ text. text.items ≡ spec.races_shown symbols.now told.now shown.now) }
 {
     let mut text = Vec::new(alloc);
-    for (n, race) in races.iter().enumerate() {
-        text.extend_from_slice(&race_shown(alloc, n as u64 + 1, race)?)?;
+    for (n, race) in shown.iter().enumerate() {
+        text.extend_from_slice(&race_at(alloc, symbols, told, n, race)?)?;
     }
     Ok(text)
 }

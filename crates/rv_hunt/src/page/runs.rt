@@ -53,7 +53,7 @@ fn warning_rows(alloc: Global, text: &[u8]) -> Result<Vec<u8>, NoMemory>
 
 /// The warnings, where there are any.
 #[tactic(auto, unfolding(crate::specs::page::RunsShown::warnings_part))]
-pub(crate) fn warnings_part(alloc: Global, sites: u32, saw: &Tally) -> Result<Vec<u8>, NoMemory>
+pub(crate) fn warnings_part(alloc: Global, sites: u64, saw: &Tally) -> Result<Vec<u8>, NoMemory>
     ensures { IfOk result (λ part. part.items ≡ spec.warnings_part sites saw.now) }
 {
     let text = warnings_text(alloc, sites, saw)?;
@@ -190,14 +190,14 @@ fn rows_of(alloc: Global, numbers: &[Seen<'_>]) -> Result<Vec<u8>, NoMemory>
 
 /// The rows of the sites, of the pauses and of the runs.
 #[tactic(auto, unfolding(crate::specs::page::RunsShown::seen_rows))]
-fn seen_rows(alloc: Global, sites: u32, saw: &Tally) -> Result<Vec<u8>, NoMemory>
+fn seen_rows(alloc: Global, sites: u64, saw: &Tally) -> Result<Vec<u8>, NoMemory>
     ensures { IfOk result (λ rows. rows.items ≡ spec.seen_rows sites saw.now) }
 {
     let counts = saw.counts();
     let numbers = [
         Seen {
             name: b"sites",
-            number: u64::from(sites),
+            number: sites,
             meaning: b"loads and stores that a hart may pause at",
         },
         Seen {
@@ -251,7 +251,7 @@ fn seen_rows(alloc: Global, sites: u32, saw: &Tally) -> Result<Vec<u8>, NoMemory
 
 /// What was seen.
 #[tactic(auto, unfolding(crate::specs::page::RunsShown::seen_part))]
-pub(crate) fn seen_part(alloc: Global, sites: u32, saw: &Tally) -> Result<Vec<u8>, NoMemory>
+pub(crate) fn seen_part(alloc: Global, sites: u64, saw: &Tally) -> Result<Vec<u8>, NoMemory>
     ensures { IfOk result (λ part. part.items ≡ spec.seen_part sites saw.now) }
 {
     let rows = seen_rows(alloc, sites, saw)?;

@@ -54,7 +54,7 @@ pub(crate) fn summary_line(
 }
 
 /// How many of a thing there are.
-fn counted(alloc: Global, number: u64, thing: &[u8]) -> Result<Vec<u8>, NoMemory>
+pub(crate) fn counted(alloc: Global, number: u64, thing: &[u8]) -> Result<Vec<u8>, NoMemory>
     ensures { IfOk result (λ text. text.items ≡ spec.counted number thing.now) }
 {
     let many = if number == 1 { b"".as_slice() } else { b"s" };
@@ -80,12 +80,12 @@ pub(crate) fn apart_line(
 
 /// What was seen.
 #[tactic(auto, unfolding(crate::specs::HuntSays::seen_line))]
-fn seen_line(alloc: Global, sites: u32, saw: &Tally) -> Result<Vec<u8>, NoMemory>
+fn seen_line(alloc: Global, sites: u64, saw: &Tally) -> Result<Vec<u8>, NoMemory>
     ensures { IfOk result (λ line. line.items ≡ spec.seen_line sites saw.now) }
 {
     let counts = saw.counts();
     let parts: [(&[u8], u64); 9] = [
-        (b"seen sites ", u64::from(sites)),
+        (b"seen sites ", sites),
         (b", armed ", saw.armed().count()),
         (b", paused at ", saw.paused().count()),
         (b"; pauses ", saw.pauses()),
@@ -101,7 +101,7 @@ fn seen_line(alloc: Global, sites: u32, saw: &Tally) -> Result<Vec<u8>, NoMemory
 }
 
 /// How the harts of all runs ended, and what was seen.
-pub(crate) fn saw_text(alloc: Global, sites: u32, saw: &Tally) -> Result<Vec<u8>, NoMemory>
+pub(crate) fn saw_text(alloc: Global, sites: u64, saw: &Tally) -> Result<Vec<u8>, NoMemory>
     ensures { IfOk result (λ text. text.items ≡ spec.saw_text sites saw.now) }
 {
     let ended = ended_text(alloc, saw.ended())?;

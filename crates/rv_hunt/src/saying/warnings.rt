@@ -38,7 +38,7 @@ const WARNINGS: [Warning; 6] = [
 ];
 
 /// Whether the warning holds of an image with so many sites and of what runs saw.
-fn holds(warning: Warning, sites: u32, saw: &Tally) -> bool
+fn holds(warning: Warning, sites: u64, saw: &Tally) -> bool
     ensures { result ≡ spec.holds sites saw.now warning }
 {
     match warning {
@@ -112,7 +112,7 @@ fn warning_words(alloc: Global, saw: &Tally, warning: Warning) -> Result<Vec<u8>
 }
 
 /// The line of a warning, where it holds.
-fn line_if(alloc: Global, sites: u32, saw: &Tally, warning: Warning) -> Result<Vec<u8>, NoMemory>
+fn line_if(alloc: Global, sites: u64, saw: &Tally, warning: Warning) -> Result<Vec<u8>, NoMemory>
     ensures { IfOk result (λ line. line.items ≡ spec.line_if sites saw.now warning) }
 {
     if !holds(warning, sites, saw) {
@@ -125,7 +125,7 @@ fn line_if(alloc: Global, sites: u32, saw: &Tally, warning: Warning) -> Result<V
 /// The lines of those of the warnings that hold.
 fn those_lines(
     alloc: Global,
-    sites: u32,
+    sites: u64,
     saw: &Tally,
     warnings: &[Warning],
 ) -> Result<Vec<u8>, NoMemory>
@@ -140,7 +140,7 @@ fn those_lines(
 
 /// A line of each warning that holds.
 #[tactic(auto, unfolding(crate::specs::WarningText::warnings_text))]
-pub(crate) fn warnings_text(alloc: Global, sites: u32, saw: &Tally) -> Result<Vec<u8>, NoMemory>
+pub(crate) fn warnings_text(alloc: Global, sites: u64, saw: &Tally) -> Result<Vec<u8>, NoMemory>
     ensures { IfOk result (λ text. text.items ≡ spec.warnings_text sites saw.now) }
 {
     those_lines(alloc, sites, saw, &WARNINGS)

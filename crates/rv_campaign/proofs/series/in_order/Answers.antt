@@ -15,7 +15,7 @@ loop-place-preserved g c =
       count = omega (arith, long, count);
       slots_count = c.kept_at.ensures.count;
       slots = c.kept_at.ensures.slots;
-      kept = kept_one (g.K.Keep.keeps s.keep.now) source s.first s.plans.now c.loop-place.kept.items c.push.new.self.items c.in_ok-one.one c.loop-place.place c.in_ok-push.ensures.items count c.in_ok-one.ensures.kept c.loop-place.invariant.kept;
+      kept = kept_one g.K.Keep.keeps source s.runs.now c.loop-place.kept.items c.push.new.self.items c.in_ok-one.one c.loop-place.place c.in_ok-push.ensures.items count c.in_ok-one.ensures.kept c.loop-place.invariant.kept;
     }
 
 pub returns : goal.returns
@@ -25,4 +25,4 @@ returns g c =
     let over = c.loop-place-test.false in
     let within = c.loop-place.invariant.within in
     let count = c.loop-place.invariant.count in
-    are_kept (g.K.Keep.keeps s.keep.now) source s.first s.plans.now c.loop-place.kept.items (omega (arith, over, within, count)) c.loop-place.invariant.kept
+    are_kept g.K.Keep.keeps source s.runs.now c.loop-place.kept.items (omega (arith, over, within, count)) c.loop-place.invariant.kept

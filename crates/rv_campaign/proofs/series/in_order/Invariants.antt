@@ -5,9 +5,9 @@ use Rattle.rv_campaign.proofs.series.in_order.Given as goal
 
 abbrev pub invariant-loop-place : goal.invariant-loop-place
 invariant-loop-place g l = record {
-  within : l.place ≤ length l.series.plans.now;
+  within : l.place ≤ length l.series.runs.now;
   count : length l.kept.items ≡ l.place;
-  slots_count : length l.slots.items ≡ length l.series.plans.now;
-  slots : AreSlots (g.K.Keep.keeps l.series.keep.now) (record { image = l.series.image.now; sites = l.series.sampler.now; seed = l.series.seed }) l.series.first l.series.plans.now l.slots.items;
-  kept : Kept (g.K.Keep.keeps l.series.keep.now) (record { image = l.series.image.now; sites = l.series.sampler.now; seed = l.series.seed }) l.series.first l.series.plans.now l.kept.items;
+  slots_count : length l.slots.items ≡ length l.series.runs.now;
+  slots : AreSlots g.K.Keep.keeps (record { image = l.series.image.now; sites = l.series.sampler.now; seed = l.series.seed }) l.series.runs.now l.slots.items;
+  kept : Kept g.K.Keep.keeps (record { image = l.series.image.now; sites = l.series.sampler.now; seed = l.series.seed }) l.series.runs.now l.kept.items;
 }

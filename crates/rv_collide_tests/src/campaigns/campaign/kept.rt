@@ -3,7 +3,7 @@ ghost use Rattle.std.specs.Prelude.{⊤};
 
 use crate::assertion::assert_is;
 use crate::campaigns::images::{P, image, plan};
-use rv_campaign::{Keep, Series, kept_runs, run_one};
+use rv_campaign::{Keep, Series, SeriesRun, kept_runs, run_one};
 use rv_collide::collider::Collider;
 use rv_collide::entry::Entry;
 use rv_collide::plan::Plan;
@@ -59,15 +59,22 @@ fn kept_by<R: Threads + Wait + Abort>(
     workers: u8,
 ) -> Vec<Vec<Entry>> {
     let sampler = Sampler::sites(alloc, image, &[]).expect(rt, "memory");
+    let mut runs = Vec::new(alloc);
+    for (number, plan) in (first..=u32::MAX).zip(plans) {
+        runs.push(SeriesRun {
+            number,
+            plan: *plan,
+            keep: &Entries,
+        })
+        .expect(rt, "memory");
+    }
     let series = Series {
         image,
         seed: 5,
         sampler: &sampler,
-        first,
-        plans,
-        keep: &Entries,
+        runs: &runs,
     };
-    assert!(rt; u64::from(first) + plans.len() as u64 <= 1 << 32 && workers <= 16);
+    assert!(rt; workers <= 16);
     kept_runs(rt, alloc, &series, workers).expect(rt, "a series")
 }
 

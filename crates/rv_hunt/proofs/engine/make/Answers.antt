@@ -1,13 +1,11 @@
 use Rattle.std.proofs.Common.{◌∙◌, ap, sym}
-use Rattle.std.specs.Prelude.{IfSome}
+use Rattle.std.specs.Prelude.{is_some}
 use Rattle.rv_engines.specs.CommandFault as command
 use Rattle.rv_hunt.proofs.EngineLemmas.{make_told, made_known, write_same}
-use Rattle.rv_hunt.specs.engine.Asked.{asked, parts}
-use Rattle.rv_hunt.specs.engine.Hunting.{files_of}
-use Rattle.rv_hunt.specs.engine.Paged.{IsPaged}
-use Rattle.rv_hunt.specs.engine.Saved.{AreSaved}
-use Rattle.rv_hunt.specs.internal.Opened.{hunt_in, hunting_with}
-use Rattle.rv_hunt.specs.engine.Late.{IfKept, IfMade}
+use Rattle.rv_hunt.specs.engine.Asked.{asked}
+use Rattle.rv_hunt.specs.engine.Hunting.{files_of, showing_of}
+use Rattle.rv_hunt.specs.engine.Late.{IfPaged, IfSaved}
+use Rattle.rv_hunt.specs.internal.Opened.{hunt_in, hunting_with, texts_in}
 use Rattle.rv_hunt.proofs.engine.make.Goals as goal
 
 pub returns-in-Err-made-clause-refused : goal.returns-in-Err-made-clause-refused
@@ -20,7 +18,6 @@ returns-in-Err-made-clause-files g c =
 
 pub returns-in-Ok-made-clause-made : goal.returns-in-Ok-made-clause-made
 returns-in-Ok-made-clause-made g c =
-    made_known (files_of g.R.Read.remaining c.args.inputs.now) (asked c.args.options.now) (parts c.args.options.now.line) c.args.options.now.shows (hunting_with (hunt_in (asked c.args.options.now) c.in-Ok.read.0) c.in-Ok.read.1)
-    (λ x rows. IfSome c.make_hunt-made.new.folder (λ made. AreSaved x.hunt (IfKept g.D.Folder.has_failed g.D.Folder.Holds made) rows))
-    (λ x came rows. IfSome c.make_hunt-made.new.page (λ file. IsPaged (parts c.args.options.now.line) x.hunt came rows (IfMade g.F.NewFile.has_failed g.F.NewFile.Holds file)))
-    c.in-Ok-made.made c.in-Ok.ensures.ok c.in-Ok-made.ensures.made
+    made_known (files_of g.R.Read.remaining c.args.inputs.now) (asked c.args.options.now) (showing_of c.args.options.now (is_some c.args.folder.now) (is_some c.args.page.now)) (hunting_with (hunt_in (asked c.args.options.now) c.in-Ok.read.0) c.in-Ok.read.1)
+    (IfSaved g.D.Folder.has_failed g.D.Folder.Holds c.make_hunt-made.new.folder) (IfPaged g.F.NewFile.has_failed g.F.NewFile.Holds c.make_hunt-made.new.page)
+    c.in-Ok-made.made.found (texts_in c.in-Ok-made.made) c.in-Ok.ensures.ok c.in-Ok-made.ensures.made

@@ -1,4 +1,4 @@
-use Rattle.std.proofs.Common.{subst}
+use Rattle.std.proofs.Common.{subst, refl}
 use Rattle.rv_hunt.proofs.HuntLemmas.{lot_is}
 use Rattle.rv_hunt.specs.Hunted.{Hunt}
 use Rattle.rv_hunt.specs.internal.Lots.{IsLot}
@@ -16,4 +16,4 @@ returns-clause-lot g c =
     }
     in
     subst (λ (asked : Hunt). IsLot asked c.args.next c.in_ok-lot.lot.items) c.self.view_is
-    (lot_is hunt c.args.next c.in_ok-plans.plans.items c.deref.result.now c.in_ok-lot.lot.items c.deref.ensures.value c.in_ok-plans.ensures.are c.in_ok-lot.ensures)
+    (lot_is hunt _ c.args.next c.in_ok-runs.runs.items c.deref.result.now c.in_ok-lot.lot.items c.deref.ensures.value refl refl c.in_ok-runs.ensures.are c.in_ok-lot.ensures)

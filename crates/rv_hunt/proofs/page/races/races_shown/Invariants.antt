@@ -1,9 +1,7 @@
 -- the races so far
 use Rattle.std.proofs.Common.{◌≡◌, take}
-use Rattle.rv_explain.specs.Picture.{counted}
-use Rattle.rv_hunt.specs.page.Parts.{parts}
-use Rattle.rv_hunt.specs.page.RacesShown.{race_shown}
+use Rattle.rv_hunt.specs.page.RacesShown.{races_shown}
 use Rattle.rv_hunt.proofs.page.races.races_shown.Given as goal
 
 abbrev pub invariant-loop-n : goal.invariant-loop-n
-invariant-loop-n l = l.text.items ≡ counted race_shown 1 (take l.n (parts l.races))
+invariant-loop-n l = l.text.items ≡ races_shown l.symbols l.told (take l.n l.shown)

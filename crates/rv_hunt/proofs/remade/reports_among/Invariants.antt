@@ -1,7 +1,0 @@
--- the reports among the endings so far
-use Rattle.std.proofs.Common.{◌≡◌}
-use Rattle.rv_explain.specs.Races.{reports_of}
-use Rattle.rv_hunt.proofs.remade.reports_among.Given as goal
-
-abbrev pub invariant-loop-n : goal.invariant-loop-n
-invariant-loop-n l = l.reports.items ≡ reports_of l.image l.ranges l.endings l.n
