@@ -1,6 +1,6 @@
 //! Worked schedules, each told again.
 use crate::assertion::assert_is;
-use crate::rows::forks::assert_forks_show;
+use crate::rows::forks::assert_forks_tell;
 use crate::samples::{slotted, told_over};
 use rv_collide::collider::{Collider, Finished};
 use rv_collide::ending::Ending;
@@ -18,8 +18,10 @@ mod conflicts;
 mod forks;
 mod overlaps;
 mod reservations;
+mod runs;
 mod slots;
 mod stores;
+mod telling;
 
 /// A schedule, and the text of its endings, harts and output.
 pub struct Row {
@@ -83,6 +85,6 @@ pub fn assert_all_show(rt: &impl Abort, alloc: Global, rows: &[Row], slots: u8) 
     for row in rows {
         assert_shows::<Flat>(rt, alloc, row, slots);
         assert_shows::<Paged>(rt, alloc, row, slots);
-        assert_forks_show(rt, alloc, row, slotted(rt, row.harts, 1000, 200, slots));
+        assert_forks_tell(rt, alloc, row, slotted(rt, row.harts, 1000, 200, slots));
     }
 }

@@ -3,6 +3,7 @@ mod buffered;
 mod devices;
 mod flagged;
 mod flat;
+mod forks;
 mod paged;
 mod regions;
 mod stores;

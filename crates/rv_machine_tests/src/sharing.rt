@@ -2,7 +2,9 @@
 use crate::assertion::assert_is;
 use crate::machines::regions;
 use rv_hart::machine::{Machine, StepFault};
+use rv_memory::flat::Flat;
 use rv_memory::paged::Paged;
+use rv_memory::store::{ByteStore, Fork};
 use std::alloc::Global;
 use std::process::Abort;
 
@@ -12,26 +14,26 @@ const COUNTS: [u32; 4] = [0x0002_0337, 0x0012_8293, 0x0053_2023, 0xff9f_f06f];
 /// `addi x17,x0,1`, `addi x10,x0,0x41`, and then without end `ecall`, which prints, and back.
 const PRINTS: [u32; 4] = [0x0010_0893, 0x0410_0513, 0x0000_0073, 0xffdf_f06f];
 
-/// A machine of one hart over pages, which may print 8 bytes.
-fn over_pages(rt: &impl Abort, alloc: Global, words: &[u32]) -> Machine<Paged> {
+/// A machine of one hart, which may print 8 bytes.
+fn machine<S: ByteStore>(rt: &impl Abort, alloc: Global, words: &[u32]) -> Machine<S> {
     let regions = regions(rt, alloc, words, &[0]);
     Machine::new(alloc, &regions, 0x10000, 1, 8).expect(rt, "a machine")
 }
 
-fn steps(rt: &impl Abort, machine: &mut Machine<Paged>, count: u32) {
+fn steps<S: ByteStore>(rt: &impl Abort, machine: &mut Machine<S>, count: u32) {
     for _ in 0..count {
         assert!(rt; machine.step(0).is_ok());
     }
 }
 
 /// A second machine as this one is, where there is room for what it has printed.
-fn second(rt: &impl Abort, machine: &mut Machine<Paged>, limit: u32) -> Machine<Paged> {
+fn second<S: Fork>(rt: &impl Abort, machine: &mut Machine<S>, limit: u32) -> Machine<S> {
     assert!(rt; machine.output().len() <= limit as usize && limit <= 100);
     machine.share(limit).expect(rt, "memory")
 }
 
 /// The counter, and the byte that is stored.
-fn assert_counts(rt: &impl Abort, machine: &Machine<Paged>, counter: u32, stored: u8) {
+fn assert_counts<S: ByteStore>(rt: &impl Abort, machine: &Machine<S>, counter: u32, stored: u8) {
     assert!(rt; machine.harts() == 1);
     let found = (machine.register(0, 5), machine.byte(0x20000));
     assert_is(
@@ -42,7 +44,7 @@ fn assert_counts(rt: &impl Abort, machine: &Machine<Paged>, counter: u32, stored
     );
 }
 
-fn share_a_counter(rt: &impl Abort, machine: &mut Machine<Paged>) {
+fn share_a_counter<S: Fork>(rt: &impl Abort, machine: &mut Machine<S>) {
     steps(rt, machine, 5);
     assert_counts(rt, machine, 2, 1);
     let mut one = second(rt, machine, 8);
@@ -50,11 +52,11 @@ fn share_a_counter(rt: &impl Abort, machine: &mut Machine<Paged>) {
     assert_apart(rt, machine, &mut one, &mut other);
 }
 
-fn assert_apart(
+fn assert_apart<S: ByteStore>(
     rt: &impl Abort,
-    machine: &mut Machine<Paged>,
-    one: &mut Machine<Paged>,
-    other: &mut Machine<Paged>,
+    machine: &mut Machine<S>,
+    one: &mut Machine<S>,
+    other: &mut Machine<S>,
 ) {
     steps(rt, machine, 1);
     assert_counts(rt, machine, 2, 2);
@@ -68,11 +70,13 @@ fn assert_apart(
 
 #[test]
 fn steps_on_both_sides_of_a_share(rt: HostRuntime) {
-    let mut machine = over_pages(&rt, rt.alloc(), &COUNTS);
-    share_a_counter(&rt, &mut machine);
+    let mut flat: Machine<Flat> = machine(&rt, rt.alloc(), &COUNTS);
+    share_a_counter(&rt, &mut flat);
+    let mut paged: Machine<Paged> = machine(&rt, rt.alloc(), &COUNTS);
+    share_a_counter(&rt, &mut paged);
 }
 
-fn share_a_printer(rt: &impl Abort, machine: &mut Machine<Paged>) {
+fn share_a_printer<S: Fork>(rt: &impl Abort, machine: &mut Machine<S>) {
     steps(rt, machine, 5);
     let mut full = second(rt, machine, 2);
     let mut other = second(rt, machine, 3);
@@ -83,18 +87,20 @@ fn share_a_printer(rt: &impl Abort, machine: &mut Machine<Paged>) {
     assert_output(rt, &full, b"AA");
 }
 
-fn assert_full(rt: &impl Abort, machine: &mut Machine<Paged>) {
+fn assert_full<S: ByteStore>(rt: &impl Abort, machine: &mut Machine<S>) {
     steps(rt, machine, 1);
     let stepped = machine.step(0);
     assert_is(rt, stepped, Err(StepFault::OutputFull), "no room");
 }
 
-fn assert_output(rt: &impl Abort, machine: &Machine<Paged>, output: &[u8]) {
+fn assert_output<S: ByteStore>(rt: &impl Abort, machine: &Machine<S>, output: &[u8]) {
     assert_is(rt, machine.output(), output, "the output");
 }
 
 #[test]
 fn prints_as_much_as_a_share_may(rt: HostRuntime) {
-    let mut machine = over_pages(&rt, rt.alloc(), &PRINTS);
-    share_a_printer(&rt, &mut machine);
+    let mut flat: Machine<Flat> = machine(&rt, rt.alloc(), &PRINTS);
+    share_a_printer(&rt, &mut flat);
+    let mut paged: Machine<Paged> = machine(&rt, rt.alloc(), &PRINTS);
+    share_a_printer(&rt, &mut paged);
 }

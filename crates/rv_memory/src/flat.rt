@@ -9,7 +9,7 @@ use crate::code::Code;
 use crate::fit::fault_of_both;
 use crate::index::{first_of, index_of};
 use crate::region::Region;
-use crate::store::{ByteStore, MemFault, Need, NoMemory, Steady};
+use crate::store::{ByteStore, Fork, MemFault, Need, NoMemory, Steady};
 use std::alloc::Global;
 use std::marker::Model;
 
@@ -105,6 +105,19 @@ impl ByteStore for Flat {
                 true
             }
         }
+    }
+}
+
+/// All bytes are copied.
+impl Fork for Flat {
+    fn fork(&mut self) -> Result<Flat, NoMemory> {
+        let regions = copy_all(&self.regions)?;
+        let firsts = self.firsts.clone()?;
+        Ok(Flat {
+            regions,
+            firsts,
+            code: self.code,
+        })
     }
 }
 
@@ -297,4 +310,15 @@ pub(crate) fn fill_both(
     let mut more = fill_all(alloc, second)?;
     all.append(&mut more)?;
     Ok(all)
+}
+
+fn copy_all(regions: &Vec<Region>) -> Result<Vec<Region>, NoMemory>
+    ensures { IfOk result (λ copies. copies.items ≡ regions.now.items) }
+{
+    let alloc = *regions.allocator();
+    let mut copies = Vec::with_capacity(alloc, regions.len())?;
+    for region in regions {
+        copies.push(region.copy(alloc)?)?;
+    }
+    Ok(copies)
 }

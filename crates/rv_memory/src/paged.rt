@@ -10,7 +10,7 @@ use crate::fit::fault_of_both;
 use crate::flat::fill_both;
 use crate::index::{first_of, index_of};
 use crate::region::Region;
-use crate::store::{ByteStore, MemFault, Need, NoMemory};
+use crate::store::{ByteStore, Fork, MemFault, Need, NoMemory};
 use page::PAGE_SIZE;
 use pages::Pages;
 use std::alloc::Global;
@@ -142,6 +142,13 @@ impl ByteStore for Paged {
                 table.put_or_copy(self.alloc, address, size, value)
             }
         }
+    }
+}
+
+/// The pages are shared.
+impl Fork for Paged {
+    fn fork(&mut self) -> Result<Paged, NoMemory> {
+        self.share()
     }
 }
 

@@ -174,6 +174,15 @@ pub trait ByteStore: Drop {
     }
 }
 
+/// A store from which another one of the same contents goes on apart.
+pub trait Fork: ByteStore {
+    /// A second store of the same contents. From then on what is stored in one changes nothing in the other. The contents of
+    /// this one stay, also where memory is refused.
+    fn fork(&mut self) -> Result<Self, NoMemory>
+        ensures same { Self.memory self.new ≡ Self.memory self.old }
+        ensures equal { IfOk result (λ copy. Self.memory copy ≡ Self.memory self.old) };
+}
+
 /// A store that asks for no memory once it is made.
 pub trait Steady: ByteStore {
     ghost never_refuses: { Self.can_refuse ≡ false };

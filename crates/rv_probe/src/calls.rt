@@ -1,5 +1,6 @@
 //! The calls, each on its row.
 mod cores;
+mod forks;
 mod images;
 mod machines;
 mod sessions;
@@ -7,7 +8,9 @@ mod threads;
 
 use crate::failure::Failure;
 use crate::name::Name;
+use rv_memory::flat::Flat;
 use rv_memory::output::Output;
+use rv_memory::paged::Paged;
 use std::alloc::Global;
 use std::sync::Wait;
 use std::thread::Threads;
@@ -38,10 +41,21 @@ fn make_alone<O: Output>(alloc: Global, name: Name, screen: &mut O) -> Result<()
         Name::Sites => images::finds_sites(alloc, screen),
         Name::Ranges => images::finds_ranges(alloc, screen),
         Name::NewMachine => machines::begins(alloc, screen),
-        Name::SharePages => machines::shares_pages(alloc, screen),
         Name::ShareMachine => machines::shares(alloc, screen),
         Name::Step => machines::steps(alloc, screen),
         Name::Turn => machines::turns(alloc, screen),
+        _ => make_of_forks(alloc, name, screen),
+    }
+}
+
+/// Makes a call of forks.
+fn make_of_forks<O: Output>(alloc: Global, name: Name, screen: &mut O) -> Result<(), Failure> {
+    match name {
+        Name::ForkFlat => forks::forks_a_store::<Flat, O>(alloc, screen),
+        Name::ForkPages => forks::forks_a_store::<Paged, O>(alloc, screen),
+        Name::ForkFlatCore => forks::forks_a_core::<Flat, O>(alloc, screen),
+        Name::ForkPagedCore => forks::forks_a_core::<Paged, O>(alloc, screen),
+        Name::Join => forks::joins(alloc, screen),
         _ => make_of_schedules(alloc, name, screen),
     }
 }

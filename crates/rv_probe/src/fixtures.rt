@@ -52,15 +52,15 @@ fn core_of<S: ByteStore>(alloc: Global, image: &Image, plan: Plan) -> Result<Col
     Ok(Collider::new(alloc, image, plan)?)
 }
 
-/// A core over pages whose harts have made their first step.
-pub(crate) fn begun(alloc: Global) -> Result<Collider<Paged>, Refusal> {
+/// A core whose harts have made their first step.
+pub(crate) fn begun<S: ByteStore>(alloc: Global) -> Result<Collider<S>, Refusal> {
     let mut collider = new_core(alloc, plan(2, 100, 8, 10)?)?;
     make_first_steps(&mut collider)?;
     Ok(collider)
 }
 
 /// Nothing is armed, so that each turn is a step.
-fn make_first_steps(collider: &mut Collider<Paged>) -> Result<(), Refusal> {
+fn make_first_steps<S: ByteStore>(collider: &mut Collider<S>) -> Result<(), Refusal> {
     let _stepped = collider.turn(0)?;
     let _stepped = collider.turn(1)?;
     Ok(())

@@ -1,16 +1,15 @@
-//! A second machine over the same pages.
+//! A second machine that goes on apart.
 ghost use Rattle.std.specs.Prelude.{◌≡◌, ◌≤◌, IfOk, length, vec_len, vec_capacity};
 
 use super::{Machine, OUTPUT_LIMIT};
-use rv_memory::paged::Paged;
-use rv_memory::store::NoMemory;
+use rv_memory::store::{Fork, NoMemory};
 use std::alloc::AllocError;
 
-impl Machine<Paged> {
+impl<S: Fork> Machine<S> {
     /// A second machine of the same state, which may print `out_limit` bytes: no fewer than are printed, and up to
-    /// 1,000,000. From then on the two share the pages of their memory, each until it writes there. This one stays
-    /// as it is, also where memory is refused.
-    pub fn share(&mut self, out_limit: u32) -> Result<Machine<Paged>, NoMemory>
+    /// 1,000,000. Its memory is a fork of this one's: pages are shared, each until one of the two writes there, and flat
+    /// regions are copied. This one stays as it is, also where memory is refused.
+    pub fn share(&mut self, out_limit: u32) -> Result<Machine<S>, NoMemory>
         requires printed { length self.old.state.output ≤ out_limit }
         requires limit { out_limit ≤ OUTPUT_LIMIT }
         ensures same { self.new ≡ self.old }
@@ -18,7 +17,7 @@ impl Machine<Paged> {
     {
         let output = with_room(&self.output, out_limit as usize)?;
         let harts = self.harts.clone()?;
-        let store = self.store.share()?;
+        let store = self.store.fork()?;
         Ok(Machine {
             harts,
             store,

@@ -3,7 +3,7 @@ use crate::failure::Failure;
 use crate::fixtures::{begun, image, machine};
 use crate::probed::{Probed, probe};
 use crate::refusal::Refusal;
-use crate::shown::{DATA, write_address, write_collider, write_machine};
+use crate::shown::{write_collider, write_machine};
 use rv_collide::collider::{Collider, Turned};
 use rv_elf::Image;
 use rv_hart::access::Event;
@@ -13,7 +13,6 @@ use rv_memory::flagged::WriteFault;
 use rv_memory::flat::Flat;
 use rv_memory::output::Output;
 use rv_memory::paged::Paged;
-use rv_memory::store::{ByteStore, Need};
 use std::alloc::Global;
 
 #[derive(Drop)]
@@ -38,42 +37,6 @@ impl Probed for Beginning {
 pub(crate) fn begins<O: Output>(alloc: Global, screen: &mut O) -> Result<(), Failure> {
     let image = image(alloc)?;
     probe(screen, Beginning { alloc, image })
-}
-
-#[derive(Drop)]
-struct Pages {
-    pages: Paged,
-}
-
-impl Probed for Pages {
-    type Answer = Paged;
-
-    fn call(&mut self) -> Result<Paged, Refusal> {
-        Ok(self.pages.share()?)
-    }
-
-    fn write_answer<O: Output>(answer: &Paged, screen: &mut O) -> Result<(), WriteFault> {
-        write_words(screen, answer)
-    }
-
-    fn write_held<O: Output>(&self, screen: &mut O) -> Result<(), WriteFault> {
-        write_words(screen, &self.pages)
-    }
-}
-
-/// Writes the first word of the text and that of the data.
-fn write_words<O: Output>(screen: &mut O, pages: &Paged) -> Result<(), WriteFault> {
-    write_address(screen, pages.load_permitted(0x10000, 4, Need::Execute))?;
-    write_address(screen, pages.load_permitted(DATA, 4, Need::Write))
-}
-
-fn pages_of_the_image(alloc: Global) -> Result<Paged, Refusal> {
-    Ok(Paged::make(alloc, image(alloc)?.segments())?)
-}
-
-pub(crate) fn shares_pages<O: Output>(alloc: Global, screen: &mut O) -> Result<(), Failure> {
-    let pages = pages_of_the_image(alloc)?;
-    probe(screen, Pages { pages })
 }
 
 /// How many bytes a shared machine may print.
