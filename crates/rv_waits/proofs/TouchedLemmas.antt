@@ -73,10 +73,10 @@ no_range (x ∷ xs) first size address among apart =
     both_false (is_among x.first x.size address) (in_ranges xs address) (among_both x.first (x.first + x.size) first size address among here.0) (no_range xs first size address among here.1)
 
 -- what meets nothing of it writes no byte of it
-pub none_covered : (touched : Touched) (first size : ℕ) → touched.is_all ≡ false → overlaps touched.least_pc (touched.greatest_pc + 4) first (first + size) ≡ false → meets_some touched.data first size ≡ false → (address : ℕ) → is_among first size address ≡ true → covers touched address ≡ false
+pub none_covered : (touched : Touched) (first size : ℕ) → touched.is_all ≡ false → overlaps touched.least_pc (touched.greatest_pc + 4) first (first + size) ≡ false → meets_some touched.ranges first size ≡ false → (address : ℕ) → is_among first size address ≡ true → covers touched address ≡ false
 none_covered touched first size few instructions ranges address among =
     both_false touched.is_all _ few
-    (both_false (in_instructions touched.least_pc touched.greatest_pc address) (in_ranges touched.data address) (among_both touched.least_pc (touched.greatest_pc + 4) first size address among instructions) (no_range touched.data first size address among ranges))
+    (both_false (in_instructions touched.least_pc touched.greatest_pc address) (in_ranges touched.ranges address) (among_both touched.least_pc (touched.greatest_pc + 4) first size address among instructions) (no_range touched.ranges first size address among ranges))
 
 -- ---- an access that may write some of it
 
@@ -103,9 +103,9 @@ pub covers_instruction : (touched : Touched) (first size : ℕ) → overlaps tou
 covers_instruction touched first size h =
     let it = shared touched.least_pc (touched.greatest_pc + 4) first (first + size) h in
     let pcs = in_instructions touched.least_pc touched.greatest_pc it.0 in
-    (it.0, it.1, or_right touched.is_all (pcs || in_ranges touched.data it.0) (or_left pcs (in_ranges touched.data it.0) it.2))
+    (it.0, it.1, or_right touched.is_all (pcs || in_ranges touched.ranges it.0) (or_left pcs (in_ranges touched.ranges it.0) it.2))
 
-pub covers_data : (touched : Touched) (first size : ℕ) → meets_some touched.data first size ≡ true → CoversSome touched first size
+pub covers_data : (touched : Touched) (first size : ℕ) → meets_some touched.ranges first size ≡ true → CoversSome touched first size
 covers_data touched first size h =
-    let it = some_range touched.data first size h in
-    (it.0, it.1, covers_range touched.is_all (in_instructions touched.least_pc touched.greatest_pc it.0) (in_ranges touched.data it.0) it.2)
+    let it = some_range touched.ranges first size h in
+    (it.0, it.1, covers_range touched.is_all (in_instructions touched.least_pc touched.greatest_pc it.0) (in_ranges touched.ranges it.0) it.2)

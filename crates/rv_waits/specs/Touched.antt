@@ -16,7 +16,7 @@ in_ranges ranges address = list_any (λ (range : Range). is_among range.first ra
 -- the byte may have been touched: where the ranges were too many to be kept, any may
 abbrev pub covers : Touched → ℕ → Bool
 covers touched address =
-    touched.is_all || (in_instructions touched.least_pc touched.greatest_pc address || in_ranges touched.data address)
+    touched.is_all || (in_instructions touched.least_pc touched.greatest_pc address || in_ranges touched.ranges address)
 
 -- one of `size` bytes from the first on may have been touched
 abbrev pub CoversSome : Touched → ℕ → ℕ → Type 0

@@ -22,7 +22,7 @@ pub struct Range {
 pub struct Touched {
     pub least_pc: u32,
     pub greatest_pc: u32,
-    pub data: [Range; MOST_RANGES],
+    pub ranges: [Range; MOST_RANGES],
     pub is_all: bool,
 }
 
@@ -35,7 +35,7 @@ pub fn touched_at(pc: u32) -> Touched
     Touched {
         least_pc: pc,
         greatest_pc: pc,
-        data: [none; MOST_RANGES],
+        ranges: [none; MOST_RANGES],
         is_all: false,
     }
 }
@@ -75,8 +75,8 @@ fn touch_range(touched: &mut Touched, range: Range)
     ensures kept { (address : ℕ) → covers touched.old address ≡ true → covers touched.new address ≡ true }
     ensures range { (address : ℕ) → is_among range.first range.size address ≡ true → covers touched.new address ≡ true }
 {
-    match place_for(&touched.data, range) {
-        Some(place) => touched.data[place] = range,
+    match place_for(&touched.ranges, range) {
+        Some(place) => touched.ranges[place] = range,
         None => touched.is_all = true,
     }
 }
@@ -109,9 +109,9 @@ fn in_instructions(touched: &Touched, address: u32) -> bool
 }
 
 fn in_ranges(touched: &Touched, address: u32) -> bool
-    ensures { result ≡ in_ranges touched.now.data address }
+    ensures { result ≡ in_ranges touched.now.ranges address }
 {
-    touched.data.iter().any(|range| is_in(range, address))
+    touched.ranges.iter().any(|range| is_in(range, address))
 }
 
 fn is_in(range: &Range, address: u32) -> bool
@@ -146,10 +146,10 @@ fn meets_instructions(touched: &Touched, first: u32, size: u8) -> bool
 }
 
 fn meets_some(touched: &Touched, first: u32, size: u8) -> bool
-    ensures { result ≡ meets_some touched.now.data first size }
+    ensures { result ≡ meets_some touched.now.ranges first size }
 {
     touched
-        .data
+        .ranges
         .iter()
         .any(|range| meets_range(range, first, size))
 }

@@ -17,11 +17,11 @@ returns-clause-apart c = λ e.
     let size = c.args.size in
     let few : touched.is_all ≡ false = cc in
     let instructions : overlaps touched.least_pc (touched.greatest_pc + 4) first (first + size) ≡ false = cc in
-    let ranges : meets_some touched.data first size ≡ false = cc in
+    let ranges : meets_some touched.ranges first size ≡ false = cc in
     none_covered touched first size few instructions ranges
 
 pub returns-clause-some : goal.returns-clause-some
 returns-clause-some c = λ e few.
     let touched = c.args.touched.now in
-    let met : meets_some touched.data c.args.first c.args.size ≡ true = cc in
+    let met : meets_some touched.ranges c.args.first c.args.size ≡ true = cc in
     covers_data touched c.args.first c.args.size met

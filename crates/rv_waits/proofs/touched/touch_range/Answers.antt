@@ -8,11 +8,11 @@ returns-in-Some-clause-kept c =
     let t = c.args.touched.now in
     let range = c.args.range in
     let place = c.in-Some.place in
-    λ address h. covers_kept t.is_all (in_instructions t.least_pc t.greatest_pc address) (in_ranges t.data address) (in_ranges (slice_set t.data place range) address) (ranges_kept t.data place range address c.in-Some.ensures) h
+    λ address h. covers_kept t.is_all (in_instructions t.least_pc t.greatest_pc address) (in_ranges t.ranges address) (in_ranges (slice_set t.ranges place range) address) (ranges_kept t.ranges place range address c.in-Some.ensures) h
 
 pub returns-in-Some-clause-range : goal.returns-in-Some-clause-range
 returns-in-Some-clause-range c =
     let t = c.args.touched.now in
     let range = c.args.range in
     let place = c.in-Some.place in
-    λ address h. covers_range t.is_all (in_instructions t.least_pc t.greatest_pc address) (in_ranges (slice_set t.data place range) address) (range_there t.data place range address c.in-Some.ensures h)
+    λ address h. covers_range t.is_all (in_instructions t.least_pc t.greatest_pc address) (in_ranges (slice_set t.ranges place range) address) (range_there t.ranges place range address c.in-Some.ensures h)
