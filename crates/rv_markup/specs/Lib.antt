@@ -1,2 +1,3 @@
 pub mod Escaped
+pub mod Markup
 pub mod MarkupLaws

@@ -49,13 +49,21 @@ fn add_escaped(text: &mut Vec<u8>, byte: u8) -> Result<(), NoMemory>
     Ok(())
 }
 
+/// Adds a text as it stands in markup.
+pub(crate) fn push_escaped(written: &mut Vec<u8>, text: &[u8]) -> Result<(), NoMemory>
+    ensures { OnOk result (written.new.items ≡ written.old.items ++ spec.escaped text.now) }
+{
+    for byte in text {
+        add_escaped(written, *byte)?;
+    }
+    Ok(())
+}
+
 /// A text as it stands in the page.
 pub fn escaped(alloc: Global, text: &[u8]) -> Result<Vec<u8>, NoMemory>
     ensures { IfOk result (λ written. written.items ≡ spec.escaped text.now) }
 {
     let mut written = Vec::new(alloc);
-    for byte in text {
-        add_escaped(&mut written, *byte)?;
-    }
+    push_escaped(&mut written, text)?;
     Ok(written)
 }

@@ -1,4 +1,4 @@
-//! Texts in markup: how any text stands in an HTML page.
+//! Markup that is well formed, and how any text stands in it.
 //!
 //! To the layers above, what `escaped` makes of a text is that of `specs/Escaped.antt`: it opens no element and ends no
 //! attribute, whatever the text's bytes are.
@@ -6,3 +6,5 @@
 
 pub mod escaped;
 pub mod laws;
+pub mod markup;
+pub mod tag;
