@@ -1,6 +1,7 @@
 -- What two files and the options of `explain` come to, and why they are refused.
-use Rattle.std.proofs.Common.{◌≡◌, ℕ, Bool, true, false, true≢false, List, Option, Some, None, Result, Ok, Err, refl, sym, ap, subst, ◌∙◌}
-use Rattle.std.specs.Prelude.{◌||◌, IfSome, IsOkAnd, find, option_map}
+use Rattle.std.proofs.Common.{◌≡◌, ℕ, Bool, true, false, true≢false, List, length, Option, Some, None, Ok, Err, refl, sym, ap, subst, ◌∙◌}
+use Rattle.std.specs.Prelude.{◌==◌, ◌||◌, ◌&&◌, if◌then◌else◌, find}
+use Rattle.std.specs.Result.{IsOk}
 use Rattle.rv_collide.specs.Legal.{IsLegal}
 use Rattle.rv_collide.specs.Plan.{Numbers}
 use Rattle.rv_collide.specs.Replays.{IsReplayFault}
@@ -9,7 +10,8 @@ use Rattle.rv_collide.specs.declared.entry.Entry.{Entry}
 use Rattle.rv_collide.specs.declared.replay.ReplayFault.{ReplayFault}
 use Rattle.rv_debug.specs.Placed.{Placed, placed, setting}
 use Rattle.rv_elf.specs.Contents.{Contents}
-use Rattle.rv_explain.specs.Explained.{explained}
+use Rattle.rv_explain.specs.Blocks.{RaceShown}
+use Rattle.rv_explain.specs.Explained.{blocks_asked}
 use Rattle.rv_explain.specs.Races.{AreTold, Found, Run, found, found_of, run_of as placed_run}
 use Rattle.rv_races.specs.declared.races.Race.{Race}
 use Rattle.rv_memory.specs.Chain.{◌>>=◌}
@@ -17,8 +19,8 @@ use Rattle.rv_prune.specs.Ranges.{is_unknown, ranges}
 use Rattle.rv_engines.proofs.ReplayLemmas.{entry_told}
 use Rattle.rv_engines.specs.Asking.{Asking}
 use Rattle.rv_engines.specs.Campaigns.{elements, listed, unless_some}
-use Rattle.rv_engines.specs.CommandFault.{Refusal, Plain, Name, NoThread, IsTold, is_thread, plainly}
-use Rattle.rv_engines.specs.Explains.{IsExplainRefusal, IsOfLegal, Told, explain_of, number_drawn, picture_if, picture_of, run_in, told_in, told_of, unless_none}
+use Rattle.rv_engines.specs.CommandFault.{Refusal, Plain, Name, NoThread, NoRace, IsTold, is_thread, plainly}
+use Rattle.rv_engines.specs.Explains.{IsExplainRefusal, IsOfLegal, explain_of, if_drawn, run_in, shown_in, shown_in_run, unless_none}
 use Rattle.rv_engines.specs.Fault.{fault_of_replay}
 use Rattle.rv_engines.specs.Replay.{IfKnown, IsReplayRefusal, run_of}
 use Rattle.rv_engines.specs.declared.explain.opening.Opened.{Opened}
@@ -35,9 +37,9 @@ files_refused image schedule draws wanted fault told is h = subst (λ (t : Refus
 of_legal : (i s : List ℕ) (run : Stored) → run_of i s ≡ Ok run → IsLegal (setting_of run) run.entries → IsOfLegal i s
 of_legal i s run is legal = rw is legal
 
-explain_is : (draws : Bool) (wanted : Asking) (i s : List ℕ) (run : Stored) → run_of i s ≡ Ok run → explain_of draws wanted i s ≡ told_in draws wanted run
+explain_is : (draws : Bool) (wanted : Asking) (i s : List ℕ) (run : Stored) → run_of i s ≡ Ok run → explain_of draws wanted i s ≡ shown_in draws wanted run
 unfolding explain_of
-explain_is draws wanted i s run is = ap (λ r. plainly r >>= told_in draws wanted) is
+explain_is draws wanted i s run is = ap (λ r. plainly r >>= shown_in draws wanted) is
 
 pub entry_refused : (image schedule : Option (List ℕ)) (draws : Bool) (wanted : Asking) (run : Stored) (given : ReplayFault) (told : Refusal) → IfKnown image schedule (λ i s. run_of i s ≡ Ok run)
     → IsReplayFault (setting_of run) run.entries given → told ≡ Plain (fault_of_replay given) → IfKnown image schedule (λ i s. IsExplainRefusal draws wanted i s told)
@@ -60,7 +62,7 @@ of_names : (draws : Bool) (wanted : Asking) (i s : List ℕ) (run : Stored) (tol
     → listed run.image (elements wanted.named) ≡ Err told → IsOfLegal i s × (explain_of draws wanted i s ≡ Err told)
 of_names draws wanted i s run told is legal h = (
   of_legal i s run is legal,
-  explain_is draws wanted i s run is ∙ ap (λ r. r >>= λ ranges. told_of draws wanted (run_in run) (found (run_in run) ranges)) h,
+  explain_is draws wanted i s run is ∙ ap (λ r. r >>= λ ranges. shown_in_run draws wanted (run_in run) (found (run_in run) ranges)) h,
 )
 
 names_told : (draws : Bool) (wanted : Asking) (i s : List ℕ) (run : Stored) (told : Refusal) → run_of i s ≡ Ok run → IsLegal (setting_of run) run.entries
@@ -102,28 +104,26 @@ are_told p contents plan entries races image numbers list told = subst (λ (r : 
 -- ---- what is told
 
 whole : (draws : Bool) (wanted : Asking) (i s : List ℕ) (opened : Opened) → run_of i s ≡ Ok (stored opened.session.image opened.session.plan opened.session.entries) → opened.session.image ≡ opened.image
-    → AreFound wanted opened → explain_of draws wanted i s ≡ told_of draws wanted (placed_run opened.session) (found_of opened.found)
+    → AreFound wanted opened → explain_of draws wanted i s ≡ shown_in_run draws wanted (placed_run opened.session) (found_of opened.found)
 whole draws wanted i s opened is image found_in =
     let names = ap (λ (c : Contents). listed c (elements wanted.named)) image ∙ found_in.listed_are in
     explain_is draws wanted i s (stored opened.session.image opened.session.plan opened.session.entries) is
-    ∙ ap (λ r. r >>= λ ranges. told_of draws wanted (placed_run opened.session) (found (placed_run opened.session) ranges)) names
-    ∙ ap (λ (f : Found). told_of draws wanted (placed_run opened.session) f) (sym found_in.found_are)
+    ∙ ap (λ r. r >>= λ ranges. shown_in_run draws wanted (placed_run opened.session) (found (placed_run opened.session) ranges)) names
+    ∙ ap (λ (f : Found). shown_in_run draws wanted (placed_run opened.session) f) (sym found_in.found_are)
 
-abbrev told_with : Option (List ℕ) → List ℕ → Result Told Refusal
-told_with picture text = Ok (record { text = text; picture = picture })
-
-no_plain : (draws : Bool) (wanted : Asking) (run : Run) (f : Found) (fault : Fault) → told_of draws wanted run f ≡ Err (Plain fault) → ⊥
-no_plain draws wanted run f fault h = go draws (picture_of run f wanted.around (number_drawn wanted.race)) (explained run f wanted.around wanted.race) h
+no_plain : (draws : Bool) (wanted : Asking) (run : Run) (f : Found) (fault : Fault) → shown_in_run draws wanted run f ≡ Err (Plain fault) → ⊥
+no_plain draws wanted run f fault h = go (blocks_asked run wanted.around f.races wanted.race) h
   where
-    go : (draws : Bool) (picture text : Option (List ℕ)) → (picture_if draws picture >>= λ drawn. unless_none text >>= λ t. told_with drawn t) ≡ Err (Plain fault) → ⊥
-    go false picture None h = cc
-    go false picture (Some text) h = cc
-    go true None text h = cc
-    go true (Some drawn) None h = cc
-    go true (Some drawn) (Some text) h = cc
+    undrawn : (none : Bool) (blocks : List RaceShown) → (if none then Err NoRace else Ok blocks) ≡ Err (Plain fault) → ⊥
+    undrawn true blocks h = cc
+    undrawn false blocks h = cc
 
-races_told : (draws : Bool) (wanted : Asking) (i s : List ℕ) (run : Run) (f : Found) (told : Refusal) → IsOfLegal i s → explain_of draws wanted i s ≡ told_of draws wanted run f
-    → is_thread told ≡ false → IsTold (told_of draws wanted run f) told → IsExplainRefusal draws wanted i s told
+    go : (blocks : Option (List RaceShown)) → (unless_none blocks >>= if_drawn draws) ≡ Err (Plain fault) → ⊥
+    go None h = cc
+    go (Some blocks) h = undrawn (draws && length blocks == 0) blocks h
+
+races_told : (draws : Bool) (wanted : Asking) (i s : List ℕ) (run : Run) (f : Found) (told : Refusal) → IsOfLegal i s → explain_of draws wanted i s ≡ shown_in_run draws wanted run f
+    → is_thread told ≡ false → IsTold (shown_in_run draws wanted run f) told → IsExplainRefusal draws wanted i s told
 races_told draws wanted i s run f (Plain Read) legal is no_thread h = tt
 races_told draws wanted i s run f (Plain Write) legal is no_thread h = tt
 races_told draws wanted i s run f (Plain NoMemory) legal is no_thread h = tt
@@ -133,31 +133,32 @@ races_told draws wanted i s run f told legal is no_thread h = (legal, is ∙ h)
 
 pub races_refused : (image schedule : Option (List ℕ)) (draws : Bool) (wanted : Asking) (opened : Opened) (told : Refusal) → IfKnown image schedule (λ i s. run_of i s ≡ Ok (stored opened.session.image opened.session.plan opened.session.entries))
     → opened.session.image ≡ opened.image → IsLegal (setting opened.session) opened.session.entries → AreFound wanted opened
-    → is_thread told ≡ false → IsTold (told_of draws wanted (placed_run opened.session) (found_of opened.found)) told → IfKnown image schedule (λ i s. IsExplainRefusal draws wanted i s told)
+    → is_thread told ≡ false → IsTold (shown_in_run draws wanted (placed_run opened.session) (found_of opened.found)) told → IfKnown image schedule (λ i s. IsExplainRefusal draws wanted i s told)
 races_refused None schedule draws wanted opened told is image legal found_in no_thread h = tt
 races_refused (Some i) None draws wanted opened told is image legal found_in no_thread h = tt
 races_refused (Some i) (Some s) draws wanted opened told is image legal found_in no_thread h =
     races_told draws wanted i s (placed_run opened.session) (found_of opened.found) told (of_legal i s _ is legal) (whole draws wanted i s opened is image found_in) no_thread h
 
-pub races_shown : (image schedule : Option (List ℕ)) (draws : Bool) (wanted : Asking) (opened : Opened) (told : Told) (Fact : Told → Type 0) → IfKnown image schedule (λ i s. run_of i s ≡ Ok (stored opened.session.image opened.session.plan opened.session.entries))
+pub races_shown : (image schedule : Option (List ℕ)) (draws : Bool) (wanted : Asking) (opened : Opened) (blocks : List RaceShown) → IfKnown image schedule (λ i s. run_of i s ≡ Ok (stored opened.session.image opened.session.plan opened.session.entries))
     → opened.session.image ≡ opened.image → IsLegal (setting opened.session) opened.session.entries → AreFound wanted opened
-    → told_of draws wanted (placed_run opened.session) (found_of opened.found) ≡ Ok told → Fact told → IfKnown image schedule (λ i s. IsOfLegal i s × IsOkAnd (explain_of draws wanted i s) Fact)
-races_shown None schedule draws wanted opened told Fact is image legal found_in h fact = tt
-races_shown (Some i) None draws wanted opened told Fact is image legal found_in h fact = tt
-races_shown (Some i) (Some s) draws wanted opened told Fact is image legal found_in h fact =
-    let all : explain_of draws wanted i s ≡ Ok told = whole draws wanted i s opened is image found_in ∙ h in
-    (of_legal i s _ is legal, rw all fact)
+    → shown_in_run draws wanted (placed_run opened.session) (found_of opened.found) ≡ Ok blocks → IfKnown image schedule (λ i s. IsOfLegal i s × IsOk (explain_of draws wanted i s))
+races_shown None schedule draws wanted opened blocks is image legal found_in h = tt
+races_shown (Some i) None draws wanted opened blocks is image legal found_in h = tt
+races_shown (Some i) (Some s) draws wanted opened blocks is image legal found_in h =
+    let all : explain_of draws wanted i s ≡ Ok blocks = whole draws wanted i s opened is image found_in ∙ h in
+    (of_legal i s _ is legal, rw all refl)
 
 pub write_refused : (image schedule : Option (List ℕ)) (draws : Bool) (wanted : Asking) (told : Refusal) → told ≡ Plain Write → IfKnown image schedule (λ i s. IsExplainRefusal draws wanted i s told)
 write_refused None schedule draws wanted told is = tt
 write_refused (Some i) None draws wanted told is = tt
 write_refused (Some i) (Some s) draws wanted told is = subst (λ (t : Refusal). IsExplainRefusal draws wanted i s t) (sym is) tt
 
--- ---- what is written
+pub memory_refused : (image schedule : Option (List ℕ)) (draws : Bool) (wanted : Asking) (told : Refusal) → told ≡ Plain NoMemory → IfKnown image schedule (λ i s. IsExplainRefusal draws wanted i s told)
+memory_refused None schedule draws wanted told is = tt
+memory_refused (Some i) None draws wanted told is = tt
+memory_refused (Some i) (Some s) draws wanted told is = subst (λ (t : Refusal). IsExplainRefusal draws wanted i s t) (sym is) tt
 
-pub of_mapped : {A B : Type 0} (f : A → B) (P : B → Type 0) (o : Option A) → IfSome o (λ a. P (f a)) → IfSome (option_map f o) P
-of_mapped f P None holds = tt
-of_mapped f P (Some a) holds = holds
+-- ---- what is written
 
 pub no_writer : (file writer failed : Bool) → failed ≡ false → (file || writer) ≡ (file || writer || failed)
 no_writer true writer failed is = refl
@@ -169,6 +170,6 @@ pub refused_by : (image schedule : Option (List ℕ)) (draws tested : Bool) (wan
     → IfKnown image schedule (λ i s. IsExplainRefusal tested wanted i s told)
 refused_by image schedule draws tested wanted told same h = subst (λ (b : Bool). IfKnown image schedule (λ i s. IsExplainRefusal b wanted i s told)) same h
 
-pub shown_by : (image schedule : Option (List ℕ)) (draws tested : Bool) (wanted : Asking) (Fact : Told → Type 0) → draws ≡ tested → IfKnown image schedule (λ i s. IsOfLegal i s × IsOkAnd (explain_of draws wanted i s) Fact)
-    → IfKnown image schedule (λ i s. IsOfLegal i s × IsOkAnd (explain_of tested wanted i s) Fact)
-shown_by image schedule draws tested wanted Fact same h = subst (λ (b : Bool). IfKnown image schedule (λ i s. IsOfLegal i s × IsOkAnd (explain_of b wanted i s) Fact)) same h
+pub shown_by : (image schedule : Option (List ℕ)) (draws tested : Bool) (wanted : Asking) → draws ≡ tested → IfKnown image schedule (λ i s. IsOfLegal i s × IsOk (explain_of draws wanted i s))
+    → IfKnown image schedule (λ i s. IsOfLegal i s × IsOk (explain_of tested wanted i s))
+shown_by image schedule draws tested wanted same h = subst (λ (b : Bool). IfKnown image schedule (λ i s. IsOfLegal i s × IsOk (explain_of b wanted i s))) same h

@@ -1,9 +1,6 @@
 -- What is shown of a run, as the code finds it entry by entry.
 use Rattle.std.proofs.Common.{◌≡◌, ℕ, zero, suc, ◌+◌, ◌-◌, ◌<◌, ◌≤◌, Bool, true, false, List, [], ◌∷◌, ◌++◌, Option, Some, None, Result, Ok, Err, map, get_or, take, refl, ap, sym, subst, ◌∙◌, append_assoc, append-nil, arith}
 use Rattle.std.specs.Prelude.{◌&&◌, IfOk, IfSome, IsSomeAnd, filter_map, option_and_then, option_map, length, slice_get, unwrap_or}
-use Rattle.std.specs.Io.KnownBytes.{Appends}
-use Rattle.std.proofs.KnownBytes.{Appends-trans}
-use Rattle.std.proofs.lemmas.List.{length-take-le, take_more}
 use Rattle.std.specs.List.{fold, range_with_len}
 use Rattle.std.specs.Option.{option_map_or}
 use Rattle.std.proofs.lemmas.Bool.Decides.{nat_tests}
@@ -19,8 +16,7 @@ use Rattle.rv_collide.specs.declared.entry.Entry.{Entry}
 use Rattle.rv_debug.specs.Placed.{Placed, moved}
 use Rattle.rv_explain.proofs.Ranges.{fold_found_to, fold_to, map_to}
 use Rattle.rv_explain.specs.BlockOf.{Lines, last_store, lines, lines_from, meets_at, no_lines, places_about, race_shown, row_at, row_between, second, shown_with, side, store_or, with_place}
-use Rattle.rv_explain.specs.Explained.{blocks_text, race_text}
-use Rattle.rv_explain.specs.Rows.{is_within}
+use Rattle.rv_explain.specs.Meeting.{is_within}
 use Rattle.rv_explain.specs.Told.{IsRow, row_of}
 use Rattle.rv_explain.specs.declared.block.Side.{Side}
 use Rattle.rv_explain.specs.declared.row.Row.{Row}
@@ -66,19 +62,6 @@ within_case run told meets at true knows is =
 -- an entry meets the bytes where that is told of it
 pub meets_there : (run : Run) (told : Ending) (meets : List Bool) (at : ℕ) → meets ≡ map (meets_at run told) (within (pause_of told)) → (is_within told at && unwrap_or (slice_get meets (at - told.paused_at - 1)) false) ≡ meets_at run told at
 meets_there run told meets at knows = within_case run told meets at (is_within told at) knows refl
-
--- ---- blocks
-
--- the blocks of races with one more at the end
-pub blocks_more : (run : Run) (around k j : ℕ) (races : List Race) (race : Race) → k + length races ≡ j → blocks_text run around k (races ++ race ∷ []) ≡ blocks_text run around k races ++ race_text run around j race
-unfolding blocks_text
-blocks_more run around k j [] race is =
-    let same : k ≡ j = omega arith in
-    append-nil (race_text run around k race) ∙ ap (λ (n : ℕ). race_text run around n race) same
-blocks_more run around k j (r ∷ rs) race is =
-    let next : k + 1 + length rs ≡ j = omega arith in
-    ap (λ (t : List ℕ). race_text run around k r ++ t) (blocks_more run around (k + 1) j rs race next)
-    ∙ sym (append_assoc (race_text run around k r) (blocks_text run around (k + 1) rs) (race_text run around j race))
 
 -- ---- the walk over a pause
 
@@ -162,17 +145,3 @@ row_found p q at entry paused (Ok row) here there is = row_is (moved p at) entry
 pub none_yet : (run : Run) (around : ℕ) (told : Ending) (places : List ℕ) (from : ℕ) → no_lines ≡ lines_from run around told places from (from - from)
 unfolding lines_from
 none_yet run around told places from = let same : from - from ≡ 0 = omega arith in rw same refl
-
--- ---- what is written
-
-pub appends_none : (known : Option (List ℕ)) → Appends known known []
-appends_none None = tt
-appends_none (Some bytes) = sym (append-nil bytes)
-
--- the blocks of the races so far and that of one more
-pub written_next : (run : Run) (around : ℕ) (races : List Race) (i : ℕ) (d : Race) (a b c : Option (List ℕ)) → i < length races → Appends a b (blocks_text run around 1 (take i races)) → Appends b c (race_text run around (i + 1) (get_or races i d)) → Appends a c (blocks_text run around 1 (take (i + 1) races))
-written_next run around races i d a b c below before next =
-    let len : length (take i races) ≡ i = length-take-le i races (omega arith) in
-    let count : 1 + length (take i races) ≡ i + 1 = rw len (omega arith) in
-    subst (Appends a c) (sym (ap (blocks_text run around 1) (take_more races i d below) ∙ blocks_more run around 1 (i + 1) (take i races) (get_or races i d) count))
-    (Appends-trans a b c (blocks_text run around 1 (take i races)) (race_text run around (i + 1) (get_or races i d)) before next)

@@ -12,7 +12,7 @@ use Rattle.rv_collide.specs.declared.ending.Ending.{Ending}
 use Rattle.rv_debug.specs.Answers.{word_at}
 use Rattle.rv_elf.specs.Contents.{Contents}
 use Rattle.rv_explain.specs.Blocks.{RaceShown}
-use Rattle.rv_explain.specs.Rows.{is_within, met}
+use Rattle.rv_explain.specs.Meeting.{is_within, met}
 use Rattle.rv_explain.specs.Told.{row_of}
 use Rattle.rv_explain.specs.declared.block.Side.{Side}
 use Rattle.rv_explain.specs.declared.row.Row.{Row}

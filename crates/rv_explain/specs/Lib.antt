@@ -1,11 +1,9 @@
 pub mod BlockOf
 pub mod Blocks
 pub mod Explained
-pub mod Fault
+pub mod Meeting
 pub mod Names
-pub mod Picture
 pub mod Pieces
-pub mod Rows
 pub mod Told
 pub mod internal
 pub use Rattle.rv_races.specs.Classes

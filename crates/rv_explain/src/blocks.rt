@@ -1,42 +1,20 @@
-//! The block of a race, as `specs/Blocks.antt` has it.
-ghost use Rattle.std.specs.Prelude.{◌≡◌, ◌≢◌, ◌||◌, Err, is_err, IfOk, OnOk};
-ghost use Rattle.std.specs.Io.KnownBytes.{Appends};
+//! The text of a race's block: which two instructions, how often, on which variable; what each hart did; the bytes; and the
+//! entries around it.
+ghost use Rattle.std.specs.Prelude.{◌≡◌};
 ghost use Rattle.rv_explain.specs.Blocks as spec;
-ghost use Rattle.rv_explain.specs.Fault.{is_write_fault};
 
 use crate::block::{Block, RaceClass, Side};
-use crate::fault::ExplainFault;
-use crate::names::{address_text, name_text};
-use crate::pieces::{copied, joined};
-use crate::row::Shown;
-use crate::rows::{instruction_text, shown_line};
-use rv_collide::ending::{Ending, Verdict};
-use rv_memory::flagged::WriteFault;
-use rv_memory::output::{Output, put_pieces};
+use crate::names::{Names, TEXT_NAME};
+use crate::rows::shown_line;
+use rv_collide::ending::Verdict;
 use rv_memory::store::NoMemory;
 use rv_prune::ordered::role_at;
 use rv_prune::role::Role;
 use rv_symbols::symbol_table::SymbolTable;
-use rv_text::decimal::Decimal;
-use rv_text::hexadecimal::word_digits;
 use std::alloc::Global;
 
 /// The names of the columns.
-const COLUMNS: &[u8] = b"\n\n    entry  hart  event      bytes     instruction\n";
-
-fn pair_text(alloc: Global, symbols: &SymbolTable, ending: &Ending) -> Result<Vec<u8>, NoMemory>
-    ensures { IfOk result (λ text. text.items ≡ spec.pair_text symbols.now ending.now.access ending.now.verdict) }
-{
-    let pc = ending.access.pc;
-    match ending.verdict {
-        Verdict::Hit(seen) => {
-            let one = name_text(alloc, symbols, pc.min(seen.access.pc))?;
-            let other = name_text(alloc, symbols, pc.max(seen.access.pc))?;
-            joined(alloc, &[&one, b" and ", &other])
-        }
-        Verdict::Changed | Verdict::Quiet => name_text(alloc, symbols, pc),
-    }
-}
+const COLUMNS: &[u8] = b"    entry  hart  event      bytes     instruction";
 
 /// The word of a class.
 pub fn class_word(class: RaceClass) -> &'static [u8]
@@ -51,382 +29,206 @@ pub fn class_word(class: RaceClass) -> &'static [u8]
     }
 }
 
-fn reports_text(alloc: Global, count: u64) -> Result<Vec<u8>, NoMemory>
-    ensures { IfOk result (λ text. text.items ≡ spec.reports_text count) }
-{
-    if count == 1 {
-        joined(alloc, &[b"1 report"])
-    } else {
-        joined(alloc, &[Decimal::new(count).as_bytes(), b" reports"])
-    }
+/// The two instructions, the lower address first; of a change the paused one alone.
+fn pair_text(alloc: Global, names: &Names, block: &Block) -> Result<String, NoMemory> {
+    let pc = block.ending.access.pc;
+    let Verdict::Hit(seen) = &block.ending.verdict else {
+        return names.name(alloc, pc);
+    };
+    let one = names.name(alloc, pc.min(seen.access.pc))?;
+    let other = names.name(alloc, pc.max(seen.access.pc))?;
+    Ok(format!(in alloc; "{one} and {other}")?)
 }
 
-#[tactic(auto, unfolding(crate::specs::Blocks::first_line))]
 fn first_line(
     alloc: Global,
-    symbols: &SymbolTable,
-    run: &[u8],
+    names: &Names,
+    run_words: &[u8],
     race: u64,
     block: &Block,
-) -> Result<Vec<u8>, NoMemory>
-    ensures { IfOk result (λ text. text.items ≡ spec.first_line symbols.now run.now race (spec.shown_of block.now)) }
-{
-    let number = Decimal::new(race);
-    let pair = pair_text(alloc, symbols, &block.ending)?;
-    let reports = reports_text(alloc, block.reports)?;
-    let class = class_word(block.class);
-    let run = copied(alloc, run)?;
-    joined(
-        alloc,
-        &[
-            b"race ",
-            number.as_bytes(),
-            b": ",
-            &pair,
-            b", ",
-            &reports,
-            b", ",
-            class,
-            &run,
-        ],
-    )
+) -> Result<Vec<u8>, NoMemory> {
+    let pair = pair_text(alloc, names, block)?;
+    let reports = block.reports;
+    let ending = if reports == 1 { "" } else { "s" };
+    let line = format!(in alloc; "race {race}: {pair}, {reports} report{ending}, ")?;
+    let mut line = line.into_bytes();
+    line.extend_from_slice(class_word(block.class))?;
+    line.extend_from_slice(run_words)?;
+    Ok(line)
 }
 
-fn role_text(role: Role) -> &'static [u8]
-    ensures { result.now ≡ spec.role_text role }
-{
+/// What an instruction's part in an order is.
+fn role_text(role: Role) -> &'static str {
     match role {
-        Role::Atomic => b"an atomic access",
-        Role::Release => b"a store behind a fence: a release",
-        Role::Acquire => b"a load before a fence: an acquire",
-        Role::Load => b"a load",
-        Role::Plain => b"no part of an order",
+        Role::Atomic => "an atomic access",
+        Role::Release => "a store behind a fence: a release",
+        Role::Acquire => "a load before a fence: an acquire",
+        Role::Load => "a load",
+        Role::Plain => "no part of an order",
     }
 }
 
-/// Why a race is not kept, a line, or nothing.
-#[tactic(auto, unfolding(crate::specs::Blocks::reason_text))]
-fn reason_text(alloc: Global, symbols: &SymbolTable, block: &Block) -> Result<Vec<u8>, NoMemory>
-    ensures { IfOk result (λ text. text.items ≡ spec.reason_text symbols.now (spec.shown_of block.now) block.now.class) }
-{
-    match block.class {
-        RaceClass::Kept => Ok(Vec::new(alloc)),
-        RaceClass::Counter => joined(
-            alloc,
-            &[b"  counter: both add to a word in memory, so this may be a statistics counter\n"],
-        ),
-        RaceClass::Flag => joined(
-            alloc,
-            &[b"  flag: the code looks at none of the bits that changed\n"],
-        ),
-        RaceClass::Named => joined(alloc, &[b"  named: the bytes are listed by --named\n"]),
+/// Why a race is not kept.
+fn reason_line(alloc: Global, names: &Names, block: &Block) -> Result<Option<String>, NoMemory> {
+    let reason = match block.class {
+        RaceClass::Kept => return Ok(None),
+        RaceClass::Counter => {
+            "counter: both add to a word in memory, so this may be a statistics counter"
+        }
+        RaceClass::Flag => "flag: the code looks at none of the bits that changed",
+        RaceClass::Named => "named: the bytes are listed by --named",
         RaceClass::Ordered => {
-            let image = symbols.image();
+            let image = names.symbols.image();
             let one = role_text(role_at(image, block.paused.access.pc));
             let other = role_text(role_at(image, block.other.access.pc));
-            joined(alloc, &[b"  ordered: ", one, b"; ", other, b"\n"])
+            return Ok(Some(format!(in alloc; "  ordered: {one}; {other}")?));
         }
-    }
+    };
+    Ok(Some(format!(in alloc; "  {reason}")?))
 }
 
-fn about_to(read: bool, write: bool) -> &'static [u8]
-    ensures { result.now ≡ spec.about_to read write }
-{
-    match (read, write) {
-        (true, true) => b"load and store",
-        (false, true) => b"store",
-        (_, false) => b"load",
-    }
+/// `4 bytes at ADDR NAME`
+fn bytes_text(alloc: Global, names: &Names, side: &Side) -> Result<String, NoMemory> {
+    let place = names.address(alloc, side.access.first)?;
+    let size = side.access.size;
+    let ending = if size == 1 { "" } else { "s" };
+    Ok(format!(in alloc; "{size} byte{ending} at {place}")?)
 }
 
-fn did(read: bool, write: bool) -> &'static [u8]
-    ensures { result.now ≡ spec.did read write }
-{
-    match (read, write) {
-        (true, true) => b"loaded and stored",
-        (false, true) => b"stored",
-        (_, false) => b"loaded",
-    }
+fn paused_line(alloc: Global, names: &Names, block: &Block) -> Result<String, NoMemory> {
+    let hart = block.paused.hart;
+    let verb = match (block.paused.access.read, block.paused.access.write) {
+        (true, true) => "load and store",
+        (false, true) => "store",
+        (_, false) => "load",
+    };
+    let bytes = bytes_text(alloc, names, &block.paused)?;
+    let number = block.number;
+    Ok(format!(in alloc; "  hart {hart} was about to {verb} {bytes}, ending {number}")?)
 }
 
-fn bytes_text(alloc: Global, size: u8) -> Result<Vec<u8>, NoMemory>
-    ensures { IfOk result (λ text. text.items ≡ spec.bytes_text size) }
-{
-    if size == 1 {
-        joined(alloc, &[b"1 byte at "])
-    } else {
-        let size = Decimal::new(u64::from(size));
-        joined(alloc, &[size.as_bytes(), b" bytes at "])
-    }
-}
-
-fn paused_line(alloc: Global, symbols: &SymbolTable, block: &Block) -> Result<Vec<u8>, NoMemory>
-    ensures { IfOk result (λ text. text.items ≡ spec.paused_line symbols.now (spec.shown_of block.now)) }
-{
-    let access = block.paused.access;
-    let hart = Decimal::new(u64::from(block.paused.hart));
-    let verb = about_to(access.read, access.write);
-    let bytes = bytes_text(alloc, access.size)?;
-    let place = address_text(alloc, symbols, access.first)?;
-    let number = Decimal::new(u64::from(block.number));
-    joined(
-        alloc,
-        &[
-            b"  hart ",
-            hart.as_bytes(),
-            b" was about to ",
-            verb,
-            b" ",
-            &bytes,
-            &place,
-            b", ending ",
-            number.as_bytes(),
-        ],
-    )
-}
-
-fn last_text(verdict: &Verdict) -> &'static [u8]
-    ensures { result.now ≡ spec.last_text verdict.now }
-{
-    match verdict {
-        Verdict::Changed => b", the last store",
-        Verdict::Hit(_) | Verdict::Quiet => b"",
-    }
-}
-
-fn other_line(alloc: Global, symbols: &SymbolTable, block: &Block) -> Result<Vec<u8>, NoMemory>
-    ensures { IfOk result (λ text. text.items ≡ spec.other_line symbols.now (spec.shown_of block.now)) }
-{
-    let access = block.other.access;
-    let hart = Decimal::new(u64::from(block.other.hart));
-    let verb = did(access.read, access.write);
-    let bytes = bytes_text(alloc, access.size)?;
-    let place = address_text(alloc, symbols, access.first)?;
-    let entry = Decimal::new(u64::from(block.second));
-    let last = last_text(&block.ending.verdict);
-    joined(
-        alloc,
-        &[
-            b"  hart ",
-            hart.as_bytes(),
-            b" ",
-            verb,
-            b" ",
-            &bytes,
-            &place,
-            b", entry ",
-            entry.as_bytes(),
-            last,
-        ],
-    )
+fn other_line(alloc: Global, names: &Names, block: &Block) -> Result<String, NoMemory> {
+    let hart = block.other.hart;
+    let verb = match (block.other.access.read, block.other.access.write) {
+        (true, true) => "loaded and stored",
+        (false, true) => "stored",
+        (_, false) => "loaded",
+    };
+    let bytes = bytes_text(alloc, names, &block.other)?;
+    let entry = block.second;
+    let last = match block.ending.verdict {
+        Verdict::Changed => ", the last store",
+        Verdict::Hit(_) | Verdict::Quiet => "",
+    };
+    Ok(format!(in alloc; "  hart {hart} {verb} {bytes}, entry {entry}{last}")?)
 }
 
 /// Whether two addresses are told by one symbol.
-fn are_told_by_one(symbols: &SymbolTable, one: u32, other: u32) -> bool
-    ensures { result ≡ spec.are_told_by_one symbols.now one other }
-{
+fn are_told_by_one(symbols: &SymbolTable, one: u32, other: u32) -> bool {
     match (symbols.symbol_of(one), symbols.symbol_of(other)) {
         (Some(symbol), Some(second)) => symbol.value == second.value,
         _ => false,
     }
 }
 
-/// Where x1 names an instruction of the same function it is left from a call that has returned.
-fn caller_text(
+/// Adds the line of a side's instruction, and that of its caller. Where x1 names an instruction of the same function it is
+/// left from a call that has returned.
+fn add_side(
     alloc: Global,
-    symbols: &SymbolTable,
-    pc: u32,
-    caller: Option<u32>,
-) -> Result<Vec<u8>, NoMemory>
-    ensures { IfOk result (λ text. text.items ≡ spec.caller_text symbols.now pc caller) }
-{
-    match caller {
-        Some(address) if !are_told_by_one(symbols, pc, address) => {
-            let place = address_text(alloc, symbols, address)?;
-            joined(alloc, &[b"    called from ", &place, b"\n"])
+    lines: &mut Vec<Vec<u8>>,
+    names: &Names,
+    side: &Side,
+) -> Result<(), NoMemory> {
+    let instruction = names.instruction(alloc, side.access.pc, side.word)?;
+    lines.push(format!(in alloc; "    {instruction}")?.into_bytes())?;
+    match side.caller {
+        Some(caller) if !are_told_by_one(names.symbols, side.access.pc, caller) => {
+            let place = names.address(alloc, caller)?;
+            lines.push(format!(in alloc; "    called from {place}")?.into_bytes())?;
         }
-        Some(_) | None => Ok(Vec::new(alloc)),
-    }
-}
-
-fn side_text(alloc: Global, symbols: &SymbolTable, side: &Side) -> Result<Vec<u8>, NoMemory>
-    ensures { IfOk result (λ text. text.items ≡ spec.side_text symbols.now side.now) }
-{
-    let instruction = instruction_text(alloc, symbols, side.access.pc, side.word)?;
-    let caller = caller_text(alloc, symbols, side.access.pc, side.caller)?;
-    joined(alloc, &[b"    ", &instruction, b"\n", &caller])
-}
-
-fn watch_text(alloc: Global, slot: Option<u8>) -> Result<Vec<u8>, NoMemory>
-    ensures { IfOk result (λ text. text.items ≡ spec.watch_text slot) }
-{
-    match slot {
-        Some(slot) => {
-            let slot = Decimal::new(u64::from(slot));
-            joined(alloc, &[b"data breakpoint ", slot.as_bytes()])
-        }
-        None => joined(alloc, &[b"no data breakpoint"]),
-    }
-}
-
-fn value_at(alloc: Global, value: u32, place: u32) -> Result<Vec<u8>, NoMemory>
-    ensures { IfOk result (λ text. text.items ≡ spec.value_at value place) }
-{
-    let place = Decimal::new(u64::from(place));
-    joined(
-        alloc,
-        &[&word_digits(value), b" at entry ", place.as_bytes()],
-    )
-}
-
-#[tactic(auto, unfolding(crate::specs::Blocks::values_line))]
-fn values_line(alloc: Global, told: &Ending) -> Result<Vec<u8>, NoMemory>
-    ensures { IfOk result (λ text. text.items ≡ spec.values_line told.now) }
-{
-    let start = value_at(alloc, told.old, told.paused_at)?;
-    let end = value_at(alloc, told.new, told.resumed_at)?;
-    let watch = watch_text(alloc, told.slot)?;
-    joined(
-        alloc,
-        &[
-            b"  bytes ",
-            &start,
-            b", the pause; ",
-            &end,
-            b", its end; ",
-            &watch,
-        ],
-    )
-}
-
-#[tactic(auto, unfolding(crate::specs::Blocks::paused_text))]
-fn paused_text(alloc: Global, symbols: &SymbolTable, block: &Block) -> Result<Vec<u8>, NoMemory>
-    ensures { IfOk result (λ text. text.items ≡ spec.paused_text symbols.now (spec.shown_of block.now)) }
-{
-    let line = paused_line(alloc, symbols, block)?;
-    let side = side_text(alloc, symbols, &block.paused)?;
-    joined(alloc, &[&line, b"\n", &side])
-}
-
-#[tactic(auto, unfolding(crate::specs::Blocks::other_text))]
-fn other_text(alloc: Global, symbols: &SymbolTable, block: &Block) -> Result<Vec<u8>, NoMemory>
-    ensures { IfOk result (λ text. text.items ≡ spec.other_text symbols.now (spec.shown_of block.now)) }
-{
-    let line = other_line(alloc, symbols, block)?;
-    let side = side_text(alloc, symbols, &block.other)?;
-    joined(alloc, &[&line, b"\n", &side])
-}
-
-/// Both accesses.
-#[tactic(auto, unfolding(crate::specs::Blocks::accesses_text))]
-fn accesses_text(alloc: Global, symbols: &SymbolTable, block: &Block) -> Result<Vec<u8>, NoMemory>
-    ensures { IfOk result (λ text. text.items ≡ spec.accesses_text symbols.now (spec.shown_of block.now)) }
-{
-    let paused = paused_text(alloc, symbols, block)?;
-    let other = other_text(alloc, symbols, block)?;
-    joined(alloc, &[&paused, &other])
-}
-
-#[tactic(auto, unfolding(crate::specs::Blocks::head_text))]
-fn head_text(
-    alloc: Global,
-    symbols: &SymbolTable,
-    run: &[u8],
-    race: u64,
-    block: &Block,
-) -> Result<Vec<u8>, NoMemory>
-    ensures { IfOk result (λ text. text.items ≡ spec.head_text symbols.now run.now race (spec.shown_of block.now)) }
-{
-    let first = first_line(alloc, symbols, run, race, block)?;
-    let reason = reason_text(alloc, symbols, block)?;
-    let accesses = accesses_text(alloc, symbols, block)?;
-    let values = values_line(alloc, &block.ending)?;
-    joined(
-        alloc,
-        &[&first, b"\n", &reason, &accesses, &values, COLUMNS],
-    )
-}
-
-/// Writes the line of an entry, or of some that are left out.
-fn write_line<O: Output>(
-    alloc: Global,
-    writer: &mut O,
-    symbols: &SymbolTable,
-    block: &Block,
-    shown: &Shown,
-) -> Result<(), ExplainFault>
-    ensures ok { OnOk result (Appends (O.written writer.old) (O.written writer.new)
-        (spec.entry_text symbols.now block.now.ending block.now.second shown.now)) }
-    ensures race { result ≢ Err ExplainFault.NoRace }
-    ensures failed { O.has_failed writer.new ≡ (O.has_failed writer.old || is_write_fault result) }
-{
-    let line = shown_line(alloc, symbols, &block.ending, block.second, shown)?;
-    Ok(put_pieces(writer, &[&line, b"\n"])?)
-}
-
-#[tactic(auto, unfolding(crate::specs::Blocks::lines_text))]
-fn write_lines<O: Output>(
-    alloc: Global,
-    writer: &mut O,
-    symbols: &SymbolTable,
-    block: &Block,
-) -> Result<(), ExplainFault>
-    ensures ok { OnOk result (Appends (O.written writer.old) (O.written writer.new) (spec.lines_text symbols.now (spec.shown_of block.now))) }
-    ensures race { result ≢ Err ExplainFault.NoRace }
-    ensures failed { O.has_failed writer.new ≡ (O.has_failed writer.old || is_write_fault result) }
-{
-    for shown in &block.lines {
-        write_line(alloc, writer, symbols, block, shown)?;
+        Some(_) | None => {}
     }
     Ok(())
 }
 
-/// Writes the line of totals: how many races, reports and endings a run had.
-#[tactic(auto, unfolding(crate::specs::Blocks::totals_line))]
-pub fn write_totals<O: Output>(
-    writer: &mut O,
+fn values_line(alloc: Global, block: &Block) -> Result<String, NoMemory> {
+    let told = &block.ending;
+    let (old, start) = (told.old, told.paused_at);
+    let (new, end) = (told.new, told.resumed_at);
+    let bytes = format!(in alloc;
+        "  bytes {old:08x} at entry {start}, the pause; {new:08x} at entry {end}, its end"
+    )?;
+    match told.slot {
+        Some(slot) => Ok(format!(in alloc; "{bytes}; data breakpoint {slot}")?),
+        None => Ok(format!(in alloc; "{bytes}; no data breakpoint")?),
+    }
+}
+
+/// The lines above those of the entries.
+fn head_lines(
+    alloc: Global,
+    names: &Names,
+    run_words: &[u8],
+    race: u64,
+    block: &Block,
+) -> Result<Vec<Vec<u8>>, NoMemory> {
+    let mut lines = Vec::new(alloc);
+    lines.push(first_line(alloc, names, run_words, race, block)?)?;
+    if let Some(reason) = reason_line(alloc, names, block)? {
+        lines.push(reason.into_bytes())?;
+    }
+    lines.push(paused_line(alloc, names, block)?.into_bytes())?;
+    add_side(alloc, &mut lines, names, &block.paused)?;
+    lines.push(other_line(alloc, names, block)?.into_bytes())?;
+    add_side(alloc, &mut lines, names, &block.other)?;
+    lines.push(values_line(alloc, block)?.into_bytes())?;
+    lines.push(Vec::new(alloc))?;
+    lines.push(Vec::from_slice(alloc, COLUMNS)?)?;
+    Ok(lines)
+}
+
+/// The lines of the block of race K, without LFs. Of a symbol's name at most so many bytes are shown. `run_words` stands at
+/// the end of the first line: what the command says of the run.
+pub(crate) fn block_lines(
+    alloc: Global,
+    names: &Names,
+    run_words: &[u8],
+    race: u64,
+    block: &Block,
+) -> Result<Vec<Vec<u8>>, NoMemory> {
+    let mut lines = head_lines(alloc, names, run_words, race, block)?;
+    for shown in &block.lines {
+        lines.push(shown_line(alloc, names, block, shown)?.into_bytes())?;
+    }
+    Ok(lines)
+}
+
+/// The block of race K, for people: lines in ASCII, each with an LF. `run_words` stands at the end of the first: what the
+/// command says of the run, empty or from a comma on.
+pub fn block_text(
+    alloc: Global,
+    symbols: &SymbolTable,
+    run_words: &[u8],
+    race: u64,
+    block: &Block,
+) -> Result<Vec<u8>, NoMemory> {
+    let most = TEXT_NAME;
+    let lines = block_lines(alloc, &Names { symbols, most }, run_words, race, block)?;
+    let mut text = Vec::new(alloc);
+    for line in &lines {
+        text.extend_from_slice(line)?;
+        text.push(b'\n')?;
+    }
+    Ok(text)
+}
+
+/// The line of totals: how many races, reports and endings a run had.
+pub fn totals_text(
+    alloc: Global,
     races: u64,
     reports: u64,
     endings: u64,
-) -> Result<(), WriteFault>
-    ensures ok { OnOk result (Appends (O.written writer.old) (O.written writer.new)
-        (spec.totals_line races reports endings)) }
-    ensures failed { O.has_failed writer.new ≡ (O.has_failed writer.old || is_err result) }
-{
-    let races = Decimal::new(races);
-    let reports = Decimal::new(reports);
-    let endings = Decimal::new(endings);
-    put_pieces(
-        writer,
-        &[
-            b"races ",
-            races.as_bytes(),
-            b", reports ",
-            reports.as_bytes(),
-            b" of ",
-            endings.as_bytes(),
-            b" endings\n",
-        ],
-    )
-}
-
-/// Writes the block of a race of the symbols' image. `race` is its number, and `run` what the first line says of the
-/// run that made its report, or nothing.
-#[tactic(auto, unfolding(crate::specs::Blocks::block_text))]
-pub fn write_block<O: Output>(
-    alloc: Global,
-    writer: &mut O,
-    symbols: &SymbolTable,
-    run: &[u8],
-    race: u64,
-    block: &Block,
-) -> Result<(), ExplainFault>
-    ensures ok { OnOk result (Appends (O.written writer.old) (O.written writer.new)
-        (spec.block_text symbols.now run.now race (spec.shown_of block.now))) }
-    ensures race { result ≢ Err ExplainFault.NoRace }
-    ensures failed { O.has_failed writer.new ≡ (O.has_failed writer.old || is_write_fault result) }
-{
-    let head = head_text(alloc, symbols, run, race, block)?;
-    writer.put(&head)?;
-    write_lines(alloc, writer, symbols, block)
+) -> Result<Vec<u8>, NoMemory> {
+    let line = format!(in alloc; "races {races}, reports {reports} of {endings} endings\n")?;
+    Ok(line.into_bytes())
 }

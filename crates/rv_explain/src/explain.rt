@@ -1,149 +1,60 @@
-//! The text of a run, as `specs/Explained.antt` has it.
-ghost use Rattle.std.specs.Prelude.{◌≡◌, ◌≢◌, ◌||◌, ◌↔◌, ◌++◌, Err, None, Some, IsSomeAnd, OnOk, is_err, slice_get};
-ghost use Rattle.std.specs.Io.KnownBytes.{Appends};
-ghost use Rattle.rv_collide.specs.Verdict.{endings};
+//! The blocks that are shown of a run, as `specs/Explained.antt` has them.
+ghost use Rattle.std.specs.Prelude.{◌≡◌, IfOk, map, option_map};
 ghost use Rattle.rv_debug.specs.Placed.{moved};
+ghost use Rattle.rv_explain.specs.BlockOf.{race_shown};
+ghost use Rattle.rv_explain.specs.Blocks.{shown_of};
 ghost use Rattle.rv_explain.specs.Explained as spec;
-ghost use Rattle.rv_explain.specs.Fault.{is_write_fault};
-ghost use Rattle.rv_races.specs.Races.{AreTold, found_of, run_of};
+ghost use Rattle.rv_races.specs.Races.{AreTold, run_of};
 
-use crate::blocks::{write_block, write_totals};
-use crate::fault::ExplainFault;
-use crate::race_block::{race_block, race_of};
+use crate::block::Block;
+use crate::race_block::{numbered_block, race_block};
 use rv_debug::session::Session;
-use rv_memory::flagged::WriteFault;
-use rv_memory::output::Output;
+use rv_elf::Image;
+use rv_memory::store::NoMemory;
 use rv_races::races::{Race, RunRaces};
-use rv_symbols::symbol_table::SymbolTable;
 use std::alloc::Global;
 
-/// Writes the text of a session's run: how much it shows, and the blocks of its races, with so many entries around each
-/// place; or of race K alone, from 1 on. Where there is no race K, nothing is written. The session, which is of the
-/// symbols' image, is then at some place.
-#[tactic(auto, unfolding(crate::specs::Explained::explained))]
-pub fn explain<O: Output>(
+/// The blocks of the races of a session's run, with so many entries around each place, or that of race K alone, from 1 on;
+/// None where there is no race K. The session is then at some place.
+pub fn blocks_asked(
     alloc: Global,
     session: &mut Session,
-    symbols: &SymbolTable,
+    image: &Image,
     found: &RunRaces,
     around: u32,
     asked: Option<u64>,
-    writer: &mut O,
-) -> Result<(), ExplainFault>
-    requires image { session.old.image ≡ symbols.now }
+) -> Result<Option<Vec<Block>>, NoMemory>
+    requires image { session.old.image ≡ image.now }
     requires told { AreTold (run_of session.old) found.now.races.items }
-    ensures ok { OnOk result (IsSomeAnd (spec.explained (run_of session.old) (found_of found.now) around asked)
-        (λ text. Appends (O.written writer.old) (O.written writer.new) text)) }
-    ensures no_race { (result ≡ Err ExplainFault.NoRace)
-        ↔ (spec.explained (run_of session.old) (found_of found.now) around asked ≡ None) }
-    ensures nothing { result ≡ Err ExplainFault.NoRace → writer.new ≡ writer.old }
-    ensures failed { O.has_failed writer.new ≡ (O.has_failed writer.old || is_write_fault result) }
-{
-    match asked {
-        None => write_all(alloc, session, symbols, found, around, writer),
-        Some(k) => match race_of(found, k) {
-            None => Err(ExplainFault::NoRace),
-            Some(race) => write_one(alloc, session, symbols, found, around, k, race, writer),
-        },
-    }
-}
-
-/// Writes how many races, reports and endings there are.
-fn write_found<O: Output>(writer: &mut O, found: &RunRaces) -> Result<(), WriteFault>
-    ensures ok { OnOk result (Appends (O.written writer.old) (O.written writer.new) (spec.found_line (found_of found.now))) }
-    ensures failed { O.has_failed writer.new ≡ (O.has_failed writer.old || is_err result) }
-{
-    write_totals(
-        writer,
-        found.races.len() as u64,
-        found.reports,
-        found.endings,
-    )
-}
-
-/// Writes an empty line and the block of race K.
-#[tactic(auto, unfolding(crate::specs::Explained::race_text))]
-fn write_race<O: Output>(
-    alloc: Global,
-    session: &mut Session,
-    symbols: &SymbolTable,
-    around: u32,
-    k: u64,
-    race: &Race,
-    writer: &mut O,
-) -> Result<(), ExplainFault>
-    requires image { session.old.image ≡ symbols.now }
-    requires told { slice_get (endings (run_of session.old).start session.old.entries) race.now.told.number ≡ Some race.now.told.ending }
-    ensures ok { OnOk result (Appends (O.written writer.old) (O.written writer.new) (spec.race_text (run_of session.old) around k race.now)) }
-    ensures race { result ≢ Err ExplainFault.NoRace }
-    ensures failed { O.has_failed writer.new ≡ (O.has_failed writer.old || is_write_fault result) }
+    ensures blocks { IfOk result (λ blocks. option_map (λ some. map shown_of some.items) blocks
+        ≡ spec.blocks_asked (run_of session.old) around found.now.races.items asked) }
     ensures same { session.new ≡ moved session.old session.new.place }
 {
-    let block = race_block(alloc, session, symbols.image(), around, race)?;
-    writer.put(b"\n")?;
-    write_block(alloc, writer, symbols, b"", k, &block)
+    let Some(k) = asked else {
+        return Ok(Some(all_blocks(alloc, session, image, &found.races, around)?));
+    };
+    match numbered_block(alloc, session, image, found, around, k)? {
+        Some(block) => Ok(Some(vec![in alloc; block]?)),
+        None => Ok(None),
+    }
 }
 
-/// Writes the totals, and the block of one race.
-fn write_one<O: Output>(
+/// The block of each race.
+fn all_blocks(
     alloc: Global,
     session: &mut Session,
-    symbols: &SymbolTable,
-    found: &RunRaces,
-    around: u32,
-    k: u64,
-    race: &Race,
-    writer: &mut O,
-) -> Result<(), ExplainFault>
-    requires image { session.old.image ≡ symbols.now }
-    requires told { slice_get (endings (run_of session.old).start session.old.entries) race.now.told.number ≡ Some race.now.told.ending }
-    ensures ok { OnOk result (Appends (O.written writer.old) (O.written writer.new)
-        (spec.found_line (found_of found.now) ++ spec.race_text (run_of session.old) around k race.now)) }
-    ensures race { result ≢ Err ExplainFault.NoRace }
-    ensures failed { O.has_failed writer.new ≡ (O.has_failed writer.old || is_write_fault result) }
-{
-    write_found(writer, found)?;
-    write_race(alloc, session, symbols, around, k, race, writer)
-}
-
-/// Writes the totals, and the block of each race.
-fn write_all<O: Output>(
-    alloc: Global,
-    session: &mut Session,
-    symbols: &SymbolTable,
-    found: &RunRaces,
-    around: u32,
-    writer: &mut O,
-) -> Result<(), ExplainFault>
-    requires image { session.old.image ≡ symbols.now }
-    requires told { AreTold (run_of session.old) found.now.races.items }
-    ensures ok { OnOk result (Appends (O.written writer.old) (O.written writer.new)
-        (spec.found_line (found_of found.now) ++ spec.blocks_text (run_of session.old) around 1 found.now.races.items)) }
-    ensures race { result ≢ Err ExplainFault.NoRace }
-    ensures failed { O.has_failed writer.new ≡ (O.has_failed writer.old || is_write_fault result) }
-{
-    write_found(writer, found)?;
-    write_races(alloc, session, symbols, &found.races, around, writer)
-}
-
-/// Writes the block of each race.
-fn write_races<O: Output>(
-    alloc: Global,
-    session: &mut Session,
-    symbols: &SymbolTable,
+    image: &Image,
     races: &[Race],
     around: u32,
-    writer: &mut O,
-) -> Result<(), ExplainFault>
-    requires image { session.old.image ≡ symbols.now }
+) -> Result<Vec<Block>, NoMemory>
+    requires image { session.old.image ≡ image.now }
     requires told { AreTold (run_of session.old) races.now }
-    ensures ok { OnOk result (Appends (O.written writer.old) (O.written writer.new) (spec.blocks_text (run_of session.old) around 1 races.now)) }
-    ensures race { result ≢ Err ExplainFault.NoRace }
-    ensures failed { O.has_failed writer.new ≡ (O.has_failed writer.old || is_write_fault result) }
+    ensures blocks { IfOk result (λ blocks. map shown_of blocks.items ≡ map (race_shown (run_of session.old) around) races.now) }
+    ensures same { session.new ≡ moved session.old session.new.place }
 {
+    let mut blocks = Vec::new(alloc);
     for place in 0..races.len() {
-        let k = place as u64 + 1;
-        write_race(alloc, session, symbols, around, k, &races[place], writer)?;
+        blocks.push(race_block(alloc, session, image, around, &races[place])?)?;
     }
-    Ok(())
+    Ok(blocks)
 }

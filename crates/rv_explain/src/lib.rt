@@ -1,7 +1,8 @@
 //! Reports for people: the block of a race, told by names, instructions, values and what the harts did.
 //!
-//! To the layer above, `race_block` makes the `Block` of a race of a run, and what `write_block` writes of one is the text of
-//! `specs/Blocks.antt`, which knows no file; `row_here` is what is told of an entry.
+//! To the layer above, `race_block` makes the `Block` of a race of a run and `blocks_asked` those of a run, which are the
+//! values of `specs/BlockOf.antt`; `row_here` is what is told of an entry. `block_text` and `picture` write a block for people,
+//! which knows no file: `tests/explain` and `tests/program` compare their bytes, and a picture is proved to be well-formed markup.
 #![tactic(auto)]
 
 pub use rv_races::classes;
@@ -10,8 +11,8 @@ pub use rv_symbols::{symbol_table, symbols};
 pub mod block;
 pub mod blocks;
 pub mod explain;
-pub mod fault;
 mod lines;
+mod meeting;
 pub mod names;
 pub mod picture;
 pub mod pieces;

@@ -2,12 +2,12 @@
 ghost use Rattle.std.specs.Prelude.{◌≡◌, ◌+◌, ◌-◌, ◌<◌, ◌≤◌, ◌&&◌, false, Some, IfOk, OnOk, length, slice_get, unwrap_or};
 ghost use Rattle.rv_debug.specs.Placed.{moved};
 ghost use Rattle.rv_explain.specs.BlockOf as spec;
-ghost use Rattle.rv_explain.specs.Rows.{is_within};
+ghost use Rattle.rv_explain.specs.Meeting.{is_within};
 ghost use Rattle.rv_explain.specs.internal.Gathered.{IsCounted, KnowsMeetings, gathered_of};
 ghost use Rattle.rv_races.specs.Races.{run_of};
 
+use crate::meeting::is_within;
 use crate::row::{Row, Shown};
-use crate::rows::is_within;
 use crate::told::row_here;
 use crate::walk::go_to;
 use rv_collide::ending::Ending;

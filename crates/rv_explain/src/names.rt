@@ -1,18 +1,19 @@
-//! How an address is written, as `specs/Names.antt` has it.
-ghost use Rattle.std.specs.Prelude.{◌≡◌, ◌<◌, ◌≤◌, ◌++◌, IfOk, OnOk, length, codes};
-ghost use Rattle.std.specs.String.{string_bytes};
+//! How an address is written: by its symbol, as Linux writes addresses in its own reports.
+ghost use Rattle.std.specs.Prelude.{◌≡◌, ◌++◌, IfOk, OnOk, codes};
 ghost use Rattle.rv_explain.specs.Names as spec;
 ghost use Rattle.rv_text.specs.Hexadecimal.{byte_digits};
 
-use crate::pieces::joined;
-use rv_elf::Symbol;
+use rv_asm::line_of;
 use rv_memory::store::NoMemory;
 use rv_symbols::symbol_table::SymbolTable;
-use rv_text::hexadecimal::{byte_digits, word_digits};
+use rv_text::hexadecimal::byte_digits;
 use std::alloc::Global;
 
-/// How many bytes of a name people are shown at most, since a file may have names of megabytes.
-pub const SHOWN_BYTES: usize = 200;
+/// How many bytes of a symbol's name a text shows at most, since a file may have names of megabytes.
+pub const TEXT_NAME: usize = 200;
+
+/// How many bytes of a symbol's name a picture shows at most.
+pub const PICTURE_NAME: usize = 40;
 
 fn is_hidden(byte: u8) -> bool
     ensures { result ≡ spec.is_hidden byte }
@@ -42,8 +43,8 @@ fn add_byte(text: &mut Vec<u8>, byte: u8) -> Result<(), NoMemory>
     Ok(())
 }
 
-/// A name from a file, so that it cannot steer a terminal.
-fn escaped(alloc: Global, name: &[u8]) -> Result<Vec<u8>, NoMemory>
+/// A name from a file as people are shown it, in printable ASCII, so that it cannot steer a terminal.
+pub fn escaped(alloc: Global, name: &[u8]) -> Result<Vec<u8>, NoMemory>
     ensures { IfOk result (λ text. text.items ≡ spec.escaped name.now) }
 {
     let mut text = Vec::new(alloc);
@@ -53,90 +54,86 @@ fn escaped(alloc: Global, name: &[u8]) -> Result<Vec<u8>, NoMemory>
     Ok(text)
 }
 
-fn continues(byte: u8) -> bool
-    ensures { result ≡ spec.continues byte }
-{
-    0x80 <= byte && byte < 0xc0
+/// A name, or its first bytes up to a character's end, at most so many, and two dots.
+fn shown(alloc: Global, most: usize, name: &str) -> Result<String, NoMemory> {
+    let (front, rest) = name.split_at(name.floor_char_boundary(most));
+    let front = escaped(alloc, front.as_bytes())?;
+    // It is ASCII.
+    let front = String::from_utf8_lossy(alloc, &front)?;
+    let dots = if rest.is_empty() { "" } else { ".." };
+    Ok(format!(in alloc; "{front}{dots}")?)
 }
 
-/// How many bytes of a longer name are shown, so that no character is cut.
-fn edge(name: &[u8]) -> usize
-    requires { SHOWN_BYTES < length name.now }
-    ensures is { result ≡ spec.edge name.now }
-    ensures within { result ≤ length name.now }
-{
-    if !continues(name[SHOWN_BYTES]) {
-        SHOWN_BYTES
-    } else if !continues(name[SHOWN_BYTES - 1]) {
-        SHOWN_BYTES - 1
-    } else if !continues(name[SHOWN_BYTES - 2]) {
-        SHOWN_BYTES - 2
-    } else {
-        SHOWN_BYTES - 3
+/// The symbols that name addresses, and how many bytes of a symbol's name are shown at most.
+#[derive(Clone, Copy)]
+pub(crate) struct Names<'a, 's> {
+    pub symbols: &'a SymbolTable<'s>,
+    pub most: usize,
+}
+
+impl Names<'_, '_> {
+    /// An address by its symbol, as `take+0x14/0x28`, where it has one.
+    fn symbol(&self, alloc: Global, address: u32) -> Result<Option<String>, NoMemory> {
+        let Some(symbol) = self.symbols.symbol_of(address) else {
+            return Ok(None);
+        };
+        let name = shown(alloc, self.most, &symbol.name)?;
+        let offset = address.saturating_sub(symbol.value);
+        let size = symbol.size;
+        if size == 0 {
+            return Ok(Some(format!(in alloc; "{name}+0x{offset:x}")?));
+        }
+        Ok(Some(format!(in alloc; "{name}+0x{offset:x}/0x{size:x}")?))
     }
-}
 
-/// What people are shown of a name.
-#[tactic(auto, unfolding(crate::specs::Names::shown))]
-fn shown(alloc: Global, name: &[u8]) -> Result<Vec<u8>, NoMemory>
-    ensures { IfOk result (λ text. text.items ≡ spec.shown name.now) }
-{
-    if name.len() <= SHOWN_BYTES {
-        return escaped(alloc, name);
+    /// The same, or the address's eight digits.
+    pub(crate) fn name(&self, alloc: Global, address: u32) -> Result<String, NoMemory> {
+        match self.symbol(alloc, address)? {
+            Some(name) => Ok(name),
+            None => Ok(format!(in alloc; "{address:08x}")?),
+        }
     }
-    let (front, _) = name.split_at(edge(name));
-    let mut text = escaped(alloc, front)?;
-    text.extend_from_slice(b"..")?;
-    Ok(text)
-}
 
-/// A number in lower-case hexadecimal without leading zeros.
-fn hex(alloc: Global, number: u32) -> Result<String, NoMemory>
-    ensures { IfOk result (λ text. string_bytes text ≡ spec.hex number) }
-{
-    Ok(format!(in alloc; "0x{number:x}")?)
-}
-
-fn size_text(alloc: Global, size: u32) -> Result<Vec<u8>, NoMemory>
-    ensures { IfOk result (λ text. text.items ≡ spec.size_text size) }
-{
-    if size == 0 {
-        return Ok(Vec::new(alloc));
+    /// The digits of an address, and its name where it has one, as `00010074 take+0x14/0x28`.
+    pub(crate) fn address(&self, alloc: Global, address: u32) -> Result<String, NoMemory> {
+        match self.symbol(alloc, address)? {
+            Some(name) => Ok(format!(in alloc; "{address:08x} {name}")?),
+            None => Ok(format!(in alloc; "{address:08x}")?),
+        }
     }
-    let size = hex(alloc, size)?;
-    joined(alloc, &[b"/", size.as_bytes()])
-}
 
-fn symbol_text(alloc: Global, symbol: &Symbol, address: u32) -> Result<Vec<u8>, NoMemory>
-    ensures { IfOk result (λ text. text.items ≡ spec.symbol_text symbol.now address) }
-{
-    let name = shown(alloc, symbol.name.as_bytes())?;
-    let offset = hex(alloc, address.saturating_sub(symbol.value))?;
-    let size = size_text(alloc, symbol.size)?;
-    joined(alloc, &[&name, b"+", offset.as_bytes(), &size])
+    /// The same, and the line of the word that memory had there.
+    pub(crate) fn instruction(
+        &self,
+        alloc: Global,
+        address: u32,
+        word: Option<u32>,
+    ) -> Result<String, NoMemory> {
+        let place = self.address(alloc, address)?;
+        let Some(word) = word else {
+            return Ok(format!(in alloc; "{place}: unreadable")?);
+        };
+        let line = line_of(alloc, word, address)?;
+        Ok(format!(in alloc; "{place}: {line}")?)
+    }
 }
 
 /// The name of an address, as `take+0x14/0x28`, or its eight digits where it has no symbol.
-#[tactic(auto, unfolding(crate::specs::Names::name_text))]
-pub fn name_text(alloc: Global, symbols: &SymbolTable, address: u32) -> Result<Vec<u8>, NoMemory>
-    ensures { IfOk result (λ text. text.items ≡ spec.name_text symbols.now address) }
-{
-    match symbols.symbol_of(address) {
-        Some(symbol) => symbol_text(alloc, symbol, address),
-        None => joined(alloc, &[&word_digits(address)]),
-    }
+pub fn name_text(alloc: Global, symbols: &SymbolTable, address: u32) -> Result<Vec<u8>, NoMemory> {
+    let most = TEXT_NAME;
+    Ok(Names { symbols, most }.name(alloc, address)?.into_bytes())
 }
 
 /// The digits of an address, and its name where it has one, as `00010074 take+0x14/0x28`.
-#[tactic(auto, unfolding(crate::specs::Names::address_text))]
-pub fn address_text(alloc: Global, symbols: &SymbolTable, address: u32) -> Result<Vec<u8>, NoMemory>
-    ensures { IfOk result (λ text. text.items ≡ spec.address_text symbols.now address) }
-{
-    match symbols.symbol_of(address) {
-        Some(symbol) => {
-            let name = symbol_text(alloc, symbol, address)?;
-            joined(alloc, &[&word_digits(address), b" ", &name])
-        }
-        None => joined(alloc, &[&word_digits(address)]),
-    }
+pub fn address_text(
+    alloc: Global,
+    symbols: &SymbolTable,
+    address: u32,
+) -> Result<Vec<u8>, NoMemory> {
+    let most = TEXT_NAME;
+    Ok(
+        Names { symbols, most }
+            .address(alloc, address)?
+            .into_bytes(),
+    )
 }

@@ -1,166 +1,187 @@
-//! The picture of a race, as `specs/Picture.antt` has it.
-ghost use Rattle.std.specs.Prelude.{◌≡◌, ◌≢◌, ◌||◌, ◌<◌, ◌^◌, Err, IfOk, OnOk, length, map};
-ghost use Rattle.std.specs.Io.KnownBytes.{Appends};
-ghost use Rattle.rv_explain.specs.Blocks.{shown_of};
-ghost use Rattle.rv_explain.specs.Fault.{is_write_fault};
-ghost use Rattle.rv_explain.specs.Picture as spec;
+//! The picture of a race, an SVG: the lines of its block as texts, and beside those of entries a lane for each hart, in which time
+//! goes downwards. All lengths are in pixels.
+ghost use Rattle.std.specs.Prelude.{◌≡◌, [], IfOk};
+ghost use Rattle.rv_markup.specs.Markup.{IsDocument};
 
-mod elements;
-pub mod frame;
+mod frame;
+mod report;
 mod shapes;
-mod short;
 
 use crate::block::Block;
-use crate::fault::ExplainFault;
-use crate::picture::elements::{lane_element, legend_element, line_element};
-use crate::picture::frame::{Frame, frame_of};
-use crate::picture::shapes::{bands, report_elements, row_element};
-use crate::picture::short::picture_lines;
-use crate::pieces::joined;
-use crate::row::Shown;
-use rv_memory::output::Output;
+use crate::blocks::block_lines;
+use crate::names::{Names, PICTURE_NAME};
+use crate::picture::frame::{Frame, LEGEND, frame_of, lane_x, small};
+use crate::picture::report::{draw_bands, draw_report};
+use crate::picture::shapes::{
+    Point, Size, Style, WHITE, attribute, draw_dot, draw_lane, draw_rect, draw_ring, draw_text,
+};
+use crate::row::{Row, Shown};
+use rv_collide::entry::Entry;
+use rv_markup::markup::Markup;
+use rv_markup::tag::{
+    FILL, FONT_FAMILY, FONT_SIZE, HEIGHT, RECT, SPACE, SVG, VIEW_BOX, WIDTH, XMLNS,
+};
 use rv_memory::store::NoMemory;
 use rv_symbols::symbol_table::SymbolTable;
 use rv_text::decimal::Decimal;
 use std::alloc::Global;
 
-#[tactic(auto, unfolding(crate::specs::Picture::lane_elements))]
-fn lane_elements(alloc: Global, frame: &Frame) -> Result<Vec<u8>, NoMemory>
-    ensures { IfOk result (λ elements. elements.items ≡ spec.lane_elements frame.now) }
+/// Each hart's number and its lane, from the first entry to the last.
+fn draw_lanes(page: Markup, frame: &Frame) -> Result<Markup, NoMemory>
+    ensures { IfOk result (λ more. more ≡ page) }
 {
-    let mut elements = Vec::new(alloc);
+    let mut page = page;
     for hart in 0..frame.lanes {
-        elements.extend_from_slice(&lane_element(alloc, frame, hart)?)?;
+        let x = lane_x(hart);
+        let number = Decimal::new(u64::from(hart));
+        let above = Point::new(x, frame.numbers());
+        page = draw_text(page, &above, Style::Middle, number.as_bytes())?;
+        let top = Point::new(x, frame.lanes_top());
+        page = draw_lane(page, &top, &Point::new(x, frame.lanes_end()))?;
     }
-    Ok(elements)
+    Ok(page)
 }
 
-#[tactic(auto, unfolding(crate::specs::Picture::row_elements))]
-fn row_elements(
-    alloc: Global,
+/// A dot, or a square where the step stores. That of the second access is red.
+fn draw_step(page: Markup, x: u64, y: u64, second: u32, row: &Row) -> Result<Markup, NoMemory>
+    ensures { IfOk result (λ more. more ≡ page) }
+{
+    let is_second = row.place == second;
+    let colour: &[u8] = if is_second { b"#b3001b" } else { b"#1a1a1a" };
+    match row.access {
+        Some(access) if access.write => {
+            let corner = Point::new(x.saturating_sub(4), y.saturating_sub(4));
+            draw_rect(page, &corner, &Size::new(8, 8), colour)
+        }
+        _ => draw_dot(page, &Point::new(x, y), colour),
+    }
+}
+
+/// The shape of a line among the entries, where the second access was made at a place. Entries that are left out break the
+/// lanes.
+fn draw_row(
+    page: Markup,
     frame: &Frame,
     second: u32,
-    rows: &[Shown],
-) -> Result<Vec<u8>, NoMemory>
-    requires { length rows.now < 2 ^ 32 }
-    ensures { IfOk result (λ elements. elements.items ≡ spec.row_elements frame.now second rows.now) }
+    n: u32,
+    shown: &Shown,
+) -> Result<Markup, NoMemory>
+    ensures { IfOk result (λ more. more ≡ page) }
 {
-    let mut elements = Vec::new(alloc);
-    for (n, shown) in rows.iter().enumerate() {
-        elements.extend_from_slice(&row_element(alloc, frame, second, n as u32, shown)?)?;
+    let y = frame.middle(n);
+    let Shown::Row(row) = shown else {
+        let size = Size::new(24 * u64::from(frame.lanes), 6);
+        return draw_rect(page, &Point::new(16, y - 3), &size, WHITE);
+    };
+    match row.entry {
+        Entry::Stepped(hart) => draw_step(page, lane_x(u32::from(hart)), y, second, row),
+        Entry::Paused(hart, _) | Entry::Resumed(hart) => {
+            draw_ring(page, &Point::new(lane_x(u32::from(hart)), y))
+        }
+        Entry::Armed(_) | Entry::Disarmed(_) => Ok(page),
     }
-    Ok(elements)
 }
 
-#[tactic(auto, unfolding(crate::specs::Picture::line_elements))]
-fn line_elements(alloc: Global, frame: &Frame, lines: &[Vec<u8>]) -> Result<Vec<u8>, NoMemory>
-    requires { length lines.now < 2 ^ 32 }
-    ensures { IfOk result (λ elements. elements.items
-        ≡ spec.line_elements frame.now (map (λ line. line.items) lines.now)) }
+fn draw_rows(page: Markup, frame: &Frame, block: &Block) -> Result<Markup, NoMemory>
+    ensures { IfOk result (λ more. more ≡ page) }
 {
-    let mut elements = Vec::new(alloc);
+    let mut page = page;
+    for (n, shown) in block.lines.iter().enumerate() {
+        page = draw_row(page, frame, block.second, small(n)?, shown)?;
+    }
+    Ok(page)
+}
+
+/// The lines of the block, the first of them bold.
+fn draw_lines(page: Markup, frame: &Frame, lines: &[Vec<u8>]) -> Result<Markup, NoMemory>
+    ensures { IfOk result (λ more. more ≡ page) }
+{
+    let mut page = page;
     for (n, line) in lines.iter().enumerate() {
-        elements.extend_from_slice(&line_element(alloc, frame, n as u32, line)?)?;
+        let style = if n == 0 { Style::Bold } else { Style::Plain };
+        page = draw_text(page, &frame.line(small(n)?), style, line)?;
     }
-    Ok(elements)
+    Ok(page)
 }
 
-#[tactic(auto, unfolding(crate::specs::Picture::size_attributes))]
-fn size_attributes(alloc: Global, frame: &Frame) -> Result<Vec<u8>, NoMemory>
-    ensures { IfOk result (λ attributes. attributes.items ≡ spec.size_attributes frame.now) }
+/// What the picture shows, from back to front.
+fn draw_inside(
+    page: Markup,
+    frame: &Frame,
+    lines: &[Vec<u8>],
+    block: &Block,
+) -> Result<Markup, NoMemory>
+    ensures { IfOk result (λ more. more ≡ page) }
 {
-    let width = Decimal::new(frame.width());
-    let height = Decimal::new(frame.height());
-    joined(
-        alloc,
+    let page = page.empty(
+        RECT,
         &[
-            b" width='",
-            width.as_bytes(),
-            b"' height='",
-            height.as_bytes(),
-            b"' viewBox='0 0 ",
-            width.as_bytes(),
-            b" ",
-            height.as_bytes(),
-            b"'",
+            attribute(WIDTH, b"100%"),
+            attribute(HEIGHT, b"100%"),
+            attribute(FILL, WHITE),
         ],
-    )
+    )?;
+    let page = draw_bands(page.text(b"\n")?, frame, block)?;
+    let page = draw_lanes(page, frame)?;
+    let page = draw_report(page, frame, block)?;
+    let page = draw_rows(page, frame, block)?;
+    let page = draw_lines(page, frame, lines)?;
+    draw_text(page, &frame.legend(), Style::Note, LEGEND)
 }
 
-#[tactic(auto, unfolding(crate::specs::Picture::start_tag))]
-fn start_tag(alloc: Global, frame: &Frame) -> Result<Vec<u8>, NoMemory>
-    ensures { IfOk result (λ tag. tag.items ≡ spec.start_tag frame.now) }
-{
-    let size = size_attributes(alloc, frame)?;
-    joined(
-        alloc,
-        &[
-            b"<svg xmlns='http://www.w3.org/2000/svg'",
-            &size,
-            b" font-family='ui-monospace, DejaVu Sans Mono, monospace' font-size='13' xml:space='preserve'>\n",
-            b"<rect width='100%' height='100%' fill='#ffffff'/>\n",
-        ],
-    )
-}
-
-#[tactic(auto, unfolding(crate::specs::Picture::shapes_of))]
-fn shapes_of(alloc: Global, frame: &Frame, block: &Block) -> Result<Vec<u8>, NoMemory>
-    requires { length block.now.lines.items < 2 ^ 32 }
-    ensures { IfOk result (λ text. text.items ≡ spec.shapes_of frame.now (shown_of block.now)) }
-{
-    let bands = bands(alloc, frame, block)?;
-    let lanes = lane_elements(alloc, frame)?;
-    let report = report_elements(alloc, frame, block)?;
-    let rows = row_elements(alloc, frame, block.second, &block.lines)?;
-    joined(alloc, &[&bands, &lanes, &report, &rows])
-}
-
-#[tactic(auto, unfolding(crate::specs::Picture::framed))]
-fn framed(
+fn draw_framed(
+    page: Markup,
     alloc: Global,
     frame: &Frame,
     lines: &[Vec<u8>],
     block: &Block,
-) -> Result<Vec<u8>, NoMemory>
-    requires lines { length lines.now < 2 ^ 32 }
-    requires rows { length block.now.lines.items < 2 ^ 32 }
-    ensures { IfOk result (λ text. text.items ≡ spec.framed frame.now (map (λ line. line.items) lines.now) (shown_of block.now)) }
+) -> Result<Markup, NoMemory>
+    ensures { IfOk result (λ more. more ≡ page) }
 {
-    let start = start_tag(alloc, frame)?;
-    let shapes = shapes_of(alloc, frame, block)?;
-    let texts = line_elements(alloc, frame, lines)?;
-    let legend = legend_element(alloc, frame)?;
-    joined(alloc, &[&start, &shapes, &texts, &legend, b"</svg>\n"])
+    let (width, height) = (frame.width(), frame.height());
+    let all = format!(in alloc; "0 0 {width} {height}")?;
+    let (width, height) = (Decimal::new(width), Decimal::new(height));
+    let page = page.begin(
+        SVG,
+        &[
+            attribute(XMLNS, b"http://www.w3.org/2000/svg"),
+            attribute(WIDTH, width.as_bytes()),
+            attribute(HEIGHT, height.as_bytes()),
+            attribute(VIEW_BOX, all.as_bytes()),
+            attribute(FONT_FAMILY, b"ui-monospace, DejaVu Sans Mono, monospace"),
+            attribute(FONT_SIZE, b"13"),
+            attribute(SPACE, b"preserve"),
+        ],
+    )?;
+    let page = draw_inside(page.text(b"\n")?, frame, lines, block)?;
+    page.end()?.text(b"\n")
 }
 
-/// The picture of a race, an SVG. `race` is its number.
-#[tactic(auto, unfolding(crate::specs::Picture::picture_text))]
-fn picture_text(
+/// Adds the picture of race K of the symbols' image to a page.
+pub fn draw_picture(
+    page: Markup,
     alloc: Global,
     symbols: &SymbolTable,
     race: u64,
     block: &Block,
-) -> Result<Vec<u8>, NoMemory>
-    ensures { IfOk result (λ text. text.items ≡ spec.picture_text symbols.now race (shown_of block.now)) }
+) -> Result<Markup, NoMemory>
+    ensures { IfOk result (λ more. more ≡ page) }
 {
-    let lines = picture_lines(alloc, symbols, race, block)?;
+    let most = PICTURE_NAME;
+    let lines = block_lines(alloc, &Names { symbols, most }, b"", race, block)?;
     let frame = frame_of(&lines, block)?;
-    framed(alloc, &frame, &lines, block)
+    draw_framed(page, alloc, &frame, &lines, block)
 }
 
-/// Writes the picture of a race of the symbols' image, an SVG. `race` is its number.
-pub fn write_picture<O: Output>(
+/// The picture of race K of the symbols' image, as a file of its own.
+pub fn picture_text(
     alloc: Global,
-    writer: &mut O,
     symbols: &SymbolTable,
     race: u64,
     block: &Block,
-) -> Result<(), ExplainFault>
-    ensures ok { OnOk result (Appends (O.written writer.old) (O.written writer.new)
-        (spec.picture_text symbols.now race (shown_of block.now))) }
-    ensures race { result ≢ Err ExplainFault.NoRace }
-    ensures failed { O.has_failed writer.new ≡ (O.has_failed writer.old || is_write_fault result) }
+) -> Result<Vec<u8>, NoMemory>
+    ensures { IfOk result (λ text. IsDocument text.items []) }
 {
-    let text = picture_text(alloc, symbols, race, block)?;
-    Ok(writer.put(&text)?)
+    let page = draw_picture(Markup::new(alloc), alloc, symbols, race, block)?;
+    Ok(page.finish())
 }

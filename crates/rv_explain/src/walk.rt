@@ -9,7 +9,7 @@ ghost use Rattle.rv_debug.specs.Placed.{moved};
 ghost use Rattle.rv_explain.specs.BlockOf as spec;
 ghost use Rattle.rv_races.specs.Races.{run_of};
 
-use crate::rows::{is_within, met, wrote};
+use crate::meeting::{is_within, met, wrote};
 use crate::told::stepped;
 use rv_break::claim::Seen;
 use rv_collide::ending::Ending;

@@ -6,11 +6,10 @@ use rv_collide::entry::Entry::{self, Armed, Paused, Resumed, Stepped};
 use rv_collide::plan::Plan;
 use rv_debug::session::Session;
 use rv_elf::Image;
-use rv_explain::explain::explain;
-use rv_explain::fault::ExplainFault;
+use rv_explain::blocks::block_text;
+use rv_explain::explain::blocks_asked;
 use rv_explain::races::races_in;
 use rv_explain::symbol_table::SymbolTable;
-use rv_memory::flagged::Flagged;
 use std::alloc::Global;
 use std::process::Abort;
 
@@ -43,46 +42,38 @@ const ENTRIES: [Entry; 13] = [
     Stepped(0),
 ];
 
-/// The text of the run with so many entries around each place, of that race alone where one is given.
+/// The text of the first block that is shown of the run with so many entries around each place, of that race alone where
+/// one is given; None where there is none.
 fn told(
     rt: &impl Abort,
     alloc: Global,
     image: &Image,
     around: u32,
     race: Option<u64>,
-) -> Result<Vec<u8>, ExplainFault> {
+) -> Option<Vec<u8>> {
     let plan = Plan::new(2, 100, 1, 10, 4).expect(rt, "a plan");
     let entries = Vec::from_slice(alloc, &ENTRIES).expect(rt, "memory");
     let none = bytes_of(rt, alloc, &[]);
     let symbols = SymbolTable::new(alloc, image).expect(rt, "memory");
     let mut session = Session::new(alloc, image, plan, entries).expect(rt, "a session");
     let found = races_in(alloc, image, &session, &none).expect(rt, "races");
-    let mut writer = Flagged::new(Vec::new(alloc));
-    let outcome = explain(
-        alloc,
-        &mut session,
-        &symbols,
-        &found,
-        around,
-        race,
-        &mut writer,
+    let blocks = blocks_asked(alloc, &mut session, image, &found, around, race).expect(
+        rt, "memory",
     );
     drop(session);
-    let text = writer.into_inner();
-    match outcome {
-        Ok(()) => Ok(text),
-        Err(fault) => Err(fault),
-    }
+    let blocks = blocks?;
+    let block = blocks.first()?;
+    Some(block_text(alloc, &symbols, b"", 1, block).expect(rt, "memory"))
 }
 
 #[test]
 fn all_entries_around_and_no_race_of_the_number(rt: HostRuntime) {
     let image = image(&rt, rt.alloc(), &LOST, &[]);
     let all = told(&rt, rt.alloc(), &image, 1000, None).expect(&rt, "a text");
-    let same = told(&rt, rt.alloc(), &image, 4_294_967_295, None).expect(&rt, "a text");
+    let same = told(&rt, rt.alloc(), &image, 4_294_967_295, Some(1)).expect(&rt, "a text");
     let none = told(&rt, rt.alloc(), &image, 3, Some(0));
     drop(image);
     assert_is(&rt, all.is_empty(), false, "an empty text");
     assert_is(&rt, &same, &all, "no more than all");
-    assert_is(&rt, none, Err(ExplainFault::NoRace), "no such race");
+    assert_is(&rt, none, None, "no such race");
 }

@@ -8,12 +8,11 @@ use rv_break::claim::Seen;
 use rv_collide::ending::{Ending, Verdict};
 use rv_collide::entry::Entry::{self, Armed, Disarmed, Paused, Resumed, Stepped};
 use rv_explain::block::{Block, RaceClass, Side};
-use rv_explain::blocks::write_block;
+use rv_explain::blocks::block_text;
 use rv_explain::classes::{class_of, stronger};
 use rv_explain::row::{After, Row, Shown};
 use rv_explain::symbol_table::SymbolTable;
 use rv_hart::access::Access;
-use rv_memory::flagged::Flagged;
 use std::alloc::Global;
 use std::process::Abort;
 
@@ -161,18 +160,6 @@ pub(super) fn ring(rt: &impl Abort, alloc: Global, class: RaceClass) -> Block {
     }
 }
 
-fn text(
-    rt: &impl Abort,
-    alloc: Global,
-    symbols: &SymbolTable,
-    run: &[u8],
-    block: &Block,
-) -> Vec<u8> {
-    let mut writer = Flagged::new(Vec::new(alloc));
-    write_block(alloc, &mut writer, symbols, run, 1, block).expect(rt, "a block");
-    writer.into_inner()
-}
-
 const RING_TEXT: &str = "race 1: put+0x24/0x30 and take+0x14/0x28, 8 reports, kept
   hart 1 was about to load 4 bytes at 00020008 rings+0x8/0x200, ending 1
     00010074 take+0x14/0x28: lw x28, 0(x7)
@@ -300,7 +287,7 @@ fn assert_reason(
     wanted: &str,
 ) {
     let block = ring(rt, alloc, class);
-    let text = text(rt, alloc, symbols, b"", &block);
+    let text = block_text(alloc, symbols, b"", 1, &block).expect(rt, "a block");
     drop(block);
     let start = "race 1: put+0x24/0x30 and take+0x14/0x28, 8 reports, ".len();
     let found = text.get(start..start.saturating_add(wanted.len()));
@@ -315,7 +302,7 @@ fn assert_block(
     block: &Block,
     wanted: &str,
 ) {
-    let text = text(rt, alloc, symbols, run, block);
+    let text = block_text(alloc, symbols, run, 1, block).expect(rt, "a block");
     assert_is(rt, text.as_slice(), wanted.as_bytes(), "the block");
 }
 

@@ -3,9 +3,8 @@ use super::blocks::{RING, ring};
 use crate::assertion::assert_is;
 use crate::padded::image;
 use rv_explain::block::RaceClass;
-use rv_explain::picture::write_picture;
+use rv_explain::picture::picture_text;
 use rv_explain::symbol_table::SymbolTable;
-use rv_memory::flagged::Flagged;
 
 /// The longest line is that of the bytes, of 90 characters: 72 pixels to the left of it, 16 behind it.
 const RING_PICTURE: &str =
@@ -53,9 +52,7 @@ fn the_ring_is_drawn(rt: HostRuntime) {
     let block = ring(&rt, alloc, RaceClass::Kept);
     let image = image(&rt, alloc, &[], &RING);
     let symbols = SymbolTable::new(alloc, &image).expect(&rt, "memory");
-    let mut writer = Flagged::new(Vec::new(alloc));
-    write_picture(alloc, &mut writer, &symbols, 1, &block).expect(&rt, "a picture");
-    let picture = writer.into_inner();
+    let picture = picture_text(alloc, &symbols, 1, &block).expect(&rt, "a picture");
     assert_is(
         &rt,
         picture.as_slice(),

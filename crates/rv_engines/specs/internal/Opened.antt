@@ -1,10 +1,8 @@
 -- What `explain` has before it tells.
-use Rattle.std.specs.Prelude.{◌≡◌, ℕ, Ok, List, option_map}
+use Rattle.std.specs.Prelude.{◌≡◌, ℕ, Ok, List}
 use Rattle.rv_explain.specs.Races.{found, found_of, run_of}
 use Rattle.rv_engines.specs.Asking.{Asking}
 use Rattle.rv_engines.specs.Campaigns.{elements, listed}
-use Rattle.rv_engines.specs.Explains.{Told}
-use Rattle.rv_engines.specs.declared.explain.engine.Texts.{Texts}
 use Rattle.rv_engines.specs.declared.explain.opening.Opened.{Opened}
 
 -- these are the races of its run, where the bytes of the listed names are told as named
@@ -12,6 +10,3 @@ pub record AreFound (wanted : Asking) (opened : Opened) : Type 0 where
   pub ranges : List (ℕ × ℕ)
   pub listed_are : listed opened.image (elements wanted.named) ≡ Ok ranges
   pub found_are : found_of opened.found ≡ found (run_of opened.session) ranges
-
-abbrev pub told : Texts → Told
-told texts = record { text = texts.text.items; picture = option_map (λ drawn. drawn.items) texts.picture }

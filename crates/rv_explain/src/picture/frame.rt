@@ -1,9 +1,8 @@
 //! Where the lines and the lanes of a picture stand. All lengths are in pixels.
-ghost use Rattle.std.specs.Prelude.{◌≡◌, ◌+◌, ◌-◌, ◌*◌, ◌<◌, ◌≤◌, ◌^◌, IfOk, OnOk, length, map, max};
-ghost use Rattle.rv_explain.specs.Blocks.{shown_of};
-ghost use Rattle.rv_explain.specs.Picture as spec;
+ghost use Rattle.std.specs.Prelude.{◌≡◌, ◌+◌, ◌*◌};
 
 use crate::block::Block;
+use crate::picture::shapes::Point;
 use crate::row::Shown;
 use rv_collide::entry::Entry;
 use rv_memory::store::NoMemory;
@@ -15,7 +14,7 @@ pub(crate) const LEGEND: &[u8] =
 /// How many lines a picture has and which of them is the first entry's, how many characters the longest has,
 /// and how many lanes there are.
 #[derive(Clone, Copy)]
-pub struct Frame {
+pub(crate) struct Frame {
     pub lines: u32,
     pub first: u32,
     pub columns: u32,
@@ -23,28 +22,18 @@ pub struct Frame {
 }
 
 /// The hart in whose lane an entry stands.
-fn hart_at(entry: Entry) -> Option<u8>
-    ensures { result ≡ spec.hart_at entry }
-{
-    match entry {
+fn hart_shown(shown: &Shown) -> Option<u8> {
+    let Shown::Row(row) = shown else {
+        return None;
+    };
+    match row.entry {
         Entry::Stepped(hart) | Entry::Paused(hart, _) | Entry::Resumed(hart) => Some(hart),
         Entry::Armed(_) | Entry::Disarmed(_) => None,
     }
 }
 
-fn hart_shown(shown: &Shown) -> Option<u8>
-    ensures { result ≡ spec.hart_shown shown.now }
-{
-    match shown {
-        Shown::Row(row) => hart_at(row.entry),
-        Shown::Gap { .. } => None,
-    }
-}
-
 /// The greatest number of a hart that is shown.
-fn last_hart(block: &Block) -> u8
-    ensures { result ≡ spec.last_hart (shown_of block.now) }
-{
+fn last_hart(block: &Block) -> u8 {
     let mut most = block.paused.hart.max(block.other.hart);
     for shown in &block.lines {
         most = most.max(hart_shown(shown).unwrap_or(0));
@@ -53,9 +42,7 @@ fn last_hart(block: &Block) -> u8
 }
 
 /// How many characters the longest line has.
-fn longest(lines: &[Vec<u8>]) -> usize
-    ensures { result ≡ spec.longest (map (λ line. line.items) lines.now) }
-{
+fn longest(lines: &[Vec<u8>]) -> usize {
     let mut most = LEGEND.len();
     for line in lines {
         most = most.max(line.len());
@@ -64,28 +51,16 @@ fn longest(lines: &[Vec<u8>]) -> usize
 }
 
 /// A number of lines or characters. A picture with as many as a `u32` cannot tell is too large for memory.
-fn small(count: usize) -> Result<u32, NoMemory>
-    ensures value { IfOk result (λ number. number ≡ count) }
-    ensures below { OnOk result (count < 2 ^ 32) }
-{
-    if count > u32::MAX as usize {
-        return Err(NoMemory);
-    }
-    Ok(count as u32)
+pub(crate) fn small(count: usize) -> Result<u32, NoMemory> {
+    u32::try_from(count).map_err(|_| NoMemory)
 }
 
 /// Where the lines and lanes of a block stand.
-#[tactic(auto, unfolding(crate::specs::Picture::frame_of))]
-pub(crate) fn frame_of(lines: &[Vec<u8>], block: &Block) -> Result<Frame, NoMemory>
-    ensures frame { IfOk result (λ frame. frame ≡ spec.frame_of (map (λ line. line.items) lines.now) (shown_of block.now)) }
-    ensures lines { OnOk result (length lines.now < 2 ^ 32) }
-    ensures rows { OnOk result (length block.now.lines.items < 2 ^ 32) }
-{
-    let rows = small(block.lines.len())?;
+pub(crate) fn frame_of(lines: &[Vec<u8>], block: &Block) -> Result<Frame, NoMemory> {
     let count = small(lines.len())?;
     Ok(Frame {
         lines: count,
-        first: count.saturating_sub(rows),
+        first: count.saturating_sub(small(block.lines.len())?),
         columns: small(longest(lines))?,
         lanes: u32::from(last_hart(block)) + 1,
     })
@@ -93,91 +68,66 @@ pub(crate) fn frame_of(lines: &[Vec<u8>], block: &Block) -> Result<Frame, NoMemo
 
 /// The middle of a hart's lane.
 pub(crate) fn lane_x(hart: u32) -> u64
-    ensures { result ≡ spec.lane_x hart }
+    ensures { result ≡ 28 + 24 * hart }
 {
     28 + 24 * u64::from(hart)
 }
 
+/// The baseline of a line.
+fn baseline(line: u32) -> u64
+    ensures { result ≡ 28 + 20 * line }
+{
+    28 + 20 * u64::from(line)
+}
+
 impl Frame {
     /// Where the texts beside the lanes begin.
-    pub(crate) fn beside(&self) -> u64
-        ensures { result ≡ spec.beside self.now }
+    fn beside(&self) -> u64
+        ensures { result ≡ 24 + 24 * self.now.lanes }
     {
         24 + 24 * u64::from(self.lanes)
     }
 
     /// The middle of the row of an entry.
     pub(crate) fn middle(&self, row: u32) -> u64
-        ensures { result ≡ spec.middle self.now row }
+        ensures { result ≡ 23 + 20 * (self.now.first + row) }
     {
         23 + 20 * (u64::from(self.first) + u64::from(row))
     }
 
+    /// The baseline of the harts' numbers.
+    pub(crate) fn numbers(&self) -> u64 {
+        baseline(self.first.saturating_sub(1))
+    }
+
     /// Where the lanes begin and end.
-    pub(crate) fn lanes_top(&self) -> u64
-        ensures { result ≡ spec.lanes_top self.now }
-    {
+    pub(crate) fn lanes_top(&self) -> u64 {
         self.middle(0) - 8
     }
 
-    pub(crate) fn lanes_end(&self) -> u64
-        ensures { result ≡ spec.lanes_end self.now }
-    {
-        baseline(u64::from(self.lines)) - 17
-    }
-
-    /// Where the bar of a pause begins.
-    #[tactic(auto, unfolding(crate::specs::Picture::bar_top))]
-    pub(crate) fn bar_top(&self, row: u32) -> u64
-        ensures { result ≡ spec.bar_top self.now row }
-    {
-        self.middle(row) - 8
+    pub(crate) fn lanes_end(&self) -> u64 {
+        baseline(self.lines) - 17
     }
 
     pub(crate) fn width(&self) -> u64
-        ensures { result ≡ spec.width self.now }
+        ensures { result ≡ 40 + 24 * self.now.lanes + 8 * self.now.columns }
     {
         self.beside() + 8 * u64::from(self.columns) + 16
     }
 
-    pub(crate) fn height(&self) -> u64
-        ensures { result ≡ spec.height self.now }
-    {
-        baseline(u64::from(self.lines) + 1) + 16
+    pub(crate) fn height(&self) -> u64 {
+        baseline(self.lines) + 36
     }
 
-    /// Where the text of a line begins.
-    pub(crate) fn left_of(&self, line: u32) -> u64
-        ensures { result ≡ spec.left_of self.now line }
-    {
-        if u64::from(line) + 1 < u64::from(self.first) {
-            16
-        } else {
-            self.beside()
-        }
+    /// Where a line begins: those of entries and the columns' names stand beside the lanes.
+    pub(crate) fn line(&self, line: u32) -> Point {
+        let above = u64::from(line) + 1 < u64::from(self.first);
+        let x = if above { 16 } else { self.beside() };
+        Point::new(x, baseline(line))
     }
-}
 
-/// The baseline of a line.
-pub(crate) fn baseline(line: u64) -> u64
-    requires { line ≤ 2 ^ 32 }
-    ensures { result ≡ spec.baseline line }
-{
-    28 + 20 * line
-}
-
-/// The left side of the bar of a pause.
-#[tactic(auto, unfolding(crate::specs::Picture::bar_left))]
-pub(crate) fn bar_left(hart: u8) -> u64
-    ensures { result ≡ spec.bar_left hart }
-{
-    lane_x(u32::from(hart)) - 8
-}
-
-/// The height of the bar of a pause.
-#[tactic(auto, unfolding(crate::specs::Picture::bar_height))]
-pub(crate) fn bar_height(first: u32, last: u32) -> u64
-    ensures { result ≡ spec.bar_height first last }
-{
-    20 * u64::from(last.saturating_sub(first)) + 16
+    /// Where the legend begins.
+    pub(crate) fn legend(&self) -> Point {
+        Point::new(16, baseline(self.lines) + 20)
+    }
 }

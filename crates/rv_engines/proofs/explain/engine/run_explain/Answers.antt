@@ -4,29 +4,37 @@ use Rattle.rv_memory.specs.Buffered as buffer
 use Rattle.rv_memory.specs.Flagged as flag
 use Rattle.rv_engines.specs.Asking.{asking}
 use Rattle.rv_engines.specs.Campaigns.{passes}
-use Rattle.rv_engines.specs.CommandFault.{Plain, refusal}
-use Rattle.rv_engines.specs.internal.Opened.{told}
-use Rattle.rv_engines.proofs.ExplainLemmas.{no_writer, of_mapped, races_refused, races_shown, refused_by, shown_by, write_refused}
+use Rattle.rv_engines.specs.CommandFault.{Plain, is_write, refusal}
+use Rattle.rv_engines.proofs.ExplainLemmas.{memory_refused, no_writer, races_refused, races_shown, refused_by, shown_by, write_refused}
 use Rattle.rv_engines.proofs.explain.engine.run_explain.Goals as goal
+
+pub returns-in_err-blocks-clause-refused : goal.returns-in_err-blocks-clause-refused
+returns-in_err-blocks-clause-refused g c =
+    let p = err_from_is_err_and c.from_residual-in_err-blocks.result c.from_residual-in_err-blocks.ensures.1 in
+    rw (p.1, p.2) (refused_by (g.R.Read.remaining (flag.device c.args.image.now)) (g.Q.Read.remaining (flag.device c.args.schedule.now)) c.is_some-draws.result _ (asking c.args.options.now) (refusal c.in_err-blocks.field-0.0) c.is_some-draws.ensures
+    (races_refused (g.R.Read.remaining (flag.device c.args.image.now)) (g.Q.Read.remaining (flag.device c.args.schedule.now)) c.is_some-draws.result (asking c.args.options.now) c.in_ok-opened.opened (refusal c.in_err-blocks.field-0.0)
+    c.in_ok-opened.ensures.run c.in_ok-opened.ensures.image c.in_ok-opened.ensures.legal c.in_ok-opened.ensures.found c.in_err-blocks.ensures.thread c.in_err-blocks.ensures.err))
+
+pub returns-in_err-blocks-clause-writers : goal.returns-in_err-blocks-clause-writers
+returns-in_err-blocks-clause-writers g c =
+    let p = err_from_is_err_and c.from_residual-in_err-blocks.result c.from_residual-in_err-blocks.ensures.1 in
+    rw (p.1, p.2) (no_writer (passes g.F.NewFile.has_failed c.args.picture.now) (buffer.has_failed c.args.writer.now) _ c.in_err-blocks.ensures.writer)
 
 pub returns-in_err-texts-clause-refused : goal.returns-in_err-texts-clause-refused
 returns-in_err-texts-clause-refused g c =
     let p = err_from_is_err_and c.from_residual-in_err-texts.result c.from_residual-in_err-texts.ensures.1 in
-    rw (p.1, p.2) (refused_by (g.R.Read.remaining (flag.device c.args.image.now)) (g.Q.Read.remaining (flag.device c.args.schedule.now)) c.is_some-draws.result _ (asking c.args.options.now) (refusal c.in_err-texts.field-0.0) c.is_some-draws.ensures
-    (races_refused (g.R.Read.remaining (flag.device c.args.image.now)) (g.Q.Read.remaining (flag.device c.args.schedule.now)) c.is_some-draws.result (asking c.args.options.now) c.in_ok-opened.opened (refusal c.in_err-texts.field-0.0)
-    c.in_ok-opened.ensures.run c.in_ok-opened.ensures.image c.in_ok-opened.ensures.legal c.in_ok-opened.ensures.found c.in_err-texts.ensures.thread c.in_err-texts.ensures.err))
+    rw p.1 (memory_refused (g.R.Read.remaining (flag.device c.args.image.now)) (g.Q.Read.remaining (flag.device c.args.schedule.now)) _ (asking c.args.options.now) _ p.2)
 
 pub returns-in_err-texts-clause-writers : goal.returns-in_err-texts-clause-writers
 returns-in_err-texts-clause-writers g c =
     let p = err_from_is_err_and c.from_residual-in_err-texts.result c.from_residual-in_err-texts.ensures.1 in
-    rw (p.1, p.2) (no_writer (passes g.F.NewFile.has_failed c.args.picture.now) (buffer.has_failed c.args.writer.now) _ c.in_err-texts.ensures.writer)
+    rw p.1 (no_writer (passes g.F.NewFile.has_failed c.args.picture.now) (buffer.has_failed c.args.writer.now) _ (ap is_write p.2))
 
 pub returns-in-Ok-clause-told : goal.returns-in-Ok-clause-told
 returns-in-Ok-clause-told g c =
-    shown_by (g.R.Read.remaining (flag.device c.args.image.now)) (g.Q.Read.remaining (flag.device c.args.schedule.now)) c.is_some-draws.result _ (asking c.args.options.now) _ c.is_some-draws.ensures
-    (races_shown (g.R.Read.remaining (flag.device c.args.image.now)) (g.Q.Read.remaining (flag.device c.args.schedule.now)) c.is_some-draws.result (asking c.args.options.now) c.in_ok-opened.opened (told c.in_ok-texts.texts) _
-    c.in_ok-opened.ensures.run c.in_ok-opened.ensures.image c.in_ok-opened.ensures.legal c.in_ok-opened.ensures.found c.in_ok-texts.ensures.ok
-    (c.in-Ok.ensures.text, of_mapped _ _ c.in_ok-texts.texts.picture c.in-Ok.ensures.drawn))
+    shown_by (g.R.Read.remaining (flag.device c.args.image.now)) (g.Q.Read.remaining (flag.device c.args.schedule.now)) c.is_some-draws.result _ (asking c.args.options.now) c.is_some-draws.ensures
+    (races_shown (g.R.Read.remaining (flag.device c.args.image.now)) (g.Q.Read.remaining (flag.device c.args.schedule.now)) c.is_some-draws.result (asking c.args.options.now) c.in_ok-opened.opened _
+    c.in_ok-opened.ensures.run c.in_ok-opened.ensures.image c.in_ok-opened.ensures.legal c.in_ok-opened.ensures.found c.in_ok-blocks.ensures.ok)
 
 pub returns-clause-refused : goal.returns-clause-refused
 returns-clause-refused g c =
