@@ -1,8 +1,7 @@
 pub mod BoolLemmas
-pub mod Counted
+pub mod PageLemmas
 pub mod EngineLemmas
 pub mod FileLemmas
-pub mod FilterLemmas
 pub mod FoldLemmas
 pub mod HuntLemmas
 pub mod IgnoreLemmas
@@ -12,6 +11,7 @@ pub mod MergeLemmas
 pub mod MergedFileLemmas
 pub mod NumberLemmas
 pub mod OpenLemmas
+pub mod OrderLemmas
 pub mod PartedLemmas
 pub mod ReadLemmas
 pub mod RemadeLemmas
@@ -19,6 +19,7 @@ pub mod ReportLemmas
 pub mod ResultLemmas
 pub mod Rows
 pub mod ShowingLemmas
+pub mod ShownLemmas
 pub mod SoughtLemmas
 pub mod SummaryLemmas
 pub mod WordLemmas

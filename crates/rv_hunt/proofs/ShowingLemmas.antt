@@ -14,8 +14,6 @@ use Rattle.rv_collide.specs.Stored.{Stored}
 use Rattle.rv_collide.specs.declared.collider.Finished.{Finished}
 use Rattle.rv_collide.specs.declared.ending.Ending.{Ending}
 use Rattle.rv_elf.specs.Contents.{Contents}
-use Rattle.rv_explain.specs.BlockOf.{race_shown}
-use Rattle.rv_explain.specs.Blocks.{block_text}
 use Rattle.rv_explain.specs.Races.{Run, reports_of}
 use Rattle.rv_races.specs.declared.races.Report.{Report}
 use Rattle.rv_hunt.proofs.HuntLemmas.{there_is}
@@ -24,10 +22,8 @@ use Rattle.rv_hunt.specs.declared.engine.shown.InFull.{InFull}
 use Rattle.rv_hunt.specs.declared.engine.shown.Shower.{Shower}
 use Rattle.rv_hunt.specs.declared.engine.shown.ShownRace.{ShownRace}
 use Rattle.rv_hunt.specs.declared.engine.shown.ShownRun.{ShownRun}
-use Rattle.rv_hunt.specs.declared.engine.shown.TheConstants.{AROUND}
 use Rattle.rv_hunt.specs.declared.row.RaceRow.{RaceRow}
-use Rattle.rv_hunt.specs.engine.OnwardText.{gdb_text}
-use Rattle.rv_hunt.specs.engine.Shown.{AreShown, IsRaceShown, IsRunOf, IsShown, run_told, run_words}
+use Rattle.rv_hunt.specs.engine.Shown.{AreShown, IsRaceShown, IsRunOf, IsShown, run_told}
 use Rattle.rv_hunt.specs.internal.Showing.{AreHeld, AreSlots, Full, IsInSlot, IsOfRow, IsOfSchedule, IsPlaced, IsSeriesRun, IsShownIn, IsShownOf, IsShownRun, KeepsShown, of_full}
 use Rattle.rv_report.specs.declared.key.Key.{Key}
 use Rattle.rv_tally.specs.Plans.{plan_of}
@@ -48,11 +44,10 @@ race_found image ranges row ended reports told are found =
 -- ---- the races of a run
 
 one_shown : (shower : Shower) (run : Finished) (schedule : List ℕ) (one : ℕ × ShownRace) → shower.full.symbols.now ≡ shower.full.hunt.now.source.image → IsRunOf shower.full.hunt.now shower.run run → schedule ≡ schedule_text (numbers run.plan) run.entries.items
-    → IsPlaced shower (run_told shower.full.symbols.now run) (run_words shower.run run.plan.harts) one → IsOfSchedule (of_full shower.full) schedule one.0 one.1
+    → IsPlaced shower (run_told shower.full.symbols.now run) run.plan.harts one → IsOfSchedule (of_full shower.full) schedule one.0 one.1
 one_shown shower run schedule one image is_run schedule_is placed =
     let of_row = placed.0 in
     let of_run = placed.1 in
-    let full = of_full shower.full in
     let names : of_row.row.1.run ≡ shower.run = ap (λ (row : Row). row.1.run) (same_some of_row.row of_run.row (sym of_row.there ∙ of_run.there)) ∙ of_run.names in
     record {
       row = of_row.row;
@@ -60,13 +55,7 @@ one_shown shower run schedule one image is_run schedule_is placed =
       is_shown = record {
         run = run;
         is_run = subst (λ (n : ℕ). IsRunOf shower.full.hunt.now n run) (sym names) is_run;
-        is_shown = subst (λ (c : Contents). IsRaceShown full.line full.hunt.ranges full.pictures (one.0 + 1) run.plan.harts of_row.row (run_told c run) one.1) image (record {
-          race = of_row.race;
-          is_race = of_row.is_race;
-          block_is = of_row.of_race.block_is
-              ∙ ap (λ (n : ℕ). block_text shower.full.symbols.now (run_words n run.plan.harts) (one.0 + 1) (race_shown (run_told shower.full.symbols.now run) AROUND of_row.race) ++ gdb_text full.line.image full.line.nested full.line.folder (one.0 + 1) of_row.race.told.number) (sym names);
-          picture_is = of_row.of_race.picture_is;
-        });
+        is_shown = subst (λ (c : Contents). IsRaceShown shower.full.hunt.now.ranges run.plan.harts of_row.row (run_told c run) one.1) image of_row.is_shown;
         saved = sym schedule_is;
       };
     }
@@ -76,13 +65,13 @@ shown_in shower shown image is = λ k d below.
     one_shown shower is.run shown.schedule.items (get_or shown.races.items k d) image is.is_run is.is_shown.schedule_is (is.is_shown.races_are k d below)
 
 -- one race more, where the row has one
-pub placed_more : (shower : Shower) (now run : Run) (words : List ℕ) (place short : ℕ) (row : Row) (found : Option ShownRace) (old new' : List (ℕ × ShownRace)) → now ≡ run → short ≡ place → slice_get shower.full.rows.now place ≡ Some row → row.1.run ≡ shower.run
-    → IfSome found (λ one. IsOfRow shower.full now words place one) → new' ≡ old ++ option_to_list (option_map (λ one. (short, one)) found) → All (IsPlaced shower run words) old → All (IsPlaced shower run words) new'
-placed_more shower now run words place short row None old new' same is there names shown pushed before =
-    subst (All (IsPlaced shower run words)) (sym (pushed ∙ append-nil old)) before
-placed_more shower now run words place short row (Some one) old new' same is there names shown pushed before =
-    subst (All (IsPlaced shower run words)) (sym pushed) (All-push (IsPlaced shower run words) old (short, one) before (
-      subst (λ (r : Run). IsOfRow shower.full r words short one) same (subst (λ (n : ℕ). IsOfRow shower.full now words n one) (sym is) shown),
+pub placed_more : (shower : Shower) (now run : Run) (harts place short : ℕ) (row : Row) (found : Option ShownRace) (old new' : List (ℕ × ShownRace)) → now ≡ run → short ≡ place → slice_get shower.full.rows.now place ≡ Some row → row.1.run ≡ shower.run
+    → IfSome found (λ one. IsOfRow shower.full now harts place one) → new' ≡ old ++ option_to_list (option_map (λ one. (short, one)) found) → All (IsPlaced shower run harts) old → All (IsPlaced shower run harts) new'
+placed_more shower now run harts place short row None old new' same is there names shown pushed before =
+    subst (All (IsPlaced shower run harts)) (sym (pushed ∙ append-nil old)) before
+placed_more shower now run harts place short row (Some one) old new' same is there names shown pushed before =
+    subst (All (IsPlaced shower run harts)) (sym pushed) (All-push (IsPlaced shower run harts) old (short, one) before (
+      subst (λ (r : Run). IsOfRow shower.full r harts short one) same (subst (λ (n : ℕ). IsOfRow shower.full now harts n one) (sym is) shown),
       record { row = row; there = ap (λ (n : ℕ). slice_get shower.full.rows.now n) is ∙ there; names = names },
     ))
 
@@ -193,13 +182,10 @@ one_more slots races all race at is count here before = λ place one there.
       | inr both ↦ ap (λ (n : ℕ). slice_get slots n) (both.0 ∙ count) ∙ here ∙ ap (λ (s : ShownRace). Some (Some s)) both.1
     ]
 
-same_row : (x y : Row) (full : Full) (Saves : List ℕ → Type 0) (k : ℕ) (shown : ShownRace) → x ≡ y → IsShown full.line full.hunt full.pictures k Saves x shown → IsShown full.line full.hunt full.pictures k Saves y shown
-same_row x y full Saves k shown same is = subst (λ (r : Row). IsShown full.line full.hunt full.pictures k Saves r shown) same is
-
-pub all_shown : (full : Full) (Saves : ℕ → List ℕ → Type 0) (slots : List (Option ShownRace)) (races : List ShownRace) → length races ≡ length full.rows → AreHeld slots races → AreSlots full Saves slots → AreShown full.line full.hunt full.pictures Saves full.rows races
+pub all_shown : (full : Full) (Saves : ℕ → List ℕ → Type 0) (slots : List (Option ShownRace)) (races : List ShownRace) → length races ≡ length full.rows → AreHeld slots races → AreSlots full Saves slots → AreShown full.hunt Saves full.rows races
 all_shown full Saves slots races count held are = record {
   count = count;
   each = λ place row one there here.
       let slot = are place one (held place one here) in
-      same_row slot.row row full (Saves (place + 1)) (place + 1) one (same_some slot.row row (sym slot.there ∙ there)) slot.is_shown;
+      subst (λ (r : Row). IsShown full.hunt (Saves (place + 1)) r one) (same_some slot.row row (sym slot.there ∙ there)) slot.is_shown;
 }

@@ -4,5 +4,4 @@ pub mod FolderFault
 pub mod HuntFault
 pub mod Hunting
 pub mod Late
-pub mod OnwardText
 pub mod Shown

@@ -41,7 +41,7 @@ mod opening;
 pub mod options;
 mod showing;
 pub mod shown;
-mod texts;
+pub(crate) mod texts;
 
 /// Writes the notes to their last byte, and then the text.
 fn publish<W: Write, E: Write>(

@@ -1,6 +1,7 @@
 //! What holds of hunts and their tables. Each law is the contract of a function that does nothing.
 ghost use Rattle.rv_hunt.specs.HuntLaws.{PiecesAreMerged, TableIsKept, TwoAreMerged};
 ghost use Rattle.rv_hunt.specs.HuntedLaws.{OneResult, PiecesAreWhole, RowsAreTold};
+ghost use Rattle.rv_hunt.specs.ShownOnce.{EachIsShownOnce};
 
 use rv_drive::driver_laws::seeded_runs;
 
@@ -20,3 +21,8 @@ pub fn hunts_have_one_result()
 {
     seeded_runs();
 }
+
+/// Each race that a hunt saw is counted once: it is shown, or it is of class named, or a line of `--ignore` fits it.
+pub fn each_race_is_shown_once()
+    ensures { EachIsShownOnce }
+{}

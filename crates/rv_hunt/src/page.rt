@@ -1,22 +1,26 @@
 //! The page that a hunt leaves: one HTML file that stands alone, for whoever looks at a nightly job's results.
 //!
-//! What `page_text` makes is the text of `specs/page/PageText.antt`, a function of the command line, of what the hunt came
-//! to, of the races that are told, and of those that are shown in full. Texts from files stand in it as `rv_markup` has it; pictures stand as they are given,
-//! escaped by their maker.
-ghost use Rattle.std.specs.Prelude.{◌≡◌, IfOk};
-ghost use Rattle.rv_hunt.specs.page.PageText as spec;
+//! It is well formed, runs no script and fetches nothing, as `rv_markup` has it. `specs/PageFacts.antt` has which places, links
+//! and numbers it shows.
+ghost use Rattle.std.specs.Prelude.{◌≡◌, ◌≤◌, length, suc, IfOk};
+ghost use Rattle.rv_hunt.specs.PageFacts as spec;
+ghost use Rattle.rv_markup.specs.Markup.{IsDocument};
 
+use crate::engine::options::LineParts;
 use crate::engine::shown::ShownRace;
-use crate::page::elements::code;
+use crate::page::elements::{code, end_line};
 use crate::page::parts::Outcome;
 use crate::page::races::{races_part, races_shown};
 use crate::page::runs::{aside_part, ended_part, seen_part, warnings_part};
-use crate::page::style::STYLE;
+use crate::page::style::RULES;
 use crate::row::RaceRow;
 use crate::saying::lines::summary_line;
-use rv_explain::pieces::joined;
 use rv_explain::symbol_table::SymbolTable;
-use rv_markup::escaped::escaped;
+use rv_markup::markup::Markup;
+use rv_markup::tag::{
+    Attribute, BODY, CHARSET, CONTENT, H1, HEAD, HTML, LANG, LINK, META, NAME, NAV, P, Place,
+    STYLE, TITLE,
+};
 use rv_memory::store::NoMemory;
 use rv_report::key::Key;
 use std::alloc::Global;
@@ -27,94 +31,99 @@ mod races;
 mod runs;
 mod style;
 
-const DOCUMENT: &[u8] =
-    b"<!DOCTYPE html>\n<html lang='en'>\n<head>\n<meta charset='utf-8'/>\n<meta name='viewport' content='width=device-width, initial-scale=1'/>\n";
-
 /// What stands before the body.
-#[tactic(auto, unfolding(crate::specs::page::PageText::head_text))]
-fn head_text(alloc: Global, summary: &[u8]) -> Result<Vec<u8>, NoMemory>
-    ensures { IfOk result (λ text. text.items ≡ spec.head_text summary.now) }
+fn head(page: Markup, summary: &[u8]) -> Result<Markup, NoMemory>
+    ensures { IfOk result (λ more. more ≡ page) }
 {
-    let title = escaped(alloc, summary)?;
-    joined(
-        alloc,
-        &[
-            DOCUMENT,
-            b"<title>",
-            &title,
-            b"</title>\n<style>\n",
-            STYLE,
-            b"</style>\n</head>\n",
-        ],
-    )
+    let charset = Attribute {
+        name: CHARSET,
+        value: b"utf-8",
+    };
+    let name = Attribute {
+        name: NAME,
+        value: b"viewport",
+    };
+    let content = Attribute {
+        name: CONTENT,
+        value: b"width=device-width, initial-scale=1",
+    };
+    let page = page.begin(HEAD, &[])?.text(b"\n")?;
+    let page = page.empty(META, &[charset])?.text(b"\n")?;
+    let page = page.empty(META, &[name, content])?.text(b"\n")?;
+    let page = end_line(page.begin(TITLE, &[])?.text(summary)?)?;
+    let page = page.begin(STYLE, &[])?.text(b"\n")?.text(RULES)?;
+    end_line(end_line(page)?)
 }
 
-const LINKS: &[u8] =
-    b"<nav><a href='#races'>races</a> <a href='#ended'>how harts ended</a> <a href='#seen'>what was seen</a></nav>\n";
-
-/// What stands above all parts.
-#[tactic(auto, unfolding(crate::specs::page::PageText::top_text))]
-fn top_text(alloc: Global, summary: &[u8], command: &[u8]) -> Result<Vec<u8>, NoMemory>
-    ensures { IfOk result (λ text. text.items ≡ spec.top_text summary.now command.now) }
+/// Links to parts of the page.
+fn links(page: Markup) -> Result<Markup, NoMemory>
+    ensures { IfOk result (λ more. more ≡ record page { facts = spec.links_facts page.facts }) }
 {
-    let summary = escaped(alloc, summary)?;
-    let command = code(alloc, command)?;
-    joined(
-        alloc,
-        &[
-            b"<body>\n<h1>",
-            &summary,
-            b"</h1>\n<p>",
-            &command,
-            b"</p>\n",
-            LINKS,
-        ],
-    )
+    let page = page.begin(NAV, &[])?;
+    let page = page.begin_link(LINK, Place::Races)?.text(b"races")?.end()?;
+    let page = page.text(b" ")?.begin_link(LINK, Place::Ended)?;
+    let page = page.text(b"how harts ended")?.end()?;
+    let page = page.text(b" ")?.begin_link(LINK, Place::Seen)?;
+    end_line(page.text(b"what was seen")?.end()?)
 }
 
-/// All that stands above the races.
-#[tactic(auto, unfolding(crate::specs::page::PageText::front_text))]
-fn front_text(alloc: Global, command: &[u8], outcome: &Outcome) -> Result<Vec<u8>, NoMemory>
-    ensures { IfOk result (λ text. text.items ≡ spec.front_text command.now outcome.now) }
+/// What stands above all parts of the page.
+fn begin_page(page: Markup, line: &LineParts<'_>, summary: &[u8]) -> Result<Markup, NoMemory>
+    ensures { IfOk result (λ more. more ≡ record { depth = suc (suc page.depth); facts = spec.links_facts page.facts }) }
 {
-    let summary = summary_line(alloc, outcome.saw, outcome.rows)?;
-    let head = head_text(alloc, &summary)?;
-    let top = top_text(alloc, &summary, command)?;
-    let warnings = warnings_part(alloc, outcome.sites, outcome.saw)?;
-    joined(alloc, &[&head, &top, &warnings])
+    let lang = Attribute {
+        name: LANG,
+        value: b"en",
+    };
+    let page = page.doctype()?.begin(HTML, &[lang])?.text(b"\n")?;
+    let page = head(page, summary)?.begin(BODY, &[])?.text(b"\n")?;
+    let page = end_line(page.begin(H1, &[])?.text(summary)?)?;
+    let page = code(page.begin(P, &[])?, line.command.as_bytes())?;
+    links(end_line(page)?)
 }
 
-/// What stands below them.
-#[tactic(auto, unfolding(crate::specs::page::PageText::runs_text))]
-fn runs_text(alloc: Global, outcome: &Outcome) -> Result<Vec<u8>, NoMemory>
-    ensures { IfOk result (λ text. text.items ≡ spec.runs_text outcome.now) }
+/// The races: their table, and the first of them in full.
+fn told_races(
+    page: Markup,
+    alloc: Global,
+    line: &LineParts<'_>,
+    symbols: &SymbolTable,
+    told: &[(Key, RaceRow)],
+    shown: &[ShownRace],
+) -> Result<Markup, NoMemory>
+    requires { length shown.now ≤ length told.now }
+    ensures { IfOk result (λ more. more ≡ record page { facts = spec.told_facts told.now (length shown.now) page.facts }) }
 {
-    let aside = aside_part(alloc, outcome)?;
-    let ended = ended_part(alloc, outcome.saw.ended())?;
-    let seen = seen_part(alloc, outcome.sites, outcome.saw)?;
-    joined(alloc, &[&aside, &ended, &seen])
+    let page = races_part(page, alloc, symbols, shown.len(), told)?;
+    races_shown(page, alloc, line, symbols, told, shown)
 }
 
-/// The page of what a hunt came to. The races that are told stand in their order, the first of them in full; `command` is the
-/// command line that asks for the page.
-#[tactic(auto, unfolding(crate::specs::page::PageText::page_text))]
+/// What stands below the races.
+fn runs_seen(page: Markup, alloc: Global, outcome: &Outcome) -> Result<Markup, NoMemory>
+    ensures { IfOk result (λ more. more ≡ record page { facts = spec.runs_facts outcome.now page.facts }) }
+{
+    let page = aside_part(page, alloc, outcome)?;
+    let page = ended_part(page, alloc, outcome.saw)?;
+    seen_part(page, outcome.sites, outcome.saw)
+}
+
+/// The page of what a hunt came to. The races that are told stand in their order, the first of them in full.
 pub fn page_text(
     alloc: Global,
-    command: &[u8],
+    line: &LineParts<'_>,
     symbols: &SymbolTable,
     outcome: &Outcome,
     told: &[(Key, RaceRow)],
     shown: &[ShownRace],
 ) -> Result<Vec<u8>, NoMemory>
-    ensures { IfOk result (λ text. text.items
-        ≡ spec.page_text command.now symbols.now outcome.now told.now shown.now) }
+    requires { length shown.now ≤ length told.now }
+    ensures { IfOk result (λ text. IsDocument text.items
+        (spec.page_facts outcome.now told.now (length shown.now))) }
 {
-    let front = front_text(alloc, command, outcome)?;
-    let listed = races_part(alloc, symbols, shown.len(), told)?;
-    let races = races_shown(alloc, symbols, told, shown)?;
-    let runs = runs_text(alloc, outcome)?;
-    joined(
-        alloc,
-        &[&front, &listed, &races, &runs, b"</body>\n</html>\n"],
-    )
+    let summary = summary_line(alloc, outcome)?;
+    let page = begin_page(Markup::new(alloc), line, summary.as_bytes())?;
+    let page = warnings_part(page, alloc, outcome)?;
+    let page = told_races(page, alloc, line, symbols, told, shown)?;
+    let page = runs_seen(page, alloc, outcome)?;
+    Ok(end_line(end_line(page)?)?.finish())
 }

@@ -5,7 +5,6 @@ use Rattle.rv_tally.specs.GoesOn.{IsLimit}
 use Rattle.rv_tally.specs.Plans.{Given}
 use Rattle.rv_tally.specs.declared.limit.Limit.{Limit}
 use Rattle.rv_hunt.specs.declared.engine.options.HuntOptions.{HuntOptions}
-use Rattle.rv_hunt.specs.declared.engine.options.LineParts.{LineParts}
 use Rattle.rv_hunt.specs.declared.engine.options.TheConstants.{MOST_WORKERS}
 
 -- What is given of the runs' plans, their seed, the number of the first, how far the hunt goes, and the names and the
@@ -27,25 +26,6 @@ asked options = record {
   limit = options.limit;
   named = option_map (λ text. text.now) options.named;
   skip = option_map (λ text. text.now) options.skip;
-}
-
--- The command line, the image's path, the same within the quotes of another command, the options that make the runs what they are, and the folder for schedules, where
--- one is given.
-pub record Onward : Type 0 where
-  pub command : List ℕ
-  pub image : List ℕ
-  pub nested : List ℕ
-  pub options : List ℕ
-  pub folder : Option (List ℕ)
-
--- what is told of the command line
-abbrev pub parts : LineParts → Onward
-parts line = record {
-  command = line.command.now;
-  image = line.image.now;
-  nested = line.nested_image.now;
-  options = line.options.now;
-  folder = option_map (λ text. text.now) line.folder;
 }
 
 -- There can be such a hunt: by its limit and the numbers of its runs, and by the number of its workers.

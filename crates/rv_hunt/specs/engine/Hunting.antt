@@ -1,12 +1,12 @@
 -- What `hunt` makes of the bytes of an image and its options.
-use Rattle.std.specs.Prelude.{◌≡◌, ℕ, Bool, false, ◌||◌, Option, Some, None, option_and_then, option_map, Result, Ok, if◌then◌else◌, List, [], ◌++◌, filter, length, take}
+use Rattle.std.specs.Prelude.{◌≡◌, ⊤, ℕ, Bool, false, ◌||◌, Option, Some, None, option_and_then, option_map, Result, Ok, if◌then◌else◌, List, [], filter, length, take}
 use Rattle.std.specs.Option.{option_map_or}
 use Rattle.rv_elf.specs.Contents.{Contents}
-use Rattle.rv_hunt.specs.HuntSays.{Outcome, behind_text, hunt_text, index_text}
 use Rattle.rv_hunt.specs.HuntText.{table_text}
 use Rattle.rv_hunt.specs.Hunted.{Hunt, IsHunted}
-use Rattle.rv_hunt.specs.ToldOrder.{benign, bugs, told_rows}
-use Rattle.rv_hunt.specs.WarningText.{warnings_text}
+use Rattle.rv_hunt.specs.Outcome.{Outcome}
+use Rattle.rv_hunt.specs.PageFacts.{page_facts}
+use Rattle.rv_hunt.specs.ToldOrder.{AreInOrder, benign, bugs}
 use Rattle.rv_hunt.specs.declared.hunted.Hunted.{Hunted}
 use Rattle.rv_hunt.specs.declared.row.RaceRow.{RaceRow}
 use Rattle.rv_memory.specs.Flagged.{device, has_failed}
@@ -15,12 +15,9 @@ use Rattle.rv_sample.specs.Sites.{sites}
 use Rattle.rv_engines.specs.Campaigns.{elements, listed, skipped}
 use Rattle.rv_engines.specs.CommandFault.{Refusal, plainly}
 use Rattle.rv_engines.specs.Images.{image_of}
-use Rattle.rv_hunt.specs.engine.Asked.{Asked, Onward, parts}
-use Rattle.rv_hunt.specs.engine.OnwardText.{keep_text}
-use Rattle.rv_hunt.specs.engine.Shown.{AreShown, blocks_text}
-use Rattle.rv_hunt.specs.page.PageText.{page_text}
+use Rattle.rv_hunt.specs.engine.Asked.{Asked}
+use Rattle.rv_hunt.specs.engine.Shown.{AreShown}
 use Rattle.rv_hunt.specs.declared.engine.shown.ShownRace.{ShownRace}
-use Rattle.rv_hunt.specs.declared.engine.shown.TheConstants.{MOST_PICTURES}
 use Rattle.rv_hunt.specs.declared.engine.found.Found.{Found}
 use Rattle.rv_hunt.specs.declared.engine.inputs.Inputs.{Inputs}
 use Rattle.rv_hunt.specs.declared.engine.options.HuntOptions.{HuntOptions}
@@ -31,6 +28,7 @@ use Rattle.rv_hunt.specs.merge.Merge.{bytes_if, is_unexpected}
 use Rattle.rv_hunt.specs.merge.TableFiles.{expected_table}
 use Rattle.rv_hunt.specs.declared.merge.fault.FileFault.{FileFault}
 use Rattle.rv_hunt.specs.declared.merge.ignore.Line.{Line}
+use Rattle.rv_markup.specs.declared.markup.Fact.{Fact}
 use Rattle.rv_report.specs.declared.key.Key.{Key}
 
 -- ---- what is hunted
@@ -110,30 +108,10 @@ pub record Texts : Type 0 where
   pub text : List ℕ
   pub notes : List ℕ
 
-abbrev pub keep : Onward → List ℕ
-keep line = keep_text line.image line.options line.folder
-
 -- how many races are shown in full: none where only the table is wanted
 abbrev pub full_of : Shows → Bool → ℕ → ℕ
 full_of Text files blocks = blocks
 full_of Table files blocks = if files then blocks else 0
-
--- how many have pictures, which only a page shows
-abbrev pub pictures_of : Bool → ℕ
-pictures_of page = if page then MOST_PICTURES else 0
-
--- The races one by one, and how a run is kept; the notes are the warnings. Of the table the text is the table, and behind the
--- warnings stands what the other text has behind its blocks.
-abbrev pub texts_of : Onward → Shows → Contents → Outcome → List (Key × RaceRow) → List ShownRace → Texts
-texts_of line Text image o told shown = record {
-  text = hunt_text o (index_text image (length shown) told) (blocks_text shown) ++ keep line;
-  notes = warnings_text o.sites o.saw;
-}
-texts_of line Table image o told shown = record { text = table_text o.rows; notes = (warnings_text o.sites o.saw ++ behind_text o) ++ keep line }
-
--- the races that are told, in their order
-abbrev pub told_of : Hunting → Hunted → List (Key × RaceRow)
-told_of hunting saw = told_rows hunting.hunt.source.image (told_in hunting saw)
 
 -- how many races may be a bug, how many are likely benign, and whether one that may be a bug is not expected
 abbrev pub found_in : Option (List (Key × RaceRow)) → List (Key × RaceRow) → Found
@@ -142,35 +120,35 @@ found_in expected rows = record { bugs = bugs rows; benign = benign rows; is_une
 abbrev pub found_of : Hunting → Hunted → Found
 found_of hunting saw = found_in hunting.expected (told_in hunting saw)
 
--- how a race is shown: how many are in full, with how many pictures, and by which words of the command line
+-- what the standard output gets, and how many races are shown in full
 pub record Showing : Type 0 where
-  pub line : Onward
   pub shows : Shows
   pub full : ℕ
-  pub most : ℕ
 
 -- the same by the options, where a folder or a page is given
 abbrev pub showing_of : HuntOptions → Bool → Bool → Showing
-showing_of options folder page = record {
-  line = parts options.line;
-  shows = options.shows;
-  full = full_of options.shows (folder || page) options.blocks;
-  most = pictures_of page;
-}
+showing_of options folder page = record { shows = options.shows; full = full_of options.shows (folder || page) options.blocks }
+
+-- of the table the text is the table
+abbrev pub IsTable : Shows → List (Key × RaceRow) → List ℕ → Type 0
+IsTable Text rows text = ⊤
+IsTable Table rows text = text ≡ table_text rows
 
 -- What is made of a hunt: its runs, what they saw, and the races that are shown in full.
-pub record IsMade (way : Showing) (hunting : Hunting) (Saves : ℕ → List ℕ → Type 0) (Pages : List ℕ → Type 0) (found : Found) (texts : Texts) : Type 0 where
+pub record IsMade (way : Showing) (hunting : Hunting) (Saves : ℕ → List ℕ → Type 0) (Pages : List Fact → Type 0) (found : Found) (texts : Texts) : Type 0 where
   pub saw : Hunted
   pub hunted : IsHunted hunting.hunt saw
+  pub told : List (Key × RaceRow)
+  pub order : AreInOrder hunting.hunt.source.image (told_in hunting saw) told
   pub shown : List ShownRace
-  pub are_shown : AreShown way.line hunting.hunt way.most Saves (take way.full (told_of hunting saw)) shown
-  pub texts_are : texts ≡ texts_of way.line way.shows hunting.hunt.source.image (outcome hunting saw) (told_of hunting saw) shown
-  pub paged : Pages (page_text way.line.command hunting.hunt.source.image (outcome hunting saw) (told_of hunting saw) shown)
+  pub are_shown : AreShown hunting.hunt Saves (take way.full told) shown
+  pub is_table : IsTable way.shows (told_in hunting saw) texts.text
+  pub paged : Pages (page_facts (outcome hunting saw) told (length shown))
   pub found_is : found ≡ found_of hunting saw
 
--- The runs of the hunt are made; what they saw is told and counted, the runs of the races that are shown in full are saved,
+-- The runs of the hunt are made; what they saw is shown and counted, the runs of the races that are shown in full are saved,
 -- and the page is made.
-pub record IsTold (way : Showing) (hunting : Hunting) (found : Found) (Writes Notes : List ℕ → Type 0) (Saves : ℕ → List ℕ → Type 0) (Pages : List ℕ → Type 0) : Type 0 where
+pub record IsTold (way : Showing) (hunting : Hunting) (found : Found) (Writes Notes : List ℕ → Type 0) (Saves : ℕ → List ℕ → Type 0) (Pages : List Fact → Type 0) : Type 0 where
   pub texts : Texts
   pub made : IsMade way hunting Saves Pages found texts
   pub written : Writes texts.text

@@ -1,5 +1,5 @@
 -- What is shown of the races of one run.
-use Rattle.std.specs.Prelude.{◌≡◌, ℕ, ◌+◌, ◌++◌, All, Option, Some, option_map, List, length, slice_get}
+use Rattle.std.specs.Prelude.{◌≡◌, ℕ, ◌+◌, All, Option, Some, List, length, slice_get}
 use Rattle.rv_campaign.specs.Kept.{IsCoreOf}
 use Rattle.rv_campaign.specs.declared.kept.SeriesRun.{SeriesRun}
 use Rattle.rv_collide.specs.Grammar.{schedule_text}
@@ -7,22 +7,15 @@ use Rattle.rv_collide.specs.Numbers.{numbers}
 use Rattle.rv_collide.specs.Stored.{Stored}
 use Rattle.rv_collide.specs.Verdict.{endings}
 use Rattle.rv_collide.specs.declared.collider.Finished.{Finished}
-use Rattle.rv_explain.specs.BlockOf.{race_shown}
-use Rattle.rv_explain.specs.Blocks.{block_text}
 use Rattle.rv_explain.specs.Races.{Run, reports_of as reports_among}
-use Rattle.rv_races.specs.declared.races.Race.{Race}
 use Rattle.rv_races.specs.declared.races.Report.{Report}
-use Rattle.rv_hunt.specs.Remade.{race_in}
 use Rattle.rv_hunt.specs.declared.engine.shown.InFull.{InFull}
 use Rattle.rv_hunt.specs.declared.engine.shown.Shower.{Shower}
 use Rattle.rv_hunt.specs.declared.engine.shown.ShownRace.{ShownRace}
 use Rattle.rv_hunt.specs.declared.engine.shown.ShownRun.{ShownRun}
-use Rattle.rv_hunt.specs.declared.engine.shown.TheConstants.{AROUND}
 use Rattle.rv_hunt.specs.declared.row.RaceRow.{RaceRow}
 use Rattle.rv_hunt.specs.Hunted.{Hunt}
-use Rattle.rv_hunt.specs.engine.Asked.{Onward, parts}
-use Rattle.rv_hunt.specs.engine.OnwardText.{gdb_text}
-use Rattle.rv_hunt.specs.engine.Shown.{IsRunOf, IsShown, picture_within, run_told, run_words}
+use Rattle.rv_hunt.specs.engine.Shown.{IsRaceShown, IsRunOf, IsShown, run_told}
 use Rattle.rv_report.specs.declared.key.Key.{Key}
 use Rattle.rv_tally.specs.Plans.{plan_of}
 
@@ -31,18 +24,11 @@ abbrev pub reports_of : InFull → Run → List Report
 reports_of full run =
     reports_among run.image full.hunt.now.ranges (endings run.start run.entries) (length (endings run.start run.entries))
 
--- the block and the picture of a race of a run, with number K
-pub record IsOfRace (full : InFull) (run : Run) (words : List ℕ) (k : ℕ) (race : Race) (shown : ShownRace) : Type 0 where
-  pub block_is : shown.block.items ≡ block_text run.image words k (race_shown run AROUND race) ++ gdb_text (parts full.line.now).image (parts full.line.now).nested (parts full.line.now).folder k race.told.number
-  pub picture_is : option_map (λ picture. picture.items) shown.picture ≡ picture_within full.pictures run.image k (race_shown run AROUND race)
-
--- the same of the race of the row at a place
-pub record IsOfRow (full : InFull) (run : Run) (words : List ℕ) (place : ℕ) (shown : ShownRace) : Type 0 where
+-- the race of the row at a place, in a run of so many harts
+pub record IsOfRow (full : InFull) (run : Run) (harts place : ℕ) (shown : ShownRace) : Type 0 where
   pub row : Key × RaceRow
   pub there : slice_get full.rows.now place ≡ Some row
-  pub race : Race
-  pub is_race : race_in run.image full.hunt.now.ranges row (endings run.start run.entries) ≡ Some race
-  pub of_race : IsOfRace full run words (place + 1) race shown
+  pub is_shown : IsRaceShown full.hunt.now.ranges harts row run shown
 
 -- the row at a place tells of the run
 pub record IsOfRun (shower : Shower) (place : ℕ) : Type 0 where
@@ -50,13 +36,13 @@ pub record IsOfRun (shower : Shower) (place : ℕ) : Type 0 where
   pub there : slice_get shower.full.rows.now place ≡ Some row
   pub names : row.1.run ≡ shower.run
 
-abbrev pub IsPlaced : Shower → Run → List ℕ → ℕ × ShownRace → Type 0
-IsPlaced shower run words one = IsOfRow shower.full run words one.0 one.1 × IsOfRun shower one.0
+abbrev pub IsPlaced : Shower → Run → ℕ → ℕ × ShownRace → Type 0
+IsPlaced shower run harts one = IsOfRow shower.full run harts one.0 one.1 × IsOfRun shower one.0
 
 -- what is shown of a run that is over
 pub record IsShownRun (shower : Shower) (run : Finished) (shown : ShownRun) : Type 0 where
   pub schedule_is : shown.schedule.items ≡ schedule_text (numbers run.plan) run.entries.items
-  pub races_are : All (IsPlaced shower (run_told shower.full.symbols.now run) (run_words shower.run run.plan.harts)) shown.races.items
+  pub races_are : All (IsPlaced shower (run_told shower.full.symbols.now run) run.plan.harts) shown.races.items
 
 -- the same of the run of the number, with whose core it is over
 pub record IsShownOf (shower : Shower) (shown : ShownRun) : Type 0 where
@@ -70,21 +56,19 @@ KeepsShown shower core shown =
 
 -- ---- the slots of all rows
 
--- what is shown, without where it lies: the words of the command line, the hunt, its image, the rows, and how many pictures
+-- what is shown, without where it lies: the hunt and the rows
 pub record Full : Type 0 where
-  pub line : Onward
   pub hunt : Hunt
   pub rows : List (Key × RaceRow)
-  pub pictures : ℕ
 
 abbrev pub of_full : InFull → Full
-of_full full = record { line = parts full.line.now; hunt = full.hunt.now; rows = full.rows.now; pictures = full.pictures }
+of_full full = record { hunt = full.hunt.now; rows = full.rows.now }
 
 -- the race of the row at a place is shown in the run that has this schedule
 pub record IsOfSchedule (full : Full) (schedule : List ℕ) (place : ℕ) (shown : ShownRace) : Type 0 where
   pub row : Key × RaceRow
   pub there : slice_get full.rows place ≡ Some row
-  pub is_shown : IsShown full.line full.hunt full.pictures (place + 1) (λ text. text ≡ schedule) row shown
+  pub is_shown : IsShown full.hunt (λ text. text ≡ schedule) row shown
 
 abbrev pub IsShownIn : Full → ShownRun → Type 0
 IsShownIn full run = All (λ (one : ℕ × ShownRace). IsOfSchedule full run.schedule.items one.0 one.1) run.races.items
@@ -93,7 +77,7 @@ IsShownIn full run = All (λ (one : ℕ × ShownRace). IsOfSchedule full run.sch
 pub record IsInSlot (full : Full) (Saves : ℕ → List ℕ → Type 0) (place : ℕ) (shown : ShownRace) : Type 0 where
   pub row : Key × RaceRow
   pub there : slice_get full.rows place ≡ Some row
-  pub is_shown : IsShown full.line full.hunt full.pictures (place + 1) (Saves (place + 1)) row shown
+  pub is_shown : IsShown full.hunt (Saves (place + 1)) row shown
 
 abbrev pub AreSlots : Full → (ℕ → List ℕ → Type 0) → List (Option ShownRace) → Type 0
 AreSlots full Saves slots =

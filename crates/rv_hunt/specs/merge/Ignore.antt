@@ -15,6 +15,7 @@ use Rattle.rv_hunt.specs.declared.merge.fault.IgnoreKind.{IgnoreKind}
 use Rattle.rv_hunt.specs.declared.merge.fault.IgnoreKind.TheVariants.{Shape, Unknown}
 use Rattle.rv_hunt.specs.declared.merge.ignore.Line.{Line}
 use Rattle.rv_hunt.specs.declared.merge.ignore.Side.{Side}
+use Rattle.rv_hunt.specs.declared.merge.ignore.TheConstants.{LONGEST_WORD}
 use Rattle.rv_hunt.specs.declared.merge.ignore.Side.TheVariants.{Any, Address, Name}
 use Rattle.rv_report.specs.declared.key.Key.{Key}
 use Rattle.rv_text.specs.Hexadecimal.{word_of}
@@ -52,11 +53,15 @@ words_of line = filter has_bytes (pieces_of 32 (uncommented line))
 abbrev pub side_of : List ℕ → Side
 side_of word = if bytes_eq word (codes "*") then Any else option_map_or Address (word_of word) (Name word)
 
+-- a word is as long as it may be, or shorter
+abbrev pub is_short : List ℕ → Bool
+is_short word = nat_le (length word) LONGEST_WORD
+
 -- the two words of a line, or none where it has no words
 abbrev pub words_in : List (List ℕ) → Result (Option (List ℕ × List ℕ)) IgnoreKind
 words_in [] = Ok None
 words_in (word ∷ []) = Err Shape
-words_in (one ∷ other ∷ []) = Ok (Some (one, other))
+words_in (one ∷ other ∷ []) = if is_short one && is_short other then Ok (Some (one, other)) else Err Shape
 words_in (one ∷ other ∷ next ∷ words) = Err Shape
 
 abbrev pub sides_of : List ℕ × List ℕ → Line

@@ -1,14 +1,14 @@
 //! The runs of a hunt, and the texts and the files of what they saw.
-ghost use Rattle.std.specs.Prelude.{◌≡◌, ◌||◌, IfOk, OnOk, is_err, is_some, take, true};
+ghost use Rattle.std.specs.Prelude.{◌≡◌, ◌≤◌, ◌||◌, IfOk, OnOk, is_err, is_some, length, take, true};
 ghost use Rattle.rv_engines.specs.Campaigns.{passes};
 ghost use Rattle.rv_hunt.specs.Hunted.{IsHunted};
-ghost use Rattle.rv_hunt.specs.engine.Asked.{AreLegal, asked, parts};
+ghost use Rattle.rv_hunt.specs.engine.Asked.{AreLegal, asked};
 ghost use Rattle.rv_hunt.specs.engine.FolderFault as looking;
 ghost use Rattle.rv_hunt.specs.engine.Hunting as spec;
 ghost use Rattle.rv_hunt.specs.engine.Late.{IfPaged, IfSaved};
 ghost use Rattle.rv_hunt.specs.internal.MakeFault.{fails_by_write};
 ghost use Rattle.rv_hunt.specs.internal.Opened.{hunt_in, hunting_with, texts_in};
-ghost use Rattle.rv_hunt.specs.page.PageText.{page_text};
+ghost use Rattle.rv_hunt.specs.PageFacts.{page_facts};
 
 use crate::engine::fault::MakeFault;
 use crate::engine::folder::{Folder, FolderFault};
@@ -16,7 +16,7 @@ use crate::engine::found::Found;
 use crate::engine::lists::Lists;
 use crate::engine::opening::Opened;
 use crate::engine::options::{HuntOptions, LineParts, Shows};
-use crate::engine::shown::{InFull, MOST_PICTURES, ShownRace};
+use crate::engine::shown::{InFull, ShownRace};
 use crate::engine::texts::{hunt_text, table_notes, table_of};
 use crate::expected::is_unexpected;
 use crate::hunt::{Hunt, Watch};
@@ -56,13 +56,12 @@ fn texts_of(
     told: &[(Key, RaceRow)],
     shown: &[ShownRace],
 ) -> Result<(Vec<u8>, Vec<u8>), NoMemory>
-    ensures { IfOk result (λ texts. record { text = texts.0.items; notes = texts.1.items }
-        ≡ spec.texts_of (parts line.now) shows symbols.now outcome.now told.now shown.now) }
+    ensures { IfOk result (λ texts. spec.IsTable shows outcome.now.rows texts.0.items) }
 {
     match shows {
         Shows::Text => {
             let text = hunt_text(alloc, line, symbols, outcome, told, shown)?;
-            Ok((text, warnings_text(alloc, outcome.sites, outcome.saw)?))
+            Ok((text, warnings_text(alloc, outcome)?))
         }
         Shows::Table => {
             let text = table_of(alloc, outcome.rows)?;
@@ -98,21 +97,14 @@ fn found_in(lists: &Lists, rows: &[(Key, RaceRow)]) -> Found
     }
 }
 
-/// How many races are shown in full: none where only the table is wanted.
-fn full_of(shows: Shows, has_files: bool, blocks: u32) -> usize
-    ensures { result ≡ spec.full_of shows has_files blocks }
+/// How many races are shown in full: none where only the table is wanted, and neither a folder nor a page.
+fn full_of(shows: Shows, has_folder: bool, has_page: bool, blocks: u32) -> usize
+    ensures { result ≡ spec.full_of shows (has_folder || has_page) blocks }
 {
     match shows {
-        Shows::Table if !has_files => 0,
+        Shows::Table if !has_folder && !has_page => 0,
         Shows::Text | Shows::Table => blocks as usize,
     }
-}
-
-/// How many races have pictures, which only a page shows.
-fn pictures_of(has_page: bool) -> u64
-    ensures { result ≡ spec.pictures_of has_page }
-{
-    if has_page { MOST_PICTURES } else { 0 }
 }
 
 /// The first rows, at most so many.
@@ -125,19 +117,20 @@ fn first_of(rows: &[(Key, RaceRow)], most: usize) -> &[(Key, RaceRow)]
 /// Makes the page, where one is wanted. Where it can't be made the file has that noted.
 fn make_page<F: NewFile>(
     alloc: Global,
-    command: &str,
+    line: &LineParts<'_>,
     symbols: &SymbolTable,
     outcome: &Outcome,
     told: &[(Key, RaceRow)],
     shown: &[ShownRace],
     page: &mut Option<F>,
 ) -> Result<(), NoMemory>
+    requires { length shown.now ≤ length told.now }
     ensures paged { OnOk result (IfPaged F.has_failed F.Holds page.new
-        (page_text command.now symbols.now outcome.now told.now shown.now)) }
+        (page_facts outcome.now told.now (length shown.now))) }
     ensures wanted { is_some page.new ≡ is_some page.old }
 {
     if let Some(file) = page {
-        let text = page_text(alloc, command.as_bytes(), symbols, outcome, told, shown)?;
+        let text = page_text(alloc, line, symbols, outcome, told, shown)?;
         let _ = file.make(&text);
     }
     Ok(())
@@ -172,13 +165,16 @@ fn made_of<R: Threads + Wait, D: Folder, F: NewFile, P: Watch>(
         rows: &parted.told,
         ignored: &parted.ignored,
     };
-    let has_files = folder.is_some() || page.is_some();
+    let most = full_of(
+        options.shows,
+        folder.is_some(),
+        page.is_some(),
+        options.blocks,
+    );
     let full = InFull {
         hunt,
         symbols: &symbols,
-        line: &options.line,
-        rows: first_of(&told, full_of(options.shows, has_files, options.blocks)),
-        pictures: pictures_of(page.is_some()),
+        rows: first_of(&told, most),
     };
     let shown = full.show(rt, alloc, options.workers, folder, watch)?;
     let (text, notes) = texts_of(
@@ -192,7 +188,7 @@ fn made_of<R: Threads + Wait, D: Folder, F: NewFile, P: Watch>(
     )?;
     make_page(
         alloc,
-        options.line.command,
+        &options.line,
         &symbols,
         &outcome,
         &told,

@@ -1,6 +1,5 @@
 //! The races that are shown in full: each run that their rows name is made again once, by the workers, and its schedule saved.
 ghost use Rattle.std.specs.Prelude.{◌≡◌, ◌≤◌, ◌<◌, ◌≢◌, All, IfOk, List, None, OnOk, Some, is_some, length, replicate, slice_get, slice_set, ℕ};
-ghost use Rattle.rv_hunt.specs.engine.Asked.{parts};
 ghost use Rattle.rv_hunt.specs.engine.Late.{IfSaved};
 ghost use Rattle.rv_hunt.specs.engine.Shown.{AreShown};
 ghost use Rattle.rv_hunt.specs.internal.Showing as spec;
@@ -138,7 +137,7 @@ fn races_in(alloc: Global, mut slots: Slots) -> Result<Vec<ShownRace>, NoMemory>
     Ok(shown)
 }
 
-impl<'a, 'h, 's, 'l> InFull<'a, 'h, 's, 'l> {
+impl<'a, 'h, 's> InFull<'a, 'h, 's> {
     /// What shows the next runs: at most so many, which rows from a place on name whose slots are empty.
     fn next(
         &self,
@@ -146,11 +145,11 @@ impl<'a, 'h, 's, 'l> InFull<'a, 'h, 's, 'l> {
         slots: &[Option<ShownRace>],
         from: usize,
         most: usize,
-    ) -> Result<Vec<Shower<'a, 'h, 's, 'l>>, NoMemory>
+    ) -> Result<Vec<Shower<'a, 'h, 's>>, NoMemory>
         requires { length slots.now ≡ length self.now.rows.now }
         ensures { IfOk result (λ showers. All (λ shower. shower.full ≡ self.now) showers.items) }
     {
-        let mut showers: Vec<Shower<'a, 'h, 's, 'l>> = Vec::new(alloc);
+        let mut showers: Vec<Shower<'a, 'h, 's>> = Vec::new(alloc);
         for place in from..slots.len() {
             let run = self.rows[place].1.run;
             let is_next = slots[place].is_none() && showers.len() < most;
@@ -166,7 +165,7 @@ impl<'a, 'h, 's, 'l> InFull<'a, 'h, 's, 'l> {
         &self,
         rt: &R,
         alloc: Global,
-        showers: &[Shower<'a, 'h, 's, 'l>],
+        showers: &[Shower<'a, 'h, 's>],
         workers: u8,
     ) -> Result<Vec<ShownRun>, SeriesFault>
         requires workers { workers ≤ 16 }
@@ -237,7 +236,7 @@ impl<'a, 'h, 's, 'l> InFull<'a, 'h, 's, 'l> {
     ) -> Result<Vec<ShownRace>, SeriesFault>
         requires workers { workers ≤ 16 }
         requires image { self.now.symbols.now ≡ self.now.hunt.now.source.image }
-        ensures shown { IfOk result (λ shown. AreShown (parts self.now.line.now) self.now.hunt.now self.now.pictures
+        ensures shown { IfOk result (λ shown. AreShown self.now.hunt.now
             (IfSaved D.has_failed D.Holds folder.new) self.now.rows.now shown.items) }
         ensures wanted { is_some folder.new ≡ is_some folder.old }
     {

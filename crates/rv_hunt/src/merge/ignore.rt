@@ -28,6 +28,9 @@ use std::alloc::Global;
 use std::io::Read;
 use std::marker::Model;
 
+/// The most bytes of a word. No symbol that a tool has made has a longer name, and each race costs the longest word.
+pub const LONGEST_WORD: usize = 65_536;
+
 /// The name of a symbol, as `explain` shows it.
 #[derive(Drop)]
 pub struct SymbolName {
@@ -271,6 +274,12 @@ fn next_word<'a>(pieces: &mut Pieces<'a>) -> Option<&'a [u8]>
     None
 }
 
+fn is_short(word: &[u8]) -> bool
+    ensures { result ≡ spec.is_short word.now }
+{
+    word.len() <= LONGEST_WORD
+}
+
 /// The two words of a line, or none where it has no words.
 fn words_of(line: &[u8]) -> Result<Option<(&[u8], &[u8])>, IgnoreKind>
     ensures ok { IfOk result (λ found. spec.words_in (spec.words_of line.now) ≡ Ok (option_map (λ pair. (pair.0.now, pair.1.now)) found)) }
@@ -284,8 +293,8 @@ fn words_of(line: &[u8]) -> Result<Option<(&[u8], &[u8])>, IgnoreKind>
         return Err(IgnoreKind::Shape);
     };
     match next_word(&mut words) {
-        None => Ok(Some((one, other))),
-        Some(_) => Err(IgnoreKind::Shape),
+        None if is_short(one) && is_short(other) => Ok(Some((one, other))),
+        None | Some(_) => Err(IgnoreKind::Shape),
     }
 }
 

@@ -1,138 +1,100 @@
 //! The elements that the page is made of.
-ghost use Rattle.std.specs.Prelude.{◌≡◌, IfOk, map};
-ghost use Rattle.rv_hunt.specs.page.Elements as spec;
+ghost use Rattle.std.specs.Prelude.{◌≡◌, ◌∷◌, pred, suc, IfOk};
+ghost use Rattle.rv_markup.specs.declared.markup.Fact.TheVariants as fact;
 
-use rv_explain::pieces::joined;
-use rv_markup::escaped::escaped;
+use rv_markup::markup::Markup;
+use rv_markup::tag::{
+    Attribute, CLASS, CODE, DIV, H2, Place, SECTION, TABLE, TBODY, TD, TH, THEAD, TR,
+};
 use rv_memory::store::NoMemory;
-use rv_text::decimal::Decimal;
 use std::alloc::Global;
 
+/// The class of an element.
+pub(crate) fn class(name: &[u8]) -> Attribute<'_> {
+    Attribute {
+        name: CLASS,
+        value: name,
+    }
+}
+
 /// A text in letters of one width.
-#[tactic(auto, unfolding(crate::specs::page::Elements::code))]
-pub(crate) fn code(alloc: Global, text: &[u8]) -> Result<Vec<u8>, NoMemory>
-    ensures { IfOk result (λ code. code.items ≡ spec.code text.now) }
+pub(crate) fn code(page: Markup, text: &[u8]) -> Result<Markup, NoMemory>
+    ensures { IfOk result (λ more. more ≡ page) }
 {
-    let text = escaped(alloc, text)?;
-    joined(alloc, &[b"<code>", &text, b"</code>"])
+    page.begin(CODE, &[])?.text(text)?.end()
 }
 
 /// A text in a cell of a table.
-#[tactic(auto, unfolding(crate::specs::page::Elements::cell))]
-pub(crate) fn cell(alloc: Global, text: &[u8]) -> Result<Vec<u8>, NoMemory>
-    ensures { IfOk result (λ cell. cell.items ≡ spec.cell text.now) }
+pub(crate) fn cell(page: Markup, text: &[u8]) -> Result<Markup, NoMemory>
+    ensures { IfOk result (λ more. more ≡ page) }
 {
-    let text = escaped(alloc, text)?;
-    joined(alloc, &[b"<td>", &text, b"</td>"])
-}
-
-/// Such a text in a cell.
-#[tactic(auto, unfolding(crate::specs::page::Elements::code_cell))]
-pub(crate) fn code_cell(alloc: Global, text: &[u8]) -> Result<Vec<u8>, NoMemory>
-    ensures { IfOk result (λ cell. cell.items ≡ spec.code_cell text.now) }
-{
-    let text = code(alloc, text)?;
-    joined(alloc, &[b"<td>", &text, b"</td>"])
+    page.begin(TD, &[])?.text(text)?.end()
 }
 
 /// A number in a cell.
-#[tactic(auto, unfolding(crate::specs::page::Elements::number_cell))]
-pub(crate) fn number_cell(alloc: Global, number: u64) -> Result<Vec<u8>, NoMemory>
-    ensures { IfOk result (λ cell. cell.items ≡ spec.number_cell number) }
+pub(crate) fn number_cell(page: Markup, number: u64) -> Result<Markup, NoMemory>
+    ensures { IfOk result (λ more. more ≡ record page { facts = fact.Number number ∷ page.facts }) }
 {
-    let number = Decimal::new(number);
-    joined(
-        alloc,
-        &[b"<td class='number'>", number.as_bytes(), b"</td>"],
-    )
+    page.begin(TD, &[class(b"number")])?.number(number)?.end()
 }
 
-/// A row of cells.
-pub(crate) fn row(alloc: Global, cells: &[&[u8]]) -> Result<Vec<u8>, NoMemory>
-    ensures { IfOk result (λ row. row.items ≡ spec.row (map (λ cell. cell.now) cells.now)) }
+/// The name of a column of texts.
+pub(crate) fn column(page: Markup, name: &[u8]) -> Result<Markup, NoMemory>
+    ensures { IfOk result (λ more. more ≡ page) }
 {
-    let cells = joined(alloc, cells)?;
-    joined(alloc, &[b"<tr>", &cells, b"</tr>\n"])
+    page.begin(TH, &[])?.text(name)?.end()
 }
 
-/// A row of a name and its number.
-#[tactic(auto, unfolding(crate::specs::page::Elements::number_row))]
-pub(crate) fn number_row(alloc: Global, name: &[u8], number: u64) -> Result<Vec<u8>, NoMemory>
-    ensures { IfOk result (λ row. row.items ≡ spec.number_row name.now number) }
+/// The name of a column of numbers.
+pub(crate) fn number_column(page: Markup, name: &[u8]) -> Result<Markup, NoMemory>
+    ensures { IfOk result (λ more. more ≡ page) }
 {
-    let name = cell(alloc, name)?;
-    let number = number_cell(alloc, number)?;
-    row(alloc, &[&name, &number])
+    page.begin(TH, &[class(b"number")])?.text(name)?.end()
 }
 
-/// A part of the page with its title.
-#[tactic(auto, unfolding(crate::specs::page::Elements::part))]
-pub(crate) fn part(
-    alloc: Global,
-    id: &[u8],
-    title: &[u8],
-    content: &[u8],
-) -> Result<Vec<u8>, NoMemory>
-    ensures { IfOk result (λ part. part.items ≡ spec.part id.now title.now content.now) }
+/// Begins the row of a table.
+pub(crate) fn begin_row(page: Markup) -> Result<Markup, NoMemory>
+    ensures { IfOk result (λ more. more ≡ record page { depth = suc page.depth }) }
 {
-    joined(
-        alloc,
-        &[
-            b"<section id='",
-            id,
-            b"'>\n<h2>",
-            title,
-            b"</h2>\n",
-            content,
-            b"</section>\n",
-        ],
-    )
+    page.begin(TR, &[])
 }
 
-/// A table; `head` is the row of its columns' names.
-#[tactic(auto, unfolding(crate::specs::page::Elements::table))]
-pub(crate) fn table(alloc: Global, head: &[u8], rows: &[u8]) -> Result<Vec<u8>, NoMemory>
-    ensures { IfOk result (λ table. table.items ≡ spec.table head.now rows.now) }
+/// Ends an element and its line.
+pub(crate) fn end_line(page: Markup) -> Result<Markup, NoMemory>
+    ensures { IfOk result (λ more. more ≡ record page { depth = pred page.depth }) }
 {
-    joined(
-        alloc,
-        &[
-            b"<div class='scroll'><table>\n<thead>\n",
-            head,
-            b"</thead>\n<tbody>\n",
-            rows,
-            b"</tbody>\n</table></div>\n",
-        ],
-    )
+    page.end()?.text(b"\n")
 }
 
-/// A part with a table.
-#[tactic(auto, unfolding(crate::specs::page::Elements::table_part))]
-pub(crate) fn table_part(
-    alloc: Global,
-    id: &[u8],
-    title: &[u8],
-    head: &[u8],
-    rows: &[u8],
-) -> Result<Vec<u8>, NoMemory>
-    ensures { IfOk result (λ part. part.items ≡ spec.table_part id.now title.now head.now rows.now) }
+/// Begins a part of the page with its title.
+pub(crate) fn begin_part(page: Markup, place: Place, title: &[u8]) -> Result<Markup, NoMemory>
+    ensures { IfOk result (λ more. more ≡ record { depth = suc page.depth; facts = fact.Target place ∷ page.facts }) }
 {
-    let table = table(alloc, head, rows)?;
-    part(alloc, id, title, &table)
+    let page = page.begin_at(SECTION, &[], place)?.text(b"\n")?;
+    end_line(page.begin(H2, &[])?.text(title)?)
 }
 
-/// A part with a table, where it has rows.
-pub(crate) fn table_part_if(
-    alloc: Global,
-    id: &[u8],
-    title: &[u8],
-    head: &[u8],
-    rows: &[u8],
-) -> Result<Vec<u8>, NoMemory>
-    ensures { IfOk result (λ part. part.items ≡ spec.table_part_if id.now title.now head.now rows.now) }
+/// Begins a table, and in it the row of its columns' names.
+pub(crate) fn begin_table(page: Markup) -> Result<Markup, NoMemory>
+    ensures { IfOk result (λ more. more ≡ record page { depth = suc (suc (suc page.depth)) }) }
 {
-    if rows.is_empty() {
-        return Ok(Vec::new(alloc));
-    }
-    table_part(alloc, id, title, head, rows)
+    page.begin(DIV, &[class(b"scroll")])?
+        .begin(TABLE, &[])?
+        .text(b"\n")?
+        .begin(THEAD, &[])?
+        .text(b"\n")
+}
+
+/// Ends the names of a table's columns, and begins its rows.
+pub(crate) fn begin_rows(page: Markup) -> Result<Markup, NoMemory>
+    ensures { IfOk result (λ more. more ≡ record page { depth = suc (pred page.depth) }) }
+{
+    end_line(page)?.begin(TBODY, &[])?.text(b"\n")
+}
+
+/// Ends a table.
+pub(crate) fn end_table(page: Markup) -> Result<Markup, NoMemory>
+    ensures { IfOk result (λ more. more ≡ record page { depth = pred (pred (pred page.depth)) }) }
+{
+    end_line(end_line(page)?.end()?)
 }

@@ -14,7 +14,7 @@ pub struct Outcome<'a> {
 }
 
 impl<'a> Model for Outcome<'a> {
-    ghost use Rattle.rv_hunt.specs.HuntSays.{Outcome as Came};
+    ghost use Rattle.rv_hunt.specs.Outcome.{Outcome as Came};
 
     ghost Value = { Came };
 

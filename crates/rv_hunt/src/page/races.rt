@@ -1,287 +1,211 @@
-//! The races in the page, as `specs/page/RacesShown.antt` has them.
-ghost use Rattle.std.specs.Prelude.{◌≡◌, ◌+◌, IfOk};
-ghost use Rattle.rv_hunt.specs.page.RacesShown as spec;
+//! The races in the page: a table of all with a link to each that is shown in full, and each of these. Their numbers are their
+//! places, from 1 on.
+ghost use Rattle.std.specs.Prelude.{◌≡◌, ◌≤◌, ◌∷◌, nat_le, length, IfOk};
+ghost use Rattle.rv_hunt.specs.PageFacts as spec;
+ghost use Rattle.rv_markup.specs.declared.markup.Fact.TheVariants as fact;
 
+use crate::engine::options::LineParts;
 use crate::engine::shown::ShownRace;
+use crate::engine::texts::race_text;
 use crate::expected::is_likely_benign;
-use crate::page::elements::{cell, code, code_cell, number_cell, part, row, table};
+use crate::page::elements::{
+    begin_part, begin_row, begin_rows, begin_table, cell, class, code, column, end_line, end_table,
+    number_cell, number_column,
+};
 use crate::row::RaceRow;
 use crate::saying::index::names_of;
 use rv_explain::blocks::class_word;
-use rv_explain::pieces::joined;
+use rv_explain::picture::draw_picture;
 use rv_explain::symbol_table::SymbolTable;
-use rv_markup::escaped::escaped;
+use rv_markup::markup::Markup;
+use rv_markup::tag::{DETAILS, FIGURE, H3, LINK, P, PRE, Place, SECTION, SUMMARY, TD};
 use rv_memory::store::NoMemory;
 use rv_report::key::Key;
-use rv_text::decimal::Decimal;
 use std::alloc::Global;
 
-/// The name that links have for a race.
-#[tactic(auto, unfolding(crate::specs::page::RacesShown::race_id))]
-fn race_id(alloc: Global, number: u64) -> Result<Vec<u8>, NoMemory>
-    ensures { IfOk result (λ id. id.items ≡ spec.race_id number) }
-{
-    let number = Decimal::new(number);
-    joined(alloc, &[b"race-", number.as_bytes()])
-}
+/// How many races of a page have a picture.
+const MOST_PICTURES: u64 = 100;
 
 /// A link to a race that is shown in full, or its number.
-#[tactic(auto, unfolding(crate::specs::page::RacesShown::link_cell))]
-fn link_cell(alloc: Global, is_full: bool, number: u64) -> Result<Vec<u8>, NoMemory>
-    ensures { IfOk result (λ cell. cell.items ≡ spec.link_cell is_full number) }
+fn link_cell(page: Markup, is_full: bool, number: u64) -> Result<Markup, NoMemory>
+    ensures { IfOk result (λ more. more ≡ record page { facts = spec.link_facts is_full number page.facts }) }
 {
-    let digits = Decimal::new(number);
+    let page = page.begin(TD, &[class(b"link")])?;
     if !is_full {
-        return joined(
-            alloc,
-            &[b"<td class='link'>race ", digits.as_bytes(), b"</td>"],
-        );
+        return page.text(b"race ")?.number(number)?.end();
     }
-    let id = race_id(alloc, number)?;
-    joined(
-        alloc,
-        &[
-            b"<td class='link'><a href='#",
-            &id,
-            b"'>race ",
-            digits.as_bytes(),
-            b"</a></td>",
-        ],
-    )
+    let page = page.begin_link(LINK, Place::Race(number))?;
+    page.text(b"race ")?.number(number)?.end()?.end()
 }
 
 /// The row of a race.
-#[tactic(auto, unfolding(crate::specs::page::RacesShown::race_row))]
 fn race_row(
+    page: Markup,
     alloc: Global,
     symbols: &SymbolTable,
     full: usize,
     number: u64,
     race: &(Key, RaceRow),
-) -> Result<Vec<u8>, NoMemory>
-    ensures { IfOk result (λ row. row.items ≡ spec.race_row symbols.now full number race.now) }
+) -> Result<Markup, NoMemory>
+    ensures { IfOk result (λ more. more ≡ record page { facts = spec.race_row_facts full number race.now page.facts }) }
 {
-    let (key, counted) = race;
-    let link = link_cell(alloc, number <= full as u64, number)?;
+    let (key, row) = race;
     let names = names_of(alloc, symbols, key)?;
-    let names = code_cell(alloc, &names)?;
-    let class = cell(alloc, class_word(counted.class))?;
-    let reports = number_cell(alloc, counted.count)?;
-    let run = number_cell(alloc, u64::from(counted.run))?;
-    row(alloc, &[&link, &names, &class, &reports, &run])
+    let page = link_cell(begin_row(page)?, number <= full as u64, number)?;
+    let page = code(page.begin(TD, &[])?, &names)?.end()?;
+    let page = cell(page, class_word(row.class))?;
+    let page = number_cell(page, row.count)?;
+    end_line(number_cell(page, u64::from(row.run))?)
 }
 
 /// The rows of all races.
 fn race_rows(
+    page: Markup,
     alloc: Global,
     symbols: &SymbolTable,
     full: usize,
     told: &[(Key, RaceRow)],
-) -> Result<Vec<u8>, NoMemory>
-    ensures { IfOk result (λ rows. rows.items ≡ spec.race_rows symbols.now full told.now) }
+) -> Result<Markup, NoMemory>
+    ensures { IfOk result (λ more. more ≡ record page { facts = spec.race_rows_facts full told.now page.facts }) }
 {
-    let mut rows = Vec::new(alloc);
+    let mut page = page;
     for (n, race) in told.iter().enumerate() {
-        rows.extend_from_slice(&race_row(alloc, symbols, full, n as u64 + 1, race)?)?;
+        page = race_row(page, alloc, symbols, full, n as u64 + 1, race)?;
     }
-    Ok(rows)
+    Ok(page)
 }
 
-const HEAD: &[u8] =
-    b"<tr><th></th><th>instructions</th><th>class</th><th class='number'>reports</th><th class='number'>run</th></tr>\n";
-
-/// The table of the races, or that there is none.
-#[tactic(auto, unfolding(crate::specs::page::RacesShown::races_listed))]
-fn races_listed(
+/// The table of the races.
+fn races_table(
+    page: Markup,
     alloc: Global,
     symbols: &SymbolTable,
     full: usize,
     told: &[(Key, RaceRow)],
-) -> Result<Vec<u8>, NoMemory>
-    ensures { IfOk result (λ text. text.items ≡ spec.races_listed symbols.now full told.now) }
+) -> Result<Markup, NoMemory>
+    ensures { IfOk result (λ more. more ≡ record page { facts = spec.race_rows_facts full told.now page.facts }) }
 {
-    if told.is_empty() {
-        return joined(alloc, &[b"<p>There is no race to show.</p>\n"]);
-    }
-    let rows = race_rows(alloc, symbols, full, told)?;
-    table(alloc, HEAD, &rows)
+    let page = column(begin_row(begin_table(page)?)?, b"")?;
+    let page = column(column(page, b"instructions")?, b"class")?;
+    let page = number_column(number_column(page, b"reports")?, b"run")?;
+    let page = begin_rows(end_line(page)?)?;
+    end_table(race_rows(page, alloc, symbols, full, told)?)
 }
 
-/// The part with that table. So many of the races are shown in full.
-#[tactic(auto, unfolding(crate::specs::page::RacesShown::races_part))]
+/// The part with that table, or which says that there is no race. So many of the races are shown in full.
 pub(crate) fn races_part(
+    page: Markup,
     alloc: Global,
     symbols: &SymbolTable,
     full: usize,
     told: &[(Key, RaceRow)],
-) -> Result<Vec<u8>, NoMemory>
-    ensures { IfOk result (λ text. text.items ≡ spec.races_part symbols.now full told.now) }
+) -> Result<Markup, NoMemory>
+    ensures { IfOk result (λ more. more ≡ record page { facts = spec.races_facts full told.now page.facts }) }
 {
-    let listed = races_listed(alloc, symbols, full, told)?;
-    part(alloc, b"races", b"Races", &listed)
+    let page = begin_part(page, Place::Races, b"Races")?;
+    if told.is_empty() {
+        let page = page.begin(P, &[])?.text(b"There is no race to show.")?;
+        return end_line(end_line(page)?);
+    }
+    end_line(races_table(page, alloc, symbols, full, told)?)
 }
 
 /// A block as text.
-#[tactic(auto, unfolding(crate::specs::page::RacesShown::block_element))]
-fn block_element(alloc: Global, block: &[u8]) -> Result<Vec<u8>, NoMemory>
-    ensures { IfOk result (λ text. text.items ≡ spec.block_element block.now) }
+fn block_element(page: Markup, block: &[u8]) -> Result<Markup, NoMemory>
+    ensures { IfOk result (λ more. more ≡ page) }
 {
-    let block = escaped(alloc, block)?;
-    joined(alloc, &[b"<pre>", &block, b"</pre>\n"])
+    end_line(page.begin(PRE, &[])?.text(block)?)
 }
 
-/// A block that is folded.
-#[tactic(auto, unfolding(crate::specs::page::RacesShown::folded_block))]
-fn folded_block(alloc: Global, block: &[u8]) -> Result<Vec<u8>, NoMemory>
-    ensures { IfOk result (λ text. text.items ≡ spec.folded_block block.now) }
-{
-    let block = block_element(alloc, block)?;
-    joined(
-        alloc,
-        &[
-            b"<details class='text'>\n<summary>the same as text</summary>\n",
-            &block,
-            b"</details>\n",
-        ],
-    )
-}
-
-/// A picture, and its block folded behind it.
-#[tactic(auto, unfolding(crate::specs::page::RacesShown::pictured))]
-fn pictured(alloc: Global, picture: &[u8], block: &[u8]) -> Result<Vec<u8>, NoMemory>
-    ensures { IfOk result (λ text. text.items ≡ spec.pictured picture.now block.now) }
-{
-    let block = folded_block(alloc, block)?;
-    joined(alloc, &[b"<figure>\n", picture, b"</figure>\n", &block])
-}
-
-/// What is shown of a race below its title.
-fn content_of(alloc: Global, shown: &ShownRace) -> Result<Vec<u8>, NoMemory>
-    ensures { IfOk result (λ text. text.items ≡ spec.content_of shown.now) }
-{
-    match &shown.picture {
-        Some(picture) => pictured(alloc, picture, &shown.block),
-        None => block_element(alloc, &shown.block),
-    }
-}
-
-/// A race that may be a bug.
-#[tactic(auto, unfolding(crate::specs::page::RacesShown::open_race))]
-fn open_race(alloc: Global, number: u64, shown: &ShownRace) -> Result<Vec<u8>, NoMemory>
-    ensures { IfOk result (λ text. text.items ≡ spec.open_race number shown.now) }
-{
-    let id = race_id(alloc, number)?;
-    let number = Decimal::new(number);
-    let content = content_of(alloc, shown)?;
-    joined(
-        alloc,
-        &[
-            b"<section id='",
-            &id,
-            b"'>\n<h3>race ",
-            number.as_bytes(),
-            b"</h3>\n",
-            &content,
-            b"</section>\n",
-        ],
-    )
-}
-
-/// What can be seen of a race that is folded.
-#[tactic(auto, unfolding(crate::specs::page::RacesShown::folded_title))]
-fn folded_title(alloc: Global, number: u64, names: &[u8], class: &[u8]) -> Result<Vec<u8>, NoMemory>
-    ensures { IfOk result (λ text. text.items ≡ spec.folded_title number names.now class.now) }
-{
-    let number = Decimal::new(number);
-    let names = code(alloc, names)?;
-    joined(
-        alloc,
-        &[
-            b"<summary>race ",
-            number.as_bytes(),
-            b": ",
-            &names,
-            b", ",
-            class,
-            b"</summary>\n",
-        ],
-    )
-}
-
-/// A race that is likely benign.
-#[tactic(auto, unfolding(crate::specs::page::RacesShown::folded_race))]
-fn folded_race(
+/// What is shown of a race below its title: its picture and its block, folded, or the block alone.
+fn content_of(
+    page: Markup,
     alloc: Global,
+    line: &LineParts<'_>,
     symbols: &SymbolTable,
     number: u64,
-    race: &(Key, RaceRow),
+    row: &RaceRow,
     shown: &ShownRace,
-) -> Result<Vec<u8>, NoMemory>
-    ensures { IfOk result (λ text. text.items ≡ spec.folded_race symbols.now number race.now shown.now) }
+) -> Result<Markup, NoMemory>
+    ensures { IfOk result (λ more. more ≡ page) }
 {
-    let (key, counted) = race;
-    let id = race_id(alloc, number)?;
-    let names = names_of(alloc, symbols, key)?;
-    let title = folded_title(alloc, number, &names, class_word(counted.class))?;
-    let content = content_of(alloc, shown)?;
-    joined(
-        alloc,
-        &[
-            b"<details class='race' id='",
-            &id,
-            b"'>\n",
-            &title,
-            &content,
-            b"</details>\n",
-        ],
-    )
+    let block = race_text(alloc, line, symbols, number, row, shown)?;
+    if number > MOST_PICTURES {
+        return block_element(page, &block);
+    }
+    let page = page.begin(FIGURE, &[])?.text(b"\n")?;
+    let page = draw_picture(page, alloc, symbols, number, &shown.block)?;
+    let page = end_line(page)?;
+    let page = page.begin(DETAILS, &[class(b"text")])?.text(b"\n")?;
+    let page = page.begin(SUMMARY, &[])?.text(b"the same as text")?;
+    end_line(block_element(end_line(page)?, &block)?)
 }
 
-/// A race of that number.
+/// The title of a race that may be a bug, which stands open.
+fn open_title(page: Markup, number: u64) -> Result<Markup, NoMemory>
+    ensures { IfOk result (λ more. more ≡ record page { facts = fact.Number number ∷ page.facts }) }
+{
+    end_line(page.begin(H3, &[])?.text(b"race ")?.number(number)?)
+}
+
+/// The title of one that is likely benign, which is folded.
+fn folded_title(page: Markup, number: u64, names: &[u8], class: &[u8]) -> Result<Markup, NoMemory>
+    ensures { IfOk result (λ more. more ≡ record page { facts = fact.Number number ∷ page.facts }) }
+{
+    let page = page.begin(SUMMARY, &[])?.text(b"race ")?.number(number)?;
+    let page = code(page.text(b": ")?, names)?;
+    end_line(page.text(b", ")?.text(class)?)
+}
+
+/// A race of that number, in full.
 fn race_shown(
+    page: Markup,
     alloc: Global,
+    line: &LineParts<'_>,
     symbols: &SymbolTable,
     number: u64,
     race: &(Key, RaceRow),
     shown: &ShownRace,
-) -> Result<Vec<u8>, NoMemory>
-    ensures { IfOk result (λ text. text.items ≡ spec.race_shown symbols.now number race.now shown.now) }
+) -> Result<Markup, NoMemory>
+    ensures { IfOk result (λ more. more ≡ record page { facts = spec.shown_facts number page.facts }) }
 {
-    if is_likely_benign(race.1.class) {
-        folded_race(alloc, symbols, number, race, shown)
+    let (key, row) = race;
+    let place = Place::Race(number);
+    let page = if is_likely_benign(row.class) {
+        let names = names_of(alloc, symbols, key)?;
+        let page = page
+            .begin_at(DETAILS, &[class(b"race")], place)?
+            .text(b"\n")?;
+        folded_title(page, number, &names, class_word(row.class))?
     } else {
-        open_race(alloc, number, shown)
-    }
-}
-
-/// Race n, from 0 on, of those that are told.
-fn race_at(
-    alloc: Global,
-    symbols: &SymbolTable,
-    told: &[(Key, RaceRow)],
-    n: usize,
-    shown: &ShownRace,
-) -> Result<Vec<u8>, NoMemory>
-    ensures { IfOk result (λ text. text.items ≡ spec.race_of symbols.now told.now (n + 1) shown.now) }
-{
-    match told.get(n) {
-        Some(race) => race_shown(alloc, symbols, n as u64 + 1, race, shown),
-        None => Ok(Vec::new(alloc)),
-    }
+        open_title(page.begin_at(SECTION, &[], place)?.text(b"\n")?, number)?
+    };
+    end_line(content_of(page, alloc, line, symbols, number, row, shown)?)
 }
 
 /// The races that are shown in full, one by one: the first of those that are told.
 pub(crate) fn races_shown(
+    page: Markup,
     alloc: Global,
+    line: &LineParts<'_>,
     symbols: &SymbolTable,
     told: &[(Key, RaceRow)],
     shown: &[ShownRace],
-) -> Result<Vec<u8>, NoMemory>
-    ensures { IfOk result (λ text. text.items ≡ spec.races_shown symbols.now told.now shown.now) }
+) -> Result<Markup, NoMemory>
+    requires { length shown.now ≤ length told.now }
+    ensures { IfOk result (λ more. more ≡ record page { facts = spec.all_shown_facts (length shown.now) page.facts }) }
 {
-    let mut text = Vec::new(alloc);
-    for (n, race) in shown.iter().enumerate() {
-        text.extend_from_slice(&race_at(alloc, symbols, told, n, race)?)?;
+    let mut page = page;
+    for n in 0..shown.len() {
+        page = race_shown(
+            page,
+            alloc,
+            line,
+            symbols,
+            n as u64 + 1,
+            &told[n],
+            &shown[n],
+        )?;
     }
-    Ok(text)
+    Ok(page)
 }

@@ -1,259 +1,143 @@
-//! What the runs saw, in tables, as `specs/page/RunsShown.antt` has them.
-ghost use Rattle.std.specs.Prelude.{◌≡◌, drop, flat_map, IfOk};
-ghost use Rattle.rv_hunt.specs.page.RunsShown as spec;
-ghost use Rattle.rv_text.specs.Lines.{lines_of};
+//! What the runs saw, in tables.
+ghost use Rattle.std.specs.Prelude.{◌≡◌, ◌∷◌, IfOk};
+ghost use Rattle.rv_hunt.specs.Outcome.{seen_numbers};
+ghost use Rattle.rv_hunt.specs.PageFacts as spec;
+ghost use Rattle.rv_markup.specs.declared.markup.Fact.TheVariants as fact;
 
-use crate::page::elements::{cell, number_cell, number_row, row, table_part, table_part_if};
+use crate::page::elements::{
+    begin_part, begin_row, begin_rows, begin_table, cell, column, end_line, end_table, number_cell,
+    number_column,
+};
 use crate::page::parts::Outcome;
 use crate::row::RaceRow;
-use crate::saying::ended::end_words;
+use crate::saying::ended::{EndedRow, ended_rows, ways_words};
+use crate::saying::lines::{Seen, seen_numbers};
 use crate::saying::order::{of_class, reports_of};
-use crate::saying::warnings::warnings_text;
+use crate::saying::warnings::{Warning, warning_words, warnings_of};
 use crate::tally::Tally;
-use crate::tally::ended::Ended;
-use crate::tally::kinds::{Kind, Kinds};
 use rv_explain::block::RaceClass;
-use rv_explain::pieces::joined;
+use rv_markup::markup::Markup;
+use rv_markup::tag::Place;
 use rv_memory::store::NoMemory;
 use rv_report::key::Key;
-use rv_text::lines::Lines;
 use std::alloc::Global;
 
-/// What stands before each warning of a hunt.
-const WARNING: &[u8] = b"rvcollide: warning: ";
-
-/// What stands behind the first bytes of a line.
-#[tactic(auto, using(std::proofs::lemmas::List::drop_min))]
-fn behind(line: &[u8], len: usize) -> &[u8]
-    ensures { result.now ≡ drop len line.now }
+/// A row of each warning.
+fn warning_rows(
+    page: Markup,
+    alloc: Global,
+    saw: &Tally,
+    warnings: &[Warning],
+) -> Result<Markup, NoMemory>
+    ensures { IfOk result (λ more. more ≡ page) }
 {
-    &line[len.min(line.len())..]
-}
-
-/// The row of a warning's line.
-#[tactic(auto, unfolding(crate::specs::page::RunsShown::warning_row))]
-fn warning_row(alloc: Global, line: &[u8]) -> Result<Vec<u8>, NoMemory>
-    ensures { IfOk result (λ row. row.items ≡ spec.warning_row line.now) }
-{
-    let words = cell(alloc, behind(line, WARNING.len()))?;
-    row(alloc, &[&words])
-}
-
-/// The rows of the warnings' lines.
-fn warning_rows(alloc: Global, text: &[u8]) -> Result<Vec<u8>, NoMemory>
-    ensures { IfOk result (λ rows. rows.items ≡ flat_map spec.warning_row (lines_of text.now)) }
-{
-    let mut rows = Vec::new(alloc);
-    let mut left = Lines::of(text);
-    while let Some(line) = left.next_line() {
-        rows.extend_from_slice(&warning_row(alloc, line)?)?;
+    let mut page = page;
+    for warning in warnings {
+        let words = warning_words(alloc, saw, *warning)?;
+        page = end_line(cell(begin_row(page)?, words.as_bytes())?)?;
     }
-    Ok(rows)
+    Ok(page)
 }
 
 /// The warnings, where there are any.
-#[tactic(auto, unfolding(crate::specs::page::RunsShown::warnings_part))]
-pub(crate) fn warnings_part(alloc: Global, sites: u64, saw: &Tally) -> Result<Vec<u8>, NoMemory>
-    ensures { IfOk result (λ part. part.items ≡ spec.warnings_part sites saw.now) }
+pub(crate) fn warnings_part(
+    page: Markup,
+    alloc: Global,
+    outcome: &Outcome,
+) -> Result<Markup, NoMemory>
+    ensures { IfOk result (λ more. more ≡ record page { facts = spec.warnings_facts outcome.now page.facts }) }
 {
-    let text = warnings_text(alloc, sites, saw)?;
-    let rows = warning_rows(alloc, &text)?;
-    table_part_if(alloc, b"warnings", b"Warnings", b"", &rows)
+    let warnings = warnings_of(alloc, outcome.sites, outcome.saw)?;
+    if warnings.is_empty() {
+        return Ok(page);
+    }
+    let page = begin_part(page, Place::Warnings, b"Warnings")?;
+    let page = begin_rows(begin_table(page)?)?;
+    let page = warning_rows(page, alloc, outcome.saw, &warnings)?;
+    end_line(end_table(page)?)
 }
 
-/// The row of races that were counted and not told, where there are any.
-#[tactic(auto, unfolding(crate::specs::page::RunsShown::aside_row))]
-fn aside_row(alloc: Global, word: &[u8], rows: &[(Key, RaceRow)]) -> Result<Vec<u8>, NoMemory>
-    ensures { IfOk result (λ row. row.items ≡ spec.aside_row word.now rows.now) }
+/// The row of races that were counted and not shown, where there are any.
+fn aside_row(page: Markup, word: &[u8], rows: &[(Key, RaceRow)]) -> Result<Markup, NoMemory>
+    ensures { IfOk result (λ more. more ≡ record page { facts = spec.aside_row_facts rows.now page.facts }) }
 {
     if rows.is_empty() {
-        return Ok(Vec::new(alloc));
+        return Ok(page);
     }
-    let word = cell(alloc, word)?;
-    let reports = number_cell(alloc, reports_of(rows))?;
-    let races = number_cell(alloc, rows.len() as u64)?;
-    row(alloc, &[&word, &reports, &races])
+    let page = cell(begin_row(page)?, word)?;
+    let page = number_cell(page, reports_of(rows))?;
+    end_line(number_cell(page, rows.len() as u64)?)
 }
-
-/// The rows of such races.
-fn aside_rows(alloc: Global, outcome: &Outcome) -> Result<Vec<u8>, NoMemory>
-    ensures { IfOk result (λ rows. rows.items ≡ spec.aside_rows outcome.now) }
-{
-    let named = of_class(alloc, outcome.rows, RaceClass::Named)?;
-    let named = aside_row(alloc, b"named", &named)?;
-    let ignored = aside_row(alloc, b"ignored", outcome.ignored)?;
-    joined(alloc, &[&named, &ignored])
-}
-
-const ASIDE_HEAD: &[u8] =
-    b"<tr><th></th><th class='number'>reports</th><th class='number'>races</th></tr>\n";
 
 /// Such races, where there are any.
-#[tactic(auto, unfolding(crate::specs::page::RunsShown::aside_part))]
-pub(crate) fn aside_part(alloc: Global, outcome: &Outcome) -> Result<Vec<u8>, NoMemory>
-    ensures { IfOk result (λ part. part.items ≡ spec.aside_part outcome.now) }
+pub(crate) fn aside_part(page: Markup, alloc: Global, outcome: &Outcome) -> Result<Markup, NoMemory>
+    ensures { IfOk result (λ more. more ≡ record page { facts = spec.aside_facts outcome.now page.facts }) }
 {
-    let rows = aside_rows(alloc, outcome)?;
-    table_part_if(alloc, b"aside", b"Counted, not told", ASIDE_HEAD, &rows)
-}
-
-/// The row of a kind.
-fn kind_row(alloc: Global, kind: &Kind) -> Result<Vec<u8>, NoMemory>
-    ensures { IfOk result (λ row. row.items ≡ spec.kind_row kind.now) }
-{
-    let name = end_words(alloc, kind.end)?;
-    number_row(alloc, &name, kind.count)
-}
-
-/// A row, where there are any.
-fn row_if(alloc: Global, name: &[u8], number: u64) -> Result<Vec<u8>, NoMemory>
-    ensures { IfOk result (λ row. row.items ≡ spec.row_if name.now number) }
-{
-    if number == 0 {
-        return Ok(Vec::new(alloc));
+    let named = of_class(alloc, outcome.rows, RaceClass::Named)?;
+    if named.is_empty() && outcome.ignored.is_empty() {
+        return Ok(page);
     }
-    number_row(alloc, name, number)
+    let page = begin_part(page, Place::Aside, b"Counted, not told")?;
+    let page = column(begin_row(begin_table(page)?)?, b"")?;
+    let page = number_column(page, b"reports")?;
+    let page = number_column(page, b"races")?;
+    let page = begin_rows(end_line(page)?)?;
+    let page = aside_row(page, b"named", &named)?;
+    let page = aside_row(page, b"ignored", outcome.ignored)?;
+    end_line(end_table(page)?)
 }
 
-/// The rows of kinds.
-fn told_rows(alloc: Global, kinds: &[Kind]) -> Result<Vec<u8>, NoMemory>
-    ensures { IfOk result (λ rows. rows.items ≡ flat_map spec.kind_row kinds.now) }
+/// A row of each way in which harts ended.
+fn ended_rows_of(page: Markup, alloc: Global, rows: &[EndedRow]) -> Result<Markup, NoMemory>
+    ensures { IfOk result (λ more. more ≡ record page { facts = spec.ended_row_facts rows.now page.facts }) }
 {
-    let mut rows = Vec::new(alloc);
-    for kind in kinds {
-        rows.extend_from_slice(&kind_row(alloc, kind)?)?;
+    let mut page = page;
+    for row in rows {
+        let words = ways_words(alloc, row.ways)?;
+        page = cell(begin_row(page)?, words.as_bytes())?;
+        page = end_line(number_cell(page, row.harts)?)?;
     }
-    Ok(rows)
+    Ok(page)
 }
-
-/// The rows of kinds, and of others.
-#[tactic(auto, unfolding(crate::specs::page::RunsShown::kind_rows))]
-fn kind_rows(alloc: Global, others: &[u8], kinds: &Kinds) -> Result<Vec<u8>, NoMemory>
-    ensures { IfOk result (λ rows. rows.items ≡ spec.kind_rows others.now kinds.now) }
-{
-    let told = told_rows(alloc, kinds.told())?;
-    let rest = row_if(alloc, others, kinds.rest())?;
-    joined(alloc, &[&told, &rest])
-}
-
-/// The rows of how harts ended.
-#[tactic(auto, unfolding(crate::specs::page::RunsShown::ended_rows))]
-fn ended_rows(alloc: Global, ended: &Ended) -> Result<Vec<u8>, NoMemory>
-    ensures { IfOk result (λ rows. rows.items ≡ spec.ended_rows ended.now) }
-{
-    let exits = kind_rows(alloc, b"exited otherwise", ended.exits())?;
-    let stops = kind_rows(alloc, b"stopped otherwise", ended.stops())?;
-    let rest = row_if(alloc, b"out of steps", ended.out_of_steps())?;
-    joined(alloc, &[&exits, &stops, &rest])
-}
-
-const ENDED_HEAD: &[u8] = b"<tr><th></th><th class='number'>harts</th></tr>\n";
 
 /// How harts ended.
-#[tactic(auto, unfolding(crate::specs::page::RunsShown::ended_part))]
-pub(crate) fn ended_part(alloc: Global, ended: &Ended) -> Result<Vec<u8>, NoMemory>
-    ensures { IfOk result (λ part. part.items ≡ spec.ended_part ended.now) }
+pub(crate) fn ended_part(page: Markup, alloc: Global, saw: &Tally) -> Result<Markup, NoMemory>
+    ensures { IfOk result (λ more. more ≡ record page { facts = spec.ended_facts saw.now.ended page.facts }) }
 {
-    let rows = ended_rows(alloc, ended)?;
-    table_part(alloc, b"ended", b"How harts ended", ENDED_HEAD, &rows)
+    let rows = ended_rows(alloc, saw.ended())?;
+    let page = begin_part(page, Place::Ended, b"How harts ended")?;
+    let page = column(begin_row(begin_table(page)?)?, b"")?;
+    let page = number_column(page, b"harts")?;
+    let page = begin_rows(end_line(page)?)?;
+    let page = ended_rows_of(page, alloc, &rows)?;
+    end_line(end_table(page)?)
 }
 
-/// A number of what was seen: its name, and what it counts.
-#[derive(Clone, Copy)]
-pub(crate) struct Seen<'a> {
-    pub(crate) name: &'a [u8],
-    pub(crate) number: u64,
-    pub(crate) meaning: &'a [u8],
-}
-
-/// The row of a number.
-#[tactic(auto, unfolding(crate::specs::page::RunsShown::seen_row))]
-fn seen_row(alloc: Global, seen: &Seen<'_>) -> Result<Vec<u8>, NoMemory>
-    ensures { IfOk result (λ row. row.items ≡ spec.row_of seen.now) }
+/// A row of each number.
+fn number_rows(page: Markup, numbers: &[Seen]) -> Result<Markup, NoMemory>
+    ensures { IfOk result (λ more. more ≡ record page { facts = spec.number_row_facts numbers.now page.facts }) }
 {
-    let name = cell(alloc, seen.name)?;
-    let number = number_cell(alloc, seen.number)?;
-    let meaning = cell(alloc, seen.meaning)?;
-    row(alloc, &[&name, &number, &meaning])
-}
-
-/// The rows of numbers.
-fn rows_of(alloc: Global, numbers: &[Seen<'_>]) -> Result<Vec<u8>, NoMemory>
-    ensures { IfOk result (λ rows. rows.items ≡ flat_map spec.row_of numbers.now) }
-{
-    let mut rows = Vec::new(alloc);
+    let mut page = page;
     for seen in numbers {
-        rows.extend_from_slice(&seen_row(alloc, seen)?)?;
+        page = cell(begin_row(page)?, seen.name.as_bytes())?;
+        page = number_cell(page, seen.number)?;
+        page = end_line(cell(page, seen.meaning.as_bytes())?)?;
     }
-    Ok(rows)
+    Ok(page)
 }
 
-/// The rows of the sites, of the pauses and of the runs.
-#[tactic(auto, unfolding(crate::specs::page::RunsShown::seen_rows))]
-fn seen_rows(alloc: Global, sites: u64, saw: &Tally) -> Result<Vec<u8>, NoMemory>
-    ensures { IfOk result (λ rows. rows.items ≡ spec.seen_rows sites saw.now) }
+fn seen_rows(page: Markup, sites: u64, saw: &Tally) -> Result<Markup, NoMemory>
+    ensures { IfOk result (λ more. more ≡ record page { facts = spec.numbers_facts (seen_numbers sites saw.now) page.facts }) }
 {
-    let counts = saw.counts();
-    let numbers = [
-        Seen {
-            name: b"sites",
-            number: sites,
-            meaning: b"loads and stores that a hart may pause at",
-        },
-        Seen {
-            name: b"armed",
-            number: saw.armed().count(),
-            meaning: b"sites that had a breakpoint",
-        },
-        Seen {
-            name: b"paused at",
-            number: saw.paused().count(),
-            meaning: b"sites at which a hart was paused",
-        },
-        Seen {
-            name: b"pauses",
-            number: saw.pauses(),
-            meaning: b"how often a hart was paused",
-        },
-        Seen {
-            name: b"quiet",
-            number: counts.quiet,
-            meaning: b"pauses that showed no other access",
-        },
-        Seen {
-            name: b"hit",
-            number: counts.hit,
-            meaning: b"pauses that caught another access",
-        },
-        Seen {
-            name: b"changed",
-            number: counts.changed,
-            meaning: b"pauses that found other bytes",
-        },
-        Seen {
-            name: b"unwatched",
-            number: counts.unwatched,
-            meaning: b"pauses without a data breakpoint",
-        },
-        Seen {
-            name: b"steps",
-            number: counts.steps,
-            meaning: b"instructions that harts executed",
-        },
-        Seen {
-            name: b"runs",
-            number: saw.runs(),
-            meaning: b"whole runs of the program",
-        },
-    ];
-    rows_of(alloc, &numbers)
+    number_rows(page, &seen_numbers(sites, saw))
 }
 
 /// What was seen.
-#[tactic(auto, unfolding(crate::specs::page::RunsShown::seen_part))]
-pub(crate) fn seen_part(alloc: Global, sites: u64, saw: &Tally) -> Result<Vec<u8>, NoMemory>
-    ensures { IfOk result (λ part. part.items ≡ spec.seen_part sites saw.now) }
+pub(crate) fn seen_part(page: Markup, sites: u64, saw: &Tally) -> Result<Markup, NoMemory>
+    ensures { IfOk result (λ more. more ≡ record page { facts = spec.seen_facts sites saw.now page.facts }) }
 {
-    let rows = seen_rows(alloc, sites, saw)?;
-    table_part(alloc, b"seen", b"What was seen", b"", &rows)
+    let page = begin_part(page, Place::Seen, b"What was seen")?;
+    let page = begin_rows(begin_table(page)?)?;
+    let page = seen_rows(page, sites, saw)?;
+    end_line(end_table(page)?)
 }

@@ -2,7 +2,7 @@
 
 /// It has the colours that the reader's system asks for, lets wide things scroll inside themselves, and shows on paper
 /// what is folded. Nothing is told by a colour alone.
-pub const STYLE: &[u8] = b"\
+pub const RULES: &[u8] = b"\
 :root { color-scheme: light dark; --paper: #ffffff; --ink: #1a1a1a; --faint: #595959; --rule: #cfcfcf; --panel: #f5f5f5; --link: #0b4f9e; --note: #fdf1d8; }
 @media (prefers-color-scheme: dark) { :root { --paper: #17191c; --ink: #e8e8e8; --faint: #a9adb3; --rule: #454a50; --panel: #212429; --link: #8db9ff; --note: #40341a; } }
 * { box-sizing: border-box; }
@@ -30,9 +30,9 @@ svg text { white-space: pre; }
 summary { padding: .5rem 0; cursor: pointer; }
 .race { border-bottom: 1px solid var(--rule); }
 section + .race { margin-top: 2rem; border-top: 1px solid var(--rule); }
-.text summary { padding: 0; color: var(--faint); font-size: .875rem; }
 :target { scroll-margin-top: 1rem; }
-:target > h3, :target > summary { text-decoration: underline; }
+:target h3, :target summary { text-decoration: underline; }
+.text summary { padding: 0; color: var(--faint); font-size: .875rem; text-decoration: none; }
 @media print {
 :root { color-scheme: light; --paper: #ffffff; --ink: #000000; --faint: #404040; --rule: #a0a0a0; --panel: #ffffff; --link: #000000; --note: #ffffff; }
 body { padding: 0; max-width: none; font-size: 10pt; }

@@ -1,108 +1,88 @@
-//! How the harts of all runs ended.
-ghost use Rattle.std.specs.Prelude.{◌≡◌, flat_map, IfOk};
-ghost use Rattle.rv_hunt.specs.EndedText as spec;
+//! How the harts of all runs ended, in rows that the text and the page show.
+ghost use Rattle.std.specs.Prelude.{◌≡◌, ◌++◌, IfOk, OnOk};
+ghost use Rattle.rv_hunt.specs.EndedRows as spec;
 
 use crate::tally::ended::Ended;
-use crate::tally::kinds::{Kind, Kinds};
-use rv_explain::pieces::joined;
+use crate::tally::kinds::Kinds;
 use rv_hart::hart::Cause;
 use rv_memory::store::NoMemory;
 use rv_tally::end::End;
-use rv_text::decimal::Decimal;
-use rv_text::hexadecimal::word_digits;
 use std::alloc::Global;
 
-/// A cause in the words of the privileged architecture's table of exceptions.
-fn cause_words(cause: Cause) -> &'static [u8]
-    ensures { result.now ≡ spec.cause_words cause }
+/// A way in which harts ended, or all ways of a kind that have no row of their own.
+#[derive(Clone, Copy)]
+pub enum Ways {
+    One(End),
+    OtherExits,
+    OtherStops,
+}
+
+/// How many harts ended so.
+#[derive(Clone, Copy)]
+pub struct EndedRow {
+    pub ways: Ways,
+    pub harts: u64,
+}
+
+/// Adds a row, where there are any harts.
+fn push_if(rows: &mut Vec<EndedRow>, ways: Ways, harts: u64) -> Result<(), NoMemory>
+    ensures { OnOk result (rows.new.items ≡ rows.old.items ++ spec.row_if ways harts) }
 {
-    match cause {
-        Cause::TargetMisaligned => b"instruction address misaligned",
-        Cause::FetchFault => b"instruction access fault",
-        Cause::Illegal => b"illegal instruction",
-        Cause::Breakpoint => b"breakpoint",
-        Cause::LoadMisaligned => b"load address misaligned",
-        Cause::LoadFault => b"load access fault",
-        Cause::StoreMisaligned => b"store address misaligned",
-        Cause::StoreFault => b"store access fault",
-        Cause::UnknownCall => b"environment call",
+    if harts > 0 {
+        rows.push(EndedRow { ways, harts })?;
     }
+    Ok(())
 }
 
-/// In which way a hart ended.
-pub(crate) fn end_words(alloc: Global, end: End) -> Result<Vec<u8>, NoMemory>
-    ensures { IfOk result (λ words. words.items ≡ spec.end_words end) }
+/// Adds a row of each way that has one, and one of the others.
+fn push_kinds(rows: &mut Vec<EndedRow>, kinds: &Kinds, others: Ways) -> Result<(), NoMemory>
+    ensures { OnOk result (rows.new.items ≡ rows.old.items ++ spec.kind_rows kinds.now others) }
 {
-    match end {
-        End::Exited(code) => joined(alloc, &[b"exited ", &word_digits(code)]),
-        End::Stopped(cause, pc) => joined(
-            alloc,
-            &[
-                b"stopped by ",
-                cause_words(cause),
-                b" at ",
-                &word_digits(pc),
-            ],
-        ),
-        End::OutOfSteps => Ok(Vec::from_slice(alloc, b"out of steps")?),
+    for kind in kinds.told() {
+        rows.push(EndedRow {
+            ways: Ways::One(kind.end),
+            harts: kind.count,
+        })?;
     }
-}
-
-/// The line of so many harts of a kind.
-#[tactic(auto, unfolding(crate::specs::EndedText::ended_line))]
-fn ended_line(alloc: Global, kind: &[u8], count: u64) -> Result<Vec<u8>, NoMemory>
-    ensures { IfOk result (λ line. line.items ≡ spec.ended_line kind.now count) }
-{
-    let count = Decimal::new(count);
-    joined(alloc, &[b"ended ", kind, b": ", count.as_bytes(), b"\n"])
-}
-
-/// The line of a kind.
-fn kind_line(alloc: Global, kind: &Kind) -> Result<Vec<u8>, NoMemory>
-    ensures { IfOk result (λ line. line.items ≡ spec.kind_line kind.now) }
-{
-    let words = end_words(alloc, kind.end)?;
-    ended_line(alloc, &words, kind.count)
-}
-
-/// A line of so many, where there are any.
-fn line_if(alloc: Global, kind: &[u8], count: u64) -> Result<Vec<u8>, NoMemory>
-    ensures { IfOk result (λ line. line.items ≡ spec.line_if kind.now count) }
-{
-    if count == 0 {
-        return Ok(Vec::new(alloc));
-    }
-    ended_line(alloc, kind, count)
-}
-
-/// A line of each kind.
-fn told_lines(alloc: Global, kinds: &[Kind]) -> Result<Vec<u8>, NoMemory>
-    ensures { IfOk result (λ lines. lines.items ≡ flat_map spec.kind_line kinds.now) }
-{
-    let mut lines = Vec::new(alloc);
-    for kind in kinds {
-        lines.extend_from_slice(&kind_line(alloc, kind)?)?;
-    }
-    Ok(lines)
-}
-
-/// A line of each kind that was met first, and one of the others.
-#[tactic(auto, unfolding(crate::specs::EndedText::kinds_text))]
-fn kinds_text(alloc: Global, others: &[u8], kinds: &Kinds) -> Result<Vec<u8>, NoMemory>
-    ensures { IfOk result (λ text. text.items ≡ spec.kinds_text others.now kinds.now) }
-{
-    let told = told_lines(alloc, kinds.told())?;
-    let rest = line_if(alloc, others, kinds.rest())?;
-    joined(alloc, &[&told, &rest])
+    push_if(rows, others, kinds.rest())
 }
 
 /// How harts ended: exits by code, then traps by cause and address, then those that had no steps left.
-#[tactic(auto, unfolding(crate::specs::EndedText::ended_text))]
-pub(crate) fn ended_text(alloc: Global, ended: &Ended) -> Result<Vec<u8>, NoMemory>
-    ensures { IfOk result (λ text. text.items ≡ spec.ended_text ended.now) }
+pub(crate) fn ended_rows(alloc: Global, ended: &Ended) -> Result<Vec<EndedRow>, NoMemory>
+    ensures { IfOk result (λ rows. rows.items ≡ spec.ended_rows ended.now) }
 {
-    let exits = kinds_text(alloc, b"exited otherwise", ended.exits())?;
-    let stops = kinds_text(alloc, b"stopped otherwise", ended.stops())?;
-    let rest = line_if(alloc, b"out of steps", ended.out_of_steps())?;
-    joined(alloc, &[&exits, &stops, &rest])
+    let mut rows = Vec::new(alloc);
+    push_kinds(&mut rows, ended.exits(), Ways::OtherExits)?;
+    push_kinds(&mut rows, ended.stops(), Ways::OtherStops)?;
+    push_if(&mut rows, Ways::One(End::OutOfSteps), ended.out_of_steps())?;
+    Ok(rows)
+}
+
+/// A cause in the words of the privileged architecture's table of exceptions.
+fn cause_words(cause: Cause) -> &'static str {
+    match cause {
+        Cause::TargetMisaligned => "instruction address misaligned",
+        Cause::FetchFault => "instruction access fault",
+        Cause::Illegal => "illegal instruction",
+        Cause::Breakpoint => "breakpoint",
+        Cause::LoadMisaligned => "load address misaligned",
+        Cause::LoadFault => "load access fault",
+        Cause::StoreMisaligned => "store address misaligned",
+        Cause::StoreFault => "store access fault",
+        Cause::UnknownCall => "environment call",
+    }
+}
+
+/// In which way harts ended.
+pub(crate) fn ways_words(alloc: Global, ways: Ways) -> Result<String, NoMemory> {
+    match ways {
+        Ways::One(End::Exited(code)) => Ok(format!(in alloc; "exited {code:08x}")?),
+        Ways::One(End::Stopped(cause, pc)) => {
+            let words = cause_words(cause);
+            Ok(format!(in alloc; "stopped by {words} at {pc:08x}")?)
+        }
+        Ways::One(End::OutOfSteps) => Ok(format!(in alloc; "out of steps")?),
+        Ways::OtherExits => Ok(format!(in alloc; "exited otherwise")?),
+        Ways::OtherStops => Ok(format!(in alloc; "stopped otherwise")?),
+    }
 }

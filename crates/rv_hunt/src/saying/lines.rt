@@ -1,110 +1,162 @@
-//! The first line of what a hunt says, and those behind the blocks of its races.
-ghost use Rattle.std.specs.Prelude.{◌≡◌, flat_map, IfOk};
-ghost use Rattle.rv_hunt.specs.HuntSays as spec;
+//! The lines of what a hunt came to, and the numbers that they and the page show.
+ghost use Rattle.std.specs.Prelude.{◌≡◌, map};
+ghost use Rattle.rv_hunt.specs.Outcome as spec;
+ghost use Rattle.rv_hunt.specs.declared.saying.lines.Seen.{Seen};
 
+use crate::page::parts::Outcome;
 use crate::row::RaceRow;
-use crate::saying::ended::ended_text;
-use crate::saying::order::{benign, bugs, reports_of};
+use crate::saying::ended::{ended_rows, ways_words};
+use crate::saying::order::{benign, bugs, of_class, reports_of};
 use crate::tally::Tally;
-use rv_explain::pieces::joined;
+use rv_explain::block::RaceClass;
 use rv_memory::store::NoMemory;
 use rv_report::key::Key;
-use rv_text::decimal::Decimal;
 use std::alloc::Global;
 
-/// `NAME NUMBER`.
-fn numbered(alloc: Global, name: &[u8], number: u64) -> Result<Vec<u8>, NoMemory>
-    ensures { IfOk result (λ text. text.items ≡ spec.numbered name.now number) }
-{
-    let number = Decimal::new(number);
-    joined(alloc, &[name, number.as_bytes()])
-}
-
-/// Names, each with its number.
-fn numbers(alloc: Global, parts: &[(&[u8], u64)]) -> Result<Vec<u8>, NoMemory>
-    ensures { IfOk result (λ text. text.items ≡ flat_map (λ part. spec.numbered part.0.now part.1) parts.now) }
-{
-    let mut text = Vec::new(alloc);
-    for (name, number) in parts {
-        text.extend_from_slice(&numbered(alloc, name, *number)?)?;
-    }
-    Ok(text)
-}
-
 /// The first line.
-#[tactic(auto, unfolding(crate::specs::HuntSays::summary_line))]
-pub(crate) fn summary_line(
-    alloc: Global,
-    saw: &Tally,
-    rows: &[(Key, RaceRow)],
-) -> Result<Vec<u8>, NoMemory>
-    ensures { IfOk result (λ line. line.items ≡ spec.summary_line saw.now rows.now) }
-{
-    let counts = saw.counts();
-    let parts: [(&[u8], u64); 5] = [
-        (b"races ", bugs(rows)),
-        (b", likely benign ", benign(rows)),
-        (b", reports ", counts.hit.saturating_add(counts.changed)),
-        (b" of ", saw.pauses()),
-        (b" endings in ", saw.runs()),
-    ];
-    let mut line = numbers(alloc, &parts)?;
-    line.extend_from_slice(b" runs\n")?;
-    Ok(line)
+pub(crate) fn summary_line(alloc: Global, outcome: &Outcome) -> Result<String, NoMemory> {
+    let saw = outcome.saw;
+    let bugs = bugs(outcome.rows);
+    let benign = benign(outcome.rows);
+    let reports = saw.counts().hit.saturating_add(saw.counts().changed);
+    let pauses = saw.pauses();
+    let runs = saw.runs();
+    Ok(format!(in alloc;
+        "races {bugs}, likely benign {benign}, reports {reports} of {pauses} endings in {runs} runs\n"
+    )?)
 }
 
 /// How many of a thing there are.
-pub(crate) fn counted(alloc: Global, number: u64, thing: &[u8]) -> Result<Vec<u8>, NoMemory>
-    ensures { IfOk result (λ text. text.items ≡ spec.counted number thing.now) }
-{
-    let many = if number == 1 { b"".as_slice() } else { b"s" };
-    let digits = Decimal::new(number);
-    joined(alloc, &[digits.as_bytes(), b" ", thing, many])
+pub(crate) fn counted(alloc: Global, number: u64, thing: &str) -> Result<String, NoMemory> {
+    let many = if number == 1 { "" } else { "s" };
+    Ok(format!(in alloc; "{number} {thing}{many}")?)
 }
 
-/// How many races were counted and not told, where there are any.
-pub(crate) fn apart_line(
+/// Adds how many races were counted and not shown, where there are any.
+fn push_apart(
     alloc: Global,
-    word: &[u8],
+    text: &mut Vec<u8>,
+    word: &str,
     rows: &[(Key, RaceRow)],
-) -> Result<Vec<u8>, NoMemory>
-    ensures { IfOk result (λ line. line.items ≡ spec.apart_line word.now rows.now) }
-{
+) -> Result<(), NoMemory> {
     if rows.is_empty() {
-        return Ok(Vec::new(alloc));
+        return Ok(());
     }
-    let reports = counted(alloc, reports_of(rows), b"report")?;
-    let races = counted(alloc, rows.len() as u64, b"race")?;
-    joined(alloc, &[word, b" ", &reports, b" of ", &races, b"\n"])
+    let reports = counted(alloc, reports_of(rows), "report")?;
+    let races = counted(alloc, rows.len() as u64, "race")?;
+    let line = format!(in alloc; "{word} {reports} of {races}\n")?;
+    text.extend_from_slice(line.as_bytes())?;
+    Ok(())
 }
 
-/// What was seen.
-#[tactic(auto, unfolding(crate::specs::HuntSays::seen_line))]
-fn seen_line(alloc: Global, sites: u64, saw: &Tally) -> Result<Vec<u8>, NoMemory>
-    ensures { IfOk result (λ line. line.items ≡ spec.seen_line sites saw.now) }
+/// A number of what was seen: what stands before its name in the line, its name, and what it counts.
+#[derive(Clone, Copy)]
+pub(crate) struct Seen {
+    pub(crate) before: &'static str,
+    pub(crate) name: &'static str,
+    pub(crate) number: u64,
+    pub(crate) meaning: &'static str,
+}
+
+fn number_seen(before: &'static str, name: &'static str, number: u64, meaning: &'static str) -> Seen
+    ensures { result.number ≡ number }
+{
+    Seen {
+        before,
+        name,
+        number,
+        meaning,
+    }
+}
+
+/// The sites, how the pauses ended, and the runs.
+pub(crate) fn seen_numbers(sites: u64, saw: &Tally) -> [Seen; 10]
+    ensures { map (λ (one : Seen). one.number) result ≡ spec.seen_numbers sites saw.now }
 {
     let counts = saw.counts();
-    let parts: [(&[u8], u64); 9] = [
-        (b"seen sites ", sites),
-        (b", armed ", saw.armed().count()),
-        (b", paused at ", saw.paused().count()),
-        (b"; pauses ", saw.pauses()),
-        (b": quiet ", counts.quiet),
-        (b", hit ", counts.hit),
-        (b", changed ", counts.changed),
-        (b"; unwatched ", counts.unwatched),
-        (b"; steps ", counts.steps),
-    ];
-    let mut line = numbers(alloc, &parts)?;
-    line.extend_from_slice(b"\n")?;
-    Ok(line)
+    [
+        number_seen(
+            " ",
+            "sites",
+            sites,
+            "loads and stores that a hart may pause at",
+        ),
+        number_seen(
+            ", ",
+            "armed",
+            saw.armed().count(),
+            "sites that had a breakpoint",
+        ),
+        number_seen(
+            ", ",
+            "paused at",
+            saw.paused().count(),
+            "sites at which a hart was paused",
+        ),
+        number_seen("; ", "pauses", saw.pauses(), "how often a hart was paused"),
+        number_seen(
+            ": ",
+            "quiet",
+            counts.quiet,
+            "pauses that showed no other access",
+        ),
+        number_seen(", ", "hit", counts.hit, "pauses that caught another access"),
+        number_seen(
+            ", ",
+            "changed",
+            counts.changed,
+            "pauses that found other bytes",
+        ),
+        number_seen(
+            "; ",
+            "unwatched",
+            counts.unwatched,
+            "pauses without a data breakpoint",
+        ),
+        number_seen(
+            "; ",
+            "steps",
+            counts.steps,
+            "instructions that harts executed",
+        ),
+        number_seen("; ", "runs", saw.runs(), "whole runs of the program"),
+    ]
 }
 
-/// How the harts of all runs ended, and what was seen.
-pub(crate) fn saw_text(alloc: Global, sites: u64, saw: &Tally) -> Result<Vec<u8>, NoMemory>
-    ensures { IfOk result (λ text. text.items ≡ spec.saw_text sites saw.now) }
-{
-    let ended = ended_text(alloc, saw.ended())?;
-    let seen = seen_line(alloc, sites, saw)?;
-    joined(alloc, &[&ended, &seen])
+/// Adds what was seen; the runs are in the first line.
+fn push_seen(alloc: Global, text: &mut Vec<u8>, sites: u64, saw: &Tally) -> Result<(), NoMemory> {
+    text.extend_from_slice(b"seen")?;
+    for seen in &seen_numbers(sites, saw)[..9] {
+        let before = seen.before;
+        let name = seen.name;
+        let number = seen.number;
+        let part = format!(in alloc; "{before}{name} {number}")?;
+        text.extend_from_slice(part.as_bytes())?;
+    }
+    text.extend_from_slice(b"\n")?;
+    Ok(())
+}
+
+/// Adds how the harts of all runs ended.
+fn push_ended(alloc: Global, text: &mut Vec<u8>, saw: &Tally) -> Result<(), NoMemory> {
+    for row in &ended_rows(alloc, saw.ended())? {
+        let words = ways_words(alloc, row.ways)?;
+        let harts = row.harts;
+        let line = format!(in alloc; "ended {words}: {harts}\n")?;
+        text.extend_from_slice(line.as_bytes())?;
+    }
+    Ok(())
+}
+
+/// Adds the lines behind the blocks: which races were counted and not shown, how harts ended, and what was seen.
+pub(crate) fn push_behind(
+    alloc: Global,
+    text: &mut Vec<u8>,
+    outcome: &Outcome,
+) -> Result<(), NoMemory> {
+    let named = of_class(alloc, outcome.rows, RaceClass::Named)?;
+    push_apart(alloc, text, "named", &named)?;
+    push_apart(alloc, text, "ignored", outcome.ignored)?;
+    push_ended(alloc, text, outcome.saw)?;
+    push_seen(alloc, text, outcome.sites, outcome.saw)
 }

@@ -1,12 +1,10 @@
 //! Where a clean answer would mean nothing.
-ghost use Rattle.std.specs.Prelude.{◌≡◌, None, flat_map, IfOk, IfSome};
-ghost use Rattle.rv_hunt.specs.WarningText as spec;
-ghost use Rattle.rv_hunt.specs.Tally.{Tally};
+ghost use Rattle.std.specs.Prelude.{◌≡◌, IfOk};
+ghost use Rattle.rv_hunt.specs.Warnings as spec;
 
-use crate::saying::ended::end_words;
+use crate::page::parts::Outcome;
+use crate::saying::ended::{Ways, ways_words};
 use crate::tally::Tally;
-use crate::tally::kinds::Kind;
-use rv_explain::pieces::joined;
 use rv_memory::store::NoMemory;
 use std::alloc::Global;
 
@@ -51,97 +49,66 @@ fn holds(warning: Warning, sites: u64, saw: &Tally) -> bool
     }
 }
 
-/// The first trap that was met.
-fn first_stop(alloc: Global, stops: &[Kind]) -> Result<Vec<u8>, NoMemory>
-    ensures { IfOk result (λ text. text.items ≡ spec.first_stop stops.now) }
+/// Those of the warnings that hold of an image with so many sites and of what runs saw.
+pub(crate) fn warnings_of(alloc: Global, sites: u64, saw: &Tally) -> Result<Vec<Warning>, NoMemory>
+    ensures { IfOk result (λ warnings. warnings.items ≡ spec.warnings_of sites saw.now) }
 {
-    let [kind, ..] = stops else {
-        return Ok(Vec::new(alloc));
-    };
-    let words = end_words(alloc, kind.end)?;
-    joined(alloc, &[b", the first ", &words])
-}
-
-fn trapped_words(alloc: Global, saw: &Tally) -> Result<Vec<u8>, NoMemory>
-    ensures { IfOk result (λ words. words.items ≡ spec.warning_words saw.now Warning.Trapped) }
-{
-    let first = first_stop(alloc, saw.ended().stops().told())?;
-    joined(
-        alloc,
-        &[
-            b"in every run a trap stopped a hart",
-            &first,
-            b": is the program built for RV32IMA without an operating system?",
-        ],
+    let those = WARNINGS.iter().copied();
+    Ok(
+        those
+            .filter(|warning| holds(*warning, sites, saw))
+            .collect(alloc)?,
     )
 }
 
-/// The words of a warning, where they are the same whatever runs saw.
-fn fixed_words(warning: Warning) -> Option<&'static [u8]>
-    ensures fixed { IfSome result (λ words. (saw : Tally) → words.now ≡ spec.warning_words saw warning) }
-    ensures other { result ≡ None → warning ≡ Warning.Trapped }
-{
-    match warning {
-        Warning::NoSite => Some(
-            b"the image has no load or store to pause at: is it the right file, and what does --skip leave out?",
-        ),
-        Warning::NoPause => Some(
-            b"no pause was made, so that no race could be seen: do the harts reach a load or a store?",
-        ),
-        Warning::Trapped => None,
-        Warning::NoOtherStep => Some(
-            b"in no pause did another hart make a step: take more --harts, or a longer pause by --plan",
-        ),
-        Warning::FewArmed => Some(
-            b"fewer than half of the sites were ever armed: take a greater --budget",
-        ),
-        Warning::NoExit => Some(
-            b"in the longest runs no hart exited: if the program ends, take more steps by --plan",
-        ),
-    }
+/// The first trap that was met.
+fn first_stop(alloc: Global, saw: &Tally) -> Result<String, NoMemory> {
+    let [kind, ..] = saw.ended().stops().told() else {
+        return Ok(String::new(alloc));
+    };
+    let words = ways_words(alloc, Ways::One(kind.end))?;
+    Ok(format!(in alloc; ", the first {words}")?)
 }
 
 /// The words of a warning.
-fn warning_words(alloc: Global, saw: &Tally, warning: Warning) -> Result<Vec<u8>, NoMemory>
-    ensures { IfOk result (λ words. words.items ≡ spec.warning_words saw.now warning) }
-{
-    match fixed_words(warning) {
-        Some(words) => Ok(Vec::from_slice(alloc, words)?),
-        None => trapped_words(alloc, saw),
-    }
-}
-
-/// The line of a warning, where it holds.
-fn line_if(alloc: Global, sites: u64, saw: &Tally, warning: Warning) -> Result<Vec<u8>, NoMemory>
-    ensures { IfOk result (λ line. line.items ≡ spec.line_if sites saw.now warning) }
-{
-    if !holds(warning, sites, saw) {
-        return Ok(Vec::new(alloc));
-    }
-    let words = warning_words(alloc, saw, warning)?;
-    joined(alloc, &[b"rvcollide: warning: ", &words, b"\n"])
-}
-
-/// The lines of those of the warnings that hold.
-fn those_lines(
+pub(crate) fn warning_words(
     alloc: Global,
-    sites: u64,
     saw: &Tally,
-    warnings: &[Warning],
-) -> Result<Vec<u8>, NoMemory>
-    ensures { IfOk result (λ lines. lines.items ≡ flat_map (spec.line_if sites saw.now) warnings.now) }
-{
-    let mut lines = Vec::new(alloc);
-    for warning in warnings {
-        lines.extend_from_slice(&line_if(alloc, sites, saw, *warning)?)?;
-    }
-    Ok(lines)
+    warning: Warning,
+) -> Result<String, NoMemory> {
+    let words = match warning {
+        Warning::NoSite => {
+            "the image has no load or store to pause at: is it the right file, and what does --skip leave out?"
+        }
+        Warning::NoPause => {
+            "no pause was made, so that no race could be seen: do the harts reach a load or a store?"
+        }
+        Warning::Trapped => {
+            let first = first_stop(alloc, saw)?;
+            return Ok(format!(in alloc;
+                "in every run a trap stopped a hart{first}: is the program built for RV32IMA without an operating system?"
+            )?);
+        }
+        Warning::NoOtherStep => {
+            "in no pause did another hart make a step: take more --harts, or a longer pause by --plan"
+        }
+        Warning::FewArmed => {
+            "fewer than half of the sites were ever armed: take a greater --budget"
+        }
+        Warning::NoExit => {
+            "in the longest runs no hart exited: if the program ends, take more steps by --plan"
+        }
+    };
+    Ok(format!(in alloc; "{words}")?)
 }
 
 /// A line of each warning that holds.
-#[tactic(auto, unfolding(crate::specs::WarningText::warnings_text))]
-pub(crate) fn warnings_text(alloc: Global, sites: u64, saw: &Tally) -> Result<Vec<u8>, NoMemory>
-    ensures { IfOk result (λ text. text.items ≡ spec.warnings_text sites saw.now) }
-{
-    those_lines(alloc, sites, saw, &WARNINGS)
+pub(crate) fn warnings_text(alloc: Global, outcome: &Outcome) -> Result<Vec<u8>, NoMemory> {
+    let mut text = Vec::new(alloc);
+    for warning in &warnings_of(alloc, outcome.sites, outcome.saw)? {
+        let words = warning_words(alloc, outcome.saw, *warning)?;
+        let line = format!(in alloc; "rvcollide: warning: {words}\n")?;
+        text.extend_from_slice(line.as_bytes())?;
+    }
+    Ok(text)
 }

@@ -1,7 +1,7 @@
 -- the races so far
-use Rattle.std.proofs.Common.{◌≡◌, take}
-use Rattle.rv_hunt.specs.page.RacesShown.{races_shown}
+use Rattle.std.proofs.Common.{◌≡◌}
+use Rattle.rv_hunt.specs.PageFacts.{all_shown_facts}
 use Rattle.rv_hunt.proofs.page.races.races_shown.Given as goal
 
 abbrev pub invariant-loop-n : goal.invariant-loop-n
-invariant-loop-n l = l.text.items ≡ races_shown l.symbols l.told (take l.n l.shown)
+invariant-loop-n l = l.page ≡ record l.fn.page { facts = all_shown_facts l.n l.fn.page.facts }

@@ -1,4 +1,4 @@
-use Rattle.std.proofs.Common.{◌∙◌, ap, sym, get_or}
+use Rattle.std.proofs.Common.{◌∙◌, ap, sym, refl, get_or}
 use Rattle.std.specs.Option.{option_copied}
 use Rattle.std.specs.Prelude.{find}
 use Rattle.std.proofs.lemmas.Option.{slice_get-get_or}
@@ -9,8 +9,8 @@ use Rattle.rv_hunt.proofs.ShowingLemmas.{race_found}
 use Rattle.rv_hunt.specs.Remade.{race_by}
 use Rattle.rv_hunt.proofs.engine.shown.InFull.row.Goals as goal
 
-pub race-requires-clause-told : goal.race-requires-clause-told
-race-requires-clause-told c =
+pub race_block-requires-clause-told : goal.race_block-requires-clause-told
+race_block-requires-clause-told c =
     let run = run_of c.args.session.now in
     let found = sym c.first_told.ensures ∙ ap option_copied c.in-Some.is in
     found_is_ending _ run.image c.args.self.now.hunt.now.ranges (endings run.start run.entries) c.in-Some.told.now (ap (find _) (sym c.requires.reports) ∙ found)
@@ -23,7 +23,10 @@ returns-clause-shown c =
     record {
       row = row;
       there = slice_get-get_or c.args.self.now.rows.now c.args.place _ c.requires.place;
-      race = race_by row c.in-Some.told.now;
-      is_race = race_found run.image c.args.self.now.hunt.now.ranges row (endings run.start run.entries) c.args.reports.now c.in-Some.told.now c.requires.reports found;
-      of_race = c.in_ok-shown.ensures.shown;
+      is_shown = record {
+        race = race_by row c.in-Some.told.now;
+        is_race = race_found run.image c.args.self.now.hunt.now.ranges row (endings run.start run.entries) c.args.reports.now c.in-Some.told.now c.requires.reports found;
+        block_is = c.in_ok-block.ensures.block;
+        harts_are = refl;
+      };
     }

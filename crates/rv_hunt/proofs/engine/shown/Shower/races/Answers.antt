@@ -13,7 +13,7 @@ loop-n-preserved c =
     let below : place < length rows = omega (arith, test) in
     let short : c.in-Ok.short ≡ place = search rules in
     record {
-      shown = placed_more c.args.self.now (run_of c.loop-n.session) (run_of c.args.session.now) c.args.words.now place c.in-Ok.short _ c.in_ok-found.found c.loop-n.shown.items c.push_found.new.shown.items
+      shown = placed_more c.args.self.now (run_of c.loop-n.session) (run_of c.args.session.now) c.args.harts place c.in-Ok.short _ c.in_ok-found.found c.loop-n.shown.items c.push_found.new.shown.items
           c.loop-n.invariant.same short (slice_get-get_or rows place _ below) c.if-self-place.false c.in_ok-found.ensures.shown c.in_ok-push_found.ensures c.loop-n.invariant.shown;
       same = ap run_of c.in_ok-found.ensures.same ∙ c.loop-n.invariant.same;
       image = ap (λ (p : Placed). p.image) c.in_ok-found.ensures.same ∙ c.loop-n.invariant.image;

@@ -6,7 +6,7 @@ use Rattle.rv_hunt.proofs.engine.shown.Shower.races.Given as goal
 
 abbrev pub invariant-loop-n : goal.invariant-loop-n
 invariant-loop-n l = record {
-  shown : All (IsPlaced l.self (run_of l.initial.session) l.words) l.shown.items;
+  shown : All (IsPlaced l.self (run_of l.initial.session) l.harts) l.shown.items;
   same : run_of l.session ≡ run_of l.initial.session;
   image : l.session.image ≡ l.initial.session.image;
 }
