@@ -1,0 +1,12 @@
+pub mod BurstLemmas
+pub mod CircleLemmas
+pub mod ClosestLemmas
+pub mod EntriesLemmas
+pub mod KeptLemmas
+pub mod ListedLemmas
+pub mod LongerLemmas
+pub mod NextLemmas
+pub mod ResultLemmas
+pub mod StandsLemmas
+pub mod StepLemmas
+pub mod TakeLemmas

@@ -1,0 +1,6 @@
+-- A clause of a refusal.
+use Rattle.std.specs.Prelude.{OnErr, Result, Ok, Err}
+
+pub on_err : {A E : Type 0} (r : Result A E) (P : Type 0) → P → OnErr r P
+on_err (Ok a) P p = tt
+on_err (Err e) P p = p

@@ -1,0 +1,40 @@
+-- Where a walk stands.
+use Rattle.std.proofs.Common.{◌≡◌, ℕ, zero, suc, ◌<◌, Bool, true, false, List, [], ◌∷◌, length, Option, Some, None, sym, subst, ap, ◌∙◌, arith}
+use Rattle.std.specs.Prelude.{IfSome, is_some, not, slice_get}
+use Rattle.rv_hart.specs.Refusals.{is_running_hart}
+use Rattle.rv_hart.specs.Run.{run}
+use Rattle.rv_hart.specs.declared.hart.Hart.{Hart}
+use Rattle.rv_hart.specs.State.{State}
+use Rattle.rv_waits.specs.Round.{IsRound, Waits}
+use Rattle.rv_waits.specs.declared.round.Round.{Round}
+use Rattle.rv_walk.proofs.EntriesLemmas.{state_now}
+use Rattle.rv_walk.specs.Walked.{Walked, IsAt}
+
+pub at_run : (walk : Walked) (s : State) → run walk.start walk.harts ≡ Some s → IsAt walk s
+unfolding IsAt
+at_run walk s reached = state_now walk.start walk.harts ∙ reached
+
+pub run_at : (walk : Walked) (s : State) → IsAt walk s → run walk.start walk.harts ≡ Some s
+unfolding IsAt
+run_at walk s at = sym (state_now walk.start walk.harts) ∙ at
+
+-- a walk stands in one state
+pub one_state : (walk : Walked) (s t : State) → IsAt walk s → IsAt walk t → s ≡ t
+unfolding IsAt
+one_state walk s t at also = let e : Some s ≡ Some t = sym at ∙ also in cc
+
+pub stands : (own walk : Walked) (t s : State) → own ≡ walk → run own.start own.harts ≡ Some t → IsAt walk s → t ≡ s
+stands own walk t s view reached at =
+    let e : run own.start own.harts ≡ Some s = subst (λ (v : Walked). run v.start v.harts ≡ Some s) (sym view) (run_at walk s at) in
+    let f : Some t ≡ Some s = sym reached ∙ e in
+    cc
+
+-- what a look at a hart's round says
+pub waits_seen : (s : State) (h : ℕ) (seen : Option Round) (none : Bool) → is_some seen ≡ not none → none ≡ false → IfSome seen (λ (round : Round). IsRound s h round.steps) → Waits s h
+waits_seen s h None none is unset round = let e : false ≡ true = is ∙ ap not unset in cc
+waits_seen s h (Some seen) none is unset round = (seen.steps, round)
+
+pub runs_within : (harts : List Hart) (h : ℕ) → is_running_hart (slice_get harts h) ≡ true → h < length harts
+runs_within [] h is = let e : false ≡ true = is in cc
+runs_within (x ∷ xs) zero is = omega arith
+runs_within (x ∷ xs) (suc h) is = let e : h < length xs = runs_within xs h is in omega arith
