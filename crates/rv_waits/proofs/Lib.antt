@@ -7,5 +7,6 @@ pub mod WatchLemmas
 pub mod WatchListLemmas
 pub mod MoveLemmas
 pub mod QuietLemmas
+pub mod BeforeLemmas
 pub mod RoundLemmas
 pub mod StuckLemmas

@@ -1,3 +1,4 @@
+pub mod Before
 pub mod Round
 pub mod Stuck
 pub mod StuckLaw

@@ -16,7 +16,7 @@ use rv_memory::store::ByteStore;
 
 /// Four bytes of memory, each None where there is none.
 #[derive(Clone, Copy, PartialEq, Eq)]
-pub(crate) struct FourBytes {
+pub struct FourBytes {
     pub one: Option<u8>,
     pub two: Option<u8>,
     pub three: Option<u8>,
@@ -88,14 +88,14 @@ fn loud(told: Told) -> Told
     }
 }
 
-fn has_bytes<S: ByteStore>(machine: &Machine<S>, first: u32, bytes: FourBytes) -> bool
+pub(crate) fn has_bytes<S: ByteStore>(machine: &Machine<S>, first: u32, bytes: FourBytes) -> bool
     ensures { result ≡ true → AreBytesFrom machine.now.state.memory first bytes }
 {
     four_bytes(machine, first) == bytes
 }
 
 /// The first address of an access; 0 where there is none.
-fn first_of(access: Option<Access>) -> u32
+pub(crate) fn first_of(access: Option<Access>) -> u32
     ensures { IfSome access (λ it. result ≡ it.first) }
 {
     match access {
@@ -104,7 +104,7 @@ fn first_of(access: Option<Access>) -> u32
     }
 }
 
-fn four_bytes<S: ByteStore>(machine: &Machine<S>, first: u32) -> FourBytes
+pub(crate) fn four_bytes<S: ByteStore>(machine: &Machine<S>, first: u32) -> FourBytes
     ensures { AreBytesFrom machine.now.state.memory first result }
 {
     FourBytes {

@@ -25,6 +25,10 @@ use rv_memory::store::{ByteStore, NoMemory};
 use std::alloc::Global;
 use std::marker::Model;
 
+mod before;
+
+pub use before::{Before, Sight};
+
 /// The fewest and the most steps after which an anchor is set anew.
 const FEWEST: u32 = 4;
 

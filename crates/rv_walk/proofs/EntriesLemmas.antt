@@ -1,5 +1,5 @@
 -- A walk's schedule, and the list of its harts.
-use Rattle.std.proofs.Common.{◌≡◌, ℕ, zero, suc, List, [], ◌∷◌, length, take, Option, Some, None, refl, sym, ap, subst, ◌∙◌}
+use Rattle.std.proofs.Common.{◌≡◌, ℕ, zero, suc, List, [], ◌∷◌, length, take, Option, Some, None, refl, sym, ap, ◌∙◌}
 use Rattle.std.specs.Prelude.{map, option_and_then, slice_get}
 use Rattle.std.proofs.lemmas.List.{take-map}
 use Rattle.std.proofs.Math.Seq.{take-length}
@@ -16,7 +16,7 @@ use Rattle.rv_hart.specs.declared.access.Access.{Access}
 use Rattle.rv_walk.specs.NearPair.{WasMade}
 use Rattle.rv_walk.specs.Walked.{Walked, entries_of}
 
-steps_of_entries : (hs : List ℕ) → steps (entries_of hs) ≡ hs
+pub steps_of_entries : (hs : List ℕ) → steps (entries_of hs) ≡ hs
 unfolding steps
 steps_of_entries [] = refl
 steps_of_entries (h ∷ hs) = ap (λ (ks : List ℕ). h ∷ ks) (steps_of_entries hs)

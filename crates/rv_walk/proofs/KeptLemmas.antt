@@ -1,10 +1,9 @@
 -- What a walk keeps of its accesses, through each change.
-use Rattle.std.proofs.Common.{◌≡◌, ℕ, zero, suc, ◌<◌, List, ◌++◌, ◌∷◌, [], length, get_or, Some, ap, sym, subst, ◌∙◌, arith}
+use Rattle.std.proofs.Common.{◌≡◌, ℕ, zero, suc, ◌<◌, List, ◌∷◌, [], length, Some, ap, sym, subst, arith}
 use Rattle.std.specs.Prelude.{slice_get}
 use Rattle.std.specs.List.{All}
 use Rattle.std.proofs.lemmas.List.Elements.{All-get_or}
 use Rattle.std.proofs.lemmas.Option.{get_or_from_slice_get}
-use Rattle.rv_break.specs.declared.claim.Seen.{Seen}
 use Rattle.rv_walk.specs.NearPair.{IsNearPair, WasMade}
 use Rattle.rv_walk.specs.Walked.{Walked}
 use Rattle.rv_walk.specs.declared.accesses.Accesses.{Accesses}

@@ -2,10 +2,15 @@ pub mod BurstLemmas
 pub mod CircleLemmas
 pub mod ClosestLemmas
 pub mod EntriesLemmas
+pub mod GoingLemmas
 pub mod KeptLemmas
+pub mod LegalLemmas
 pub mod ListedLemmas
 pub mod LongerLemmas
 pub mod NextLemmas
+pub mod PartLemmas
+pub mod ProbeLemmas
+pub mod ProbingLemmas
 pub mod ResultLemmas
 pub mod StandsLemmas
 pub mod StepLemmas

@@ -1,5 +1,5 @@
 -- Whose turn is next, in a circle.
-use Rattle.std.proofs.Common.{◌≡◌, ℕ, ◌+◌, ◌%◌, ◌<◌, ◌≤◌, length, sym, ap, subst, ◌∙◌, arith}
+use Rattle.std.proofs.Common.{◌≡◌, ℕ, ◌+◌, ◌%◌, ◌<◌, length, sym, ap, subst, ◌∙◌, arith}
 use Rattle.rv_hart.specs.State.{State}
 use Rattle.rv_waits.specs.Round.{Waits}
 use Rattle.rv_waits.specs.Stuck.{Runs}

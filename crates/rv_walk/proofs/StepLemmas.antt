@@ -1,14 +1,11 @@
 -- One step of a walk.
-use Rattle.std.proofs.Common.{◌≡◌, ℕ, zero, suc, ◌+◌, ◌≤◌, ◌<◌, Bool, true, false, List, [], ◌∷◌, ◌++◌, length, Option, Some, None, refl, sym, ap, subst, ◌∙◌, arith}
-use Rattle.std.specs.Prelude.{Err, IsTrue, not, slice_get, vec_capacity, Vec}
+use Rattle.std.proofs.Common.{◌≡◌, ℕ, ◌+◌, ◌≤◌, ◌<◌, Bool, true, false, List, [], ◌∷◌, ◌++◌, length, Some, refl, ap, subst, ◌∙◌, arith}
+use Rattle.std.specs.Prelude.{Err, not, slice_get, vec_capacity, Vec}
 use Rattle.std.specs.declared.alloc.Global.{Global}
 use Rattle.std.proofs.lemmas.Bool.{leb-true}
 use Rattle.std.proofs.lemmas.List.{length-append}
-use Rattle.rv_hart.specs.NextAccess.{accessed}
 use Rattle.rv_hart.specs.Refusals.{is_running_hart}
-use Rattle.rv_hart.specs.ReservationLaws.{NextIsMade}
-use Rattle.rv_hart.specs.Run.{run}
-use Rattle.rv_hart.specs.State.{Guest, State}
+use Rattle.rv_hart.specs.State.{Guest}
 use Rattle.rv_hart.specs.Step.{step_of}
 use Rattle.rv_hart.specs.StepAnswer.{AnswersStep}
 use Rattle.rv_hart.specs.StepLaws.{OutputLaw}
@@ -21,7 +18,7 @@ use Rattle.rv_walk.specs.Walked.{Walked}
 use Rattle.rv_walk.specs.declared.accesses.Accesses.{Accesses}
 use Rattle.rv_walk.specs.internal.Inside.{AreOf, IsInside}
 use Rattle.rv_walk.proofs.StandsLemmas.{runs_within}
-use Rattle.rv_walk.proofs.LongerLemmas.{accesses_longer, run_more, with_steps}
+use Rattle.rv_walk.proofs.LongerLemmas.{run_more, with_steps}
 
 -- of a hart that runs, with room to print, a step is refused for want of memory alone
 pub only_memory : (can : Bool) (old new : Guest) (h : ℕ) (fault : StepFault) → AnswersStep can old new h (Err fault) → is_running_hart (slice_get old.state.harts h) ≡ true → length old.state.output < old.limit → fault ≡ NoMemory

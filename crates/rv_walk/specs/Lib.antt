@@ -1,7 +1,11 @@
+pub mod Again
 pub mod Burst
 pub mod Course
 pub mod NearPair
 pub mod Over
+pub mod Part
+pub mod Probe
 pub mod Told
+pub mod WalkLaws
 pub mod Walked
 pub mod internal

@@ -1,9 +1,9 @@
 -- How a walk is over.
-use Rattle.std.specs.Prelude.{◌≡◌, ◌≤◌, ℕ, Some, length}
+use Rattle.std.specs.Prelude.{◌≡◌, ℕ, length}
 use Rattle.rv_hart.specs.State.{State}
 use Rattle.rv_waits.specs.Stuck.{IsStuck, Runs}
 use Rattle.rv_walk.specs.NearPair.{IsNearPair}
-use Rattle.rv_walk.specs.Walked.{Walked, IsAt}
+use Rattle.rv_walk.specs.Walked.{Walked}
 use Rattle.rv_walk.specs.declared.course.Over.{Over}
 use Rattle.rv_walk.specs.declared.course.Over.TheVariants.{NoneRuns, AllWait, MostSteps, FarEnough}
 use Rattle.rv_walk.specs.declared.near_pair.NearPair.{NearPair}

@@ -1,3 +1,7 @@
+pub mod Drawn
+pub mod Going
 pub mod Inside
 pub mod Listed
 pub mod Noted
+pub mod Parting
+pub mod Probing

@@ -14,7 +14,7 @@ use rv_break::claim::Seen;
 use rv_memory::store::NoMemory;
 use std::alloc::Global;
 
-mod closest;
+pub(crate) mod closest;
 mod words;
 
 use closest::Closest;

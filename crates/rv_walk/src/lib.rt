@@ -6,7 +6,12 @@
 #![tactic(auto)]
 
 mod accesses;
+pub mod again;
 pub mod course;
+pub mod drawn;
 pub mod near_pair;
+pub mod probe;
+pub mod probes;
 pub mod sites;
 pub mod walk;
+pub mod walk_laws;

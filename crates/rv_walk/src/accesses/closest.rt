@@ -76,7 +76,7 @@ impl Closest {
 }
 
 /// By what near pairs are in order: the place of the first access, and the addresses.
-fn rank(pair: &NearPair) -> (u32, (u32, u32))
+pub(crate) fn rank(pair: &NearPair) -> (u32, (u32, u32))
     ensures { result ≡ rank_of pair.now }
 {
     let addresses = pair.addresses();

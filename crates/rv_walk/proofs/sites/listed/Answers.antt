@@ -1,4 +1,4 @@
-use Rattle.std.proofs.Common.{◌≡◌, ℕ, ◌+◌, List, ◌++◌, ◌∷◌, [], take, ap, sym, ◌∙◌}
+use Rattle.std.proofs.Common.{ℕ, List, ◌++◌, ◌∷◌, [], ap, sym, ◌∙◌}
 use Rattle.rv_walk.proofs.TakeLemmas.{take_next}
 use Rattle.rv_walk.proofs.sites.listed.Goals as goal
 

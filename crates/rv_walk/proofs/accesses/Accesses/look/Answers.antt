@@ -1,6 +1,5 @@
-use Rattle.std.proofs.Common.{◌≡◌, Some, sym, subst, ◌∙◌}
+use Rattle.std.proofs.Common.{◌≡◌, Some, sym, subst}
 use Rattle.std.specs.Prelude.{slice_get}
-use Rattle.rv_walk.specs.declared.accesses.Accesses.{Accesses}
 use Rattle.rv_walk.specs.internal.Inside.{AreOf}
 use Rattle.rv_walk.proofs.KeptLemmas.{made_at, noted}
 use Rattle.rv_walk.proofs.accesses.Accesses.look.Goals as goal

@@ -1,4 +1,3 @@
-use Rattle.std.proofs.Common.{◌≡◌}
 use Rattle.rv_walk.proofs.ListedLemmas.{listed_by}
 use Rattle.rv_walk.proofs.sites.Sites.of.Goals as goal
 

@@ -1,4 +1,4 @@
-use Rattle.std.proofs.Common.{◌≡◌, ◌+◌, ap, ◌∙◌, arith}
+use Rattle.std.proofs.Common.{◌+◌, ap, ◌∙◌, arith}
 use Rattle.rv_walk.specs.Burst.{IsShortened, longer}
 use Rattle.rv_walk.specs.Walked.{Walked}
 use Rattle.rv_walk.proofs.BurstLemmas.{longer_longer}

@@ -1,4 +1,4 @@
-use Rattle.std.specs.Prelude.{◌≡◌, ℕ, ◌<◌, ◌+◌, ◌%◌, length}
+use Rattle.std.specs.Prelude.{ℕ, ◌<◌, ◌+◌, ◌%◌, length}
 use Rattle.rv_hart.specs.State.{State}
 use Rattle.rv_walk.specs.Burst.{MayRest}
 use Rattle.rv_walk.specs.Walked.{IsAt}

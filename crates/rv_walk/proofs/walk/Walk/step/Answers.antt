@@ -1,7 +1,5 @@
-use Rattle.std.proofs.Common.{◌≡◌, ℕ, ◌+◌, ◌<◌, ◌≤◌, true, List, [], ◌∷◌, ◌++◌, length, Some, refl, sym, ap, subst, ◌∙◌, arith, rules}
-use Rattle.std.specs.Prelude.{slice_get}
+use Rattle.std.proofs.Common.{◌≡◌, ℕ, ◌<◌, List, [], ◌∷◌, length, Some, refl, sym, ap, subst, ◌∙◌, arith, rules}
 use Rattle.rv_hart.specs.NextAccess.{accessed}
-use Rattle.rv_hart.specs.Refusals.{is_running_hart}
 use Rattle.rv_hart.specs.declared.access.Event.TheVariants.{Moved}
 use Rattle.rv_walk.specs.Burst.{IsShortened, longer}
 use Rattle.rv_walk.specs.NearPair.{WasMade}

@@ -1,8 +1,7 @@
-use Rattle.std.proofs.Common.{List, sym, subst}
+use Rattle.std.proofs.Common.{sym, subst}
 use Rattle.std.specs.List.{All}
 use Rattle.std.proofs.lemmas.Map.Views.{All-values-PutsEntry}
 use Rattle.rv_walk.specs.NearPair.{IsNearPair}
-use Rattle.rv_walk.specs.declared.near_pair.NearPair.{NearPair}
 use Rattle.rv_walk.proofs.ClosestLemmas.{puts_by, same_addresses, same_exact}
 use Rattle.rv_walk.proofs.accesses.closest.Closest.note.Goals as goal
 
