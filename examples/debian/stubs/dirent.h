@@ -1,0 +1,1 @@
+/* liburcu includes it for Linux alone; picolibc's refuses to be included. */
