@@ -1,5 +1,5 @@
 /* Threads that look numbers up in a hash table of liburcu while others take entries out, fill them in anew and put them back: its lock-free table, its grace periods
-   of quiescent states, and POSIX threads by ../c/threads. A thread that finds an entry whose halves don't agree ends the program with 1. BROKEN: a writer
+   of quiescent states, and POSIX threads by ../c/threads. A thread that finds an entry whose words don't agree ends the program with 1. BROKEN: a writer
    fills an entry in without waiting for a grace period, while readers may still look at it. */
 #define _LGPL_SOURCE
 #include <pthread.h>
@@ -10,9 +10,10 @@
 
 #define ROUNDS 3
 #define BUCKETS 4
+#define WORDS 8
 
 struct entry {
-    unsigned key, inverse;
+    unsigned key, words[WORDS];
     struct cds_lfht_node node;
 };
 
@@ -28,7 +29,9 @@ static int has_key(struct cds_lfht_node *node, const void *key)
 static void fill_in(struct entry *entry, unsigned key)
 {
     entry->key = key;
-    entry->inverse = ~key;
+    for (unsigned at = 0; at < WORDS; at++) {
+        entry->words[at] = key + at;
+    }
     cds_lfht_node_init(&entry->node);
 }
 
@@ -48,8 +51,10 @@ static __attribute__((noinline)) void look_up(unsigned key)
     struct cds_lfht_node *node = cds_lfht_iter_get_node(&found);
     if (node != NULL) {
         struct entry *entry = caa_container_of(node, struct entry, node);
-        if (entry->inverse != ~key) {
-            exit(1);
+        for (unsigned at = 0; at < WORDS; at++) {
+            if (entry->words[at] != key + at) {
+                exit(1);
+            }
         }
     }
     rcu_read_unlock();
