@@ -1,5 +1,5 @@
 //! The core: what detects races from an image's start on, and the stored schedule of the calls that it accepted.
-ghost use Rattle.std.specs.Prelude.{◌≡◌, ◌<◌, [], ◌==◌, Err, Some, IfOk, IfErr, OnErr, length, slice_get, option_map, is_some};
+ghost use Rattle.std.specs.Prelude.{◌≡◌, ◌<◌, [], ◌==◌, Err, ◌≤◌, Some, IfOk, IfErr, OnErr, length, slice_get, option_map, is_some};
 ghost use Rattle.std.specs.FinSet as set;
 ghost use Rattle.rv_collide.specs.Answers as answer;
 ghost use Rattle.rv_collide.specs.Armed.{armed};
@@ -20,7 +20,7 @@ use crate::plan::Plan;
 use crate::refused::Refused;
 use rv_elf::Image;
 use rv_hart::access::Event;
-use rv_hart::machine::Machine;
+use rv_hart::machine::{MOST_HARTS, Machine, OUTPUT_LIMIT};
 use rv_memory::store::{ByteStore, MemFault, NoMemory};
 use std::alloc::Global;
 use std::marker::Model;
@@ -75,7 +75,7 @@ impl<S: ByteStore> Collider<S> {
     pub fn new(alloc: Global, image: &Image, plan: Plan) -> Result<Collider<S>, NoMemory>
         ensures { IfOk result (λ c. c ≡ stored image.now (numbers plan) []) }
     {
-        let machine = machine_of(alloc, image, plan)?;
+        let machine = machine_of(alloc, image, plan.harts, plan.steps)?;
         Ok(Collider {
             image: Snapshot::of(image),
             detector: Detector::begin(alloc, machine, plan)?,
@@ -231,17 +231,22 @@ impl<S: ByteStore> Collider<S> {
     }
 }
 
-/// The machine of an image with a plan's harts. What an image is leaves no fault but want of memory.
-fn machine_of<S: ByteStore>(
+/// The machine of an image as it begins, with so many harts (1 to 16), which may print so many bytes (up to 1,000,000). What an
+/// image is leaves no fault but want of memory.
+pub fn machine_of<S: ByteStore>(
     alloc: Global,
     image: &Image,
-    plan: Plan,
+    harts: u8,
+    limit: u32,
 ) -> Result<Machine<S>, NoMemory>
-    ensures state { IfOk result (λ m. m.state ≡ first_state image.now.segments image.now.entry plan.harts) }
-    ensures limit { IfOk result (λ m. m.limit ≡ plan.steps) }
+    requires some { 1 ≤ harts }
+    requires within { harts ≤ MOST_HARTS }
+    requires limit { limit ≤ OUTPUT_LIMIT }
+    ensures state { IfOk result (λ m. m.state ≡ first_state image.now.segments image.now.entry harts) }
+    ensures limit { IfOk result (λ m. m.limit ≡ limit) }
 {
     let segments = image.segments();
-    match Machine::new(alloc, segments, image.entry(), plan.harts, plan.steps) {
+    match Machine::new(alloc, segments, image.entry(), harts, limit) {
         Ok(machine) => Ok(machine),
         Err(fault) => Err(no_memory(fault)),
     }

@@ -24,7 +24,7 @@ pub(crate) fn is_fence(op: Op) -> bool
 }
 
 /// After it another word than the next may come.
-pub(crate) fn may_leave(op: Op) -> bool
+pub fn may_leave(op: Op) -> bool
     ensures { result ≡ spec.may_leave op }
 {
     match op {

@@ -6,8 +6,8 @@
 #![tactic(auto)]
 
 pub mod class;
-mod code;
-mod fences;
+pub mod code;
+pub mod fences;
 pub mod laws;
 pub mod named_bytes;
 pub mod names;

@@ -11,7 +11,6 @@ use Rattle.rv_collide.proofs.collider.machine_of.Goals as goal
 pub no_memory-requires : goal.no_memory-requires
 no_memory-requires g c =
     let image = c.entry.ensures.valid in
-    let plan = c.args.plan.in_range in
     c.in-Err.ensures.err
-    ∙ ap (λ (es : List Extent). unwrap_or (fault_of (with_stacks es c.args.plan.harts)) NoMemory) c.segments-segments.ensures.value
-    ∙ ap (λ (o : Option MemFault). unwrap_or o NoMemory) (fits c.args.image.now.entry c.args.image.now.segments c.args.plan.harts image.segments plan.harts)
+    ∙ ap (λ (es : List Extent). unwrap_or (fault_of (with_stacks es c.args.harts)) NoMemory) c.segments-segments.ensures.value
+    ∙ ap (λ (o : Option MemFault). unwrap_or o NoMemory) (fits c.args.image.now.entry c.args.image.now.segments c.args.harts image.segments c.requires.within)
