@@ -18,6 +18,7 @@ use std::process::Abort;
 
 mod around;
 mod blocks;
+mod called;
 mod names;
 mod picture;
 mod symbols;

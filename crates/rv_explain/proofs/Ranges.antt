@@ -28,6 +28,10 @@ pub fold_to : {Y : Type 0} → (f : Y → ℕ → Y) (z : Y) (first place : ℕ)
 fold_to f z first place le =
     ap (fold f z) (range_to first place le) ∙ fold-append f z (range_with_len first (place - first)) (place ∷ [])
 
+-- the same from 0 on
+pub fold_more : {Y : Type 0} → (f : Y → ℕ → Y) (z : Y) (k : ℕ) → fold f z (range_with_len 0 (k + 1)) ≡ f (fold f z (range_with_len 0 k)) k
+fold_more f z k = ap (fold f z) (range_more 0 k k (omega arith)) ∙ fold-append f z (range_with_len 0 k) (k ∷ [])
+
 found_one : {X Y : Type 0} → (f : Y → X → Y) (y : Y) (h : ℕ → Option X) (place : ℕ) (o : Option X) → h place ≡ o → fold f y (filter_map h (place ∷ [])) ≡ option_map_or (f y) (h place) y
 found_one f y h place None is = rw is refl
 found_one f y h place (Some x) is = rw is refl

@@ -1,6 +1,6 @@
 -- What is shown of a race of a run: both accesses, and the entries around them.
 use Rattle.std.specs.Prelude.{ℕ, ◌+◌, ◌-◌, Bool, ◌==◌, ◌&&◌, min, if◌then◌else◌, Option, Some, None, option_and_then, option_map, List, [], ◌∷◌, ◌++◌, length, slice_get, filter_map}
-use Rattle.std.specs.List.{fold, list_any, range_with_len}
+use Rattle.std.specs.List.{fold, range_with_len}
 use Rattle.std.specs.Option.{option_to_list}
 use Rattle.rv_break.specs.declared.claim.Seen.{Seen}
 use Rattle.rv_collide.specs.Answers.{pause_of}
@@ -12,22 +12,20 @@ use Rattle.rv_collide.specs.declared.ending.Ending.{Ending}
 use Rattle.rv_debug.specs.Answers.{word_at}
 use Rattle.rv_elf.specs.Contents.{Contents}
 use Rattle.rv_explain.specs.Blocks.{RaceShown}
+use Rattle.rv_explain.specs.Caller.{caller_in}
 use Rattle.rv_explain.specs.Meeting.{is_within, met}
 use Rattle.rv_explain.specs.Told.{row_of}
 use Rattle.rv_explain.specs.declared.block.Side.{Side}
 use Rattle.rv_explain.specs.declared.row.Row.{Row}
 use Rattle.rv_explain.specs.declared.row.Shown.{Shown}
 use Rattle.rv_explain.specs.declared.row.Shown.TheVariants as shown
-use Rattle.rv_hart.specs.Registers.{get}
 use Rattle.rv_hart.specs.State.{State}
 use Rattle.rv_hart.specs.declared.access.Access.{Access}
-use Rattle.rv_hart.specs.declared.hart.Hart.{Hart}
 use Rattle.rv_races.specs.Races.{Run}
 use Rattle.rv_races.specs.Second.{second_of}
 use Rattle.rv_races.specs.Stretches.{is_shown}
 use Rattle.rv_races.specs.declared.races.Race.{Race}
 use Rattle.rv_report.specs.Exhibit.{writes_over}
-use Rattle.rv_symbols.specs.Symbols.{is_inside}
 
 -- ---- the other hart's accesses
 
@@ -49,24 +47,13 @@ second run told = second_of told (last_store run told) told.verdict
 
 -- ---- the two sides
 
--- a segment that may be executed holds the address
-abbrev pub is_code : Contents → ℕ → Bool
-is_code image address = list_any (λ segment. segment.x && is_inside address segment) image.segments
-
--- what x1 holds, where that is such an address
-abbrev pub caller_of : Contents → Hart → Option ℕ
-caller_of image hart = if is_code image (get hart.registers 1) then Some (get hart.registers 1) else None
-
-abbrev pub caller_in : Contents → ℕ → State → Option ℕ
-caller_in image h s = option_and_then (caller_of image) (slice_get s.harts h)
-
--- A side in a state: the word that memory has at its instruction's address, and its caller.
+-- A side in a state: the word that memory has at its instruction's address, and where it was called from.
 unfoldable pub side_in : Contents → ℕ → Access → Option State → Side
 side_in image h access s = record {
   hart = h;
   access = access;
   word = option_and_then (λ (now : State). word_at now.memory access.pc) s;
-  caller = option_and_then (caller_in image h) s;
+  caller = option_and_then (caller_in image h access.pc) s;
 }
 
 -- a side at a place, before what happens there

@@ -1,6 +1,8 @@
 pub mod BlockOf
 pub mod Blocks
+pub mod Caller
 pub mod Explained
+pub mod Frame
 pub mod Meeting
 pub mod Names
 pub mod Pieces

@@ -4,7 +4,7 @@ use rv_hart::access::Access;
 pub use rv_races::classes::RaceClass;
 
 /// One of the two accesses of a report: its hart, the access, the word that memory had at its instruction's
-/// address, and what the hart's x1 named where that lies in an executable segment.
+/// address, and where the function returns to, where that is certain.
 #[derive(Clone, Copy)]
 pub struct Side {
     pub hart: u8,

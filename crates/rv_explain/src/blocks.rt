@@ -123,16 +123,7 @@ fn other_line(alloc: Global, names: &Names, block: &Block) -> Result<String, NoM
     Ok(format!(in alloc; "  hart {hart} {verb} {bytes}, entry {entry}{last}")?)
 }
 
-/// Whether two addresses are told by one symbol.
-fn are_told_by_one(symbols: &SymbolTable, one: u32, other: u32) -> bool {
-    match (symbols.symbol_of(one), symbols.symbol_of(other)) {
-        (Some(symbol), Some(second)) => symbol.value == second.value,
-        _ => false,
-    }
-}
-
-/// Adds the line of a side's instruction, and that of its caller. Where x1 names an instruction of the same function it is
-/// left from a call that has returned.
+/// Adds the line of a side's instruction, and that of its caller.
 fn add_side(
     alloc: Global,
     lines: &mut Vec<Vec<u8>>,
@@ -141,12 +132,9 @@ fn add_side(
 ) -> Result<(), NoMemory> {
     let instruction = names.instruction(alloc, side.access.pc, side.word)?;
     lines.push(format!(in alloc; "    {instruction}")?.into_bytes())?;
-    match side.caller {
-        Some(caller) if !are_told_by_one(names.symbols, side.access.pc, caller) => {
-            let place = names.address(alloc, caller)?;
-            lines.push(format!(in alloc; "    called from {place}")?.into_bytes())?;
-        }
-        Some(_) | None => {}
+    if let Some(caller) = side.caller {
+        let place = names.address(alloc, caller)?;
+        lines.push(format!(in alloc; "    called from {place}")?.into_bytes())?;
     }
     Ok(())
 }

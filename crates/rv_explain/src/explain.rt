@@ -12,6 +12,7 @@ use rv_debug::session::Session;
 use rv_elf::Image;
 use rv_memory::store::NoMemory;
 use rv_races::races::{Race, RunRaces};
+use rv_symbols::symbol_table::SymbolTable;
 use std::alloc::Global;
 
 /// The blocks of the races of a session's run, with so many entries around each place, or that of race K alone, from 1 on;
@@ -30,10 +31,11 @@ pub fn blocks_asked(
         ≡ spec.blocks_asked (run_of session.old) around found.now.races.items asked) }
     ensures same { session.new ≡ moved session.old session.new.place }
 {
+    let symbols = SymbolTable::new(alloc, image)?;
     let Some(k) = asked else {
-        return Ok(Some(all_blocks(alloc, session, image, &found.races, around)?));
+        return Ok(Some(all_blocks(alloc, session, &symbols, &found.races, around)?));
     };
-    match numbered_block(alloc, session, image, found, around, k)? {
+    match numbered_block(alloc, session, &symbols, found, around, k)? {
         Some(block) => Ok(Some(vec![in alloc; block]?)),
         None => Ok(None),
     }
@@ -43,18 +45,18 @@ pub fn blocks_asked(
 fn all_blocks(
     alloc: Global,
     session: &mut Session,
-    image: &Image,
+    symbols: &SymbolTable,
     races: &[Race],
     around: u32,
 ) -> Result<Vec<Block>, NoMemory>
-    requires image { session.old.image ≡ image.now }
+    requires image { session.old.image ≡ symbols.now }
     requires told { AreTold (run_of session.old) races.now }
     ensures blocks { IfOk result (λ blocks. map shown_of blocks.items ≡ map (race_shown (run_of session.old) around) races.now) }
     ensures same { session.new ≡ moved session.old session.new.place }
 {
     let mut blocks = Vec::new(alloc);
     for place in 0..races.len() {
-        blocks.push(race_block(alloc, session, image, around, &races[place])?)?;
+        blocks.push(race_block(alloc, session, symbols, around, &races[place])?)?;
     }
     Ok(blocks)
 }

@@ -10,7 +10,9 @@ pub use rv_symbols::{symbol_table, symbols};
 
 pub mod block;
 pub mod blocks;
+mod caller;
 pub mod explain;
+mod frame;
 mod lines;
 mod meeting;
 pub mod names;

@@ -19,11 +19,11 @@ use crate::walk::{Walked, walk};
 use rv_break::claim::Seen;
 use rv_collide::ending::Ending;
 use rv_debug::session::Session;
-use rv_elf::Image;
 use rv_memory::store::NoMemory;
 use rv_races::races::{Race, RunRaces};
 use rv_races::second::{own_access, second_of};
 use rv_report::exhibiting::endings_are_of_pauses;
+use rv_symbols::symbol_table::SymbolTable;
 use std::alloc::Global;
 
 /// The places that a block is about.
@@ -73,18 +73,18 @@ fn lines_about(
 pub fn race_block(
     alloc: Global,
     session: &mut Session,
-    image: &Image,
+    symbols: &SymbolTable,
     around: u32,
     race: &Race,
 ) -> Result<Block, NoMemory>
-    requires image { session.old.image ≡ image.now }
+    requires image { session.old.image ≡ symbols.now }
     requires told { slice_get (endings (run_of session.old).start session.old.entries) race.now.told.number ≡ Some race.now.told.ending }
     ensures block { IfOk result (λ block. shown_of block ≡ spec.race_shown (run_of session.old) around race.now) }
     ensures same { session.new ≡ moved session.old session.new.place }
 {
     endings_are_of_pauses();
     session.facts();
-    block_of(alloc, session, image, around, race)
+    block_of(alloc, session, symbols, around, race)
 }
 
 /// The block of a race whose report is of a pause.
@@ -92,20 +92,20 @@ pub fn race_block(
 fn block_of(
     alloc: Global,
     session: &mut Session,
-    image: &Image,
+    symbols: &SymbolTable,
     around: u32,
     race: &Race,
 ) -> Result<Block, NoMemory>
-    requires image { session.old.image ≡ image.now }
+    requires image { session.old.image ≡ symbols.now }
     requires of_pause { IsOfPause (run_of session.old).start session.old.entries race.now.told.ending }
     ensures block { IfOk result (λ block. shown_of block ≡ spec.race_shown (run_of session.old) around race.now) }
     ensures same { session.new ≡ moved session.old session.new.place }
 {
     let told = race.told.ending;
-    let paused = side_at(session, image, &own_access(&told))?;
+    let paused = side_at(session, symbols, &own_access(&told))?;
     let walked = walk(alloc, session, &told)?;
     let other = second_of(&told, walked.last);
-    let second = side_at(session, image, &other)?;
+    let second = side_at(session, symbols, &other)?;
     let lines = lines_about(alloc, session, &told, around, &other, walked)?;
     Ok(Block {
         reports: race.reports,
@@ -131,12 +131,12 @@ pub(crate) fn race_of(found: &RunRaces, k: u64) -> Option<&Race>
 pub fn numbered_block(
     alloc: Global,
     session: &mut Session,
-    image: &Image,
+    symbols: &SymbolTable,
     found: &RunRaces,
     around: u32,
     k: u64,
 ) -> Result<Option<Block>, NoMemory>
-    requires image { session.old.image ≡ image.now }
+    requires image { session.old.image ≡ symbols.now }
     requires told { AreTold (run_of session.old) found.now.races.items }
     ensures block { IfOk result (λ block. option_map shown_of block
         ≡ option_map (spec.race_shown (run_of session.old) around) (race_of found.now.races.items k)) }
@@ -144,6 +144,6 @@ pub fn numbered_block(
 {
     match race_of(found, k) {
         None => Ok(None),
-        Some(race) => Ok(Some(race_block(alloc, session, image, around, race)?)),
+        Some(race) => Ok(Some(race_block(alloc, session, symbols, around, race)?)),
     }
 }
