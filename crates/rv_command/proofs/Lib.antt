@@ -1,11 +1,5 @@
 pub mod GivenLemmas
-pub mod HuntGiven
-pub mod LeafLemmas
 pub mod LineLemmas
-pub mod MergeGiven
 pub mod NumberLemmas
 pub mod OptionLemmas
-pub mod ReadsLine
-pub mod RunGiven
 pub mod TextLists
-pub mod WordLemmas

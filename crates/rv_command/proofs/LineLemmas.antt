@@ -1,12 +1,11 @@
-use Rattle.std.proofs.Common.{sym, ◌∙◌, ◌≡◌, refl, ap, arith, true, List, None, Result, Ok, Err, inl, inr, [], ◌∷◌, false}
+use Rattle.std.proofs.Common.{sym, ◌∙◌, ◌≡◌, ◌<◌, refl, arith, length, true, List, None, inl, inr, [], ◌∷◌, false}
 use Rattle.std.proofs.lemmas.Bool.Decides.{nat_tests}
-use Rattle.std.specs.Prelude.{IfOk, option_and_then, if◌then◌else◌, ◌≢◌, not, ◌||◌, ◌&&◌, Bool, ◌⊎◌, MatchResult}
-use Rattle.clap.specs.Faults.{fault_of, is_simple_and_free}
-use Rattle.clap.specs.Kinds.{FailsBy, HasKind, IsAmong, Kinds}
+use Rattle.std.specs.Prelude.{◌≢◌, not, ◌||◌, ◌&&◌, Bool}
+use Rattle.clap.specs.Faults.{is_simple_and_free}
+use Rattle.clap.specs.Kinds.{HasKind, IsAmong, Kinds}
 use Rattle.clap.specs.Matches.{first_value}
-use Rattle.clap.specs.Simple.{is_simple, subcommand_of, subcommand_rows_of}
+use Rattle.clap.specs.Simple.{is_simple}
 use Rattle.clap.specs.Values.{kind_of}
-use Rattle.clap.specs.declared.parser.matches.ArgMatches.{ArgMatches}
 use Rattle.clap.specs.Walk.{Text, first_of, is_empty, rows_of}
 use Rattle.clap.specs.declared.error.Error.{Error}
 use Rattle.clap.specs.declared.error.kind.ErrorKind.{ErrorKind}
@@ -15,12 +14,10 @@ use Rattle.std.specs.List.{list_all, list_any}
 use Rattle.clap.specs.declared.parser.matches.Found.{Found}
 use Rattle.clap.proofs.OnLiterals.{clap_on_literals}
 use Rattle.clap.proofs.WalkLemmas.{first_value-rows}
-use Rattle.rv_command.specs.Command.{clap_job_of}
+use Rattle.std.specs.Borrow.{Bor}
+use Rattle.rv_command.specs.Command.{job_of, texts}
 use Rattle.rv_command.specs.Notice.{is_request}
 use Rattle.rv_command.specs.ClapProgram.{program}
-use Rattle.rv_command.specs.internal.FoundJob.{job_in, job_read}
-use Rattle.rv_command.proofs.LeafLemmas.{if_false}
-use Rattle.rv_command.proofs.ReadsLine.{reads_line}
 
 -- `clap` says exactly what it makes of the program's words
 pub is_exact : is_simple_and_free program ≡ true
@@ -31,25 +28,16 @@ pub is_simple_program : is_simple program ≡ true
 unfolding clap_on_literals
 is_simple_program = refl
 
-accepted : (words : List Text) → fault_of program words ≡ [] → job_read words ≡ option_and_then job_in (subcommand_of program words)
-unfolding job_read
-accepted words none = ap (λ (kinds : Kinds). if is_empty kinds then option_and_then job_in (subcommand_of program words) else None) none
+-- a line without a command asks for no job
+pub short_line : (words : List (Bor Text)) → length words < 2 → job_of (texts words) ≡ None
+unfolding job_of
+short_line [] short = refl
+short_line (name ∷ []) short = refl
+short_line (name ∷ command ∷ rest) short = absurd (omega (arith, short))
 
-among_some : (k : ErrorKind) (kinds : Kinds) → IsAmong k kinds → is_empty kinds ≡ false
+pub among_some : (k : ErrorKind) (kinds : Kinds) → IsAmong k kinds → is_empty kinds ≡ false
 among_some k [] among = absurd among
 among_some k (x ∷ xs) among = grind (arith, nat_tests)
-
-refused : (words : List Text) → is_empty (fault_of program words) ≡ false → job_read words ≡ None
-unfolding job_read
-refused words some = if_false _ _ _ some
-
--- a parse finds the job that the words spell, and fails for want of memory or where there is none
-pub job_told : (words : List Text) (r : Result ArgMatches Error) → FailsBy (fault_of program words) r
-    → IfOk r (λ m. subcommand_rows_of m ≡ subcommand_of program words)
-    → MatchResult r (λ m. option_and_then job_in (subcommand_rows_of m) ≡ clap_job_of words) (λ e. (kind_of e ≡ kind.OutOfMemory) ⊎ (clap_job_of words ≡ None))
-job_told words (Ok m) none rows = ap (option_and_then job_in) rows ∙ sym (accepted words none) ∙ reads_line words
-job_told words (Err e) (inl memory) rows = inl memory
-job_told words (Err e) (inr among) rows = inr (sym (reads_line words) ∙ refused words (among_some (kind_of e) _ among))
 
 pub text_found : (f : Found) (name : Text) → first_value f name ≡ first_of name (rows_of f)
 text_found f name = first_value-rows f name

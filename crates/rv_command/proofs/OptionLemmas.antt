@@ -1,22 +1,21 @@
--- Where the values stand that `clap` finds for a command with long options.
-use Rattle.std.proofs.Common.{◌≡◌, ◌∙◌, ◌+◌, ◌++◌, ◌||◌, ◌&&◌, ℕ, zero, suc, refl, ap, ap₂, sym, subst, cond, true, false, true≢false, List, Option, Some, None, [], ◌∷◌, inl, inr, arith, length, fold, codes, nat_lt, eqb-true}
+-- Where the values stand that `clap` finds for a command.
+use Rattle.std.proofs.Common.{◌≡◌, ◌∙◌, ◌+◌, ◌++◌, ◌||◌, ◌&&◌, ℕ, zero, suc, refl, ap, ap₂, sym, subst, cond, true, false, true≢false, List, Option, Some, None, [], ◌∷◌, inl, inr, arith, length, fold, codes, nat_le, nat_lt, eqb-true}
+use Rattle.std.proofs.lemmas.Bool.{and_parts}
 use Rattle.std.proofs.lemmas.Bool.Decides.{nat_tests}
 use Rattle.std.proofs.lemmas.List.{length-append}
 use Rattle.std.proofs.lemmas.Slice.Eq.{bytes_eq-Decides}
 use Rattle.std.specs.Prelude.{Bool, ⊤, ◌⊎◌, ◌==◌, ◌≤◌, Contains, IfSome, find, is_some, not, slice_get, option_and_then, drop, take}
-use Rattle.std.specs.List.{before_first, after_first, position_or_len}
+use Rattle.std.specs.List.{before_first, after_first, list_all, position_or_len}
 use Rattle.std.specs.Option.{option_map_or}
 use Rattle.std.specs.Str.{bytes_eq, chars}
 use Rattle.clap.specs.Lexer.{long_of, short_of, has_byte}
-use Rattle.clap.specs.Walk.{Held, Outcome, Row, Rule, Step, Text, Waiting, Walk, action_of, after_flag, after_step, arg_by_id, arg_by_index, arg_by_long, arg_by_short, at_row, bundle, bundle_met, bundle_step, default_rows, done, first_of, flag_met, has_long, has_row, has_short, idle, is_multiple, is_pending, long_or_other, more_values, most_values, next, nothing_held, option, option_met, option_word, pending_count, plain, plain_word, positional, positional_held, pushed, reacted, refused, rows_after, settled, settled_rows, short_met, short_or_plain, started, subcommand, subcommand_met, subcommand_or_other, takes_several, takes_values, to_positional, trailing, used, used_as, used_by_id, value, values_or_missing, waits, walk_from, walked, walked_from, long_met, word_met, with_default, with_values, without, reading_by}
+use Rattle.clap.specs.Walk.{Held, Outcome, Row, Rule, Step, Text, Waiting, Walk, action_of, after_flag, after_step, arg_by_id, arg_by_index, arg_by_long, arg_by_short, at_row, bundle, bundle_met, bundle_step, default_rows, done, flag_met, has_long, has_row, has_short, idle, is_empty, is_multiple, is_pending, long_or_other, more_values, most_values, next, nothing_held, option, option_met, option_word, pending_count, plain, plain_word, positional, positional_held, pushed, reacted, refused, rows_after, settled, settled_rows, short_met, short_or_plain, started, subcommand, subcommand_met, subcommand_or_other, takes_several, takes_values, to_positional, trailing, used, used_as, used_by_id, value, values_or_missing, waits, walk_from, walked, walked_from, long_met, word_met, with_default, with_values, without, reading_by}
 use Rattle.clap.specs.declared.builder.action.ArgAction.{ArgAction}
-use Rattle.clap.specs.declared.builder.action.ArgAction.TheVariants.{Set, SetTrue, Help}
+use Rattle.clap.specs.declared.builder.action.ArgAction.TheVariants.{Append, Count, Help, HelpLong, HelpShort, Set, SetFalse, SetTrue, Version}
 use Rattle.clap.specs.declared.builder.value_parser.Reading.{Reading}
 use Rattle.clap.specs.declared.parser.matches.ValueSource.{ValueSource}
 use Rattle.clap.specs.declared.parser.matches.ValueSource.TheVariants.{CommandLine, DefaultValue}
-use Rattle.rv_command.proofs.LeafLemmas.{if_false}
-use Rattle.rv_command.specs.HuntLine.{flag_at}
-use Rattle.rv_command.specs.RunLine.{Gives, apart, joined}
+use Rattle.rv_command.specs.Given.{AreGiven, Gives, Stands, apart, is_flag, is_place, joined}
 
 -- ---- lists and tests
 
@@ -28,7 +27,7 @@ each_append : {X : Type 0} (P : X → Type 0) (xs ys : List X) → Each P xs →
 each_append P [] ys left right = right
 each_append P (x ∷ xs) ys left right = (left.0, each_append P xs ys left.1 right)
 
-find_has : {X : Type 0} (p : X → Bool) (P : X → Type 0) (xs : List X) → Each P xs → IfSome (find p xs) (λ x. (p x ≡ true) × P x)
+pub find_has : {X : Type 0} (p : X → Bool) (P : X → Type 0) (xs : List X) → Each P xs → IfSome (find p xs) (λ x. (p x ≡ true) × P x)
 find_has p P [] each = tt
 find_has p P (x ∷ xs) each = go (p x) refl (find_has p P xs each.1)
   where
@@ -114,16 +113,11 @@ spelled (x ∷ y ∷ rest) = go (x == 45) (y == 45) refl refl rest
 
 -- ---- where a value stands
 
--- the arguments that have no name in the words, of a command with options
-abbrev pub is_place : Text → Bool
-is_place id = bytes_eq (codes "IMAGE") id || bytes_eq (codes "SCHEDULE") id
-
--- the arguments that have no value in the words
-abbrev pub is_flag : Text → Bool
-is_flag id = bytes_eq (codes "table") id || (bytes_eq (codes "check") id || (bytes_eq (codes "check-all") id || bytes_eq (codes "quiet") id))
-
 abbrev pub IsOption : Text → Type 0
 IsOption id = (is_place id ≡ false) × (is_flag id ≡ false)
+
+abbrev IsFlag : Text → Type 0
+IsFlag id = (is_place id ≡ false) × (is_flag id ≡ true)
 
 -- a flag's value is `false`, or its name stands in the words
 abbrev FlagStands : List Text → Text → Text → Type 0
@@ -131,7 +125,7 @@ FlagStands words id v = (v ≡ codes "false") ⊎ Contains words (codes "--" ++ 
 
 -- a value stands after its argument's name, or alone where the argument is a place
 abbrev pub Origin : List Text → Text → Text → Type 0
-Origin words id v = (IsOption id × Gives words id v) ⊎ (((is_place id ≡ true) × Contains words v) ⊎ ((is_flag id ≡ true) × FlagStands words id v))
+Origin words id v = (IsOption id × Gives words id v) ⊎ (((is_place id ≡ true) × Contains words v) ⊎ (IsFlag id × FlagStands words id v))
 
 abbrev RowStands : List Text → Row → Type 0
 RowStands words r = Each (Origin words r.id) r.values
@@ -145,20 +139,111 @@ PendingStands words pending = IfSome pending (λ p. Each (Origin words p.0) p.1 
 abbrev HeldStands : List Text → Held → Type 0
 HeldStands words h = RowsStand words h.rows × PendingStands words h.pending
 
--- the values that stand for a use without one, and for no use: a flag alone has them
-abbrev HasValues : Rule → List Text → List Text → Type 0
-HasValues a missing defaults = (a.missing ≡ missing) × (a.defaults ≡ defaults)
+abbrev acts : ArgAction → Bool
+acts Set = true
+acts Append = true
+acts SetTrue = true
+acts Help = true
+acts _ = false
 
 -- an argument with a long name that is its id, or a place, or a flag
 pub record Told (a : Rule) : Type 0 where
-  pub flag : ((is_flag a.id ≡ false) × HasValues a [] []) ⊎ ((is_flag a.id ≡ true) × HasValues a (codes "true" ∷ []) (codes "false" ∷ []))
+  pub missing : IsFlag a.id ⊎ (a.missing ≡ [])
+  pub defaults : Each (λ v. IsFlag a.id × (v ≡ codes "false")) a.defaults
   pub aliases : a.aliases ≡ []
   pub short_aliases : a.short_aliases ≡ []
-  pub acts : (action_of a ≡ Set) ⊎ ((action_of a ≡ Help) ⊎ (action_of a ≡ SetTrue))
+  pub acts : acts (action_of a) ≡ true
   pub long : (a.long ≡ None) ⊎ ((a.long ≡ Some a.id) × (IsOption a.id ⊎ (takes_values a ≡ false)))
   pub short : (a.short ≡ None) ⊎ ((takes_values a ≡ false) × (is_flag a.id ≡ false))
-  pub most : most_values a ≤ 1
-  pub place : (a.index ≡ None) ⊎ ((is_place a.id ≡ true) × (takes_several a ≡ false) × (is_flag a.id ≡ false))
+  pub most : (is_place a.id ≡ true) ⊎ (most_values a ≤ 1)
+  pub place : (a.index ≡ None) ⊎ ((is_place a.id ≡ true) × (is_flag a.id ≡ false))
+
+-- the test of it, which is computed over the whole table
+abbrev is_flag_only : Text → Bool
+is_flag_only id = not (is_place id) && is_flag id
+
+abbrev is_long : Rule → Option Text → Bool
+is_long a None = true
+is_long a (Some name) = bytes_eq name a.id && ((not (is_place a.id) && not (is_flag a.id)) || not (takes_values a))
+
+abbrev pub is_told : Rule → Bool
+is_told a = (is_flag_only a.id || is_empty a.missing) && (list_all (λ v. is_flag_only a.id && bytes_eq v (codes "false")) a.defaults
+    && (is_empty a.aliases && (is_empty a.short_aliases && (acts (action_of a) && (is_long a a.long
+    && ((not (is_some a.short) || (not (takes_values a) && not (is_flag a.id))) && ((is_place a.id || nat_le (most_values a) 1)
+    && (not (is_some a.index) || (is_place a.id && not (is_flag a.id))))))))))
+
+or_parts : (a b : Bool) → (a || b) ≡ true → (a ≡ true) ⊎ (b ≡ true)
+or_parts true b is = inl refl
+or_parts false b is = inr is
+
+not_true : (b : Bool) → not b ≡ true → b ≡ false
+not_true true is = absurd (true≢false (sym is))
+not_true false is = refl
+
+nil_of : {X : Type 0} (xs : List X) → is_empty xs ≡ true → xs ≡ []
+nil_of [] is = refl
+nil_of (x ∷ xs) is = absurd (grind (arith, nat_tests))
+
+none_of : {X : Type 0} (o : Option X) → is_some o ≡ false → o ≡ None
+none_of None is = refl
+none_of (Some x) is = absurd (true≢false is)
+
+both_not : (a b : Bool) → (not a && not b) ≡ true → (a ≡ false) × (b ≡ false)
+both_not a b is = let parts = and_parts (not a) (not b) is in (not_true a parts.0, not_true b parts.1)
+
+flag_only : (id : Text) → is_flag_only id ≡ true → IsFlag id
+flag_only id is = let parts = and_parts (not (is_place id)) (is_flag id) is in (not_true (is_place id) parts.0, parts.1)
+
+told : (a : Rule) → is_told a ≡ true → Told a
+told a is =
+    let p = and_parts _ _ is in
+    let q = and_parts _ _ p.1 in
+    let r = and_parts _ _ q.1 in
+    let s = and_parts _ _ r.1 in
+    let t = and_parts _ _ s.1 in
+    let u = and_parts _ _ t.1 in
+    let v = and_parts _ _ u.1 in
+    let w = and_parts _ _ v.1 in
+    record {
+      missing = elim (or_parts _ _ p.0) [ inl flag ↦ inl (flag_only a.id flag) | inr none ↦ inr (nil_of a.missing none) ];
+      defaults = all_false a.defaults q.0;
+      aliases = nil_of a.aliases r.0;
+      short_aliases = nil_of a.short_aliases s.0;
+      acts = t.0;
+      long = by_long a.long refl u.0;
+      short = elim (or_parts _ _ v.0) [
+        | inl none ↦ inl (none_of a.short (not_true _ none))
+        | inr flag ↦ inr (both_not (takes_values a) (is_flag a.id) flag)
+      ];
+      most = elim (or_parts _ _ w.0) [ inl place ↦ inl place | inr one ↦ inr (grind (arith, nat_tests)) ];
+      place = elim (or_parts _ _ w.1) [
+        | inl none ↦ inl (none_of a.index (not_true _ none))
+        | inr place ↦ let parts = and_parts _ _ place in inr (parts.0, not_true _ parts.1)
+      ];
+    }
+  where
+    all_false : (vs : List Text) → list_all (λ v. is_flag_only a.id && bytes_eq v (codes "false")) vs ≡ true → Each (λ v. IsFlag a.id × (v ≡ codes "false")) vs
+    all_false [] is = tt
+    all_false (v ∷ vs) is =
+        let parts = and_parts (is_flag_only a.id && bytes_eq v (codes "false")) (list_all (λ w. is_flag_only a.id && bytes_eq w (codes "false")) vs) is in
+        let here = and_parts (is_flag_only a.id) (bytes_eq v (codes "false")) parts.0 in
+        ((flag_only a.id here.0, same_text v (codes "false") here.1), all_false vs parts.1)
+
+    by_long : (o : Option Text) → a.long ≡ o → is_long a o ≡ true → (a.long ≡ None) ⊎ ((a.long ≡ Some a.id) × (IsOption a.id ⊎ (takes_values a ≡ false)))
+    by_long None none is = inl none
+    by_long (Some name) some is =
+        let parts = and_parts (bytes_eq name a.id) _ is in
+        inr (
+          some ∙ ap (λ (i : Text). Some i) (same_text name a.id parts.0),
+          elim (or_parts _ _ parts.1) [
+            | inl other ↦ inl (both_not (is_place a.id) (is_flag a.id) other)
+            | inr none ↦ inr (not_true (takes_values a) none)
+          ],
+        )
+
+pub all_told : (c : List Rule) → list_all is_told c ≡ true → Each Told c
+all_told [] is = tt
+all_told (a ∷ c) is = let parts = and_parts (is_told a) (list_all is_told c) is in (told a parts.0, all_told c parts.1)
 
 -- ---- rows
 
@@ -183,34 +268,40 @@ module _ (words : List Text) where
   without_stands id rows stand = at_row_stands (RowStands words) id (λ _. []) [] (λ r same row. tt) tt rows stand
 
   missing_stand : (a : Rule) (values : List Text) → Told a → is_flag a.id ≡ false → Each (Origin words a.id) values → Each (Origin words a.id) (values_or_missing a values)
-  missing_stand a [] told no_flag given = elim told.flag [
-    | inl unset ↦ subst (λ (vs : List Text). Each (Origin words a.id) vs) (sym unset.1.0) tt
-    | inr flag ↦ absurd (true≢false (sym flag.0 ∙ no_flag))
+  missing_stand a [] told no_flag given = elim told.missing [
+    | inl flag ↦ absurd (true≢false (sym flag.1 ∙ no_flag))
+    | inr unset ↦ subst (λ (vs : List Text). Each (Origin words a.id) vs) (sym unset) tt
   ]
   missing_stand a (v ∷ vs) told no_flag given = given
 
   -- the value of a flag that stands in the words
   flag_stand : (a : Rule) → Told a → Contains words (codes "--" ++ a.id) → Each (Origin words a.id) (values_or_missing a [])
-  flag_stand a told name = elim told.flag [
-    | inl unset ↦ subst (λ (vs : List Text). Each (Origin words a.id) vs) (sym unset.1.0) tt
-    | inr flag ↦ subst (λ (vs : List Text). Each (Origin words a.id) vs) (sym flag.1.0) (inr (inr (flag.0, inr name)), tt)
+  flag_stand a told name = elim told.missing [
+    | inl flag ↦ all_stand flag a.missing
+    | inr unset ↦ subst (λ (vs : List Text). Each (Origin words a.id) vs) (sym unset) tt
   ]
+    where
+      all_stand : IsFlag a.id → (vs : List Text) → Each (Origin words a.id) vs
+      all_stand flag [] = tt
+      all_stand flag (v ∷ vs) = (inr (inr (flag, inr name)), all_stand flag vs)
 
   used_stand : (a : Rule) (values : List Text) (rows : List Row) → Told a → Each (Origin words a.id) (values_or_missing a values) → RowsStand words rows
       → RowsStand words (used a values rows)
-  used_stand a values rows told given stand = elim told.acts [
-    | inl set ↦ by_action Set set replaced
-    | inr other ↦ elim other [
-      | inl help ↦ by_action Help help stand
-      | inr flag ↦ by_action SetTrue flag replaced
-    ]
-  ]
+  used_stand a values rows told given stand = by_action (action_of a) told.acts
     where
       replaced : RowsStand words (with_values a.id (reading_by a) CommandLine (values_or_missing a values) (without a.id rows))
       replaced = with_values_stand a.id (reading_by a) CommandLine (values_or_missing a values) (without a.id rows) given (without_stands a.id rows stand)
 
-      by_action : (act : ArgAction) → action_of a ≡ act → RowsStand words (used_as act a.id (reading_by a) (values_or_missing a values) rows) → RowsStand words (used a values rows)
-      by_action act is stands = subst (λ (it : ArgAction). RowsStand words (used_as it a.id (reading_by a) (values_or_missing a values) rows)) (sym is) stands
+      by_action : (act : ArgAction) → acts act ≡ true → RowsStand words (used_as act a.id (reading_by a) (values_or_missing a values) rows)
+      by_action Set is = replaced
+      by_action Append is = with_values_stand a.id (reading_by a) CommandLine (values_or_missing a values) rows given stand
+      by_action SetTrue is = replaced
+      by_action Help is = stand
+      by_action SetFalse is = absurd (true≢false (sym is))
+      by_action Count is = absurd (true≢false (sym is))
+      by_action HelpShort is = absurd (true≢false (sym is))
+      by_action HelpLong is = absurd (true≢false (sym is))
+      by_action Version is = absurd (true≢false (sym is))
 
   module _ (c : List Rule) (told : Each Told c) where
     settled_stand : (pending : Option (Text × List Text)) (rows : List Row) → PendingStands words pending → RowsStand words rows → RowsStand words (settled_rows c pending rows)
@@ -326,15 +417,21 @@ module _ (words : List Text) where
           go None same given = ((origin, tt), no_flag)
           go (Some p) same given = (each_append _ p.1 (word ∷ []) given.0 (subst (λ (i : Text). Origin words i word) (sym same) origin, tt), given.1)
 
-      full : (a : Rule) (id : Text) (h : Held) → Told a → bytes_eq a.id id ≡ true → IfSome h.pending (λ p. p.0 ≡ id)
+      full : (a : Rule) (id : Text) (h : Held) → Told a → is_place id ≡ false → bytes_eq a.id id ≡ true → IfSome h.pending (λ p. p.0 ≡ id)
           → nat_lt (pending_count a (pushed id word h).pending) (most_values a) ≡ false
-      full a id h one same is = go h.pending is
+      full a id h one no_place same is = go h.pending is
         where
+          few : most_values a ≤ 1
+          few = elim one.most [
+            | inl place ↦ absurd (true≢false (sym place ∙ ap is_place (same_text a.id id same) ∙ no_place))
+            | inr less ↦ less
+          ]
+
           counted : (i : Text) (vs : List Text) → i ≡ id → nat_lt (cond (bytes_eq i a.id) (length (vs ++ word ∷ [])) 0) (most_values a) ≡ false
           counted i vs there =
               let equal : bytes_eq i a.id ≡ true = (bytes_eq-Decides i a.id).1 (there ∙ sym (same_text a.id id same)) in
               let long : length (vs ++ word ∷ []) ≡ length vs + 1 = length-append vs (word ∷ []) in
-              let most : most_values a ≤ 1 = one.most in
+              let most : most_values a ≤ 1 = few in
               rw (equal, long) (grind (arith, nat_tests))
 
           go : (o : Option (Text × List Text)) → IfSome o (λ p. p.0 ≡ id) → nat_lt (pending_count a (Some ((started id o).0, (started id o).1 ++ word ∷ []))) (most_values a) ≡ false
@@ -351,7 +448,7 @@ module _ (words : List Text) where
           go None none is = (stand, inl none)
           go (Some a) some is = elim waiting [
             | inl none ↦ absurd (some_none (sym some ∙ none))
-            | inr follows ↦ rw (full a id h is.1 is.0 follows.1) (push_stands id h (inl (follows.0.0, after_name id follows.0.1)) follows.0.0.1 follows.1 stand, tt)
+            | inr follows ↦ rw (full a id h is.1 follows.0.0.0 is.0 follows.1) (push_stands id h (inl (follows.0.0, after_name id follows.0.1)) follows.0.0.1 follows.1 stand, tt)
           ]
             where
               some_none : Some a ≡ None → ⊥
@@ -453,16 +550,23 @@ module _ (words : List Text) where
       place_good w h stand waiting going =
           go (arg_by_index c w.position) (find_has (λ a. option_map_or (λ i. i == w.position) a.index false) Told c told)
         where
-          placed : (a : Rule) → is_place a.id ≡ true → takes_several a ≡ false → is_flag a.id ≡ false → HeldStands words (positional_held c a word h)
-          placed a image one no_flag = subst (λ (g : Held). HeldStands words (pushed a.id word g))
-              (sym (if_false (is_pending a h.pending && takes_several a) h (settled c h) (and_none (is_pending a h.pending) (takes_several a) one)))
-              (push_stands a.id (settled c h) (inr (inl (image, stands_alone))) no_flag tt (settles h stand))
+          placed : (a : Rule) → is_place a.id ≡ true → is_flag a.id ≡ false → HeldStands words (positional_held c a word h)
+          placed a image no_flag = by_pending (is_pending a h.pending) refl (takes_several a)
+            where
+              pending : (o : Option (Text × List Text)) → is_pending a o ≡ true → IfSome o (λ p. p.0 ≡ a.id)
+              pending None is = tt
+              pending (Some p) is = same_text p.0 a.id is
+
+              by_pending : (waits : Bool) → is_pending a h.pending ≡ waits → (several : Bool) → HeldStands words (pushed a.id word (cond (waits && several) h (settled c h)))
+              by_pending true is true = push_stands a.id h (inr (inl (image, stands_alone))) no_flag (pending h.pending is) stand
+              by_pending true is false = push_stands a.id (settled c h) (inr (inl (image, stands_alone))) no_flag tt (settles h stand)
+              by_pending false is several = push_stands a.id (settled c h) (inr (inl (image, stands_alone))) no_flag tt (settles h stand)
 
           go : (o : Option Rule) → IfSome o (λ a. (option_map_or (λ i. i == w.position) a.index false ≡ true) × Told a) → Walks (suc k) (to_positional c o word w h)
           go None is = record { held = stand; waiting = waiting; going = going }
           go (Some a) is = elim is.1.place [
             | inl none ↦ absurd (true≢false (sym is.0 ∙ ap (λ (o : Option ℕ). option_map_or (λ i. i == w.position) o false) none))
-            | inr image ↦ record { held = placed a image.0 image.1 image.2; waiting = λ _. after_place (is_multiple a) _; going = refl }
+            | inr image ↦ record { held = placed a image.0 image.1; waiting = λ _. after_place (is_multiple a) _; going = refl }
           ]
 
       step_good : (step : Step) (w : Walk) (h : Held) → HeldStands words h → StepWaits (suc k) w.waiting step h → w.stopped ≡ None → Walks (suc k) (after_step c word w h step)
@@ -494,14 +598,18 @@ module _ (words : List Text) where
     where
       go : (b : Bool) → RowsStand words (cond b rows (default_rows a.id (reading_by a) a.defaults rows))
       go true = stand
-      go false = elim told.0.flag [
-        | inl unset ↦ subst (λ (vs : List Text). RowsStand words (default_rows a.id (reading_by a) vs rows)) (sym unset.1.1) stand
-        | inr flag ↦ subst (λ (vs : List Text). RowsStand words (default_rows a.id (reading_by a) vs rows)) (sym flag.1.1)
-            (with_values_stand a.id (reading_by a) DefaultValue (codes "false" ∷ []) rows (inr (inr (flag.0, inl refl)), tt) stand)
-      ]
+      go false = unused a.defaults told.0.defaults
+        where
+          from_default : (vs : List Text) → Each (λ v. IsFlag a.id × (v ≡ codes "false")) vs → Each (Origin words a.id) vs
+          from_default [] are = tt
+          from_default (v ∷ vs) are = (inr (inr (are.0.0, inl are.0.1)), from_default vs are.1)
+
+          unused : (vs : List Text) → Each (λ v. IsFlag a.id × (v ≡ codes "false")) vs → RowsStand words (default_rows a.id (reading_by a) vs rows)
+          unused [] are = stand
+          unused (v ∷ vs) are = with_values_stand a.id (reading_by a) DefaultValue (v ∷ vs) rows (from_default (v ∷ vs) are) stand
 
 -- each value that is found stands in the words
-pub rows_stand : (c : List Rule) → Each Told c → (words : List Text) → RowsStand words (rows_after c [] words)
+rows_stand : (c : List Rule) → Each Told c → (words : List Text) → RowsStand words (rows_after c [] words)
 rows_stand c told words =
     let stand = walk_stands words c told words 0 (walk_from nothing_held) (λ i. ap (slice_get words) (omega arith)) (record { held = (tt, tt); waiting = λ _. tt; going = refl }) in
     defaults_stand words c told (settled c held).rows (settles words c told held stand).0
@@ -509,64 +617,24 @@ rows_stand c told words =
     held : Held
     held = (fold (walked c []) (walk_from nothing_held) words).held
 
--- the value that is found for an option stands in the words
-pub value_stands : (words : List Text) (name : Text) (rows : List Row) → IsOption name → RowsStand words rows → IfSome (first_of name rows) (Gives words name)
-value_stands words name rows other stand = go (find (λ r. bytes_eq r.id name) rows) (find_has (λ r. bytes_eq r.id name) (RowStands words) rows stand)
+-- a value stands as its argument does
+stands_so : (words : List Text) (id v : Text) → Origin words id v → Stands (is_place id) (is_flag id) words id v
+stands_so words id v (inl valued) = rw (valued.0.0, valued.0.1) valued.1
+stands_so words id v (inr (inl place)) = rw place.0 place.1
+stands_so words id v (inr (inr flag)) = rw (flag.0.0, flag.0.1) flag.1
+
+pub are_given : (c : List Rule) → list_all is_told c ≡ true → (words : List Text) → AreGiven words (rows_after c [] words)
+are_given c told words name =
+    go (find (λ r. bytes_eq r.id name) rows) (find_has (λ r. bytes_eq r.id name) (RowStands words) rows (rows_stand c (all_told c told) words))
   where
-    given : (id v : Text) → id ≡ name → Origin words id v → Gives words name v
-    given id v same (inl gives) = subst (λ (i : Text). Gives words i v) same gives.1
-    given id v same (inr (inl place)) = absurd (true≢false (sym (subst (λ (i : Text). is_place i ≡ true) same place.0) ∙ other.0))
-    given id v same (inr (inr flag)) = absurd (true≢false (sym (subst (λ (i : Text). is_flag i ≡ true) same flag.0) ∙ other.1))
+    rows : List Row
+    rows = rows_after c [] words
 
-    first : (id : Text) (values : List Text) → id ≡ name → Each (Origin words id) values → IfSome (slice_get values 0) (Gives words name)
-    first id [] same stand = tt
-    first id (v ∷ vs) same stand = given id v same stand.0
-
-    go : (o : Option Row) → IfSome o (λ r. (bytes_eq r.id name ≡ true) × RowStands words r) → IfSome (option_and_then (λ r. slice_get r.values 0) o) (Gives words name)
-    go None is = tt
-    go (Some r) is = first r.id r.values (same_text r.id name is.0) is.1
-
--- the value of a place is one of the words
-pub place_stands : (words : List Text) (name : Text) (rows : List Row) → is_place name ≡ true → is_flag name ≡ false → RowsStand words rows
-    → IfSome (first_of name rows) (Contains words)
-place_stands words name rows place no_flag stand = go (find (λ r. bytes_eq r.id name) rows) (find_has (λ r. bytes_eq r.id name) (RowStands words) rows stand)
-  where
-    first : (values : List Text) → Each (Origin words name) values → IfSome (slice_get values 0) (Contains words)
+    first : (values : List Text) → Each (Origin words name) values → IfSome (slice_get values 0) (Stands (is_place name) (is_flag name) words name)
     first [] stand = tt
-    first (v ∷ vs) stand = elim stand.0 [
-      | inl gives ↦ absurd (true≢false (sym place ∙ gives.0.0))
-      | inr other ↦ elim other [
-        | inl alone ↦ alone.1
-        | inr flag ↦ absurd (true≢false (sym flag.0 ∙ no_flag))
-      ]
-    ]
+    first (v ∷ vs) stand = stands_so words name v stand.0
 
     go : (o : Option Row) → IfSome o (λ r. (bytes_eq r.id name ≡ true) × RowStands words r)
-        → IfSome (option_and_then (λ r. slice_get r.values 0) o) (Contains words)
+        → IfSome (option_and_then (λ r. slice_get r.values 0) o) (Stands (is_place name) (is_flag name) words name)
     go None is = tt
     go (Some r) is = first r.values (subst (λ (i : Text). Each (Origin words i) r.values) (same_text r.id name is.0) is.1)
-
--- a flag whose value is `true` stands in the words
-pub flag_stands : (words : List Text) (name : Text) (rows : List Row) → is_place name ≡ false → is_flag name ≡ true → RowsStand words rows → flag_at name rows ≡ true
-    → Contains words (codes "--" ++ name)
-flag_stands words name rows no_place flag stand = go (find (λ r. bytes_eq r.id name) rows) (find_has (λ r. bytes_eq r.id name) (RowStands words) rows stand)
-  where
-    is_true : Option Text → Bool
-    is_true o = option_map_or (λ text. bytes_eq text (codes "true")) o false
-
-    given : (v : Text) → Origin words name v → bytes_eq v (codes "true") ≡ true → Contains words (codes "--" ++ name)
-    given v (inl gives) holds = absurd (true≢false (sym flag ∙ gives.0.1))
-    given v (inr (inl place)) holds = absurd (true≢false (sym place.0 ∙ no_place))
-    given v (inr (inr stands)) holds = elim stands.1 [
-      | inl unset ↦ absurd (true≢false (sym (subst (λ (text : Text). bytes_eq text (codes "true") ≡ true) unset holds)))
-      | inr there ↦ there
-    ]
-
-    first : (values : List Text) → Each (Origin words name) values → is_true (slice_get values 0) ≡ true → Contains words (codes "--" ++ name)
-    first [] stand holds = absurd (true≢false (sym holds))
-    first (v ∷ vs) stand holds = given v stand.0 holds
-
-    go : (o : Option Row) → IfSome o (λ r. (bytes_eq r.id name ≡ true) × RowStands words r) → is_true (option_and_then (λ r. slice_get r.values 0) o) ≡ true
-        → Contains words (codes "--" ++ name)
-    go None is holds = absurd (true≢false (sym holds))
-    go (Some r) is holds = first r.values (subst (λ (i : Text). Each (Origin words i) r.values) (same_text r.id name is.0) is.1) holds

@@ -7,9 +7,6 @@ use Rattle.clap.specs.Simple.{new_shape, on_top}
 use Rattle.clap.specs.Faults.{fault_of}
 use Rattle.clap.specs.declared.builder.action.ArgAction.TheVariants.{SetTrue}
 
--- The commands as `clap` knows them, and what it finds in the words. What a line means is said without
--- `clap` by `job_of`, and the two are proved the same.
-
 -- a word that has to stand at its place after the command's name
 abbrev pub required_word : Text → Rule
 required_word name = record (new_rule name) { required = true }
@@ -56,7 +53,7 @@ explain_options = option (codes "named") ∷ option (codes "around") ∷ option 
 -- the options of `hunt`
 abbrev pub hunt_options : List Rule
 hunt_options = option (codes "harts") ∷ option (codes "seed") ∷ option (codes "first") ∷ option (codes "runs") ∷ option (codes "budget")
-    ∷ option (codes "workers") ∷ option (codes "plan") ∷ option (codes "slots") ∷ option (codes "named") ∷ option (codes "skip")
+    ∷ option (codes "workers") ∷ option (codes "plan") ∷ option (codes "slots") ∷ flag (codes "sampled") ∷ option (codes "named") ∷ option (codes "skip")
     ∷ option (codes "ignore") ∷ option (codes "save-to") ∷ option (codes "page") ∷ option (codes "blocks")
     ∷ flag (codes "table") ∷ flag (codes "check") ∷ flag (codes "check-all") ∷ option (codes "expect") ∷ flag (codes "quiet") ∷ []
 

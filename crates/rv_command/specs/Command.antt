@@ -1,43 +1,41 @@
 -- Which job a command line asks for. A word is the list of its bytes.
-use Rattle.std.specs.Prelude.{◌≡◌, ◌≤◌, ℕ, ◌==◌, ◌&&◌, Bool, false, is_some, drop, take, slice_get, List, [], ◌∷◌, map, Contains, Option, Some, None, option_map, option_and_then, codes, if◌then◌else◌}
+use Rattle.std.specs.Prelude.{ℕ, ◌==◌, List, ◌∷◌, map, drop, take, Option, Some, None, option_map, option_and_then, codes, if◌then◌else◌}
 use Rattle.std.specs.Borrow.{Bor}
-use Rattle.std.specs.Str.{bytes_eq, chars}
-use Rattle.clap.specs.Words.{Row, first_of, subcommand_of}
+use Rattle.std.specs.Str.{bytes_eq}
+use Rattle.clap.specs.Words.{Row, Text, first_of, subcommand_of}
 use Rattle.rv_collide.specs.Numbers.{numbers}
 use Rattle.rv_collide.specs.Plan.{Numbers}
-use Rattle.rv_text.specs.Numeral.{number_of, up_to}
 use Rattle.rv_engines.specs.Asking.{Asking, asking}
-use Rattle.rv_command.specs.ClapProgram.{is_accepted, program}
-use Rattle.rv_command.specs.ExplainLine.{IsExplainGiven, asking_at}
-use Rattle.rv_command.specs.HuntLine.{Hunting, IsHuntGiven, hunting, hunting_at}
-use Rattle.rv_command.specs.MergeLine.{IsMergeGiven, are_tables, expected_first, option_last, tables_before}
 use Rattle.rv_engines.specs.Request.{Request, request}
-use Rattle.rv_command.specs.RunLine.{IsRunGiven, IsThreadsGiven, number_at, plan_at, request_at}
+use Rattle.rv_command.specs.ClapProgram.{is_accepted, program}
+use Rattle.rv_command.specs.ExplainLine.{asking_at}
+use Rattle.rv_command.specs.HuntLine.{Hunting, hunting, hunting_at}
+use Rattle.rv_command.specs.MergeLine.{are_tables, expected_first, option_last, tables_before}
+use Rattle.rv_command.specs.RunLine.{plan_at, request_at}
+use Rattle.rv_command.specs.Values.{number_at}
 use Rattle.rv_command.specs.declared.command.Job.{Job}
 use Rattle.rv_command.specs.declared.command.exhibit.TheConstants.{MOST_ENDING}
 use Rattle.rv_command.specs.declared.command.run.TheConstants.{MOST_SEED}
 use Rattle.rv_command.specs.declared.command.Job.TheVariants as job
 
--- Which job a command line asks for. A word is the list of its bytes.
-
 -- the words behind references
-abbrev pub texts : List (Bor (List ℕ)) → List (List ℕ)
+abbrev pub texts : List (Bor (List ℕ)) → List Text
 texts words = map (λ word. word.now) words
 
 -- a job, with its paths as texts
 pub data Asked : Type 0 where
   Words : Asked
-  Asm : (source image : List ℕ) → Asked
-  Listing : (image : List ℕ) → Asked
-  Replay : (image schedule : List ℕ) → Asked
-  Debug : (image schedule : List ℕ) → Asked
-  Run : (image : List ℕ) → (wanted : Request) → (save : Option (List ℕ)) → Asked
-  Threads : (image : List ℕ) → (plan : Numbers) → (seed : ℕ) → (save : Option (List ℕ)) → Asked
-  Exhibit : (image schedule : List ℕ) → (number : ℕ) → Asked
-  Explain : (image schedule : List ℕ) → (wanted : Asking) → (picture : Option (List ℕ)) → Asked
-  Gdb : (image schedule : List ℕ) → Asked
-  Hunt : (image : List ℕ) → (wanted : Hunting) → Asked
-  Merge : (tables : List (List ℕ)) → (expected : Option (List ℕ)) → Asked
+  Asm : (source image : Text) → Asked
+  Listing : (image : Text) → Asked
+  Replay : (image schedule : Text) → Asked
+  Debug : (image schedule : Text) → Asked
+  Run : (image : Text) → (wanted : Request) → (save : Option Text) → Asked
+  Threads : (image : Text) → (plan : Numbers) → (seed : ℕ) → (save : Option Text) → Asked
+  Exhibit : (image schedule : Text) → (number : ℕ) → Asked
+  Explain : (image schedule : Text) → (wanted : Asking) → (picture : Option Text) → Asked
+  Gdb : (image schedule : Text) → Asked
+  Hunt : (image : Text) → (wanted : Hunting) → Asked
+  Merge : (tables : List Text) → (expected : Option Text) → Asked
 
 -- what a job asks for: each of its paths in its own role
 abbrev pub asked : Job → Asked
@@ -54,139 +52,76 @@ asked (job.Gdb image schedule) = Gdb image.0.now schedule.0.now
 asked (job.Hunt image line) = Hunt image.0.now (hunting line)
 asked (job.Merge tables expected) = Merge (texts tables.0.now) (option_map (λ path. path.0.now) expected)
 
--- a hyphen and a character after it begin an option. No command but `run`, `threads`, `explain` and `hunt` has options.
-abbrev pub is_option : List ℕ → Bool
-is_option [] = false
-is_option (byte ∷ rest) = byte == 45 && is_some (slice_get (chars rest) 0)
+-- ---- what the arguments of each command mean, in what `clap` finds
 
--- the arguments among the words after a command's name. A first `--` is none and says that no option follows.
-abbrev pub arguments : List (List ℕ) → Option (List (List ℕ))
-arguments [] = Some []
-arguments (word ∷ rest) =
-    if bytes_eq word (codes "--") then Some rest
-    else (if is_option word then None
-    else option_map (λ given. word ∷ given) (arguments rest))
+abbrev pub asm_at : List Row → Option Asked
+asm_at rows = option_and_then (λ source. option_map (λ image. Asm source image) (first_of (codes "IMAGE") rows)) (first_of (codes "SOURCE") rows)
 
--- `words` has no argument
-abbrev pub words_of : List (List ℕ) → Option Asked
-words_of [] = Some Words
-words_of _ = None
+abbrev pub list_at : List Row → Option Asked
+list_at rows = option_map (λ image. Listing image) (first_of (codes "IMAGE") rows)
 
--- `asm SOURCE IMAGE`
-abbrev pub asm_of : List (List ℕ) → Option Asked
-asm_of (source ∷ image ∷ []) = Some (Asm source image)
-asm_of _ = None
+-- IMAGE and SCHEDULE
+abbrev pub saved_at : List Row → Option (Text × Text)
+saved_at rows = option_and_then (λ image. option_map (λ schedule. (image, schedule)) (first_of (codes "SCHEDULE") rows)) (first_of (codes "IMAGE") rows)
 
--- `list IMAGE`
-abbrev pub list_of : List (List ℕ) → Option Asked
-list_of (image ∷ []) = Some (Listing image)
-list_of _ = None
+abbrev pub replay : Text × Text → Asked
+replay saved = Replay saved.0 saved.1
 
--- `replay IMAGE SCHEDULE`
-abbrev pub replay_of : List (List ℕ) → Option Asked
-replay_of (image ∷ schedule ∷ []) = Some (Replay image schedule)
-replay_of _ = None
+abbrev pub debug : Text × Text → Asked
+debug saved = Debug saved.0 saved.1
 
--- `debug IMAGE SCHEDULE`
-abbrev pub debug_of : List (List ℕ) → Option Asked
-debug_of (image ∷ schedule ∷ []) = Some (Debug image schedule)
-debug_of _ = None
+abbrev pub gdb : Text × Text → Asked
+gdb saved = Gdb saved.0 saved.1
 
--- `gdb IMAGE SCHEDULE`
-abbrev pub gdb_of : List (List ℕ) → Option Asked
-gdb_of (image ∷ schedule ∷ []) = Some (Gdb image schedule)
-gdb_of _ = None
+abbrev pub exhibit_at : List Row → Option Asked
+exhibit_at rows = option_and_then (λ saved. option_map (λ n. Exhibit saved.0 saved.1 n) (number_at (codes "N") 0 MOST_ENDING rows)) (saved_at rows)
 
--- the number of an ending that a text writes in decimal digits, if it lies in the range
-abbrev pub ending_of : List ℕ → Option ℕ
-ending_of text = up_to MOST_ENDING (number_of 10 text)
+abbrev pub run_at : List Row → Option Asked
+run_at rows = option_and_then (λ image. option_map (λ wanted. Run image wanted (first_of (codes "save") rows)) (request_at rows)) (first_of (codes "IMAGE") rows)
 
--- `exhibit IMAGE SCHEDULE N`
-abbrev pub exhibit_of : List (List ℕ) → Option Asked
-exhibit_of (image ∷ schedule ∷ number ∷ []) = option_map (λ n. Exhibit image schedule n) (ending_of number)
-exhibit_of _ = None
-
--- `run IMAGE` with its options, in what `clap` finds for them
-abbrev pub run_of : List Row → Option Asked
-run_of rows = option_and_then (λ image. option_map (λ wanted. Run image wanted (first_of (codes "save") rows))
-    (request_at rows)) (first_of (codes "IMAGE") rows)
-
--- `threads IMAGE` with its options
-abbrev pub threads_of : List Row → Option Asked
-threads_of rows = option_and_then (λ image. option_and_then (λ plan. option_map (λ seed. Threads image plan seed (first_of (codes "save") rows))
+abbrev pub threads_at : List Row → Option Asked
+threads_at rows = option_and_then (λ image. option_and_then (λ plan. option_map (λ seed. Threads image plan seed (first_of (codes "save") rows))
     (number_at (codes "seed") 0 MOST_SEED rows)) (plan_at rows)) (first_of (codes "IMAGE") rows)
 
--- `explain IMAGE SCHEDULE` with its options
-abbrev pub explain_of : List Row → Option Asked
-explain_of rows = option_and_then (λ image. option_and_then (λ schedule. option_map (λ wanted. Explain image schedule wanted (first_of (codes "picture") rows))
-    (asking_at rows)) (first_of (codes "SCHEDULE") rows)) (first_of (codes "IMAGE") rows)
+abbrev pub explain_at : List Row → Option Asked
+explain_at rows = option_and_then (λ saved. option_map (λ wanted. Explain saved.0 saved.1 wanted (first_of (codes "picture") rows)) (asking_at rows)) (saved_at rows)
 
--- `hunt IMAGE` with its options
-abbrev pub hunt_of : List Row → Option Asked
-hunt_of rows = option_and_then (λ image. option_map (λ wanted. Hunt image wanted) (hunting_at rows)) (first_of (codes "IMAGE") rows)
-
--- the job of a line whose command has options: `clap` finds no fault in it, and each number is in its range
-abbrev pub options_job : (List Row → Option Asked) → List (List ℕ) → Option Asked
-options_job meaning words = if is_accepted words then option_and_then (λ found. meaning found.1) (subcommand_of program words) else None
-
--- the job of the command of this name with these words after it
-abbrev pub command_job : List ℕ → List (List ℕ) → Option Asked
-command_job name rest =
-    if bytes_eq (codes "words") name then option_and_then words_of (arguments rest)
-    else (if bytes_eq (codes "asm") name then option_and_then asm_of (arguments rest)
-    else (if bytes_eq (codes "list") name then option_and_then list_of (arguments rest)
-    else (if bytes_eq (codes "replay") name then option_and_then replay_of (arguments rest)
-    else (if bytes_eq (codes "debug") name then option_and_then debug_of (arguments rest)
-    else (if bytes_eq (codes "exhibit") name then option_and_then exhibit_of (arguments rest)
-    else (if bytes_eq (codes "gdb") name then option_and_then gdb_of (arguments rest)
-    else None))))))
-
--- the job of a line that `clap` reads: the program's name, the command's, and the command's words
-unfoldable pub clap_job_of : List (List ℕ) → Option Asked
-clap_job_of (name ∷ command ∷ rest) =
-    if bytes_eq (codes "run") command then options_job run_of (name ∷ command ∷ rest)
-    else (if bytes_eq (codes "threads") command then options_job threads_of (name ∷ command ∷ rest)
-    else (if bytes_eq (codes "explain") command then options_job explain_of (name ∷ command ∷ rest)
-    else (if bytes_eq (codes "hunt") command then options_job hunt_of (name ∷ command ∷ rest)
-    else command_job command rest)))
-clap_job_of _ = None
+abbrev pub hunt_at : List Row → Option Asked
+hunt_at rows = option_and_then (λ image. option_map (λ wanted. Hunt image wanted) (hunting_at rows)) (first_of (codes "IMAGE") rows)
 
 -- `merge` with the option before the tables
-abbrev pub option_first : List (List ℕ) → Option Asked
+abbrev pub option_first : List Text → Option Asked
 option_first words = option_and_then (λ found. if are_tables found.1 then Some (Merge found.1 (Some found.0)) else None) (expected_first words)
 
--- `merge` with its words: where tables come first, only the option may follow
-abbrev pub merge_of : List (List ℕ) → Option Asked
-merge_of words = if tables_before words == 0 then option_first words
+-- the words of `merge`, which are read as they stand: where tables come first, only the option may follow
+abbrev pub merge_at : List Text → Option Asked
+merge_at words = if tables_before words == 0 then option_first words
     else option_map (λ expected. Merge (take (tables_before words) words) expected) (option_last (drop (tables_before words) words))
 
--- the line's command is `merge`
-abbrev pub is_merge : List (List ℕ) → Bool
-is_merge (name ∷ command ∷ rest) = bytes_eq command (codes "merge")
-is_merge _ = false
+-- the job of the command of this name
+abbrev pub job_at : Text → List Row → Option Asked
+job_at command rows =
+    if bytes_eq command (codes "words") then Some Words
+    else (if bytes_eq command (codes "asm") then asm_at rows
+    else (if bytes_eq command (codes "list") then list_at rows
+    else (if bytes_eq command (codes "replay") then option_map replay (saved_at rows)
+    else (if bytes_eq command (codes "debug") then option_map debug (saved_at rows)
+    else (if bytes_eq command (codes "gdb") then option_map gdb (saved_at rows)
+    else (if bytes_eq command (codes "run") then run_at rows
+    else (if bytes_eq command (codes "threads") then threads_at rows
+    else (if bytes_eq command (codes "exhibit") then exhibit_at rows
+    else (if bytes_eq command (codes "explain") then explain_at rows
+    else (if bytes_eq command (codes "hunt") then hunt_at rows
+    else None))))))))))
 
--- the job that a line asks for
-unfoldable pub job_of : List (List ℕ) → Option Asked
-job_of words = if is_merge words then merge_of (drop 2 words) else clap_job_of words
+abbrev pub found_job : Text → Text × List Row → Option Asked
+found_job command found = job_at command found.1
 
--- the number stands among the words, and lies in its range
-pub record IsEndingGiven (words : List (List ℕ)) (number : ℕ) : Type 0 where
-  pub text : List ℕ
-  pub stands : Contains words text
-  pub reads : number_of 10 text ≡ Some number
-  pub no_more : number ≤ MOST_ENDING
+-- the job of a line that `clap` reads: it finds no fault in the words, and each value means what its option says
+abbrev pub job_by_clap : Text → List Text → Option Asked
+job_by_clap command words = if is_accepted words then option_and_then (found_job command) (subcommand_of program words) else None
 
--- the command's name and each path of the job stand in the line
-abbrev pub IsGiven : List (List ℕ) → Asked → Type 0
-IsGiven words Words = slice_get words 1 ≡ Some (codes "words")
-IsGiven words (Asm source image) = (slice_get words 1 ≡ Some (codes "asm")) × Contains (drop 2 words) source × Contains (drop 2 words) image
-IsGiven words (Listing image) = (slice_get words 1 ≡ Some (codes "list")) × Contains (drop 2 words) image
-IsGiven words (Replay image schedule) = (slice_get words 1 ≡ Some (codes "replay")) × Contains (drop 2 words) image × Contains (drop 2 words) schedule
-IsGiven words (Debug image schedule) = (slice_get words 1 ≡ Some (codes "debug")) × Contains (drop 2 words) image × Contains (drop 2 words) schedule
-IsGiven words (Run image wanted save) = (slice_get words 1 ≡ Some (codes "run")) × IsRunGiven (drop 2 words) image wanted save
-IsGiven words (Threads image plan seed save) = (slice_get words 1 ≡ Some (codes "threads")) × IsThreadsGiven (drop 2 words) image plan seed save
-IsGiven words (Exhibit image schedule number) = (slice_get words 1 ≡ Some (codes "exhibit")) × Contains (drop 2 words) image × Contains (drop 2 words) schedule × IsEndingGiven (drop 2 words) number
-IsGiven words (Explain image schedule wanted picture) = (slice_get words 1 ≡ Some (codes "explain")) × IsExplainGiven (drop 2 words) image schedule wanted picture
-IsGiven words (Gdb image schedule) = (slice_get words 1 ≡ Some (codes "gdb")) × Contains (drop 2 words) image × Contains (drop 2 words) schedule
-IsGiven words (Hunt image wanted) = (slice_get words 1 ≡ Some (codes "hunt")) × IsHuntGiven (drop 2 words) image wanted
-IsGiven words (Merge tables expected) = (slice_get words 1 ≡ Some (codes "merge")) × IsMergeGiven (drop 2 words) tables expected
+-- the job that a line asks for: the program's name, the command's, and the command's words
+unfoldable pub job_of : List Text → Option Asked
+job_of (name ∷ command ∷ rest) = if bytes_eq command (codes "merge") then merge_at rest else job_by_clap command (name ∷ command ∷ rest)
+job_of _ = None

@@ -1,7 +1,6 @@
--- The options of `hunt`: what each value means, and that it stands in the line.
-use Rattle.std.specs.Prelude.{ℕ, ◌+◌, ◌-◌, ◌++◌, ◌≡◌, ◌⊎◌, Bool, true, false, IfSome, Contains, List, [], ◌∷◌, Option, Some, None, option_and_then, option_map, codes}
-use Rattle.std.specs.Option.{option_map_or}
-use Rattle.std.specs.Str.{bytes_eq}
+-- The options of `hunt`: what each value means.
+use Rattle.std.specs.Prelude.{ℕ, ◌+◌, ◌-◌, ◌&&◌, Bool, List, [], ◌∷◌, Option, Some, None, option_and_then, option_map, codes, not, if◌then◌else◌}
+use Rattle.clap.specs.Walk.{is_empty}
 use Rattle.clap.specs.Words.{Row, Text, first_of}
 use Rattle.rv_text.specs.Pieces.{pieces_of}
 use Rattle.rv_tally.specs.declared.limit.Limit.{Limit}
@@ -9,10 +8,10 @@ use Rattle.rv_tally.specs.declared.limit.Limit.TheVariants.{Runs, Budget}
 use Rattle.rv_tally.specs.declared.limit.TheConstants.{MOST_BUDGET}
 use Rattle.rv_tally.specs.declared.plans.Lengths.{Lengths}
 use Rattle.rv_campaign.specs.declared.runs.TheConstants.{MOST_WORKERS}
-use Rattle.rv_collide.specs.declared.plan.TheConstants.{DEFAULT_SLOTS, MOST_ARMS, MOST_PAUSE, MOST_STEPS}
+use Rattle.rv_collide.specs.declared.plan.TheConstants.{MOST_ARMS, MOST_PAUSE, MOST_STEPS}
 use Rattle.rv_break.specs.declared.claim.TheConstants.{MOST_SLOTS}
 use Rattle.rv_hart.specs.declared.machine.TheConstants.{MOST_HARTS}
-use Rattle.rv_command.specs.RunLine.{Gives, GivesNumber, if_given, number_in, number_if, number_or}
+use Rattle.rv_command.specs.Values.{flag_at, if_given, number_in, number_if, number_or}
 use Rattle.rv_command.specs.declared.command.hunt.HuntLine.{HuntLine}
 use Rattle.rv_command.specs.declared.command.hunt.TheConstants.{DEFAULT_BLOCKS, DEFAULT_BUDGET, DEFAULT_SEED, LAST_RUN, MOST_BLOCKS}
 use Rattle.rv_command.specs.declared.command.run.TheConstants.{MOST_SEED}
@@ -25,7 +24,8 @@ pub record Hunting : Type 0 where
   pub limit : Limit
   pub workers : Option ℕ
   pub lengths : Option Lengths
-  pub slots : ℕ
+  pub slots : Option ℕ
+  pub sampled : Bool
   pub named : Option Text
   pub skip : Option Text
   pub ignore : Option Text
@@ -48,6 +48,7 @@ hunting line = record {
   workers = line.workers;
   lengths = line.lengths;
   slots = line.slots;
+  sampled = line.sampled;
   named = option_map (λ text. text.now) line.named;
   skip = option_map (λ text. text.now) line.skip;
   ignore = option_map (λ path. path.0.now) line.ignore;
@@ -95,10 +96,6 @@ lengths_in text = lengths_by (pieces_of 44 text)
 abbrev pub lengths_at : List Row → Option (Option Lengths)
 lengths_at rows = if_given lengths_in (first_of (codes "plan") rows)
 
--- `clap` gives a flag the value `true` where it stands, and else `false`
-abbrev pub flag_at : Text → List Row → Bool
-flag_at name rows = option_map_or (λ text. bytes_eq text (codes "true")) (first_of name rows) false
-
 abbrev pub hunting_at : List Row → Option Hunting
 hunting_at rows =
     option_and_then (λ harts. option_and_then (λ seed. option_and_then (λ first. option_and_then (λ limit. option_and_then (λ workers. option_and_then (λ lengths. option_and_then (λ slots. option_map (λ blocks.
@@ -110,6 +107,7 @@ hunting_at rows =
       workers = workers;
       lengths = lengths;
       slots = slots;
+      sampled = flag_at (codes "sampled") rows;
       named = first_of (codes "named") rows;
       skip = first_of (codes "skip") rows;
       ignore = first_of (codes "ignore") rows;
@@ -123,49 +121,10 @@ hunting_at rows =
       is_quiet = flag_at (codes "quiet") rows;
     })
     (number_or DEFAULT_BLOCKS (codes "blocks") 0 MOST_BLOCKS rows))
-    (number_or DEFAULT_SLOTS (codes "slots") 1 MOST_SLOTS rows))
+    (number_if (codes "slots") 1 MOST_SLOTS rows))
     (lengths_at rows))
     (number_if (codes "workers") 1 MOST_WORKERS rows))
     (limit_at first rows))
     (number_or 0 (codes "first") 0 LAST_RUN rows))
     (number_or DEFAULT_SEED (codes "seed") 0 MOST_SEED rows))
     (number_if (codes "harts") 1 MOST_HARTS rows)
-
--- ---- what the words after the command's name hold
-
--- the number of runs stands in the words; the budget does, or is the default
-abbrev pub IsLimitGiven : List Text → ℕ → Limit → Type 0
-IsLimitGiven words first (Runs runs) = GivesNumber words (codes "runs") 1 (runs_from first) runs
-IsLimitGiven words first (Budget budget) = (budget ≡ DEFAULT_BUDGET) ⊎ GivesNumber words (codes "budget") 1 MOST_BUDGET budget
-
--- a text of these lengths stands in the words
-pub record GivesLengths (words : List Text) (lengths : Lengths) : Type 0 where
-  pub text : Text
-  pub stands : Gives words (codes "plan") text
-  pub reads : lengths_in text ≡ Some lengths
-
--- a flag that holds stands in the words
-abbrev pub IsFlagGiven : List Text → Text → Bool → Type 0
-IsFlagGiven words name holds = holds ≡ true → Contains words (codes "--" ++ name)
-
--- each option of `hunt` stands in the words, or has its default
-pub record IsHuntGiven (words : List Text) (path : Text) (wanted : Hunting) : Type 0 where
-  pub image : Contains words path
-  pub harts : IfSome wanted.harts (GivesNumber words (codes "harts") 1 MOST_HARTS)
-  pub seed : (wanted.seed ≡ DEFAULT_SEED) ⊎ GivesNumber words (codes "seed") 0 MOST_SEED wanted.seed
-  pub first : (wanted.first ≡ 0) ⊎ GivesNumber words (codes "first") 0 LAST_RUN wanted.first
-  pub limit : IsLimitGiven words wanted.first wanted.limit
-  pub workers : IfSome wanted.workers (GivesNumber words (codes "workers") 1 MOST_WORKERS)
-  pub lengths : IfSome wanted.lengths (GivesLengths words)
-  pub slots : (wanted.slots ≡ DEFAULT_SLOTS) ⊎ GivesNumber words (codes "slots") 1 MOST_SLOTS wanted.slots
-  pub named : IfSome wanted.named (Gives words (codes "named"))
-  pub skip : IfSome wanted.skip (Gives words (codes "skip"))
-  pub ignore : IfSome wanted.ignore (Gives words (codes "ignore"))
-  pub save_to : IfSome wanted.save_to (Gives words (codes "save-to"))
-  pub page : IfSome wanted.page (Gives words (codes "page"))
-  pub blocks : (wanted.blocks ≡ DEFAULT_BLOCKS) ⊎ GivesNumber words (codes "blocks") 0 MOST_BLOCKS wanted.blocks
-  pub shows_table : IsFlagGiven words (codes "table") wanted.shows_table
-  pub checks : IsFlagGiven words (codes "check") wanted.checks
-  pub checks_all : IsFlagGiven words (codes "check-all") wanted.checks_all
-  pub expect : IfSome wanted.expect (Gives words (codes "expect"))
-  pub is_quiet : IsFlagGiven words (codes "quiet") wanted.is_quiet

@@ -1,8 +1,11 @@
 pub mod ClapProgram
 pub mod Command
 pub mod ExplainLine
+pub mod Given
 pub mod HuntLine
 pub mod MergeLine
 pub mod Notice
 pub mod RunLine
+pub mod Status
+pub mod Values
 pub mod internal

@@ -1,9 +1,8 @@
 -- The words of `merge TABLE..`, with `--expect TABLE` or `--expect=TABLE` before the tables or behind them.
-use Rattle.std.specs.Prelude.{ℕ, ◌+◌, ◌<◌, ◌≡◌, ◌++◌, ◌==◌, ◌&&◌, Bool, false, nat_eq, nat_lt, if◌then◌else◌, List, [], ◌∷◌, drop, length, Option, Some, None, IfSome, option_and_then, option_map, codes}
+use Rattle.std.specs.Prelude.{ℕ, ◌+◌, ◌==◌, ◌&&◌, Bool, false, nat_eq, nat_lt, if◌then◌else◌, List, [], ◌∷◌, drop, length, Option, Some, None, option_and_then, option_map, codes}
 use Rattle.std.specs.List.{starts_with}
 use Rattle.std.specs.Str.{bytes_eq}
 use Rattle.clap.specs.Words.{Text}
-use Rattle.rv_command.specs.RunLine.{Gives}
 
 -- a hyphen (45) and a byte after it begin an option; a table with such a name is written with its folder
 abbrev pub is_dashed : Text → Bool
@@ -38,9 +37,3 @@ expected_first (option ∷ rest) = if bytes_eq option (codes "--expect") then va
 abbrev pub option_last : List Text → Option (Option Text)
 option_last [] = Some None
 option_last (option ∷ rest) = option_and_then (λ found. if length found.1 == 0 then Some (Some found.0) else None) (expected_first (option ∷ rest))
-
--- the tables stand together in the words, and the option stands there with its value, in either form
-pub record IsMergeGiven (words tables : List Text) (known : Option Text) : Type 0 where
-  pub some : 0 < length tables
-  pub together : (front : List Text) × (back : List Text) × (words ≡ front ++ tables ++ back)
-  pub expected : IfSome known (Gives words (codes "expect"))

@@ -1,3 +1,2 @@
 -- What only the contracts of private functions cite: no reader has to believe it.
 pub mod Commands
-pub mod FoundJob

@@ -1,6 +1,6 @@
 //! The command line: which job its words ask for. `clap` reads the words, and this module says which
 //! commands there are.
-ghost use Rattle.std.specs.Prelude.{◌≡◌, ◌≤◌, ◌⊎◌, ◌≢◌, length, IfErr, IfOk, IfSome, MatchResult, Some, None, true, false, option_and_then, option_map, map, codes};
+ghost use Rattle.std.specs.Prelude.{◌≡◌, ◌≢◌, IfErr, IfOk, IfSome, MatchResult, Some, None, true, false, option_and_then, option_map, map, codes};
 ghost use Rattle.std.specs.Str.{bytes_eq};
 ghost use Rattle.std.specs.String.{string_bytes};
 ghost use Rattle.clap.specs.Faults.{fault_of};
@@ -10,10 +10,10 @@ ghost use Rattle.clap.specs.Simple.{app_of, subcommand_of, subcommand_rows_of};
 ghost use Rattle.clap.specs.Values.{kind_of};
 ghost use Rattle.clap.specs.Walk.{first_of, rows_of};
 ghost use Rattle.rv_command.specs.Command as spec;
+ghost use Rattle.rv_command.specs.Given.{IsGiven};
 ghost use Rattle.rv_command.specs.Notice as notice;
 ghost use Rattle.rv_command.specs.ClapProgram as known;
 ghost use Rattle.rv_engines.specs.Shown.{shown as escaped};
-ghost use Rattle.rv_command.specs.internal.FoundJob as jobs;
 
 pub mod commands;
 pub mod complaint;
@@ -23,6 +23,7 @@ pub mod help;
 pub mod hunt;
 pub mod merge;
 pub mod number;
+pub mod paths;
 pub mod run;
 pub mod subcommand;
 pub mod threads;
@@ -37,6 +38,7 @@ use crate::command::explain::explain_of;
 use crate::command::help::{FAULTS, OVERVIEW};
 use crate::command::hunt::{HuntLine, hunt_of};
 use crate::command::merge::merge_of;
+use crate::command::paths::{asm_of, debug_of, gdb_of, list_of, replay_of};
 use crate::command::run::run_of;
 use crate::command::subcommand::with_subcommands;
 use crate::command::threads::threads_of;
@@ -138,44 +140,27 @@ pub enum Notice {
 
 /// The job that the words of a command line ask for, the program's name first. `Line` comes where they
 /// spell none, and also where they ask for the help or the version: `notice_of` has those texts.
+#[tactic(auto, unfolding(crate::specs::Command::job_of), using(crate::proofs::GivenLemmas::is_given, crate::proofs::LineLemmas::short_line))]
 pub fn command_of<'a>(alloc: Global, words: &'a [&'a str]) -> Result<Job<'a>, LineFault>
     ensures job { IfOk result (λ job. spec.job_of (spec.texts words.entry.now) ≡ Some (spec.asked job)) }
-    ensures given { IfOk result (λ job. spec.IsGiven (spec.texts words.entry.now) (spec.asked job)) }
+    ensures given { IsGiven (spec.texts words.entry.now) }
     ensures line { IfErr result (λ e. e ≡ LineFault.Line → spec.job_of (spec.texts words.entry.now) ≡ None) }
-{
-    line_job(alloc, words)
-}
-
-/// The job of a line.
-#[tactic(auto, unfolding(crate::specs::Command::job_of), using(crate::proofs::TextLists::drop_texts))]
-fn line_job<'a>(alloc: Global, words: &'a [&'a str]) -> Result<Job<'a>, LineFault>
-    ensures job { IfOk result (λ job. spec.job_of (spec.texts words.entry.now) ≡ Some (spec.asked job)) }
-    ensures line { IfErr result (λ e. e ≡ LineFault.Line → spec.job_of (spec.texts words.entry.now) ≡ None) }
-{
-    if is_merge(words) {
-        return merge_of(&words[2..]).ok_or(LineFault::Line);
-    }
-    clap_job_of(alloc, words)
-}
-
-/// Whether the line's command is `merge`.
-fn is_merge(words: &[&str]) -> bool
-    ensures merge { result ≡ spec.is_merge (spec.texts words.now) }
-    ensures long { result ≡ true → 2 ≤ length words.now }
 {
     match words {
-        [_, command, ..] => *command == "merge",
-        _ => false,
+        [_, command, rest @ ..] if *command == "merge" => merge_of(rest).ok_or(LineFault::Line),
+        [_, command, ..] => job_by_clap(alloc, words, *command),
+        _ => Err(LineFault::Line),
     }
 }
 
 /// The job of a line of another command.
-fn clap_job_of<'a>(alloc: Global, words: &'a [&'a str]) -> Result<Job<'a>, LineFault>
-    ensures job { IfOk result (λ job. spec.clap_job_of (spec.texts words.entry.now) ≡ Some (spec.asked job)) }
-    ensures line { IfErr result (λ e. e ≡ LineFault.Line → spec.clap_job_of (spec.texts words.entry.now) ≡ None) }
+#[tactic(auto, using(crate::proofs::LineLemmas::among_some))]
+fn job_by_clap<'a>(alloc: Global, words: &'a [&'a str], command: &str) -> Result<Job<'a>, LineFault>
+    ensures job { IfOk result (λ job. spec.job_by_clap command.now (spec.texts words.entry.now) ≡ Some (spec.asked job)) }
+    ensures line { IfErr result (λ e. e ≡ LineFault.Line → spec.job_by_clap command.now (spec.texts words.entry.now) ≡ None) }
 {
-    match read_line(alloc, words) {
-        Ok(matches) => job_in(&matches).map_err(|_| LineFault::Line),
+    match read_line(alloc, words, &[]) {
+        Ok(matches) => job_in(command, &matches).map_err(|_| LineFault::Line),
         Err(error) => Err(line_fault(&error)),
     }
 }
@@ -209,7 +194,7 @@ fn notice_by_clap<'a>(alloc: Global, words: &'a [&'a str]) -> Result<Notice, Lin
     ensures refusal { IfOk result (λ n. notice.is_answer n ≡ false → notice.only_asks_clap (spec.texts words.entry.now) ≡ false) }
     ensures memory { IfErr result (λ e. e ≡ LineFault.NoMemory) }
 {
-    match read_line(alloc, words) {
+    match read_line(alloc, words, &[]) {
         Ok(matches) => refused(alloc, &matches),
         Err(error) => notice_in(alloc, words, &error),
     }
@@ -240,7 +225,8 @@ fn clap_text(alloc: Global, words: &[&str]) -> Result<String, LineFault>
         .map(|word| word.as_str())
         .collect(alloc);
     let shown = shown.map_err(|_| LineFault::NoMemory)?;
-    match read_line(alloc, &shown) {
+    let after = after_helps(alloc).map_err(|_| LineFault::NoMemory)?;
+    match read_line(alloc, &shown, &after) {
         Ok(_) => text(alloc, &Complaint::Words),
         Err(error) => match error.kind() {
             ErrorKind::OutOfMemory => Err(LineFault::NoMemory),
@@ -262,13 +248,30 @@ fn shown_words(alloc: Global, words: &[&str]) -> Result<Vec<String>, LineFault>
     Ok(shown)
 }
 
+/// What the help of each command says after its arguments.
+fn after_helps(alloc: Global) -> Result<Vec<String>, AllocError> {
+    let mut texts = Vec::new(alloc);
+    for command in &COMMANDS {
+        texts.push(command.after_help(alloc)?)?;
+    }
+    Ok(texts)
+}
+
 /// The refusal of a line in which `clap` finds no fault.
 fn refused<'a>(alloc: Global, matches: &ArgMatches<'a>) -> Result<Notice, LineFault>
     ensures notice { IfOk result (λ n. notice.is_answer n ≡ false) }
     ensures memory { IfErr result (λ e. e ≡ LineFault.NoMemory) }
 {
-    let complaint = job_in(matches).err().unwrap_or(Complaint::Words);
+    let complaint = complaint_of(matches);
     Ok(Notice::Refusal(text(alloc, &complaint)?))
+}
+
+/// Why the values that `clap` found make no job.
+fn complaint_of<'a>(matches: &ArgMatches<'a>) -> Complaint<'a> {
+    match matches.subcommand() {
+        Some((command, _)) => job_in(command, matches).err().unwrap_or(Complaint::Words),
+        None => Complaint::Words,
+    }
 }
 
 fn text<T: Display>(alloc: Global, shown: &T) -> Result<String, LineFault>
@@ -288,43 +291,45 @@ fn line_fault(error: &Error) -> LineFault
     }
 }
 
-/// What `clap` finds in the words.
-fn read_line<'a>(alloc: Global, words: &'a [&'a str]) -> Result<ArgMatches<'a>, Error>
-    ensures job { MatchResult result
-        (λ m. option_and_then jobs.job_in (subcommand_rows_of m) ≡ spec.clap_job_of (spec.texts words.entry.now))
-        (λ e. (kind_of e ≡ ErrorKind.OutOfMemory) ⊎ (spec.clap_job_of (spec.texts words.entry.now) ≡ None)) }
+/// What `clap` finds in the words, and what the help of each command says after its arguments, where that may be written.
+fn read_line<'a>(
+    alloc: Global,
+    words: &'a [&'a str],
+    after: &'a [String],
+) -> Result<ArgMatches<'a>, Error>
     ensures rows { IfOk result (λ m. subcommand_rows_of m ≡ subcommand_of known.program (spec.texts words.entry.now)) }
     ensures kinds { FailsBy (fault_of known.program (spec.texts words.entry.now)) result }
 {
-    program(alloc)?.try_get_matches_from(words)
+    program(alloc, after)?.try_get_matches_from(words)
 }
 
 /// The program with all its commands.
-fn program<'a>(alloc: Global) -> Result<Command<'a>, AllocError>
+fn program<'a>(alloc: Global, after: &'a [String]) -> Result<Command<'a>, AllocError>
     ensures { IfOk result (λ c. app_of c ≡ known.program) }
 {
     let program = Command::new(alloc, "rvcollide")
         .version("0.1.0")
         .override_help(OVERVIEW)
         .subcommand_required(true);
-    with_subcommands(alloc, program, &COMMANDS)
+    with_subcommands(alloc, program, &COMMANDS, after)
 }
 
-/// The job that `clap` found.
-fn job_in<'a>(matches: &ArgMatches<'a>) -> Result<Job<'a>, Complaint<'a>>
-    ensures { MatchResult result (λ job. option_and_then jobs.job_in (subcommand_rows_of matches.now) ≡ Some (spec.asked job))
-        (λ _. option_and_then jobs.job_in (subcommand_rows_of matches.now) ≡ None) }
+/// The job of the command of this name in what `clap` found.
+fn job_in<'a>(command: &str, matches: &ArgMatches<'a>) -> Result<Job<'a>, Complaint<'a>>
+    ensures { MatchResult result
+        (λ job. option_and_then (spec.found_job command.now) (subcommand_rows_of matches.now) ≡ Some (spec.asked job))
+        (λ _. option_and_then (spec.found_job command.now) (subcommand_rows_of matches.now) ≡ None) }
 {
-    let (name, given) = matches.subcommand().ok_or(Complaint::Words)?;
-    job_at(name, given)
+    let (_, given) = matches.subcommand().ok_or(Complaint::Words)?;
+    job_at(command, given)
 }
 
 /// The job of the command of this name.
-fn job_at<'a>(name: &str, given: &ArgMatches<'a>) -> Result<Job<'a>, Complaint<'a>>
-    ensures { MatchResult result (λ job. jobs.job_in (name.now, rows_of (found_of given.now)) ≡ Some (spec.asked job))
-        (λ _. jobs.job_in (name.now, rows_of (found_of given.now)) ≡ None) }
+fn job_at<'a>(command: &str, given: &ArgMatches<'a>) -> Result<Job<'a>, Complaint<'a>>
+    ensures { MatchResult result (λ job. spec.job_at command.now (rows_of (found_of given.now)) ≡ Some (spec.asked job))
+        (λ _. spec.job_at command.now (rows_of (found_of given.now)) ≡ None) }
 {
-    match name {
+    match command {
         "run" => run_of(given),
         "threads" => threads_of(given),
         "exhibit" => exhibit_of(given),
@@ -332,21 +337,20 @@ fn job_at<'a>(name: &str, given: &ArgMatches<'a>) -> Result<Job<'a>, Complaint<'
         "hunt" => hunt_of(given),
         // Its tables do not stand together, or it were a job before `clap` read it.
         "merge" => Err(Complaint::Tables),
-        _ => path_job_at(name, given).ok_or(Complaint::Words),
+        _ => path_job_at(command, given).ok_or(Complaint::Words),
     }
 }
 
 /// The job of a command that has paths alone.
-fn path_job_at<'a>(name: &str, given: &ArgMatches<'a>) -> Option<Job<'a>>
-    requires run { bytes_eq name.now (codes "run") ≡ false }
-    requires threads { bytes_eq name.now (codes "threads") ≡ false }
-    requires exhibit { bytes_eq name.now (codes "exhibit") ≡ false }
-    requires explain { bytes_eq name.now (codes "explain") ≡ false }
-    requires hunt { bytes_eq name.now (codes "hunt") ≡ false }
-    requires merge { bytes_eq name.now (codes "merge") ≡ false }
-    ensures { option_map spec.asked result ≡ jobs.job_in (name.now, rows_of (found_of given.now)) }
+fn path_job_at<'a>(command: &str, given: &ArgMatches<'a>) -> Option<Job<'a>>
+    requires run { bytes_eq command.now (codes "run") ≡ false }
+    requires threads { bytes_eq command.now (codes "threads") ≡ false }
+    requires exhibit { bytes_eq command.now (codes "exhibit") ≡ false }
+    requires explain { bytes_eq command.now (codes "explain") ≡ false }
+    requires hunt { bytes_eq command.now (codes "hunt") ≡ false }
+    ensures { option_map spec.asked result ≡ spec.job_at command.now (rows_of (found_of given.now)) }
 {
-    match name {
+    match command {
         "words" => Some(Job::Words),
         "asm" => asm_of(given),
         "list" => list_of(given),
@@ -355,59 +359,6 @@ fn path_job_at<'a>(name: &str, given: &ArgMatches<'a>) -> Option<Job<'a>>
         "gdb" => gdb_of(given),
         _ => None,
     }
-}
-
-fn asm_of<'a>(given: &ArgMatches<'a>) -> Option<Job<'a>>
-    ensures { option_map spec.asked result ≡ jobs.asm_in (rows_of (found_of given.now)) }
-{
-    let source = text_of(given, "SOURCE")?;
-    let image = text_of(given, "IMAGE")?;
-    Some(Job::Asm {
-        source: SourcePath(source),
-        image: ImagePath(image),
-    })
-}
-
-fn list_of<'a>(given: &ArgMatches<'a>) -> Option<Job<'a>>
-    ensures { option_map spec.asked result ≡ jobs.list_in (rows_of (found_of given.now)) }
-{
-    let image = text_of(given, "IMAGE")?;
-    Some(Job::List {
-        image: ImagePath(image),
-    })
-}
-
-fn replay_of<'a>(given: &ArgMatches<'a>) -> Option<Job<'a>>
-    ensures { option_map spec.asked result ≡ jobs.replay_in (rows_of (found_of given.now)) }
-{
-    let image = text_of(given, "IMAGE")?;
-    let schedule = text_of(given, "SCHEDULE")?;
-    Some(Job::Replay {
-        image: ImagePath(image),
-        schedule: SchedulePath(schedule),
-    })
-}
-
-fn debug_of<'a>(given: &ArgMatches<'a>) -> Option<Job<'a>>
-    ensures { option_map spec.asked result ≡ jobs.debug_in (rows_of (found_of given.now)) }
-{
-    let image = text_of(given, "IMAGE")?;
-    let schedule = text_of(given, "SCHEDULE")?;
-    Some(Job::Debug {
-        image: ImagePath(image),
-        schedule: SchedulePath(schedule),
-    })
-}
-
-fn gdb_of<'a>(given: &ArgMatches<'a>) -> Option<Job<'a>>
-    ensures { option_map spec.asked result ≡ jobs.gdb_in (rows_of (found_of given.now)) }
-{
-    let image = text_of(given, "IMAGE")?;
-    let schedule = text_of(given, "SCHEDULE")?;
-    Some(Job::Gdb {
-        image: ImagePath(image),
-        schedule: SchedulePath(schedule),
-    })
 }
 
 /// The word that was given for an argument.

@@ -1,4 +1,4 @@
-//! The program's commands, each with its arguments and its help.
+//! The program's commands, each with its arguments and its help. The exit statuses come after each help.
 
 use crate::command::subcommand::{Argument, Subcommand};
 
@@ -6,13 +6,15 @@ pub const COMMANDS: [Subcommand; 12] = [
     Subcommand {
         name: "words",
         about: "Run instruction words from the standard input",
-        after: Some(WORDS),
+        after: WORDS,
+        found_by: None,
         arguments: &[],
     },
     Subcommand {
         name: "asm",
         about: "Assemble a source into an image",
-        after: Some(SOURCES),
+        after: SOURCES,
+        found_by: None,
         arguments: &[
             Argument::Word {
                 name: "SOURCE",
@@ -27,25 +29,29 @@ pub const COMMANDS: [Subcommand; 12] = [
     Subcommand {
         name: "list",
         about: "Disassemble an image",
-        after: Some(IMAGES),
+        after: IMAGES,
+        found_by: None,
         arguments: &[IMAGE],
     },
     Subcommand {
         name: "replay",
         about: "Make a saved run again and print how its pauses ended and the final state",
-        after: Some(SCHEDULES),
+        after: SCHEDULES,
+        found_by: None,
         arguments: &[IMAGE, SCHEDULE],
     },
     Subcommand {
         name: "debug",
         about: "Go to any place of a saved run, by commands on the standard input",
-        after: Some(DEBUGGER),
+        after: DEBUGGER,
+        found_by: None,
         arguments: &[IMAGE, SCHEDULE],
     },
     Subcommand {
         name: "run",
         about: "Make many runs from a seed and print the table of the races they found",
-        after: Some(CAMPAIGN),
+        after: CAMPAIGN,
+        found_by: None,
         arguments: &[
             IMAGE,
             HARTS,
@@ -87,7 +93,8 @@ pub const COMMANDS: [Subcommand; 12] = [
     Subcommand {
         name: "threads",
         about: "Make one run with a real thread for each hart and print how its pauses ended",
-        after: Some(BY_THREADS),
+        after: BY_THREADS,
+        found_by: None,
         arguments: &[
             IMAGE,
             HARTS,
@@ -106,7 +113,8 @@ pub const COMMANDS: [Subcommand; 12] = [
     Subcommand {
         name: "exhibit",
         about: "Turn a report into a list of steps that any emulator can check",
-        after: Some(EXHIBIT),
+        after: EXHIBIT,
+        found_by: None,
         arguments: &[
             IMAGE,
             SCHEDULE,
@@ -119,7 +127,8 @@ pub const COMMANDS: [Subcommand; 12] = [
     Subcommand {
         name: "explain",
         about: "Report the races of a saved run with names, instructions and values",
-        after: Some(EXPLAIN),
+        after: EXPLAIN,
+        found_by: None,
         arguments: &[
             IMAGE,
             SCHEDULE,
@@ -148,13 +157,15 @@ pub const COMMANDS: [Subcommand; 12] = [
     Subcommand {
         name: "gdb",
         about: "Serve a saved run to GDB on standard input and output",
-        after: Some(GDB),
+        after: GDB,
+        found_by: None,
         arguments: &[IMAGE, SCHEDULE],
     },
     Subcommand {
         name: "hunt",
         about: "Find races in an image: nothing but the image is needed",
-        after: Some(HUNT),
+        after: HUNT,
+        found_by: Some("--check, --check-all or --expect"),
         arguments: &[
             IMAGE,
             Argument::Optional {
@@ -192,7 +203,15 @@ pub const COMMANDS: [Subcommand; 12] = [
                 value: "STEPS,ARMS,PAUSE",
                 help: "What run calls --steps, --arms and --pause [default: lengths of all scales, 64 arms]",
             },
-            SLOTS,
+            Argument::Optional {
+                name: "slots",
+                value: "N",
+                help: "Pauses that can be watched at once, 1 to 8 [default: 8, with --sampled 4]",
+            },
+            Argument::Flag {
+                name: "sampled",
+                help: "Make every run a sampled one, with four slots by default",
+            },
             Argument::Optional {
                 name: "named",
                 value: "LIST",
@@ -249,7 +268,8 @@ pub const COMMANDS: [Subcommand; 12] = [
     Subcommand {
         name: "merge",
         about: "Add up the tables of a hunt that was made in pieces",
-        after: Some(MERGE),
+        after: MERGE,
+        found_by: Some("--expect"),
         arguments: &[
             Argument::Words {
                 name: "TABLE",
@@ -315,10 +335,7 @@ The words lie from address 00010000 on, and at 00020000 there are 4096 bytes of 
 The output is a line for each hart with the registers that are not 0, and a line with the bytes printed.
 
 Example:
-  printf 'harts 1\\nsteps 0\\n00500093\\n' | rvcollide words
-
-Exit status: 0 done; 1 the input is refused (see rvcollide help faults); 2 the command line is refused;
-3 a file or stream cannot be read or written; 4 there is not enough memory.";
+  printf 'harts 1\\nsteps 0\\n00500093\\n' | rvcollide words";
 
 /// What the help of `asm` says after its arguments.
 const SOURCES: &str = "\
@@ -329,10 +346,7 @@ Directives: .text, .data, .word, .byte and .zero; .globl is accepted and does no
 The text lies at 00010000 and the data at 00020000. All harts start at _start, or else at 00010000.
 
 Example:
-  rvcollide asm guest.s guest.elf
-
-Exit status: 0 done; 1 the input is refused (see rvcollide help faults); 2 the command line is refused;
-3 a file or stream cannot be read or written; 4 there is not enough memory.";
+  rvcollide asm guest.s guest.elf";
 
 /// What the help of `list` says after its arguments.
 const IMAGES: &str = "\
@@ -345,10 +359,7 @@ The output is a line for each word of the segments that may be executed:
   00010000: 00020337 lui x6, 0x20
 
 Example:
-  rvcollide list guest.elf
-
-Exit status: 0 done; 1 the input is refused (see rvcollide help faults); 2 the command line is refused;
-3 a file or stream cannot be read or written; 4 there is not enough memory.";
+  rvcollide list guest.elf";
 
 /// What the help of `replay` says after its arguments.
 const SCHEDULES: &str = "\
@@ -364,10 +375,7 @@ then a line for each hart and one with the bytes printed. A pause ended with a h
 access), changed (other bytes, but no access was seen) or quiet.
 
 Example:
-  rvcollide replay guest.elf guest.schedule
-
-Exit status: 0 done; 1 the input is refused (see rvcollide help faults); 2 the command line is refused;
-3 a file or stream cannot be read or written; 4 there is not enough memory.";
+  rvcollide replay guest.elf guest.schedule";
 
 /// What the help of `debug` says of the debugger's commands.
 const DEBUGGER: &str = "\
@@ -390,10 +398,7 @@ leaves the place as it was. The answer is one of these lines:
   fault 2 NoHart   the machine has fewer harts  fault 5 NoMemory  there is not enough memory
 
 Example:
-  printf 'g 63\\nx 1\\n' | rvcollide debug guest.elf guest.schedule
-
-Exit status: 0 done; 1 the input is refused (see rvcollide help faults); 2 the command line is refused;
-3 a file or stream cannot be read or written; 4 there is not enough memory.";
+  printf 'g 63\\nx 1\\n' | rvcollide debug guest.elf guest.schedule";
 
 /// What the help of `run` says after its options.
 const CAMPAIGN: &str = "\
@@ -409,10 +414,7 @@ the bytes of --named, on flags and on counters (a counter may be a bug: rvcollid
   pruned named 0 flag 0 counter 0
 
 Example:
-  rvcollide run guest.elf --harts 2 --steps 10000 --arms 50 --pause 20 --seed 1 --runs 100 --workers 4
-
-Exit status: 0 done; 1 the input is refused (see rvcollide help faults); 2 the command line is refused;
-3 a file or stream cannot be read or written; 4 there is not enough memory.";
+  rvcollide run guest.elf --harts 2 --steps 10000 --arms 50 --pause 20 --seed 1 --runs 100 --workers 4";
 
 /// What the help of `threads` says after its options.
 const BY_THREADS: &str = "\
@@ -424,10 +426,7 @@ places, explain and exhibit its races. IMAGE is as rvcollide list --help says.
 The output is a line for each pause, as replay prints it, and the number of turns that were taken.
 
 Example:
-  rvcollide threads guest.elf --harts 2 --steps 10000 --arms 50 --pause 20 --seed 1 --save run.txt
-
-Exit status: 0 done; 1 the input is refused (see rvcollide help faults); 2 the command line is refused;
-3 a file or stream cannot be read or written; 4 there is not enough memory.";
+  rvcollide threads guest.elf --harts 2 --steps 10000 --arms 50 --pause 20 --seed 1 --save run.txt";
 
 /// What the help of `exhibit` says after its arguments.
 const EXHIBIT: &str = "\
@@ -444,10 +443,7 @@ A report that cannot be shown is refused with one of these names, as in exhibit 
   TextChanged  the paused instruction was overwritten before the second access
 
 Example:
-  rvcollide exhibit guest.elf run.txt 0
-
-Exit status: 0 done; 1 the input is refused (see rvcollide help faults); 2 the command line is refused;
-3 a file or stream cannot be read or written; 4 there is not enough memory.";
+  rvcollide exhibit guest.elf run.txt 0";
 
 /// What the help of `explain` says after its arguments.
 const EXPLAIN: &str = "\
@@ -460,10 +456,7 @@ A fault is told with its file and what is wrong:
   rvcollide: run.txt: explain NoRace: there is no race with this number
 
 Example:
-  rvcollide explain guest.elf run.txt --picture race.svg
-
-Exit status: 0 done; 1 the input is refused (see rvcollide help faults); 2 the command line is refused;
-3 a file or stream cannot be read or written; 4 there is not enough memory.";
+  rvcollide explain guest.elf run.txt --picture race.svg";
 
 /// What the help of `gdb` says after its arguments.
 const GDB: &str = "\
@@ -478,10 +471,7 @@ A fault is told with its file and what is wrong:
 
 Example:
   gdb-multiarch guest.elf -ex 'set remotetimeout 60' \\
-    -ex 'target remote | rvcollide gdb guest.elf run.txt' -ex 'set scheduler-locking step'
-
-Exit status: 0 done; 1 the input is refused (see rvcollide help faults); 2 the command line is refused;
-3 a file or stream cannot be read or written; 4 there is not enough memory.";
+    -ex 'target remote | rvcollide gdb guest.elf run.txt' -ex 'set scheduler-locking step'";
 
 /// What the help of `hunt` says after its options.
 const HUNT: &str = "\
@@ -498,11 +488,7 @@ A fault is told with its file and what is wrong:
   rvcollide: guest.elf: load NotRiscV: the file is for another processor
 
 Example:
-  rvcollide hunt guest.elf --budget 200000000 --check
-
-Exit status: 0 done; 1 the input is refused (see rvcollide help faults); 2 the command line is refused;
-3 a file or stream cannot be read or written; 4 there is not enough memory; 5 there is a race that
---check, --check-all or --expect asks for.";
+  rvcollide hunt guest.elf --budget 200000000 --check";
 
 /// What the help of `merge` says after its arguments.
 const MERGE: &str = "\
@@ -513,8 +499,4 @@ option stands before the tables or behind them.
 A fault is told with its file and what is wrong, as in b.table: table line 2 Shape.
 
 Example:
-  rvcollide merge a.table b.table --expect known.table
-
-Exit status: 0 done; 1 the input is refused (see rvcollide help faults); 2 the command line is refused;
-3 a file or stream cannot be read or written; 4 there is not enough memory; 5 there is a race that
---expect asks for.";
+  rvcollide merge a.table b.table --expect known.table";

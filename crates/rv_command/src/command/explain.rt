@@ -8,8 +8,9 @@ ghost use Rattle.rv_command.specs.ExplainLine as line;
 
 use super::complaint::{Complaint, NumberOption};
 use super::number::{number_if, number_or};
+use super::paths::saved_of;
 use super::{Job, text_of};
-use crate::arguments::{ImagePath, PicturePath, SchedulePath};
+use crate::arguments::PicturePath;
 use clap::ArgMatches;
 use rv_engines::explain::options::ExplainOptions;
 
@@ -34,25 +35,17 @@ const RACE: NumberOption = NumberOption {
 
 /// `explain` with its options.
 pub fn explain_of<'a>(given: &ArgMatches<'a>) -> Result<Job<'a>, Complaint<'a>>
-    ensures { MatchResult result (λ job. spec.explain_of (rows_of (found_of given.now)) ≡ Some (spec.asked job))
-        (λ _. spec.explain_of (rows_of (found_of given.now)) ≡ None) }
+    ensures { MatchResult result (λ job. spec.explain_at (rows_of (found_of given.now)) ≡ Some (spec.asked job))
+        (λ _. spec.explain_at (rows_of (found_of given.now)) ≡ None) }
 {
-    let image = text_of(given, "IMAGE").ok_or(Complaint::Words)?;
-    let schedule = text_of(given, "SCHEDULE").ok_or(Complaint::Words)?;
+    let (image, schedule) = saved_of(given).ok_or(Complaint::Words)?;
     let options = options_of(given)?;
     Ok(Job::Explain {
-        image: ImagePath(image),
-        schedule: SchedulePath(schedule),
+        image,
+        schedule,
         options,
-        picture: picture_of(given),
+        picture: text_of(given, "picture").map(|path| PicturePath(path)),
     })
-}
-
-/// The file for a picture.
-fn picture_of<'a>(given: &ArgMatches<'a>) -> Option<PicturePath<'a>>
-    ensures { option_map (λ path. path.0.now) result ≡ first_of (codes "picture") (rows_of (found_of given.now)) }
-{
-    text_of(given, "picture").map(|path| PicturePath(path))
 }
 
 fn options_of<'a>(given: &ArgMatches<'a>) -> Result<ExplainOptions<'a>, Complaint<'a>>

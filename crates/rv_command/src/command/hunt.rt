@@ -1,17 +1,17 @@
 //! The options of the command `hunt` in what `clap` finds.
-ghost use Rattle.std.specs.Prelude.{◌≡◌, ◌-◌, MatchResult, Some, None, option_map, codes};
+ghost use Rattle.std.specs.Prelude.{◌≡◌, ◌-◌, ◌∷◌, MatchResult, Some, None, option_map, codes};
 ghost use Rattle.clap.specs.Matches.{found_of};
 ghost use Rattle.clap.specs.Walk.{first_of, rows_of};
 ghost use Rattle.rv_command.specs.Command as spec;
 ghost use Rattle.rv_command.specs.HuntLine as line;
 
 use super::complaint::{Complaint, NumberOption};
-use super::number::{number_between, number_if, number_or};
+use super::number::{flag_of, number_between, number_if, number_or};
 use super::run::{HARTS, SEED, SLOTS, WORKERS};
 use super::{Job, text_of};
 use crate::arguments::{FolderPath, IgnorePath, ImagePath, PagePath, TablePath};
 use clap::ArgMatches;
-use rv_collide::plan::{DEFAULT_SLOTS, MOST_ARMS, MOST_PAUSE, MOST_STEPS};
+use rv_collide::plan::{MOST_ARMS, MOST_PAUSE, MOST_STEPS};
 use rv_tally::limit::{Limit, MOST_BUDGET};
 use rv_tally::plans::Lengths;
 use rv_text::pieces::Pieces;
@@ -62,7 +62,10 @@ pub struct HuntLine<'a> {
     pub workers: Option<u8>,
     /// The lengths of each run; without them they go through all scales.
     pub lengths: Option<Lengths>,
-    pub slots: u8,
+    /// How many pauses can be watched at once; without it as many as the kind of its runs has.
+    pub slots: Option<u8>,
+    /// Every run is a sampled one.
+    pub sampled: bool,
     /// Names of symbols, with a comma between two: races on their bytes are told apart.
     pub named: Option<&'a str>,
     /// Addresses in eight hexadecimal digits, with a comma between two: no hart is paused there.
@@ -89,8 +92,8 @@ pub struct HuntLine<'a> {
 
 /// `hunt` with its options.
 pub fn hunt_of<'a>(given: &ArgMatches<'a>) -> Result<Job<'a>, Complaint<'a>>
-    ensures { MatchResult result (λ job. spec.hunt_of (rows_of (found_of given.now)) ≡ Some (spec.asked job))
-        (λ _. spec.hunt_of (rows_of (found_of given.now)) ≡ None) }
+    ensures { MatchResult result (λ job. spec.hunt_at (rows_of (found_of given.now)) ≡ Some (spec.asked job))
+        (λ _. spec.hunt_at (rows_of (found_of given.now)) ≡ None) }
 {
     let image = text_of(given, "IMAGE").ok_or(Complaint::Words)?;
     let line = line_of(given)?;
@@ -110,7 +113,7 @@ fn line_of<'a>(given: &ArgMatches<'a>) -> Result<HuntLine<'a>, Complaint<'a>>
     let limit = limit_of(given, first)?;
     let workers = number_if(given, WORKERS)?;
     let lengths = lengths_of(given)?;
-    let slots = number_or(given, SLOTS, u64::from(DEFAULT_SLOTS))?;
+    let slots = number_if(given, SLOTS)?;
     let blocks = number_or(given, BLOCKS, u64::from(DEFAULT_BLOCKS))?;
     Ok(HuntLine {
         harts: harts.map(|n| n as u8),
@@ -119,7 +122,8 @@ fn line_of<'a>(given: &ArgMatches<'a>) -> Result<HuntLine<'a>, Complaint<'a>>
         limit,
         workers: workers.map(|n| n as u8),
         lengths,
-        slots: slots as u8,
+        slots: slots.map(|n| n as u8),
+        sampled: flag_of(given, "sampled"),
         named: text_of(given, "named"),
         skip: text_of(given, "skip"),
         ignore: ignore_of(given),
@@ -228,14 +232,4 @@ fn three_lengths(steps: &[u8], arms: &[u8], pause: &[u8]) -> Option<Lengths>
         arms: arms as u32,
         pause: pause as u32,
     })
-}
-
-/// Whether a flag is given.
-fn flag_of(given: &ArgMatches<'_>, name: &str) -> bool
-    ensures { result ≡ line.flag_at name.now (rows_of (found_of given.now)) }
-{
-    match text_of(given, name) {
-        Some(value) => value == "true",
-        None => false,
-    }
 }

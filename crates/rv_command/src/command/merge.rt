@@ -10,7 +10,7 @@ use crate::arguments::{TablePath, TablePaths};
 /// `merge` with the words after its name: one table or more, and `--expect TABLE` or `--expect=TABLE` before them or behind.
 #[tactic(auto, using(crate::proofs::TextLists::take_texts, crate::proofs::TextLists::drop_texts))]
 pub fn merge_of<'a>(words: &'a [&'a str]) -> Option<Job<'a>>
-    ensures { option_map spec.asked result ≡ spec.merge_of (spec.texts words.entry.now) }
+    ensures { option_map spec.asked result ≡ spec.merge_at (spec.texts words.entry.now) }
 {
     let (tables, rest) = words.split_at(tables_before(words));
     if tables.is_empty() {

@@ -1,9 +1,9 @@
-//! The numbers of options, in decimal digits.
+//! What the values of options mean: numbers in decimal digits, and flags.
 ghost use Rattle.std.specs.Prelude.{◌≡◌, ◌≤◌, IfOk, IfSome, MatchResult, Some, None};
 ghost use Rattle.clap.specs.Matches.{found_of};
 ghost use Rattle.clap.specs.Walk.{rows_of};
 ghost use Rattle.rv_text.specs.Numeral.{number_of as numeral, up_to};
-ghost use Rattle.rv_command.specs.RunLine as line;
+ghost use Rattle.rv_command.specs.Values as values;
 
 use super::complaint::{Complaint, NumberOption};
 use super::text_of;
@@ -12,8 +12,8 @@ use clap::ArgMatches;
 /// The number of an option that has to be given.
 pub fn number_of<'a>(given: &ArgMatches<'a>, option: NumberOption) -> Result<u64, Complaint<'a>>
     ensures number { MatchResult result
-        (λ n. line.number_at option.name.now option.least option.most (rows_of (found_of given.now)) ≡ Some n)
-        (λ _. line.number_at option.name.now option.least option.most (rows_of (found_of given.now)) ≡ None) }
+        (λ n. values.number_at option.name.now option.least option.most (rows_of (found_of given.now)) ≡ Some n)
+        (λ _. values.number_at option.name.now option.least option.most (rows_of (found_of given.now)) ≡ None) }
     ensures range { IfOk result (λ n. (option.least ≤ n) × (n ≤ option.most)) }
 {
     let value = text_of(given, option.name).ok_or(Complaint::Words)?;
@@ -29,14 +29,11 @@ pub fn number_or<'a>(
     requires least { option.least ≤ default }
     requires most { default ≤ option.most }
     ensures number { MatchResult result
-        (λ n. line.number_or default option.name.now option.least option.most (rows_of (found_of given.now)) ≡ Some n)
-        (λ _. line.number_or default option.name.now option.least option.most (rows_of (found_of given.now)) ≡ None) }
+        (λ n. values.number_or default option.name.now option.least option.most (rows_of (found_of given.now)) ≡ Some n)
+        (λ _. values.number_or default option.name.now option.least option.most (rows_of (found_of given.now)) ≡ None) }
     ensures range { IfOk result (λ n. (option.least ≤ n) × (n ≤ option.most)) }
 {
-    match text_of(given, option.name) {
-        None => Ok(default),
-        Some(value) => number_in(option, value),
-    }
+    Ok(number_if(given, option)?.unwrap_or(default))
 }
 
 /// The number of an option that may be left out.
@@ -45,8 +42,8 @@ pub fn number_if<'a>(
     option: NumberOption,
 ) -> Result<Option<u64>, Complaint<'a>>
     ensures number { MatchResult result
-        (λ n. line.number_if option.name.now option.least option.most (rows_of (found_of given.now)) ≡ Some n)
-        (λ _. line.number_if option.name.now option.least option.most (rows_of (found_of given.now)) ≡ None) }
+        (λ n. values.number_if option.name.now option.least option.most (rows_of (found_of given.now)) ≡ Some n)
+        (λ _. values.number_if option.name.now option.least option.most (rows_of (found_of given.now)) ≡ None) }
     ensures range { IfOk result (λ given. IfSome given (λ n. (option.least ≤ n) × (n ≤ option.most))) }
 {
     match text_of(given, option.name) {
@@ -57,8 +54,8 @@ pub fn number_if<'a>(
 
 /// The number that an option's value writes.
 pub fn number_in<'a>(option: NumberOption, value: &'a str) -> Result<u64, Complaint<'a>>
-    ensures number { MatchResult result (λ n. line.number_in option.least option.most value.now ≡ Some n)
-        (λ _. line.number_in option.least option.most value.now ≡ None) }
+    ensures number { MatchResult result (λ n. values.number_in option.least option.most value.now ≡ Some n)
+        (λ _. values.number_in option.least option.most value.now ≡ None) }
     ensures range { IfOk result (λ n. (option.least ≤ n) × (n ≤ option.most)) }
 {
     number_between(value.as_bytes(), option.least, option.most).ok_or(Complaint::Number {
@@ -69,7 +66,7 @@ pub fn number_in<'a>(option: NumberOption, value: &'a str) -> Result<u64, Compla
 
 /// The number that a text writes, if it lies in the range.
 pub fn number_between(text: &[u8], least: u64, most: u64) -> Option<u64>
-    ensures number { result ≡ line.number_in least most text.now }
+    ensures number { result ≡ values.number_in least most text.now }
     ensures range { IfSome result (λ n. (least ≤ n) × (n ≤ most)) }
 {
     match read_number(text, most) {
@@ -97,4 +94,14 @@ fn read_number(text: &[u8], limit: u64) -> Option<u64>
         number = longer as u64;
     }
     Some(number)
+}
+
+/// Whether a flag is given.
+pub fn flag_of(given: &ArgMatches<'_>, name: &str) -> bool
+    ensures { result ≡ values.flag_at name.now (rows_of (found_of given.now)) }
+{
+    match text_of(given, name) {
+        Some(value) => value == "true",
+        None => false,
+    }
 }

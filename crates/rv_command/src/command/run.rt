@@ -80,23 +80,16 @@ pub const KEEP: NumberOption = NumberOption {
 
 /// `run` with its options.
 pub fn run_of<'a>(given: &ArgMatches<'a>) -> Result<Job<'a>, Complaint<'a>>
-    ensures { MatchResult result (λ job. spec.run_of (rows_of (found_of given.now)) ≡ Some (spec.asked job))
-        (λ _. spec.run_of (rows_of (found_of given.now)) ≡ None) }
+    ensures { MatchResult result (λ job. spec.run_at (rows_of (found_of given.now)) ≡ Some (spec.asked job))
+        (λ _. spec.run_at (rows_of (found_of given.now)) ≡ None) }
 {
     let image = text_of(given, "IMAGE").ok_or(Complaint::Words)?;
     let options = options_of(given)?;
     Ok(Job::Run {
         image: ImagePath(image),
         options,
-        save: save_of(given),
+        save: text_of(given, "save").map(|path| SavePath(path)),
     })
-}
-
-/// The file for a schedule.
-pub fn save_of<'a>(given: &ArgMatches<'a>) -> Option<SavePath<'a>>
-    ensures { option_map (λ path. path.0.now) result ≡ first_of (codes "save") (rows_of (found_of given.now)) }
-{
-    text_of(given, "save").map(|path| SavePath(path))
 }
 
 fn options_of<'a>(given: &ArgMatches<'a>) -> Result<Options<'a>, Complaint<'a>>

@@ -6,6 +6,7 @@ ghost use Rattle.clap.specs.declared.builder.command.Command.TheViews.{out-Comma
 ghost use Rattle.rv_command.specs.ClapProgram as known;
 ghost use Rattle.rv_command.specs.internal.Commands as commands;
 
+use crate::status::Statuses;
 use clap::{Arg, ArgAction, Command};
 use std::alloc::{AllocError, Global};
 
@@ -40,12 +41,14 @@ pub enum Argument {
     },
 }
 
-/// A command with its arguments, and the texts that its help has before and after their list.
+/// A command with its arguments, the texts that its help has before and after their list, and the options that ask for the
+/// status of what is found.
 #[derive(Clone, Copy)]
 pub struct Subcommand {
     pub name: &'static str,
     pub about: &'static str,
-    pub after: Option<&'static str>,
+    pub after: &'static str,
+    pub found_by: Option<&'static str>,
     pub arguments: &'static [Argument],
 }
 
@@ -98,12 +101,24 @@ fn flag<'a>(alloc: Global, name: &'a str, help: &'a str) -> Arg<'a>
 }
 
 impl Subcommand {
-    fn command<'a>(self, alloc: Global) -> Result<Command<'a>, AllocError>
+    /// What the help says after the arguments.
+    pub fn after_help(self, alloc: Global) -> Result<String, AllocError> {
+        let statuses = Statuses {
+            found_by: self.found_by,
+        };
+        format!(in alloc; "{}\n\n{statuses}", self.after)
+    }
+
+    fn command<'a>(
+        self,
+        alloc: Global,
+        after: Option<&'a String>,
+    ) -> Result<Command<'a>, AllocError>
         ensures { IfOk result (λ c. (shape_of c ≡ commands.shape self) × ((fields_of c).has_globals ≡ false)) }
     {
         let command = Command::new(alloc, self.name).about(self.about);
-        let command = match self.after {
-            Some(text) => command.after_help(text),
+        let command = match after {
+            Some(text) => command.after_help(text.as_str()),
             None => command,
         };
         with_arguments(alloc, command, self.arguments)
@@ -139,18 +154,19 @@ fn with_argument<'a>(
     command.arg(argument.arg(alloc))
 }
 
-/// The program with more commands.
+/// The program with more commands, with what their help says after the arguments, where that is given.
 #[tactic(auto, using(std::proofs::lemmas::List::Sums::fold_more))]
 pub fn with_subcommands<'a>(
     alloc: Global,
     program: Command<'a>,
     subcommands: &[Subcommand],
+    after: &'a [String],
 ) -> Result<Command<'a>, AllocError>
     ensures { IfOk result (λ c. app_of c ≡ fold commands.with_subcommand (app_of program.entry) subcommands.now) }
 {
     let mut program = program;
-    for subcommand in subcommands {
-        program = with_subcommand(alloc, program, *subcommand)?;
+    for (place, subcommand) in subcommands.iter().enumerate() {
+        program = with_subcommand(alloc, program, *subcommand, after.get(place))?;
     }
     Ok(program)
 }
@@ -160,8 +176,9 @@ fn with_subcommand<'a>(
     alloc: Global,
     program: Command<'a>,
     subcommand: Subcommand,
+    after: Option<&'a String>,
 ) -> Result<Command<'a>, AllocError>
     ensures { IfOk result (λ c. app_of c ≡ commands.with_subcommand (app_of program.entry) subcommand) }
 {
-    program.subcommand(subcommand.command(alloc)?)
+    program.subcommand(subcommand.command(alloc, after)?)
 }

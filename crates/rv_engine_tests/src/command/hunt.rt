@@ -13,7 +13,8 @@ const PLAIN: HuntLine = HuntLine {
     limit: Limit::Budget(50_000_000),
     workers: None,
     lengths: None,
-    slots: 4,
+    slots: None,
+    sampled: false,
     named: None,
     skip: None,
     ignore: None,
@@ -45,7 +46,7 @@ const LENGTHS: Lengths = Lengths {
     pause: 100,
 };
 
-/// What a line asks for that gives each option.
+/// What a line asks for that gives each option but `--sampled`.
 const ALL: HuntLine = HuntLine {
     harts: Some(2),
     seed: 7,
@@ -53,7 +54,8 @@ const ALL: HuntLine = HuntLine {
     limit: Limit::Runs(3),
     workers: Some(6),
     lengths: Some(LENGTHS),
-    slots: 8,
+    slots: Some(8),
+    sampled: false,
     named: Some("a,,b"),
     skip: Some("00010000,x"),
     ignore: Some(IgnorePath("i.txt")),
@@ -67,6 +69,12 @@ const ALL: HuntLine = HuntLine {
     is_quiet: true,
 };
 
+/// What a line asks for that gives `--sampled`.
+const SAMPLED: HuntLine = HuntLine {
+    sampled: true,
+    ..PLAIN
+};
+
 fn job<'a>(line: HuntLine<'a>) -> Option<Job<'a>> {
     Some(Job::Hunt {
         image: ImagePath("a.elf"),
@@ -74,11 +82,12 @@ fn job<'a>(line: HuntLine<'a>) -> Option<Job<'a>> {
     })
 }
 
-/// Lines that give no option, two that give the most runs and steps, and one that gives each option.
+/// Lines that give no option, two that give the most runs and steps, one of sampled runs, and one that gives each other option.
 const LINES: &[(&str, HuntLine)] = &[
     ("rvcollide hunt a.elf", PLAIN),
     ("rvcollide hunt -- a.elf", PLAIN),
     ("rvcollide hunt a.elf --runs 4294967296", MOST_RUNS),
+    ("rvcollide hunt --sampled a.elf", SAMPLED),
     ("rvcollide hunt a.elf --budget 1000000000000000", MOST_STEPS),
     (
         "rvcollide hunt --quiet --expect=t.txt --check-all --check --table \
