@@ -1,4 +1,4 @@
 pub mod DrivingLemmas
 pub mod GoingLemmas
 pub mod PieceLemmas
-pub mod SeriesLemmas
+pub mod SlotLemmas

@@ -1,7 +1,5 @@
--- Runs, each with a plan of its own, and what is kept of each.
-use Rattle.std.specs.Prelude.{◌≡◌, ℕ, List, [], Some, length, slice_get}
-use Rattle.rv_campaign.specs.declared.kept.SeriesRun.{SeriesRun}
-use Rattle.rv_collide.specs.Numbers.{numbers}
+-- What is kept of a run.
+use Rattle.std.specs.Prelude.{◌≡◌, ℕ, List, []}
 use Rattle.rv_collide.specs.Plan.{Numbers}
 use Rattle.rv_collide.specs.Stored.{Stored, setting_of, stored}
 use Rattle.rv_drive.specs.Drawn.{IsDrawn}
@@ -25,8 +23,3 @@ pub record IsKept {K : Type 0} (keeps : Stored → K → Type 0) (source : Sourc
   pub core : Stored
   pub is_core : IsCoreOf source plan run core
   pub is_kept : keeps core kept
-
--- in order, what is kept of runs: of each number and its plan the one, as its own keeper keeps it
-pub record AreKept {T K : Type 0} (keeps : T → Stored → K → Type 0) (source : Source) (runs : List (SeriesRun T)) (kept : List K) : Type 0 where
-  pub count : length kept ≡ length runs
-  pub each : (place : ℕ) (run : SeriesRun T) (one : K) → slice_get runs place ≡ Some run → slice_get kept place ≡ Some one → IsKept (keeps run.keep.now) source (numbers run.plan) run.number one

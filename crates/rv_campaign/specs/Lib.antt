@@ -1,4 +1,5 @@
 pub mod Campaign
 pub mod Kept
+pub mod Pool
 pub mod Run
 pub mod internal

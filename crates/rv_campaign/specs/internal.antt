@@ -1,4 +1,4 @@
 pub mod Driving
 pub mod Pieces
-pub mod Series
+pub mod Slots
 pub mod Whole

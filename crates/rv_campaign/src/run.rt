@@ -50,7 +50,7 @@ pub fn left_by(core: Collider<Flat>) -> Finished
 }
 
 /// The core at the end of a run over the sites of a sampler.
-pub(crate) fn core_sampled(
+pub fn core_sampled(
     alloc: Global,
     image: &Image,
     plan: Plan,

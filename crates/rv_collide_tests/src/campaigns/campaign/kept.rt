@@ -1,9 +1,9 @@
-//! Series of runs with plans of their own.
+//! Jobs of workers: runs with plans of their own.
 ghost use Rattle.std.specs.Prelude.{⊤};
 
 use crate::assertion::assert_is;
 use crate::campaigns::images::{P, image, plan};
-use rv_campaign::{Keep, Series, SeriesRun, kept_runs, run_one};
+use rv_campaign::{Jobs, all_made, core_sampled, run_one};
 use rv_collide::collider::Collider;
 use rv_collide::entry::Entry;
 use rv_collide::plan::Plan;
@@ -16,15 +16,37 @@ use std::process::Abort;
 use std::sync::Wait;
 use std::thread::Threads;
 
-/// Keeps a run's entries.
-struct Entries;
+/// Runs from a number on, each with a plan of its own.
+#[derive(Drop)]
+struct Runs<'a> {
+    image: &'a Image,
+    sampler: &'a Sampler,
+    first: u32,
+    plans: &'a [Plan],
+    count: u32,
+}
 
-impl Keep for Entries {
-    type Kept = Vec<Entry>;
+impl<'a> Jobs for Runs<'a> {
+    type Made = Vec<Entry>;
 
-    ghost keeps = { λ _ _ _. ⊤ };
+    ghost jobs = { λ r. r.count };
 
-    fn keep(&self, alloc: Global, core: Collider<Flat>) -> Result<Vec<Entry>, NoMemory> {
+    ghost makes = { λ _ _ _. ⊤ };
+
+    fn count(&self) -> u32 {
+        self.count
+    }
+
+    fn size(&self, place: u32) -> u32 {
+        self.plans.get(place as usize).map_or(0, |plan| plan.steps)
+    }
+
+    fn make(&self, alloc: Global, place: u32) -> Result<Vec<Entry>, NoMemory> {
+        let Some(plan) = self.plans.get(place as usize) else {
+            return Err(NoMemory);
+        };
+        let number = self.first.wrapping_add(place);
+        let core = core_sampled(alloc, self.image, *plan, 5, number, self.sampler)?;
         entries_of(alloc, &core)
     }
 }
@@ -49,8 +71,8 @@ fn plans(rt: &impl Abort, alloc: Global, count: u32) -> Vec<Plan> {
     plans
 }
 
-/// What a series of runs with these plans keeps.
-fn kept_by<R: Threads + Wait + Abort>(
+/// The entries of the runs with these plans.
+fn made_by<R: Threads + Wait + Abort>(
     rt: &R,
     alloc: Global,
     image: &Image,
@@ -59,34 +81,26 @@ fn kept_by<R: Threads + Wait + Abort>(
     workers: u8,
 ) -> Vec<Vec<Entry>> {
     let sampler = Sampler::sites(alloc, image, &[]).expect(rt, "memory");
-    let mut runs = Vec::new(alloc);
-    for (number, plan) in (first..=u32::MAX).zip(plans) {
-        runs.push(SeriesRun {
-            number,
-            plan: *plan,
-            keep: &Entries,
-        })
-        .expect(rt, "memory");
-    }
-    let series = Series {
+    let runs = Runs {
         image,
-        seed: 5,
         sampler: &sampler,
-        runs: &runs,
+        first,
+        plans,
+        count: u32::try_from(plans.len()).expect(rt, "a number"),
     };
     assert!(rt; workers <= 16);
-    kept_runs(rt, alloc, &series, workers).expect(rt, "a series")
+    all_made(rt, alloc, &runs, workers).expect(rt, "runs")
 }
 
-/// A series of so many runs from a number on is those of the numbers, each with its plan.
-fn assert_is_series<R: Threads + Wait + Abort>(
+/// So many runs from a number on are those of the numbers, each with its plan.
+fn assert_are_made<R: Threads + Wait + Abort>(
     rt: &R,
     alloc: Global,
     (first, count, workers): (u32, u32, u8),
 ) {
     let image = image(rt, alloc, &P);
     let plans = plans(rt, alloc, count);
-    let kept = kept_by(rt, alloc, &image, first, &plans, workers);
+    let kept = made_by(rt, alloc, &image, first, &plans, workers);
     assert_is(rt, kept.len(), plans.len(), "runs");
     assert_are_runs(rt, alloc, &image, first, &plans, &kept);
 }
@@ -107,7 +121,7 @@ fn assert_are_runs(
 }
 
 /// The first run's number, how many runs, and by how many workers. (Without a worker the caller makes them.)
-const SERIES: [(u32, u32, u8); 7] = [
+const JOBS: [(u32, u32, u8); 7] = [
     (0, 17, 1),
     (0, 17, 2),
     (3, 17, 16),
@@ -118,8 +132,8 @@ const SERIES: [(u32, u32, u8); 7] = [
 ];
 
 #[test]
-fn series_by_any_number_of_workers(rt: HostRuntime) {
-    for series in &SERIES {
-        assert_is_series(&rt, rt.alloc(), *series);
+fn jobs_by_any_number_of_workers(rt: HostRuntime) {
+    for jobs in &JOBS {
+        assert_are_made(&rt, rt.alloc(), *jobs);
     }
 }

@@ -1,5 +1,5 @@
 use Rattle.std.proofs.Common.{◌≡◌, None, replicate}
-use Rattle.rv_campaign.proofs.series.empty_slots.Given as goal
+use Rattle.rv_campaign.proofs.pool.empty_slots.Given as goal
 
 abbrev pub invariant-loop : goal.invariant-loop
 invariant-loop g l = l.slots.items ≡ replicate l.counter None
