@@ -1,31 +1,37 @@
 -- The plans of a hunt's runs. No one plan finds all races, so they go through all scales.
-use Rattle.std.specs.Prelude.{ℕ, ◌+◌, ◌*◌, ◌/◌, ◌%◌, ◌^◌, ◌≤◌, ◌==◌, min, if◌then◌else◌, Option, unwrap_or, map, count_by, IfSome}
-use Rattle.std.specs.List.{range_with_len}
+use Rattle.std.specs.Prelude.{ℕ, Bool, true, false, ◌+◌, ◌/◌, ◌%◌, ◌≤◌, ◌==◌, if◌then◌else◌, Option, unwrap_or, IfSome}
 use Rattle.rv_break.specs.declared.claim.TheConstants.{MOST_SLOTS}
 use Rattle.rv_collide.specs.Plan.{Numbers}
 use Rattle.rv_collide.specs.declared.plan.TheConstants.{MOST_ARMS, MOST_PAUSE, MOST_STEPS}
 use Rattle.rv_hart.specs.declared.machine.TheConstants.{MOST_HARTS}
 use Rattle.rv_tally.specs.declared.plans.Lengths.{Lengths}
+use Rattle.rv_tally.specs.declared.plans.Mix.{Mix}
+use Rattle.rv_tally.specs.declared.plans.Mix.TheVariants.{Mixed, Sampled, Walks}
+use Rattle.rv_walk.specs.Course.{four_of, steps_at}
 
--- how many times 2 divides a number, at most 10 times
-abbrev pub twos : ℕ → ℕ
-twos n = count_by (λ power. n % power == 0) (map (λ k. 2 ^ k) (range_with_len 1 10))
+-- the run is one whose harts are paused at sites that are drawn
+abbrev pub is_sampled : Mix → ℕ → Bool
+is_sampled Mixed run = run % 4 == 3
+is_sampled Sampled run = true
+is_sampled Walks run = false
 
--- Each length is twice as long as the one before it, and half as frequent, so that each gets about the same share of
--- the steps; none is over a million.
-abbrev pub steps_of : ℕ → ℕ
-steps_of run = min (1000 * 2 ^ twos (run + 1)) 1_000_000
+-- The lengths go through all scales, by the number of a run's four, or of the run where all are sampled.
+abbrev pub steps_of : Mix → ℕ → ℕ
+steps_of Mixed run = steps_at (four_of run)
+steps_of Sampled run = steps_at (run + 1)
+steps_of Walks run = steps_at (four_of run)
 
 -- 2, 4 and 8 by turns
 abbrev pub harts_of : ℕ → ℕ
 harts_of run = if run % 3 == 0 then 2 else (if run % 3 == 1 then 4 else 8)
 
 -- the lengths of a run where none are given: a pause lasts a twentieth of the run
-abbrev pub lengths_of : ℕ → Lengths
-lengths_of run = record { steps = steps_of run; arms = 64; pause = steps_of run / 20 }
+abbrev pub lengths_of : Mix → ℕ → Lengths
+lengths_of mix run = record { steps = steps_of mix run; arms = 64; pause = steps_of mix run / 20 }
 
--- What is given of all plans: how many harts there are, if that is, how many slots, and the lengths, if they are.
+-- What is given of all plans: what the runs are, how many harts there are, if that is, how many slots, and the lengths, if they are.
 pub record Given : Type 0 where
+  pub mix : Mix
   pub harts : Option ℕ
   pub slots : ℕ
   pub lengths : Option Lengths
@@ -41,7 +47,7 @@ plan_with given run lengths = record {
 
 -- the plan of a run
 unfoldable pub plan_of : Given → ℕ → Numbers
-plan_of given run = plan_with given run (unwrap_or given.lengths (lengths_of run))
+plan_of given run = plan_with given run (unwrap_or given.lengths (lengths_of given.mix run))
 
 -- ---- what may be given
 

@@ -5,6 +5,7 @@ ghost use Rattle.rv_collide.specs.Plan.{IsPlan};
 ghost use Rattle.rv_tally.specs.Plans as spec;
 
 use rv_collide::plan::{MOST_ARMS, MOST_HARTS, MOST_PAUSE, MOST_SLOTS, MOST_STEPS, Plan};
+use rv_walk::course::{four_of, steps_at};
 use std::marker::Model;
 
 /// The lengths of a run: how many steps its harts make together at most (1 to 1,000,000), how many addresses are armed
@@ -16,10 +17,19 @@ pub struct Lengths {
     pub pause: u32,
 }
 
+/// What the runs of a hunt are: of each four three walks and a sampled run, sampled runs alone, or walks alone.
+#[derive(Clone, Copy, Debug, PartialEq, Eq)]
+pub enum Mix {
+    Mixed,
+    Sampled,
+    Walks,
+}
+
 /// The plans of all runs, by number. The lengths go through all scales, and there are 2, 4 and 8 harts by turns, where
 /// none are given.
 #[derive(Drop)]
 pub struct Plans {
+    mix: Mix,
     harts: Option<u8>,
     slots: u8,
     lengths: Option<Lengths>,
@@ -37,28 +47,47 @@ impl Model for Plans {
 
     ghost Value = { Given };
 
-    ghost view = { λ p. record { harts = p.harts; slots = p.slots; lengths = p.lengths } };
+    ghost view = { λ p. record { mix = p.mix; harts = p.harts; slots = p.slots; lengths = p.lengths } };
 
-    ghost invariant = { λ p. IsGiven (record { harts = p.harts; slots = p.slots; lengths = p.lengths }) };
+    ghost invariant = { λ p. IsGiven (record { mix = p.mix; harts = p.harts; slots = p.slots; lengths = p.lengths }) };
 }
 
-/// How many times 2 divides a number, at most 10 times.
-fn twos(n: u64) -> u32
-    ensures is { result ≡ spec.twos n }
-    ensures few { result ≤ 10 }
-{
-    [2u64, 4, 8, 16, 32, 64, 128, 256, 512, 1024]
-        .iter()
-        .filter(|power| n % **power == 0)
-        .count() as u32
-}
+impl Mix {
+    /// Whether the run is one whose harts are paused at sites that are drawn.
+    pub fn is_sampled(self, run: u32) -> bool
+        ensures { result ≡ spec.is_sampled self run }
+    {
+        match self {
+            Mix::Mixed => run % 4 == 3,
+            Mix::Sampled => true,
+            Mix::Walks => false,
+        }
+    }
 
-/// How many steps a run makes at most, where that is not given.
-fn steps_of(run: u32) -> u32
-    ensures { result ≡ spec.steps_of run }
-{
-    let twos = twos(u64::from(run) + 1);
-    (1000 * 2u32.pow(twos)).min(1_000_000)
+    /// How many steps a run makes, where that is not given: at most, or as a walk at least where its harts are awake.
+    fn steps_of(self, run: u32) -> u32
+        ensures is { result ≡ spec.steps_of self run }
+        ensures some { 1000 ≤ result }
+        ensures few { result ≤ 1_000_000 }
+    {
+        match self {
+            Mix::Mixed | Mix::Walks => steps_at(u64::from(four_of(run))),
+            Mix::Sampled => steps_at(u64::from(run) + 1),
+        }
+    }
+
+    /// The lengths of a run, where they are not given.
+    fn lengths_of(self, run: u32) -> Lengths
+        ensures value { result ≡ spec.lengths_of self run }
+        ensures legal { spec.AreLengths result }
+    {
+        let steps = self.steps_of(run);
+        Lengths {
+            steps,
+            arms: 64,
+            pause: steps / 20,
+        }
+    }
 }
 
 /// How many harts a run has, where that is not given.
@@ -72,19 +101,6 @@ fn harts_of(run: u32) -> u8
     }
 }
 
-/// The lengths of a run, where they are not given.
-fn lengths_of(run: u32) -> Lengths
-    ensures value { result ≡ spec.lengths_of run }
-    ensures legal { spec.AreLengths result }
-{
-    let steps = steps_of(run);
-    Lengths {
-        steps,
-        arms: 64,
-        pause: steps / 20,
-    }
-}
-
 /// Whether a run may have the lengths.
 fn are_lengths(lengths: Lengths) -> bool
     ensures { (result ≡ true) ↔ spec.AreLengths lengths }
@@ -94,12 +110,12 @@ fn are_lengths(lengths: Lengths) -> bool
 }
 
 impl Plans {
-    /// The plans of so many harts (1 to 16), slots (1 to 8) and lengths, where they are in range.
-    pub fn new(harts: Option<u8>, slots: u8, lengths: Option<Lengths>) -> Option<Plans>
+    /// The plans of such runs with so many harts (1 to 16), slots (1 to 8) and lengths, where they are in range.
+    pub fn new(mix: Mix, harts: Option<u8>, slots: u8, lengths: Option<Lengths>) -> Option<Plans>
         ensures valid { IsSome result
-            ↔ spec.IsGiven (record { harts = harts; slots = slots; lengths = lengths }) }
+            ↔ spec.IsGiven (record { mix = mix; harts = harts; slots = slots; lengths = lengths }) }
         ensures value { IfSome result (λ plans. plans
-            ≡ record { harts = harts; slots = slots; lengths = lengths }) }
+            ≡ record { mix = mix; harts = harts; slots = slots; lengths = lengths }) }
     {
         if let Some(harts) = harts {
             if !(1 <= harts && harts <= MOST_HARTS) {
@@ -113,6 +129,7 @@ impl Plans {
         }
         if 1 <= slots && slots <= MOST_SLOTS {
             Some(Plans {
+                mix,
                 harts,
                 slots,
                 lengths,
@@ -120,6 +137,13 @@ impl Plans {
         } else {
             None
         }
+    }
+
+    /// What the runs are.
+    pub fn mix(&self) -> Mix
+        ensures { result ≡ self.now.mix }
+    {
+        self.mix
     }
 
     /// How many harts a run has.
@@ -135,12 +159,12 @@ impl Plans {
 
     /// The lengths of a run.
     fn lengths(&self, run: u32) -> Lengths
-        ensures value { result ≡ unwrap_or self.now.lengths (spec.lengths_of run) }
+        ensures value { result ≡ unwrap_or self.now.lengths (spec.lengths_of self.now.mix run) }
         ensures legal { spec.AreLengths result }
     {
         match self.lengths {
             Some(lengths) => lengths,
-            None => lengths_of(run),
+            None => self.mix.lengths_of(run),
         }
     }
 

@@ -1,6 +1,8 @@
 -- Where a walk stands.
 use Rattle.std.proofs.Common.{◌≡◌, ℕ, zero, suc, ◌<◌, Bool, true, false, List, [], ◌∷◌, length, Option, Some, None, sym, subst, ap, ◌∙◌, arith}
-use Rattle.std.specs.Prelude.{IfSome, is_some, not, slice_get}
+use Rattle.std.specs.Prelude.{IfSome, IsTrue, ◌↔◌, is_some, not, slice_get}
+use Rattle.rv_waits.specs.Touches.{Loads}
+use Rattle.rv_walk.specs.Rounds.{IsPolled}
 use Rattle.rv_hart.specs.Refusals.{is_running_hart}
 use Rattle.rv_hart.specs.Run.{run}
 use Rattle.rv_hart.specs.declared.hart.Hart.{Hart}
@@ -33,6 +35,12 @@ stands own walk t s view reached at =
 pub waits_seen : (s : State) (h : ℕ) (seen : Option Round) (none : Bool) → is_some seen ≡ not none → none ≡ false → IfSome seen (λ (round : Round). IsRound s h round.steps) → Waits s h
 waits_seen s h None none is unset round = let e : false ≡ true = is ∙ ap not unset in cc
 waits_seen s h (Some seen) none is unset round = (seen.steps, round)
+
+-- and the same of whatever state the walk is said to stand in
+pub polled_seen : (state : State) (walk : Walked) (h : ℕ) (seen : Option Round) → IfSome seen (λ (round : Round). IsRound state h round.steps) → IfSome seen (λ (round : Round). IsTrue round.polls ↔ Loads h round.steps state) → ((s : State) → IsAt walk s → state ≡ s) → IfSome seen (λ (round : Round). (s : State) → IsAt walk s → IsPolled s h round)
+polled_seen state walk h None round polls here = tt
+polled_seen state walk h (Some seen) round polls here = λ s at.
+    subst (λ (u : State). IsPolled u h seen) (here s at) (record { is_round = round; polls = polls })
 
 pub runs_within : (harts : List Hart) (h : ℕ) → is_running_hart (slice_get harts h) ≡ true → h < length harts
 runs_within [] h is = let e : false ≡ true = is in cc

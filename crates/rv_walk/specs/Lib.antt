@@ -5,6 +5,7 @@ pub mod NearPair
 pub mod Over
 pub mod Part
 pub mod Probe
+pub mod Rounds
 pub mod Told
 pub mod WalkLaws
 pub mod Walked

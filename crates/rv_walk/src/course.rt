@@ -37,35 +37,44 @@ pub struct Course {
     pub burst: u32,
 }
 
-impl Course {
-    ghost use Rattle.rv_walk.specs.Course.{course_of};
-
-    /// That of a run, by its number.
-    pub fn of_run(run: u32) -> Course
-        ensures { result ≡ course_of run }
-    {
-        let four = run / 4 + 1;
-        let twos = twos(four);
-        Course {
-            steps: (1000 * 2u32.pow(twos)).min(1_000_000),
-            burst: if four / 2u32.pow(twos + 1) % 2 == 0 {
-                FEW_TURNS
-            } else {
-                MANY_TURNS
-            },
-        }
-    }
+/// The number of a run's four, counted from 1.
+pub fn four_of(run: u32) -> u32
+    ensures { result ≡ spec.four_of run }
+{
+    run / 4 + 1
 }
 
 /// How many times 2 divides a number, at most 10 times.
-fn twos(n: u32) -> u32
+fn twos(n: u64) -> u32
     ensures is { result ≡ spec.twos n }
     ensures few { result ≤ 10 }
 {
-    [2u32, 4, 8, 16, 32, 64, 128, 256, 512, 1024]
+    [2u64, 4, 8, 16, 32, 64, 128, 256, 512, 1024]
         .iter()
         .filter(|power| n % **power == 0)
         .count() as u32
+}
+
+/// The length at a number, counted from 1: 1,000 to 1,000,000 steps.
+pub fn steps_at(n: u64) -> u32
+    ensures is { result ≡ spec.steps_at n }
+    ensures some { 1000 ≤ result }
+    ensures few { result ≤ 1_000_000 }
+{
+    (1000 * 2u32.pow(twos(n))).min(1_000_000)
+}
+
+/// The most turns of a burst in the walk of a run.
+pub fn burst_of(run: u32) -> u32
+    ensures is { result ≡ spec.burst_of run }
+    ensures some { 1 ≤ result }
+{
+    let four = four_of(run);
+    if four / 2u32.pow(twos(u64::from(four)) + 1) % 2 == 0 {
+        FEW_TURNS
+    } else {
+        MANY_TURNS
+    }
 }
 
 /// How many steps were made in bursts at whose begin two or more harts were awake, and at how many of them it is asked next whether

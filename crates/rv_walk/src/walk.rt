@@ -3,6 +3,7 @@ ghost use Rattle.std.specs.Prelude.{◌≡◌, ◌+◌, ◌-◌, ◌^◌, ◌<�
 ghost use Rattle.rv_hart.specs.State.{State};
 ghost use Rattle.rv_waits.specs.Stuck.{Runs};
 ghost use Rattle.rv_walk.specs.Burst.{AllMayRest, IsNextFrom, IsShortened, MayRest, longer};
+ghost use Rattle.rv_walk.specs.Rounds.{IsPolled};
 ghost use Rattle.rv_walk.specs.NearPair.{IsNearPair};
 ghost use Rattle.rv_walk.specs.Told.{AreTold};
 ghost use Rattle.rv_walk.specs.Walked.{IsAt};
@@ -15,6 +16,7 @@ use rv_hart::access::Event;
 use rv_hart::laws::{reservations_and_accesses, what_no_step_does};
 use rv_hart::machine::{Machine, StepFault};
 use rv_memory::store::{ByteStore, NoMemory};
+use rv_waits::round::Round;
 use rv_waits::watch::Watch;
 use std::alloc::Global;
 use std::marker::Model;
@@ -114,6 +116,17 @@ impl<'a, S: ByteStore> Walk<'a, S> {
         ensures rests { result ≡ false → (s : State) → IsAt self.now s → MayRest s h }
     {
         self.machine.runs(h) && self.watch.round(&self.machine, h).is_none()
+    }
+
+    /// The round of a hart that runs and is seen to wait.
+    pub fn round(&self, h: u8) -> Option<Round>
+        ensures { IfSome result (λ round. (s : State) → IsAt self.now s → IsPolled s h round) }
+    {
+        if self.machine.runs(h) {
+            self.watch.round(&self.machine, h)
+        } else {
+            None
+        }
     }
 
     /// The first hart from a number on, in a circle, that runs and isn't seen to wait.

@@ -1,11 +1,12 @@
 //! Programs that are drawn, and the near pairs of their walks by a plain program over the whole list of accesses.
-use crate::samples::{assert_is, image, machine_of};
+use crate::samples::{assert_is, course_of, image};
 use rv_break::claim::Seen;
+use rv_collide::collider::machine_of;
 use rv_elf::Image;
 use rv_hart::access::Event;
 use rv_memory::flat::Flat;
 use rv_sample::{Generator, Sampler};
-use rv_walk::course::{Course, go};
+use rv_walk::course::go;
 use rv_walk::near_pair::{FAR, MOST_KEPT, NearPair};
 use rv_walk::sites::Sites;
 use rv_walk::walk::{Walk, WalkLeft};
@@ -70,16 +71,16 @@ fn program(rt: &impl Abort, alloc: Global, number: u32) -> Vec<u32> {
 }
 
 fn walked(rt: &impl Abort, alloc: Global, image: &Image, sites: &Sites, run: u32) -> WalkLeft {
-    let machine = machine_of::<Flat>(rt, alloc, image, HARTS, MOST);
+    let machine = machine_of::<Flat>(alloc, image, HARTS, MOST).expect(rt, "memory");
     let mut walk = Walk::begin(alloc, machine, MOST, sites).expect(rt, "memory");
     let mut words = Generator::new(2, u64::from(run));
-    let _over = go(&mut walk, Course::of_run(run), &mut words).expect(rt, "memory");
+    let _over = go(&mut walk, course_of(run), &mut words).expect(rt, "memory");
     walk.finish(alloc).expect(rt, "memory")
 }
 
 /// The accesses of a walk, by a machine that makes its steps again.
 fn accesses(rt: &impl Abort, alloc: Global, image: &Image, harts: &[u8]) -> Vec<Seen> {
-    let mut machine = machine_of::<Flat>(rt, alloc, image, HARTS, MOST);
+    let mut machine = machine_of::<Flat>(alloc, image, HARTS, MOST).expect(rt, "memory");
     let mut seen = Vec::new(alloc);
     for (place, hart) in (0..MOST).zip(harts) {
         let event = machine.step(*hart).expect(rt, "a step");

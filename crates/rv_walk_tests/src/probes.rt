@@ -1,6 +1,6 @@
 //! Walks, the near pairs that they see, and probes that begin in their middle.
-use crate::samples::{assert_is, image, machine_of};
-use rv_collide::collider::Finished;
+use crate::samples::{assert_is, course_of, image};
+use rv_collide::collider::{Finished, machine_of};
 use rv_collide::ending::Verdict;
 use rv_collide::replay::replay;
 use rv_elf::Image;
@@ -8,7 +8,7 @@ use rv_memory::flat::Flat;
 use rv_memory::paged::Paged;
 use rv_memory::store::Fork;
 use rv_sample::{Generator, Sampler};
-use rv_walk::course::{Course, MOST_WALKED, Over, go};
+use rv_walk::course::{MOST_WALKED, Over, go};
 use rv_walk::drawn::drawn;
 use rv_walk::probe::Reached;
 use rv_walk::probes::Probes;
@@ -38,10 +38,10 @@ fn walked<S: Fork>(
     image: &Image,
     sites: &Sites,
 ) -> (WalkLeft, Over) {
-    let machine = machine_of::<S>(rt, alloc, image, 2, MOST_WALKED);
+    let machine = machine_of::<S>(alloc, image, 2, MOST_WALKED).expect(rt, "memory");
     let mut walk = Walk::begin(alloc, machine, MOST_WALKED, sites).expect(rt, "memory");
     let mut words = Generator::new(1, 0);
-    let over = go(&mut walk, Course::of_run(0), &mut words).expect(rt, "memory");
+    let over = go(&mut walk, course_of(0), &mut words).expect(rt, "memory");
     (walk.finish(alloc).expect(rt, "memory"), over)
 }
 
@@ -95,7 +95,7 @@ fn found_by<S: Fork>(rt: &impl Abort, alloc: Global, image: &Image) -> Outcome {
     let made = left.harts.len();
     assert!(rt; made <= MOST_WALKED as usize);
     let drawn = drawn(alloc, &left.pairs, made as u32, &mut words).expect(rt, "memory");
-    let machine = machine_of::<S>(rt, alloc, image, 2, MOST_WALKED);
+    let machine = machine_of::<S>(alloc, image, 2, MOST_WALKED).expect(rt, "memory");
     let mut probes = Probes::of(machine, &left.harts, &sites, 1, 0, 8);
     for pair in &drawn {
         let part = probes.probe(alloc, pair).expect(rt, "memory");

@@ -1,13 +1,22 @@
-//! The images that are walked.
-ghost use Rattle.std.specs.Prelude.{◌≡◌, ◌≤◌, []};
+//! The images that are walked, and how far.
+ghost use Rattle.std.specs.Prelude.{◌≤◌};
 
 use rv_elf::Image;
-use rv_hart::machine::{MOST_HARTS, Machine, OUTPUT_LIMIT};
 use rv_memory::region::Region;
-use rv_memory::store::ByteStore;
+use rv_walk::course::{Course, burst_of, four_of, steps_at};
 use std::alloc::Global;
 use std::fmt::Debug;
 use std::process::Abort;
+
+/// How far the walk of a run goes.
+pub fn course_of(run: u32) -> Course
+    ensures { 1 ≤ result.burst }
+{
+    Course {
+        steps: steps_at(u64::from(four_of(run))),
+        burst: burst_of(run),
+    }
+}
 
 /// What was found is what is wanted.
 pub fn assert_is<T: PartialEq + Debug + Drop>(rt: &impl Abort, found: T, wanted: T, what: &str) {
@@ -41,21 +50,4 @@ pub fn image(rt: &impl Abort, alloc: Global, words: &[u32]) -> Image {
     ]
     .expect(rt, "memory");
     Image::new(0x10000, segments, Vec::new(alloc)).expect(rt, "an image")
-}
-
-/// A machine of an image with so many harts (1 to 16), which may print so many bytes (up to 1,000,000).
-pub fn machine_of<S: ByteStore>(
-    rt: &impl Abort,
-    alloc: Global,
-    image: &Image,
-    harts: u8,
-    limit: u32,
-) -> Machine<S>
-    requires some { 1 ≤ harts }
-    requires harts { harts ≤ MOST_HARTS }
-    requires limit { limit ≤ OUTPUT_LIMIT }
-    ensures printed { result.state.output ≡ [] }
-    ensures limit { result.limit ≡ limit }
-{
-    Machine::new(alloc, image.segments(), image.entry(), harts, limit).expect(rt, "memory")
 }
