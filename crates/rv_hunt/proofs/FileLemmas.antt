@@ -2,7 +2,7 @@
 use Rattle.std.proofs.Common.{◌≡◌, ℕ, List, Option, Some, None, Result, Ok, sym, subst, true, false}
 use Rattle.std.specs.Prelude.{IfSome, IsOkAnd, option_and_then, option_map}
 use Rattle.std.specs.Result.{IsOk}
-use Rattle.rv_hunt.specs.Hunted.{Hunt}
+use Rattle.rv_hunt.specs.Hunt.{Hunt}
 use Rattle.rv_hunt.specs.engine.Asked.{Asked}
 use Rattle.rv_hunt.specs.engine.HuntFault.{IsTold}
 use Rattle.rv_hunt.specs.engine.Hunting.{Files, Hunting, IsHuntingOf, expected_in, hunt_of, ignored_in}

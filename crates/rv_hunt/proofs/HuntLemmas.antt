@@ -1,25 +1,23 @@
 -- The runs of a hunt, one more.
 use Rattle.std.proofs.Common.{◌≡◌, ℕ, zero, suc, ◌+◌, ◌<◌, ◌≤◌, ◌^◌, ◌⊎◌, inl, inr, true, List, [], ◌∷◌, ◌++◌, length, length-append, map, take, None, Some, refl, sym, ap, subst, ◌∙◌, arith, append-nil, append_assoc}
 use Rattle.std.specs.Prelude.{slice_get, nat_lt, nat_le, not, ◌&&◌}
-use Rattle.std.specs.List.{fold}
+use Rattle.std.specs.List.{flat_map, fold}
 use Rattle.std.proofs.lemmas.Bool.{and_parts, cases_eq}
 use Rattle.std.proofs.lemmas.Bool.Decides.{nat_tests}
 use Rattle.std.proofs.lemmas.List.{map-append, take-append-le, take_all, length-map}
+use Rattle.std.proofs.lemmas.List.Concat.{flat_map-append}
 use Rattle.std.proofs.lemmas.List.Sums.{fold-append}
 use Rattle.std.proofs.lemmas.Option.{slice_get_within}
-use Rattle.rv_campaign.specs.Kept.{AreKept, IsCoreOf, IsKept}
-use Rattle.rv_collide.specs.Numbers.{numbers}
-use Rattle.rv_collide.specs.Plan.{Numbers}
-use Rattle.rv_collide.specs.Stored.{Stored}
-use Rattle.rv_campaign.specs.declared.kept.SeriesRun.{SeriesRun}
-use Rattle.rv_hunt.specs.declared.kept_run.Keeper.{Keeper}
-use Rattle.rv_hunt.specs.Hunted.{AreNumbers, AreRuns, Hunt, IsHunt, IsOfRun, IsSoFar, is_due, rows_from, rows_of, seen_in, summed}
-use Rattle.rv_hunt.specs.KeptRun.{IsKeptRun}
+use Rattle.rv_hunt.specs.Hunt.{AreNumbers, Hunt, IsHunt}
+use Rattle.rv_hunt.specs.Hunted.{AreRuns, IsSoFar, is_due, near_in, rows_from, rows_of, seen_in, summed}
+use Rattle.rv_hunt.specs.KeptRun.{IsOfRun}
+use Rattle.rv_hunt.specs.Near as near
 use Rattle.rv_hunt.specs.Rows as rows
 use Rattle.rv_hunt.specs.declared.hunted.Hunted.{Hunted}
 use Rattle.rv_hunt.specs.declared.kept_run.KeptRun.{KeptRun}
+use Rattle.rv_hunt.specs.declared.near.NearRow.{NearRow}
 use Rattle.rv_hunt.specs.declared.row.RaceRow.{RaceRow}
-use Rattle.rv_hunt.specs.internal.Lots.{AreNext, IsLot, IsNext, with_run}
+use Rattle.rv_hunt.specs.internal.Lots.{with_run}
 use Rattle.rv_report.specs.declared.key.Key.{Key}
 use Rattle.rv_tally.specs.GoesOn.{goes_on}
 use Rattle.rv_collide.specs.Counts.{saturated}
@@ -27,6 +25,7 @@ use Rattle.rv_hunt.specs.Tally.{Tally, added, cost, is_hopeless, nothing, reache
 use Rattle.rv_tally.specs.declared.limit.Limit.{Limit}
 use Rattle.rv_tally.specs.declared.limit.Limit.TheVariants.{Runs, Budget}
 use Rattle.rv_hunt.specs.declared.summary.Summary.{Summary}
+use Rattle.rv_walk.specs.declared.near_pair.Addresses.{Addresses}
 
 -- ---- how many runs there were
 
@@ -75,15 +74,22 @@ table_next first runs kept =
     ap (fold rows.added []) (rows_next first runs kept)
     ∙ fold-append rows.added [] (rows_from first runs) (rows_of (first + length runs) kept)
 
-abbrev pub hunted_of : Tally → List (Key × RaceRow) → Hunted
-hunted_of tally rs = record { tally = tally; table = rs }
+near_next : (runs : List KeptRun) (kept : KeptRun) → near.near_of (near_in (runs ++ kept ∷ [])) ≡ fold near.added (near.near_of (near_in runs)) kept.near.items
+unfolding near.near_of
+near_next runs kept =
+    ap (fold near.added []) (flat_map-append (λ (k : KeptRun). k.near.items) runs (kept ∷ []))
+    ∙ fold-append near.added [] (near_in runs) (kept.near.items ++ [])
+    ∙ ap (fold near.added (fold near.added [] (near_in runs))) (append-nil kept.near.items)
 
-pub same_hunted : {t t' : Tally} {rs rs' : List (Key × RaceRow)} → t ≡ t' → rs ≡ rs' → hunted_of t rs ≡ hunted_of t' rs'
-same_hunted tallies tables = cc
+abbrev pub hunted_of : Tally → List (Key × RaceRow) → List (Addresses × NearRow) → Hunted
+hunted_of tally rs pairs = record { tally = tally; table = rs; near = pairs }
+
+pub same_hunted : {t t' : Tally} {rs rs' : List (Key × RaceRow)} {ps ps' : List (Addresses × NearRow)} → t ≡ t' → rs ≡ rs' → ps ≡ ps' → hunted_of t rs ps ≡ hunted_of t' rs' ps'
+same_hunted tallies tables pairs = cc
 
 pub seen_next : (first : ℕ) (runs : List KeptRun) (kept : KeptRun) → seen_in first (runs ++ kept ∷ []) ≡ with_run (seen_in first runs) (first + length runs) kept
 unfolding seen_in with_run
-seen_next first runs kept = same_hunted (summed_next runs kept) (table_next first runs kept)
+seen_next first runs kept = same_hunted (summed_next runs kept) (table_next first runs kept) (near_next runs kept)
 
 -- ---- which runs are made
 
@@ -165,29 +171,8 @@ there_is [] n within = absurd (omega (arith, within))
 there_is (x ∷ xs) zero within = (x, refl)
 there_is (x ∷ xs) (suc n) within = there_is xs n (omega (arith, within))
 
-abbrev Keeps : Keeper → Stored → KeptRun → Type 0
-Keeps keep core kept = core.image ≡ keep.image.now → IsKeptRun keep.ranges.now core kept
-
-kept_run : (hunt : Hunt) (keep : Keeper) (number : ℕ) (run : SeriesRun Keeper) (kept : KeptRun) → keep.image.now ≡ hunt.source.image → keep.ranges.now ≡ hunt.ranges → IsNext hunt.given number keep run → IsKept (Keeps run.keep.now) hunt.source (numbers run.plan) run.number kept → IsOfRun hunt number kept
-kept_run hunt keep number run kept image ranges is here = record {
-  core = here.core;
-  is_core = subst (λ (p : Numbers). IsCoreOf hunt.source p number here.core) is.plan_is
-      (subst (λ (n : ℕ). IsCoreOf hunt.source (numbers run.plan) n here.core) is.number_is here.is_core);
-  is_kept = subst (λ (r : List (ℕ × ℕ)). IsKeptRun r here.core kept) ranges
-      (subst (λ (k : Keeper). Keeps k here.core kept) is.keep_is here.is_kept (here.is_core.image_is ∙ sym image));
-}
-
-pub lot_is : (hunt : Hunt) (keep : Keeper) (next : ℕ) (runs given : List (SeriesRun Keeper)) (lot : List KeptRun) → given ≡ runs → keep.image.now ≡ hunt.source.image → keep.ranges.now ≡ hunt.ranges → AreNext hunt.given next keep runs → AreKept Keeps hunt.source given lot → IsLot hunt next lot
-lot_is hunt keep next runs given lot same image ranges are_next are_kept = λ place kept there.
-    let below = slice_get_within lot place kept there in
-    let count = are_kept.count in
-    let run = there_is given place (omega (arith, below, count)) in
-    kept_run hunt keep (next + place) run.0 kept image ranges
-    (are_next place run.0 (ap (λ rs. slice_get rs place) (sym same) ∙ run.1))
-    (are_kept.each place run.0 kept run.1 there)
-
-pub none_yet : (hunt : Hunt) (hunted : Hunted) → hunted ≡ record { tally = summed []; table = [] } → IsSoFar hunt hunted
-unfolding seen_in rows_from rows.table_of
+pub none_yet : (hunt : Hunt) (hunted : Hunted) → hunted ≡ record { tally = summed []; table = []; near = near.near_of [] } → IsSoFar hunt hunted
+unfolding seen_in rows_from rows.table_of near.near_of
 none_yet hunt hunted is = record {
   runs = [];
   are_runs = record {
@@ -196,13 +181,3 @@ none_yet hunt hunted is = record {
   };
   seen = is;
 }
-
--- the runs so far, and one more
-pub runs_next : (given : _) (next : ℕ) (keep : Keeper) (runs all : List (SeriesRun Keeper)) (run : SeriesRun Keeper) (count : ℕ) → all ≡ runs ++ run ∷ [] → length runs ≡ count → IsNext given (next + count) keep run → AreNext given next keep runs → AreNext given next keep all
-runs_next given next keep runs all run count is long here before = λ place one there.
-    elim (more runs run place one (ap (λ rs. slice_get rs place) (sym is) ∙ there)) [
-      | inl earlier ↦ before place one earlier
-      | inr both ↦
-          subst (λ (r : SeriesRun Keeper). IsNext given (next + place) keep r) both.1
-          (subst (λ (n : ℕ). IsNext given (next + n) keep run) (sym (both.0 ∙ long)) here)
-    ]

@@ -23,4 +23,5 @@ pub mod ShownLemmas
 pub mod SoughtLemmas
 pub mod SummaryLemmas
 pub mod WordLemmas
+pub mod WalkLemmas
 pub mod Written

@@ -3,7 +3,6 @@ use Rattle.std.proofs.Common.{◌≡◌, ℕ, List, length, ap, subst, ◌∙◌
 use Rattle.rv_hunt.specs.Hunted.{IsHunted}
 use Rattle.rv_hunt.specs.Outcome.{Outcome}
 use Rattle.rv_hunt.specs.PageFacts.{page_facts}
-use Rattle.rv_hunt.specs.Tally.{Tally}
 use Rattle.rv_hunt.specs.ToldOrder.{AreInOrder}
 use Rattle.rv_hunt.specs.declared.engine.found.Found.{Found}
 use Rattle.rv_hunt.specs.declared.engine.shown.ShownRace.{ShownRace}
@@ -13,13 +12,14 @@ use Rattle.rv_hunt.specs.engine.Hunting.{Hunting, IsMade, IsTable, Showing, Text
 use Rattle.rv_hunt.specs.engine.Shown.{AreShown}
 use Rattle.rv_markup.specs.declared.markup.Fact.{Fact}
 use Rattle.rv_report.specs.declared.key.Key.{Key}
+use Rattle.rv_tally.specs.declared.plans.Mix.{Mix}
 
 abbrev Row : Type 0
 Row = Key × RaceRow
 
-pub outcome_is : (hunting : Hunting) (saw : Hunted) (n : ℕ) (tally : Tally) (rows ignored : List Row) → n ≡ length hunting.hunt.source.sites → tally ≡ saw.tally → rows ≡ told_in hunting saw → ignored ≡ ignored_by hunting saw
-    → record { sites = n; saw = tally; rows = rows; ignored = ignored } ≡ outcome hunting saw
-outcome_is hunting saw n tally rows ignored a b c d = rw (a, b, c, d)
+pub outcome_is : (hunting : Hunting) (saw : Hunted) (n : ℕ) (mix : Mix) (rows ignored : List Row) → n ≡ length hunting.hunt.source.sites → mix ≡ hunting.hunt.given.mix → rows ≡ told_in hunting saw → ignored ≡ ignored_by hunting saw
+    → record { sites = n; mix = mix; saw = saw; rows = rows; ignored = ignored } ≡ outcome hunting saw
+outcome_is hunting saw n mix rows ignored a b c d = rw (a, b, c, d)
 
 pub made_is : (way : Showing) (hunting : Hunting) (saw : Hunted) (Saves : ℕ → List ℕ → Type 0) (Pages : List Fact → Type 0) (rows told full : List Row) (o : Outcome) (shown : List ShownRace) (found : Found) (texts : Texts) → IsHunted hunting.hunt saw
     → rows ≡ told_in hunting saw → AreInOrder hunting.hunt.source.image rows told → full ≡ take way.full told → o ≡ outcome hunting saw → AreShown hunting.hunt Saves full shown

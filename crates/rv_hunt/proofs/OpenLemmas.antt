@@ -2,7 +2,7 @@
 use Rattle.std.proofs.Common.{◌≡◌, ℕ, List, Option, Some, None, Result, Ok, Err, refl, sym, ap, subst, ◌∙◌}
 use Rattle.std.specs.Prelude.{true, false, IfSome}
 use Rattle.rv_elf.specs.Contents.{Contents}
-use Rattle.rv_hunt.specs.Hunted.{Hunt}
+use Rattle.rv_hunt.specs.Hunt.{Hunt}
 use Rattle.rv_memory.specs.Chain.{◌>>=◌}
 use Rattle.rv_engines.specs.CommandFault.{Refusal, Plain, NoThread, IsTold, is_thread, plainly}
 use Rattle.rv_engines.specs.Fault.{IsToldFault}

@@ -1,34 +1,21 @@
 -- Each row of a hunt's table tells of a report of the run that it names.
 use Rattle.std.proofs.Common.{◌≡◌, ℕ, zero, suc, ◌+◌, ◌⊎◌, inl, inr, Bool, true, false, List, [], ◌∷◌, length, Option, None, Some, refl, sym, ap, subst, ◌∙◌, arith}
-use Rattle.std.specs.Prelude.{slice_get, nat_lt, find, is_some, option_map, ◌&&◌, ◌==◌, ◌-◌}
+use Rattle.std.specs.Prelude.{slice_get, nat_lt, option_map, ◌-◌}
 use Rattle.std.specs.List.{fold}
-use Rattle.std.proofs.lemmas.Cmp.{nat_eq_equiv}
 use Rattle.std.proofs.lemmas.Option.{slice_get-map}
-use Rattle.rv_campaign.specs.Kept.{IsCoreOf}
-use Rattle.rv_campaign.specs.Run.{IsRunOver}
-use Rattle.rv_collide.specs.Plan.{Numbers}
-use Rattle.rv_collide.specs.Stored.{Stored, setting_of, stored}
-use Rattle.rv_collide.specs.Verdict.{endings}
-use Rattle.rv_collide.specs.declared.collider.Finished.{Finished}
-use Rattle.rv_collide.specs.declared.ending.Ending.{Ending}
-use Rattle.rv_drive.specs.DriverLaws.{OneRunAtMost}
-use Rattle.rv_drive.specs.Sampling.{sampling_of}
-use Rattle.rv_elf.specs.Contents.{Contents}
 use Rattle.rv_explain.specs.Classes.{rank}
-use Rattle.rv_explain.specs.Races.{reports, reports_of}
-use Rattle.rv_races.specs.declared.races.Report.{Report}
 use Rattle.rv_hunt.proofs.MergeLemmas.{same_key_equiv}
-use Rattle.rv_hunt.proofs.ResultLemmas.{same_stored, split, table_seen}
-use Rattle.rv_hunt.specs.Hunted.{Hunt, IsOfRun, rows_from, rows_of}
+use Rattle.rv_hunt.proofs.ResultLemmas.{split, table_seen}
+use Rattle.rv_hunt.specs.Hunted.{rows_from, rows_of}
 use Rattle.rv_hunt.specs.HuntedLaws.{RowsAreTold}
-use Rattle.rv_hunt.specs.Remade.{is_told_by, race_by, race_in}
+use Rattle.rv_hunt.specs.KeptRun.{IsOfRun}
 use Rattle.rv_hunt.specs.Rows.{added, joined, row_of, table_of}
 use Rattle.rv_hunt.specs.declared.hunted.Hunted.{Hunted}
 use Rattle.rv_hunt.specs.declared.kept_run.KeptRun.{KeptRun}
+use Rattle.rv_hunt.specs.declared.kept_run.PartReport.{PartReport}
 use Rattle.rv_hunt.specs.declared.row.RaceRow.{RaceRow}
 use Rattle.rv_report.specs.Races.{same_key}
 use Rattle.rv_report.specs.declared.key.Key.{Key}
-use Rattle.rv_tally.specs.Plans.{plan_of}
 
 abbrev Row : Type 0
 Row = Key × RaceRow
@@ -124,11 +111,11 @@ record Told (first : ℕ) (runs : List KeptRun) (row : Row) : Type 0 where
   kept : KeptRun
   there : slice_get runs place ≡ Some kept
   at : ℕ
-  report : Report
+  report : PartReport
   among : slice_get kept.reports.items at ≡ Some report
   is : row ≡ row_of (first + place) report
 
-of_report : (run : ℕ) (o : Option Report) (row : Row) → option_map (row_of run) o ≡ Some row → (report : Report) × (o ≡ Some report) × (row ≡ row_of run report)
+of_report : (run : ℕ) (o : Option PartReport) (row : Row) → option_map (row_of run) o ≡ Some row → (report : PartReport) × (o ≡ Some report) × (row ≡ row_of run report)
 of_report run None row h = (let no : None ≡ Some row = h in cc)
 of_report run (Some report) row h = (report, refl, first_some (row_of run report) row h)
 
@@ -161,61 +148,38 @@ of_runs first (kept ∷ runs) row n there =
           })
     ]
 
-same_numbers : (a b c d : ℕ) → ((true && a == a) && b == b && c == c && d == d) ≡ true
-same_numbers a b c d = rw (nat_eq_equiv.refl a, nat_eq_equiv.refl b, nat_eq_equiv.refl c, nat_eq_equiv.refl d) refl
-
-fits : (x : Row) (run : ℕ) (report : Report) → Same x (row_of run report) → is_told_by x report ≡ true
+-- the row that a report gives, with the count of the row that is like it
+told_so : (x : Row) (run : ℕ) (report : PartReport) → Same x (row_of run report) → (same_key x.0 report.report.key ≡ true) × (x.1 ≡ record (row_of x.1.run report).1 { count = x.1.count })
 unfolding uncounted
-fits x run report same =
-    ap (λ (row : RaceRow). is_told_by (x.0, row) report) same.told
-    ∙ rw same.key (same_numbers (rank report.class) report.ending.paused_at report.ending.old report.ending.new)
-
-found_step : {X : Type 0} (p : X → Bool) (y : X) (ys : List X) (b : Bool) → p y ≡ b → is_some (find p ys) ≡ true → is_some (find p (y ∷ ys)) ≡ true
-found_step p y ys true is rest = rw is refl
-found_step p y ys false is rest = rw is rest
-
-found : {X : Type 0} (p : X → Bool) (xs : List X) (n : ℕ) (x : X) → slice_get xs n ≡ Some x → p x ≡ true → is_some (find p xs) ≡ true
-found p [] n x there passes = (let no : None ≡ Some x = there in cc)
-found p (y ∷ ys) zero x there passes = (let now : p y ≡ true = ap p (sym (first_some y x there)) ∙ passes in rw now refl)
-found p (y ∷ ys) (suc n) x there passes = found_step p y ys (p y) refl (found p ys n x there passes)
-
-some_race : (row : Row) (o : Option Report) → is_some o ≡ true → is_some (option_map (race_by row) o) ≡ true
-some_race row None h = h
-some_race row (Some report) h = refl
-
--- ---- the run that is made again
-
-same_endings : OneRunAtMost → (hunt : Hunt) (plan : Numbers) (run : ℕ) (core : Stored) (told : Finished) → IsCoreOf hunt.source plan run core → IsRunOver hunt.source.image plan hunt.source.sites hunt.source.seed run told → endings (setting_of core).start core.entries ≡ told.endings.items
-same_endings once hunt plan run core told a b =
-    let entries = once (setting_of (stored hunt.source.image plan [])) (sampling_of hunt.source.sites hunt.source.seed run) core.entries told.entries.items a.drawn b.drawn in
-    ap (λ (c : Stored). endings (setting_of c).start c.entries) (same_stored core.image hunt.source.image core.plan plan core.entries told.entries.items a.image_is a.plan_is entries)
-    ∙ sym b.endings_are
-
-told_reports : OneRunAtMost → (hunt : Hunt) (run : ℕ) (kept : KeptRun) (told : Finished) → IsOfRun hunt run kept → IsRunOver hunt.source.image (plan_of hunt.given run) hunt.source.sites hunt.source.seed run told → kept.reports.items ≡ reports_of hunt.source.image hunt.ranges told.endings.items (length told.endings.items)
-unfolding reports
-told_reports once hunt run kept told a b =
-    a.is_kept.reports_are
-    ∙ ap (λ (image : Contents). reports_of image hunt.ranges (endings (setting_of a.core).start a.core.entries) (length (endings (setting_of a.core).start a.core.entries))) a.is_core.image_is
-    ∙ ap (λ (ended : List Ending). reports_of hunt.source.image hunt.ranges ended (length ended)) (same_endings once hunt (plan_of hunt.given run) run a.core told a.is_core b)
-
-row_told : OneRunAtMost → (hunt : Hunt) (row : Row) (number : ℕ) (kept : KeptRun) (at : ℕ) (report : Report) (told : Finished) → Same row (row_of number report) → slice_get kept.reports.items at ≡ Some report → IsOfRun hunt number kept → IsRunOver hunt.source.image (plan_of hunt.given row.1.run) hunt.source.sites hunt.source.seed row.1.run told → is_some (race_in hunt.source.image hunt.ranges row told.endings.items) ≡ true
-unfolding race_in uncounted
-row_told once hunt row number kept at report told same among is_run again =
-    let run : row.1.run ≡ number = ap (λ (r : RaceRow). r.run) same.told in
-    let made = subst (λ (n : ℕ). IsRunOver hunt.source.image (plan_of hunt.given n) hunt.source.sites hunt.source.seed n told) run again in
-    let all = told_reports once hunt number kept told is_run made in
-    some_race row (find (is_told_by row) (reports_of hunt.source.image hunt.ranges told.endings.items (length told.endings.items)))
-    (found (is_told_by row) (reports_of hunt.source.image hunt.ranges told.endings.items (length told.endings.items)) at report
-    (ap (λ (rs : List Report). slice_get rs at) (sym all) ∙ among) (fits row number report same))
+told_so x run report same =
+    let number : run ≡ x.1.run = sym (ap (λ (r : RaceRow). r.run) same.told) in (
+      same.key,
+      ap (λ (r : RaceRow). record r { count = x.1.count }) same.told ∙ ap (λ (n : ℕ). record (row_of n report).1 { count = x.1.count }) number,
+    )
 
 same_as : (row r s : Row) → r ≡ s → Same row r → Same row s
 same_as row r s is same = subst (λ (x : Row). Same row x) is same
 
-pub rows_told : OneRunAtMost → RowsAreTold
-rows_told once hunt hunted place row told is there again =
+run_of_same : (x : Row) (n : ℕ) (report : PartReport) → Same x (row_of n report) → x.1.run ≡ n
+unfolding uncounted
+run_of_same x n report same = ap (λ (r : RaceRow). r.run) same.told
+
+pub rows_told : RowsAreTold
+rows_told hunt hunted place row is there =
     let runs = is.so_far.runs in
     let table = ap (λ (h : Hunted). h.table) is.so_far.seen ∙ table_seen hunt.first runs in
     let among = of_rows (rows_from hunt.first runs) row place (ap (λ (rs : List Row). slice_get rs place) (sym table) ∙ there) in
     let from = of_runs hunt.first runs among.row among.place among.there in
-    let same = same_as row among.row (row_of (hunt.first + from.place) from.report) from.is among.same in
-    row_told once hunt row (hunt.first + from.place) from.kept from.at from.report told same from.among (is.so_far.are_runs.each from.place from.kept from.there) again
+    let number = hunt.first + from.place in
+    let same = same_as row among.row (row_of number from.report) from.is among.same in
+    let told = told_so row number from.report same in
+    let run : number ≡ row.1.run = sym (run_of_same row number from.report same) in
+    record {
+      kept = from.kept;
+      of_run = subst (λ (n : ℕ). IsOfRun hunt n from.kept) run (is.so_far.are_runs.each from.place from.kept from.there);
+      at = from.at;
+      report = from.report;
+      among = from.among;
+      key_is = told.0;
+      row_is = told.1;
+    }

@@ -1,84 +1,114 @@
 -- A hunt has one result, and those of its pieces make it.
-use Rattle.std.proofs.Common.{◌≡◌, ℕ, zero, suc, ◌+◌, ◌-◌, ◌<◌, ◌≤◌, ◌^◌, ◌⊎◌, inl, inr, true, false, List, [], ◌∷◌, ◌++◌, length, length-append, map, take, Some, refl, sym, ap, subst, ◌∙◌, arith, append_assoc}
-use Rattle.std.specs.Prelude.{slice_get, nat_le, nat_lt, ◌==◌}
+use Rattle.std.proofs.Common.{◌≡◌, ℕ, zero, suc, ◌+◌, ◌-◌, ◌<◌, ◌≤◌, ◌^◌, ◌⊎◌, inl, inr, true, false, List, [], ◌∷◌, ◌++◌, length, length-append, map, take, Bool, Option, Some, refl, sym, ap, subst, ◌∙◌, arith, append_assoc}
+use Rattle.std.specs.Prelude.{is_some, slice_get, nat_le, nat_lt, ◌==◌}
 use Rattle.std.specs.List.{fold}
 use Rattle.std.proofs.lemmas.Bool.{cases_lt}
 use Rattle.std.proofs.lemmas.Bool.Decides.{nat_tests}
 use Rattle.std.proofs.lemmas.List.{length-take-le, take_all, take_more}
 use Rattle.std.proofs.lemmas.Option.{get_or_from_slice_get}
-use Rattle.rv_campaign.specs.Kept.{IsCoreOf, Source}
+use Rattle.rv_collide.specs.Counts.{saturated}
+use Rattle.rv_collide.specs.Numbers.{numbers}
 use Rattle.rv_collide.specs.Plan.{Numbers}
-use Rattle.rv_collide.specs.Stored.{Stored, setting_of, stored}
+use Rattle.rv_collide.specs.Stored.{setting_of, stored}
+use Rattle.rv_collide.specs.Verdict.{endings}
+use Rattle.rv_collide.specs.declared.collider.Finished.{Finished}
 use Rattle.rv_collide.specs.declared.entry.Entry.{Entry}
 use Rattle.rv_drive.specs.DriverLaws.{OneRunAtMost}
 use Rattle.rv_drive.specs.Sampling.{sampling_of}
-use Rattle.rv_elf.specs.Contents.{Contents}
+use Rattle.rv_hart.specs.State.{State}
 use Rattle.rv_hunt.proofs.HuntLemmas.{how_many, same_hunted, seen_next, there_is}
 use Rattle.rv_hunt.proofs.MergeLemmas.{two_merged}
-use Rattle.rv_hunt.specs.Hunted.{AreRuns, Hunt, IsHunted, IsOfRun, is_due, rows_from, rows_of, seen_in, summed}
+use Rattle.rv_hunt.specs.Hunt.{Hunt, IsSampledRun}
+use Rattle.rv_hunt.specs.Hunted.{AreRuns, IsHunted, is_due, rows_from, rows_of, seen_in, summed}
 use Rattle.rv_hunt.specs.HuntedLaws.{OneResult, PiecesAreWhole, piece}
-use Rattle.rv_hunt.specs.KeptRun.{IsKeptRun}
+use Rattle.rv_hunt.specs.KeptRun.{IsOfRun, reports_of_part, reports_of_parts, reports_of_sampled}
+use Rattle.rv_hunt.specs.Near as near
 use Rattle.rv_hunt.specs.Rows as rows
 use Rattle.rv_hunt.specs.declared.hunted.Hunted.{Hunted}
 use Rattle.rv_hunt.specs.declared.kept_run.KeptRun.{KeptRun}
 use Rattle.rv_hunt.specs.declared.row.RaceRow.{RaceRow}
 use Rattle.rv_hunt.specs.internal.Lots.{with_run}
 use Rattle.rv_report.specs.declared.key.Key.{Key}
-use Rattle.rv_collide.specs.Counts.{saturated}
-use Rattle.rv_tally.specs.Plans.{plan_of}
-use Rattle.rv_hunt.specs.Summary.{IsSummary}
-use Rattle.rv_hunt.specs.Tally.{Tally, added, all_ended, exits, longest_with, one_if, sum, traps, with_addresses}
+use Rattle.rv_tally.specs.Plans.{is_sampled, plan_of}
+use Rattle.rv_hunt.specs.declared.kept_run.PartReport.{PartReport}
+use Rattle.rv_tally.specs.declared.limit.Limit.{Limit}
+use Rattle.rv_tally.specs.declared.limit.Limit.TheVariants.{Runs}
+use Rattle.rv_walk.specs.declared.probes.Part.{Part}
+use Rattle.rv_tally.specs.declared.plans.Mix.{Mix}
+use Rattle.rv_tally.specs.declared.plans.Mix.TheVariants.{Sampled}
+use Rattle.rv_hunt.specs.Summary.{IsSampledSummary, armed_in, counts_of, ends, paused_at}
+use Rattle.rv_hunt.specs.Tally.{Tally, added, all_ended, exits, longest_with, one_if, sum, traps, widest_after, with_addresses}
 use Rattle.rv_hunt.specs.declared.tally.counts.Counts.{Counts}
 use Rattle.rv_tally.specs.declared.end.End.{End}
 use Rattle.rv_hunt.specs.declared.summary.Summary.{Summary}
 
--- ---- what is kept of a run, but for how its lists lie in memory
-
-pub same_stored : (i i' : Contents) (p p' : Numbers) (e e' : List Entry) → i ≡ i' → p ≡ p' → e ≡ e' → stored i p e ≡ stored i' p' e'
-same_stored i i' p p' e e' images plans entries = cc
-
-same_core : OneRunAtMost → (source : Source) (plan : Numbers) (run : ℕ) (one other : Stored) → IsCoreOf source plan run one → IsCoreOf source plan run other → one ≡ other
-same_core once source plan run one other a b =
-    same_stored one.image other.image one.plan other.plan one.entries other.entries
-    (a.image_is ∙ sym b.image_is) (a.plan_is ∙ sym b.plan_is)
-    (once (setting_of (stored source.image plan [])) (sampling_of source.sites source.seed run) one.entries other.entries a.drawn b.drawn)
+-- ---- what is kept of a sampled run, but for how its lists lie in memory
 
 -- a run added by what is told of it
-added_by : Tally → ℕ → List End → List ℕ → List ℕ → Counts → Tally
-added_by t most ends armed paused counts = record {
+added_by : Tally → ℕ → List End → List ℕ → List ℕ → Counts → Counts → ℕ → Option Bool → Tally
+added_by t most ends armed paused counts sampled probes walk = record {
   runs = saturated (t.runs + 1);
+  walks = saturated (t.walks + one_if (is_some walk));
+  probes = saturated (t.probes + probes);
   ended = all_ended t.ended ends;
   armed = with_addresses t.armed armed;
   paused = with_addresses t.paused paused;
   counts = sum t.counts counts;
+  sampled = sum t.sampled sampled;
   some_stopped = saturated (t.some_stopped + one_if (nat_le 1 (traps ends)));
   each_stopped = saturated (t.each_stopped + one_if (traps ends == length ends));
   longest = longest_with t.longest most (exits ends);
+  widest = widest_after t.widest (length ends) walk;
 }
 
-added_is : (t : Tally) (s : Summary) → added t s ≡ added_by t s.most_steps s.ends.items s.armed.items s.paused.items s.counts
+added_is : (t : Tally) (s : Summary) → added t s ≡ added_by t s.most_steps s.ends.items s.armed.items s.paused.items s.counts s.sampled s.probes s.walk
 unfolding added added_by
 added_is t s = refl
 
-same_parts : (t : Tally) {m m' : ℕ} {e e' : List End} {a a' p p' : List ℕ} {c c' : Counts} → m ≡ m' → e ≡ e' → a ≡ a' → p ≡ p' → c ≡ c' → added_by t m e a p c ≡ added_by t m' e' a' p' c'
-same_parts t most ends armed paused counts = cc
+same_parts : (t : Tally) {m m' : ℕ} {e e' : List End} {a a' p p' : List ℕ} {c c' d d' : Counts} {n n' : ℕ} {w w' : Option Bool} → m ≡ m' → e ≡ e' → a ≡ a' → p ≡ p' → c ≡ c' → d ≡ d' → n ≡ n' → w ≡ w' → added_by t m e a p c d n w ≡ added_by t m' e' a' p' c' d' n' w'
+same_parts t most ends armed paused counts sampled probes walk = cc
 
-same_added : (t : Tally) (core : Stored) (one other : Summary) → IsSummary core one → IsSummary core other → added t one ≡ added t other
-same_added t core one other a b =
+-- two runs that leave the same
+record Alike (one other : Finished) : Type 0 where
+  plan : numbers one.plan ≡ numbers other.plan
+  entries : one.entries.items ≡ other.entries.items
+  endings : one.endings.items ≡ other.endings.items
+
+alike_runs : OneRunAtMost → (hunt : Hunt) (run : ℕ) (one other : Finished) → IsSampledRun hunt run one → IsSampledRun hunt run other → Alike one other
+alike_runs once hunt run one other a b =
+    let setting = setting_of (stored hunt.source.image (plan_of hunt.given run) []) in
+    let entries = once setting (sampling_of hunt.source.sites hunt.source.seed run) one.entries.items other.entries.items a.drawn b.drawn in
+    record {
+      plan = a.plan_is ∙ sym b.plan_is;
+      entries = entries;
+      endings = a.endings_are ∙ ap (endings setting.start) entries ∙ sym b.endings_are;
+    }
+
+same_counts : (one other : Finished) → Alike one other → counts_of one.entries.items one.endings.items ≡ counts_of other.entries.items other.endings.items
+same_counts one other same =
+    ap (λ (es : List Entry). counts_of es one.endings.items) same.entries ∙ ap (counts_of other.entries.items) same.endings
+
+same_added : (t : Tally) (start : State) (left right : Finished) (one other : Summary) → Alike left right → IsSampledSummary start left one → IsSampledSummary start right other → added t one ≡ added t other
+same_added t start left right one other same a b =
+    let counts = a.counts_are ∙ same_counts left right same ∙ sym b.counts_are in
     added_is t one
-    ∙ same_parts t (a.most_steps ∙ sym b.most_steps) (a.ends_are ∙ sym b.ends_are) (a.armed_are ∙ sym b.armed_are) (a.paused_are ∙ sym b.paused_are) (a.counts_are ∙ sym b.counts_are)
+    ∙ same_parts t (a.most_steps ∙ ap (λ (n : Numbers). n.steps) same.plan ∙ sym b.most_steps)
+    (a.ends_are ∙ ap (ends start) same.entries ∙ sym b.ends_are)
+    (a.armed_are ∙ ap armed_in same.entries ∙ sym b.armed_are)
+    (a.paused_are ∙ ap (map paused_at) same.endings ∙ sym b.paused_are)
+    counts (a.sampled_are ∙ counts ∙ sym b.sampled_are) (a.probes_are ∙ sym b.probes_are) (a.walk_is ∙ sym b.walk_is)
     ∙ sym (added_is t other)
 
-same_with : (hunted : Hunted) (run : ℕ) (ranges : List (ℕ × ℕ)) (core : Stored) (one other : KeptRun) → IsKeptRun ranges core one → IsKeptRun ranges core other → with_run hunted run one ≡ with_run hunted run other
+same_run : OneRunAtMost → (hunt : Hunt) (hunted : Hunted) (run : ℕ) (one other : KeptRun) → hunt.given.mix ≡ Sampled → IsOfRun hunt run one → IsOfRun hunt run other → with_run hunted run one ≡ with_run hunted run other
 unfolding with_run
-same_with hunted run ranges core one other a b =
-    same_hunted (same_added hunted.tally core one.summary other.summary a.summary b.summary)
-    (ap (λ reports. fold rows.added hunted.table (map (rows.row_of run) reports)) (a.reports_are ∙ sym b.reports_are))
-
-same_run : OneRunAtMost → (hunt : Hunt) (hunted : Hunted) (run : ℕ) (one other : KeptRun) → IsOfRun hunt run one → IsOfRun hunt run other → with_run hunted run one ≡ with_run hunted run other
-same_run once hunt hunted run one other a b =
-    let cores = same_core once hunt.source (plan_of hunt.given run) run b.core a.core b.is_core a.is_core in
-    same_with hunted run hunt.ranges a.core one other a.is_kept (subst (λ (core : Stored). IsKeptRun hunt.ranges core other) cores b.is_kept)
+same_run once hunt hunted run one other sampled a b =
+    let is = ap (λ (mix : Mix). is_sampled mix run) sampled in
+    let x = a.sampled is in
+    let y = b.sampled is in
+    let same = alike_runs once hunt run x.left y.left x.is_run y.is_run in
+    same_hunted (same_added hunted.tally _ x.left y.left one.summary other.summary same x.summary y.summary)
+    (ap (λ reports. fold rows.added hunted.table (map (rows.row_of run) reports)) (x.reports_are ∙ ap (reports_of_sampled hunt) same.endings ∙ sym y.reports_are))
+    (ap (fold near.added hunted.near) (x.near_are ∙ sym y.near_are))
 
 -- ---- two lists of runs of a hunt
 
@@ -91,19 +121,19 @@ seen_after first runs n kept within there =
     ap (seen_in first) (take_next runs n kept within there) ∙ seen_next first (take n runs) kept
     ∙ ap (λ (k : ℕ). with_run (seen_in first (take n runs)) (first + k) kept) (length-take-le n runs (omega (arith, within)))
 
-alike : OneRunAtMost → (hunt : Hunt) (xs ys : List KeptRun) → AreRuns hunt xs → AreRuns hunt ys → (n : ℕ) → n ≤ length xs → n ≤ length ys → seen_in hunt.first (take n xs) ≡ seen_in hunt.first (take n ys)
-alike once hunt xs ys a b zero in_xs in_ys = refl
-alike once hunt xs ys a b (suc n) in_xs in_ys =
+alike : OneRunAtMost → (hunt : Hunt) (xs ys : List KeptRun) → hunt.given.mix ≡ Sampled → AreRuns hunt xs → AreRuns hunt ys → (n : ℕ) → n ≤ length xs → n ≤ length ys → seen_in hunt.first (take n xs) ≡ seen_in hunt.first (take n ys)
+alike once hunt xs ys sampled a b zero in_xs in_ys = refl
+alike once hunt xs ys sampled a b (suc n) in_xs in_ys =
     let below_x : n < length xs = omega (arith, in_xs) in
     let below_y : n < length ys = omega (arith, in_ys) in
     let x = there_is xs n below_x in
     let y = there_is ys n below_y in
     let more : suc n ≡ n + 1 = omega arith in
-    let before = alike once hunt xs ys a b n (omega (arith, in_xs)) (omega (arith, in_ys)) in
+    let before = alike once hunt xs ys sampled a b n (omega (arith, in_xs)) (omega (arith, in_ys)) in
     ap (λ (k : ℕ). seen_in hunt.first (take k xs)) more
     ∙ seen_after hunt.first xs n x.0 below_x x.1
     ∙ ap (λ (h : Hunted). with_run h (hunt.first + n) x.0) before
-    ∙ same_run once hunt (seen_in hunt.first (take n ys)) (hunt.first + n) x.0 y.0 (a.each n x.0 x.1) (b.each n y.0 y.1)
+    ∙ same_run once hunt (seen_in hunt.first (take n ys)) (hunt.first + n) x.0 y.0 sampled (a.each n x.0 x.1) (b.each n y.0 y.1)
     ∙ sym (seen_after hunt.first ys n y.0 below_y y.1)
     ∙ ap (λ (k : ℕ). seen_in hunt.first (take k ys)) (sym more)
 
@@ -111,10 +141,10 @@ tally_seen : (first : ℕ) (runs : List KeptRun) → (seen_in first runs).tally 
 unfolding seen_in
 tally_seen first runs = refl
 
-no_longer : OneRunAtMost → (hunt : Hunt) (xs ys : List KeptRun) → AreRuns hunt xs → AreRuns hunt ys → is_due hunt (summed xs) ≡ false → length xs < length ys → ⊥
-no_longer once hunt xs ys a b over longer =
+no_longer : OneRunAtMost → (hunt : Hunt) (xs ys : List KeptRun) → hunt.given.mix ≡ Sampled → AreRuns hunt xs → AreRuns hunt ys → is_due hunt (summed xs) ≡ false → length xs < length ys → ⊥
+no_longer once hunt xs ys sampled a b over longer =
     let n = length xs in
-    let same = alike once hunt xs ys a b n (omega arith) (omega (arith, longer)) in
+    let same = alike once hunt xs ys sampled a b n (omega arith) (omega (arith, longer)) in
     let all = take_all n xs (omega arith) in
     let tallies : summed xs ≡ summed (take n ys) =
     sym (tally_seen hunt.first xs) ∙ ap (λ (rs : List KeptRun). (seen_in hunt.first rs).tally) (sym all)
@@ -130,12 +160,12 @@ over_of hunt hunted h =
     ap (is_due hunt) (sym (ap (λ (x : Hunted). x.tally) h.so_far.seen ∙ tally_seen hunt.first h.so_far.runs)) ∙ h.is_over
 
 pub one_result : OneRunAtMost → OneResult
-one_result once hunt one other a b =
+one_result once hunt one other sampled a b =
     elim (cases_lt (length xs) (length ys)) [
-      | inl longer ↦ absurd (no_longer once hunt xs ys a.so_far.are_runs b.so_far.are_runs (over_of hunt one a) longer)
+      | inl longer ↦ absurd (no_longer once hunt xs ys sampled a.so_far.are_runs b.so_far.are_runs (over_of hunt one a) longer)
       | inr no_less ↦
           elim (cases_lt (length ys) (length xs)) [
-            | inl longer ↦ absurd (no_longer once hunt ys xs b.so_far.are_runs a.so_far.are_runs (over_of hunt other b) longer)
+            | inl longer ↦ absurd (no_longer once hunt ys xs sampled b.so_far.are_runs a.so_far.are_runs (over_of hunt other b) longer)
             | inr no_more ↦ same (omega (arith, no_less, no_more))
           ]
     ]
@@ -149,7 +179,7 @@ one_result once hunt one other a b =
     same : length xs ≡ length ys → one ≡ other
     same lengths =
         a.so_far.seen ∙ ap (seen_in hunt.first) (sym (take_all (length xs) xs (omega arith)))
-        ∙ alike once hunt xs ys a.so_far.are_runs b.so_far.are_runs (length xs) (omega arith) (omega (arith, lengths))
+        ∙ alike once hunt xs ys sampled a.so_far.are_runs b.so_far.are_runs (length xs) (omega arith) (omega (arith, lengths))
         ∙ ap (seen_in hunt.first) (take_all (length xs) ys (omega (arith, lengths)))
         ∙ sym b.so_far.seen
 
@@ -204,14 +234,40 @@ over_in runs count long few =
     let made = how_many runs in
     grind (arith, nat_tests)
 
+-- what is kept of a run doesn't depend on where the hunt begins and how far it goes
+same_reports : (hunt : Hunt) (first : ℕ) (limit : Limit) (number : ℕ) (parts : List Part) → reports_of_parts (record hunt { first = first; limit = limit }) number parts ≡ reports_of_parts hunt number parts
+same_reports hunt first limit number [] = refl
+same_reports hunt first limit number (part ∷ parts) =
+    ap (λ (rs : List PartReport). reports_of_part hunt number part ++ rs) (same_reports hunt first limit (number + 1) parts)
+
+moved : (hunt : Hunt) (first : ℕ) (limit : Limit) (run : ℕ) (kept : KeptRun) → IsOfRun hunt run kept → IsOfRun (record hunt { first = first; limit = limit }) run kept
+moved hunt first limit run kept is = record {
+  sampled = λ yes.
+      let s = is.sampled yes in
+      record { left = s.left; is_run = s.is_run; summary = s.summary; reports_are = s.reports_are; near_are = s.near_are };
+  walked = λ no.
+      let w = is.walked no in
+      record {
+        walk = w.walk;
+        is_walk = record { start_is = w.is_walk.start_is; sites_are = w.is_walk.sites_are };
+        pairs = w.pairs;
+        are_told = w.are_told;
+        parts = w.parts;
+        are_parts = w.are_parts;
+        summary = w.summary;
+        reports_are = w.reports_are ∙ sym (same_reports hunt first limit 1 w.parts);
+        near_are = w.near_are;
+      };
+}
+
 each_of : (hunt : Hunt) (first some more : ℕ) (xs ys : List KeptRun) → length xs ≡ some → AreRuns (piece hunt first some) xs → AreRuns (piece hunt (first + some) more) ys → (place : ℕ) (kept : KeptRun) → slice_get (xs ++ ys) place ≡ Some kept → IsOfRun (piece hunt first (some + more)) (first + place) kept
 each_of hunt first some more xs ys long a b place kept there =
     elim (split xs ys place kept there) [
-      | inl before ↦ a.each place kept before
+      | inl before ↦ moved (piece hunt first some) first (Runs (some + more)) (first + place) kept (a.each place kept before)
       | inr both ↦
           (let le = both.0 in
           let number : first + some + (place - length xs) ≡ first + place = omega (arith, long, le) in
-          subst (λ (n : ℕ). IsOfRun (piece hunt first (some + more)) n kept) number (b.each (place - length xs) kept both.1))
+          subst (λ (n : ℕ). IsOfRun (piece hunt first (some + more)) n kept) number (moved (piece hunt (first + some) more) first (Runs (some + more)) (first + some + (place - length xs)) kept (b.each (place - length xs) kept both.1)))
     ]
 
 pub table_seen : (first : ℕ) (runs : List KeptRun) → (seen_in first runs).table ≡ rows.table_of (rows_from first runs)
@@ -234,15 +290,17 @@ whole_of hunt first some more xs ys few long_x long_y a b =
       is_over = ap (λ (t : Tally). nat_lt t.runs (some + more)) (tally_seen first (xs ++ ys)) ∙ over_in (xs ++ ys) (some + more) count (omega (arith, few));
     }
 
-pub pieces_are_whole : OneRunAtMost → PiecesAreWhole
-pieces_are_whole once hunt first some more earlier later whole few a b c =
-    ap (λ (h : Hunted). h.table) (one_result once (piece hunt first (some + more)) whole (seen_in first (xs ++ ys)) c (whole_of hunt first some more xs ys few long_x long_y a.so_far.are_runs b.so_far.are_runs))
-    ∙ table_seen first (xs ++ ys)
-    ∙ ap rows.table_of (rows_of_both first xs ys)
-    ∙ ap (λ (n : ℕ). rows.table_of (rows_from first xs ++ rows_from (first + n) ys)) long_x
-    ∙ sym (two_merged (rows_from first xs) (rows_from (first + some) ys))
-    ∙ ap (λ (rs : List (Key × RaceRow)). rows.merged rs (rows.table_of (rows_from (first + some) ys))) (sym (table_of_piece first xs earlier a.so_far.seen))
-    ∙ ap (rows.merged earlier.table) (sym (table_of_piece (first + some) ys later b.so_far.seen))
+pub pieces_are_whole : PiecesAreWhole
+pieces_are_whole hunt first some more earlier later few a b = (
+  seen_in first (xs ++ ys),
+  whole_of hunt first some more xs ys few long_x long_y a.so_far.are_runs b.so_far.are_runs,
+  table_seen first (xs ++ ys)
+      ∙ ap rows.table_of (rows_of_both first xs ys)
+      ∙ ap (λ (n : ℕ). rows.table_of (rows_from first xs ++ rows_from (first + n) ys)) long_x
+      ∙ sym (two_merged (rows_from first xs) (rows_from (first + some) ys))
+      ∙ ap (λ (rs : List (Key × RaceRow)). rows.merged rs (rows.table_of (rows_from (first + some) ys))) (sym (table_of_piece first xs earlier a.so_far.seen))
+      ∙ ap (rows.merged earlier.table) (sym (table_of_piece (first + some) ys later b.so_far.seen)),
+)
   where
     xs : List KeptRun
     xs = a.so_far.runs

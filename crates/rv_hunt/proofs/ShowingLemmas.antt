@@ -1,32 +1,25 @@
 -- The races that are shown in full, run by run and slot by slot.
-use Rattle.std.proofs.Common.{◌≡◌, ◌≢◌, ℕ, zero, suc, ◌+◌, ◌<◌, ◌⊎◌, inl, inr, get_or, List, [], ◌∷◌, ◌++◌, length, Option, None, Some, Result, Ok, Err, IfOk, replicate, refl, sym, ap, subst, ◌∙◌, arith, append-nil}
+use Rattle.std.proofs.Common.{◌≡◌, ◌≢◌, ℕ, zero, suc, ◌+◌, ◌<◌, ◌⊎◌, inl, inr, get_or, true, false, List, [], ◌∷◌, ◌++◌, length, Option, None, Some, replicate, refl, sym, ap, subst, ◌∙◌, arith, append-nil}
 use Rattle.std.specs.Prelude.{All, IfSome, find, option_map, slice_get, slice_set}
 use Rattle.std.specs.Option.{option_to_list}
 use Rattle.std.proofs.lemmas.List.Elements.{All-push}
-use Rattle.std.proofs.lemmas.Option.{get_or_from_slice_get, slice_get-get_or}
-use Rattle.rv_campaign.specs.Kept.{AreKept, IsCoreOf, Source}
-use Rattle.rv_campaign.specs.Run.{IsRunOver}
-use Rattle.rv_campaign.specs.declared.kept.SeriesRun.{SeriesRun}
 use Rattle.rv_collide.specs.Grammar.{schedule_text}
 use Rattle.rv_collide.specs.Numbers.{numbers}
-use Rattle.rv_collide.specs.Plan.{Numbers}
-use Rattle.rv_collide.specs.Stored.{Stored}
 use Rattle.rv_collide.specs.declared.collider.Finished.{Finished}
 use Rattle.rv_collide.specs.declared.ending.Ending.{Ending}
 use Rattle.rv_elf.specs.Contents.{Contents}
 use Rattle.rv_explain.specs.Races.{Run, reports_of}
 use Rattle.rv_races.specs.declared.races.Report.{Report}
-use Rattle.rv_hunt.proofs.HuntLemmas.{there_is}
+use Rattle.rv_hunt.specs.Hunt.{Hunt, IsSampledRun}
 use Rattle.rv_hunt.specs.Remade.{is_told_by, race_by, race_in}
 use Rattle.rv_hunt.specs.declared.engine.shown.InFull.{InFull}
-use Rattle.rv_hunt.specs.declared.engine.shown.Shower.{Shower}
+use Rattle.rv_hunt.specs.declared.engine.shown.ShownPart.{ShownPart}
 use Rattle.rv_hunt.specs.declared.engine.shown.ShownRace.{ShownRace}
-use Rattle.rv_hunt.specs.declared.engine.shown.ShownRun.{ShownRun}
 use Rattle.rv_hunt.specs.declared.row.RaceRow.{RaceRow}
-use Rattle.rv_hunt.specs.engine.Shown.{AreShown, IsRaceShown, IsRunOf, IsShown, run_told}
-use Rattle.rv_hunt.specs.internal.Showing.{AreHeld, AreSlots, Full, IsInSlot, IsOfRow, IsOfSchedule, IsPlaced, IsSeriesRun, IsShownIn, IsShownOf, IsShownRun, KeepsShown, of_full}
+use Rattle.rv_hunt.specs.engine.Shown.{AreShown, IsPartOf, IsRaceShown, IsRunOf, IsShown, run_told}
+use Rattle.rv_hunt.specs.internal.Showing.{AreHeld, AreShownIn, AreSlots, Full, IsInSlot, IsOfRow, IsOfSchedule, IsPlaced, IsShownIn, IsShownPart, of_full}
 use Rattle.rv_report.specs.declared.key.Key.{Key}
-use Rattle.rv_tally.specs.Plans.{plan_of}
+use Rattle.rv_tally.specs.Plans.{is_sampled}
 
 abbrev Row : Type 0
 Row = Key × RaceRow
@@ -41,75 +34,62 @@ unfolding race_in
 race_found image ranges row ended reports told are found =
     ap (λ (rs : List Report). option_map (race_by row) (find (is_told_by row) rs)) (sym are) ∙ ap (option_map (race_by row)) found
 
--- ---- the races of a run
+-- ---- the races of a part of a run
 
-one_shown : (shower : Shower) (run : Finished) (schedule : List ℕ) (one : ℕ × ShownRace) → shower.full.symbols.now ≡ shower.full.hunt.now.source.image → IsRunOf shower.full.hunt.now shower.run run → schedule ≡ schedule_text (numbers run.plan) run.entries.items
-    → IsPlaced shower (run_told shower.full.symbols.now run) run.plan.harts one → IsOfSchedule (of_full shower.full) schedule one.0 one.1
-one_shown shower run schedule one image is_run schedule_is placed =
+one_shown : (full : InFull) (number : ℕ) (run : Finished) (schedule : List ℕ) (one : ℕ × ShownRace) → full.symbols.now ≡ full.hunt.now.source.image → IsRunOf full.hunt.now number run → schedule ≡ schedule_text (numbers run.plan) run.entries.items
+    → IsPlaced full number (run_told full.symbols.now run) run.plan.harts one → IsOfSchedule (of_full full) schedule one.0 one.1
+one_shown full number run schedule one image is_run schedule_is placed =
     let of_row = placed.0 in
     let of_run = placed.1 in
-    let names : of_row.row.1.run ≡ shower.run = ap (λ (row : Row). row.1.run) (same_some of_row.row of_run.row (sym of_row.there ∙ of_run.there)) ∙ of_run.names in
+    let names : of_row.row.1.run ≡ number = ap (λ (row : Row). row.1.run) (same_some of_row.row of_run.row (sym of_row.there ∙ of_run.there)) ∙ of_run.names in
     record {
       row = of_row.row;
       there = of_row.there;
       is_shown = record {
         run = run;
-        is_run = subst (λ (n : ℕ). IsRunOf shower.full.hunt.now n run) (sym names) is_run;
-        is_shown = subst (λ (c : Contents). IsRaceShown shower.full.hunt.now.ranges run.plan.harts of_row.row (run_told c run) one.1) image of_row.is_shown;
+        is_run = subst (λ (n : ℕ). IsRunOf full.hunt.now n run) (sym names) is_run;
+        is_shown = subst (λ (c : Contents). IsRaceShown full.hunt.now.ranges run.plan.harts of_row.row (run_told c run) one.1) image of_row.is_shown;
         saved = sym schedule_is;
       };
     }
 
-shown_in : (shower : Shower) (shown : ShownRun) → shower.full.symbols.now ≡ shower.full.hunt.now.source.image → IsShownOf shower shown → IsShownIn (of_full shower.full) shown
-shown_in shower shown image is = λ k d below.
-    one_shown shower is.run shown.schedule.items (get_or shown.races.items k d) image is.is_run is.is_shown.schedule_is (is.is_shown.races_are k d below)
+pub shown_in : (full : InFull) (number : ℕ) (run : Finished) (shown : ShownPart) → full.symbols.now ≡ full.hunt.now.source.image → IsRunOf full.hunt.now number run → IsShownPart full number run shown → IsShownIn (of_full full) shown
+shown_in full number run shown image is_run is = λ k d below.
+    one_shown full number run shown.schedule.items (get_or shown.races.items k d) image is_run is.schedule_is (is.races_are k d below)
+
+differ : true ≡ false → ⊥
+differ h = cc
+
+pub of_sampled : (hunt : Hunt) (number : ℕ) (run : Finished) → is_sampled hunt.given.mix number ≡ true → IsSampledRun hunt number run → IsRunOf hunt number run
+of_sampled hunt number run sampled is = record { sampled = λ _. is; walked = λ other. absurd (differ (sym sampled ∙ other)) }
+
+pub of_walked : (hunt : Hunt) (number : ℕ) (run : Finished) → is_sampled hunt.given.mix number ≡ false → IsPartOf hunt number run → IsRunOf hunt number run
+of_walked hunt number run walked is = record { sampled = λ other. absurd (differ (sym other ∙ walked)); walked = λ _. is }
+
+nothing_shown : (P : ShownPart → Type 0) → All P []
+nothing_shown P = λ k d below. absurd (omega (arith, below))
+
+pub one_part : (full : InFull) (number : ℕ) (run : Finished) (shown : ShownPart) → IsRunOf full.hunt.now number run → IsShownPart full number run shown → AreShownIn full (shown ∷ [])
+one_part full number run shown is_run is = λ image.
+    All-push (IsShownIn (of_full full)) [] shown (nothing_shown (IsShownIn (of_full full))) (shown_in full number run shown image is_run is)
+
+pub no_part : (full : InFull) → AreShownIn full []
+no_part full = λ image. nothing_shown (IsShownIn (of_full full))
+
+pub more_parts : (full : InFull) (parts : List ShownPart) (part : ShownPart) → AreShownIn full parts → AreShownIn full (part ∷ []) → AreShownIn full (parts ++ part ∷ [])
+more_parts full parts part before one = λ image.
+    All-push (IsShownIn (of_full full)) parts part (before image) (one image 0 part (omega arith))
 
 -- one race more, where the row has one
-pub placed_more : (shower : Shower) (now run : Run) (harts place short : ℕ) (row : Row) (found : Option ShownRace) (old new' : List (ℕ × ShownRace)) → now ≡ run → short ≡ place → slice_get shower.full.rows.now place ≡ Some row → row.1.run ≡ shower.run
-    → IfSome found (λ one. IsOfRow shower.full now harts place one) → new' ≡ old ++ option_to_list (option_map (λ one. (short, one)) found) → All (IsPlaced shower run harts) old → All (IsPlaced shower run harts) new'
-placed_more shower now run harts place short row None old new' same is there names shown pushed before =
-    subst (All (IsPlaced shower run harts)) (sym (pushed ∙ append-nil old)) before
-placed_more shower now run harts place short row (Some one) old new' same is there names shown pushed before =
-    subst (All (IsPlaced shower run harts)) (sym pushed) (All-push (IsPlaced shower run harts) old (short, one) before (
-      subst (λ (r : Run). IsOfRow shower.full r harts short one) same (subst (λ (n : ℕ). IsOfRow shower.full now harts n one) (sym is) shown),
-      record { row = row; there = ap (λ (n : ℕ). slice_get shower.full.rows.now n) is ∙ there; names = names },
+pub placed_more : (full : InFull) (number : ℕ) (now run : Run) (harts place short : ℕ) (row : Row) (found : Option ShownRace) (old new' : List (ℕ × ShownRace)) → now ≡ run → short ≡ place → slice_get full.rows.now place ≡ Some row → row.1.run ≡ number
+    → IfSome found (λ one. IsOfRow full now harts place one) → new' ≡ old ++ option_to_list (option_map (λ one. (short, one)) found) → All (IsPlaced full number run harts) old → All (IsPlaced full number run harts) new'
+placed_more full number now run harts place short row None old new' same is there names shown pushed before =
+    subst (All (IsPlaced full number run harts)) (sym (pushed ∙ append-nil old)) before
+placed_more full number now run harts place short row (Some one) old new' same is there names shown pushed before =
+    subst (All (IsPlaced full number run harts)) (sym pushed) (All-push (IsPlaced full number run harts) old (short, one) before (
+      subst (λ (r : Run). IsOfRow full r harts short one) same (subst (λ (n : ℕ). IsOfRow full now harts n one) (sym is) shown),
+      record { row = row; there = ap (λ (n : ℕ). slice_get full.rows.now n) is ∙ there; names = names },
     ))
-
--- ---- the runs that are made together
-
-core_of : (full : InFull) (run : SeriesRun Shower) (core : Stored) → IsSeriesRun full run → IsCoreOf full.hunt.now.source (numbers run.plan) run.number core → IsCoreOf run.keep.now.full.hunt.now.source (plan_of run.keep.now.full.hunt.now.given run.keep.now.run) run.keep.now.run core
-core_of full run core is core_is =
-    subst (λ (f : InFull). IsCoreOf f.hunt.now.source (plan_of f.hunt.now.given run.keep.now.run) run.keep.now.run core) (sym is.full_is)
-    (subst (λ (n : ℕ). IsCoreOf full.hunt.now.source (plan_of full.hunt.now.given n) n core) is.number_is
-    (subst (λ (p : Numbers). IsCoreOf full.hunt.now.source p run.number core) is.plan_is core_is))
-
-pub made_shown : (full : InFull) (runs : List (SeriesRun Shower)) (kept : List ShownRun) → full.symbols.now ≡ full.hunt.now.source.image → All (IsSeriesRun full) runs → AreKept KeepsShown full.hunt.now.source runs kept → All (IsShownIn (of_full full)) kept
-made_shown full runs kept image are kept_are = λ k d below.
-    let count = kept_are.count in
-    let found = there_is runs k (omega (arith, below, count)) in
-    let run = found.0 in
-    let is : IsSeriesRun full run = subst (IsSeriesRun full) (get_or_from_slice_get runs k run run found.1) (are k run (omega (arith, below, count))) in
-    let one = get_or kept k d in
-    let here = kept_are.each k run one found.1 (slice_get-get_or kept k d below) in
-    subst (λ (f : InFull). IsShownIn (of_full f) one) is.full_is
-    (shown_in run.keep.now one (subst (λ (f : InFull). f.symbols.now ≡ f.hunt.now.source.image) (sym is.full_is) image)
-    (here.is_kept (core_of full run here.core is here.is_core)))
-
-pub made_all : {K E : Type 0} (items : K → List ShownRun) (full : InFull) (source : Source) (runs : List (SeriesRun Shower)) (r : Result K E) → source ≡ full.hunt.now.source → full.symbols.now ≡ full.hunt.now.source.image → All (IsSeriesRun full) runs
-    → IfOk r (λ kept. AreKept KeepsShown source runs (items kept)) → IfOk r (λ kept. All (IsShownIn (of_full full)) (items kept))
-made_all items full source runs (Err fault) same image are kept = tt
-made_all items full source runs (Ok made) same image are kept =
-    made_shown full runs (items made) image are (subst (λ (s : Source). AreKept KeepsShown s runs (items made)) same kept)
-
--- what is kept of the core at a run's end
-pub keeps_shown : {E : Type 0} (shower : Shower) (core : Stored) (run : Finished) (r : Result ShownRun E) → ((source : Source) (plan : Numbers) (number : ℕ) → IsCoreOf source plan number core → IsRunOver source.image plan source.sites source.seed number run)
-    → IfOk r (λ shown. IsShownRun shower run shown) → IfOk r (λ kept. KeepsShown shower core kept)
-keeps_shown shower core run (Err fault) over shown = tt
-keeps_shown shower core run (Ok kept) over shown = λ is_core. record {
-  run = run;
-  is_run = over shower.full.hunt.now.source (plan_of shower.full.hunt.now.given shower.run) shower.run is_core;
-  is_shown = shown;
-}
 
 -- ---- the slots
 

@@ -10,7 +10,6 @@ use Rattle.std.proofs.lemmas.List.Sums.{count_by-le-length, count_by_more_no, co
 use Rattle.std.proofs.lemmas.Option.{get_or_from_slice_get, slice_get_within}
 use Rattle.rv_collide.specs.Counts.{saturated}
 use Rattle.rv_collide.specs.StateAt.{state_at}
-use Rattle.rv_collide.specs.Stored.{Stored, setting_of}
 use Rattle.rv_collide.specs.declared.ending.Ending.{Ending}
 use Rattle.rv_collide.specs.declared.entry.Entry.{Entry}
 use Rattle.rv_hart.specs.State.{State}
@@ -62,9 +61,9 @@ pub ended_next : (harts : List Hart) (ys all : List End) (h : ℕ) (status : Sta
 ended_next harts ys all h status pc y status_is pc_is is so_far same =
     end_next harts ys all h status pc y (slice_get harts h) refl status_is pc_is is so_far same
 
-pub all_ended : (core : Stored) (s : State) (told : List End) (h : ℕ) → state_at (setting_of core).start core.entries (length core.entries) ≡ Some s → told ≡ map end_of (take h s.harts) → length s.harts ≤ h → told ≡ ends core
+pub all_ended : (start s : State) (entries : List Entry) (told : List End) (h : ℕ) → state_at start entries (length entries) ≡ Some s → told ≡ map end_of (take h s.harts) → length s.harts ≤ h → told ≡ ends start entries
 unfolding ends
-all_ended core s told h there is all =
+all_ended start s entries told h there is all =
     is ∙ ap (map end_of) (take_all h s.harts all) ∙ sym (ap (λ o. option_map_or (λ (s : State). map end_of s.harts) o []) there)
 
 -- ---- how pauses ended
@@ -90,7 +89,7 @@ one_at_most : (b : Bool) → one_if b ≤ 1
 one_at_most true = omega arith
 one_at_most false = omega arith
 
-raised_is : {X : Type 0} (p : X → Bool) (xs : List X) (n before : ℕ) (x : X) → before ≡ count_by p (take n xs) → slice_get xs n ≡ Some x → n < 2 ^ 32 → saturated (before + one_if (p x)) ≡ count_by p (take (n + 1) xs)
+raised_is : {X : Type 0} (p : X → Bool) (xs : List X) (n before : ℕ) (x : X) → before ≡ count_by p (take n xs) → slice_get xs n ≡ Some x → n < 2 ^ 63 → saturated (before + one_if (p x)) ≡ count_by p (take (n + 1) xs)
 raised_is p xs n before x so_far there few =
     let within = slice_get_within xs n x there in
     let more = one_more p xs n x (p x) within (ap p (get_or_from_slice_get xs n x x there)) in
@@ -99,8 +98,8 @@ raised_is p xs n before x so_far there few =
     let one = one_at_most (p x) in
     omega (arith, so_far, more, few_so_far, long, one, few)
 
-pub counted_next : (entries : List Entry) (steps : ℕ) (xs : List Ending) (before after : Counts) (n : ℕ) (e : Ending) → after ≡ with_ending entries before e → before ≡ counts_of entries steps (take n xs) → slice_get xs n ≡ Some e → n < 2 ^ 32 → after ≡ counts_of entries steps (take (n + 1) xs)
-counted_next entries steps xs before after n e is so_far there few =
+pub counted_next : (entries : List Entry) (xs : List Ending) (before after : Counts) (n : ℕ) (e : Ending) → after ≡ with_ending entries before e → before ≡ counts_of entries (take n xs) → slice_get xs n ≡ Some e → n < 2 ^ 63 → after ≡ counts_of entries (take (n + 1) xs)
+counted_next entries xs before after n e is so_far there few =
     is
     ∙ same_numbers (ap (λ (c : Counts). c.steps) so_far)
     (raised_is (λ (e : Ending). is_quiet e.verdict) xs n before.quiet e (ap (λ (c : Counts). c.quiet) so_far) there few)

@@ -4,7 +4,7 @@ use Rattle.rv_hunt.specs.Kinds.{Kinds}
 use Rattle.rv_hunt.specs.Tally.{Ended}
 use Rattle.rv_hunt.specs.declared.saying.ended.EndedRow.{EndedRow}
 use Rattle.rv_hunt.specs.declared.saying.ended.Ways.{Ways}
-use Rattle.rv_hunt.specs.declared.saying.ended.Ways.TheVariants.{One, OtherExits, OtherStops}
+use Rattle.rv_hunt.specs.declared.saying.ended.Ways.TheVariants.{One, OtherExits, OtherStops, OtherWaits}
 use Rattle.rv_hunt.specs.declared.tally.kinds.Kind.{Kind}
 use Rattle.rv_tally.specs.declared.end.End.TheVariants.{OutOfSteps}
 
@@ -19,6 +19,6 @@ row_if ways harts = if harts == 0 then [] else record { ways = ways; harts = har
 abbrev pub kind_rows : Kinds → Ways → List EndedRow
 kind_rows kinds others = map row_of kinds.told ++ row_if others kinds.rest
 
--- exits by code, then traps by cause and address, then those that had no steps left
+-- exits by code, then traps by cause and address, then those that waited for ever, then those that had no steps left
 abbrev pub ended_rows : Ended → List EndedRow
-ended_rows ended = kind_rows ended.exits OtherExits ++ (kind_rows ended.stops OtherStops ++ row_if (One OutOfSteps) ended.out_of_steps)
+ended_rows ended = kind_rows ended.exits OtherExits ++ (kind_rows ended.stops OtherStops ++ (kind_rows ended.waits OtherWaits ++ row_if (One OutOfSteps) ended.out_of_steps))

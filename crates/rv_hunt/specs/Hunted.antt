@@ -1,38 +1,18 @@
--- A hunt: which runs it makes, and what they saw.
-use Rattle.std.specs.Prelude.{◌≡◌, ⊤, ℕ, Bool, ◌+◌, ◌^◌, ◌≤◌, ◌<◌, true, false, List, [], ◌∷◌, ◌++◌, Some, length, map, slice_get, take}
-use Rattle.rv_campaign.specs.Kept.{IsKept, Source}
-use Rattle.rv_hunt.specs.KeptRun.{IsKeptRun}
+-- What the runs of a hunt saw, and which runs it makes.
+use Rattle.std.specs.Prelude.{◌≡◌, ℕ, Bool, ◌+◌, ◌<◌, true, false, List, [], ◌∷◌, ◌++◌, Some, length, map, slice_get, take}
+use Rattle.std.specs.List.{flat_map}
+use Rattle.rv_hunt.specs.Hunt.{Hunt}
+use Rattle.rv_hunt.specs.KeptRun.{IsOfRun}
+use Rattle.rv_hunt.specs.Near.{near_of}
 use Rattle.rv_hunt.specs.Rows.{row_of, table_of}
+use Rattle.rv_hunt.specs.Tally.{Tally, reached, tally_of}
 use Rattle.rv_hunt.specs.declared.hunted.Hunted.{Hunted}
 use Rattle.rv_hunt.specs.declared.kept_run.KeptRun.{KeptRun}
+use Rattle.rv_hunt.specs.declared.near.NearRow.{NearRow}
 use Rattle.rv_hunt.specs.declared.row.RaceRow.{RaceRow}
 use Rattle.rv_report.specs.declared.key.Key.{Key}
 use Rattle.rv_tally.specs.GoesOn.{goes_on}
-use Rattle.rv_tally.specs.Plans.{Given, plan_of}
-use Rattle.rv_hunt.specs.Tally.{Tally, reached, tally_of}
-use Rattle.rv_tally.specs.declared.limit.Limit.{Limit}
-use Rattle.rv_tally.specs.declared.limit.Limit.TheVariants.{Runs, Budget}
-
--- What is asked of a hunt: what its runs are made of, what is given of their plans, the ranges of the listed names,
--- the number of the first run, and how far it goes.
-pub record Hunt : Type 0 where
-  pub source : Source
-  pub given : Given
-  pub ranges : List (ℕ × ℕ)
-  pub first : ℕ
-  pub limit : Limit
-
--- the runs that are asked for have numbers of 32 bits
-abbrev pub AreNumbers : ℕ → Limit → Type 0
-AreNumbers first (Runs runs) = first + runs ≤ 2 ^ 32
-AreNumbers first (Budget steps) = ⊤
-
-pub record IsHunt (hunt : Hunt) : Type 0 where
-  pub numbers : AreNumbers hunt.first hunt.limit
-
--- what is kept of the run of that number
-abbrev pub IsOfRun : Hunt → ℕ → KeptRun → Type 0
-IsOfRun hunt run kept = IsKept (IsKeptRun hunt.ranges) hunt.source (plan_of hunt.given run) run kept
+use Rattle.rv_walk.specs.declared.near_pair.Addresses.{Addresses}
 
 -- ---- what runs saw
 
@@ -48,9 +28,13 @@ unfoldable pub rows_from : ℕ → List KeptRun → List (Key × RaceRow)
 rows_from first [] = []
 rows_from first (kept ∷ later) = rows_of first kept ++ rows_from (first + 1) later
 
+-- the near pairs of runs
+abbrev pub near_in : List KeptRun → List (Addresses × NearRow)
+near_in runs = flat_map (λ (kept : KeptRun). kept.near.items) runs
+
 -- what the runs from that number on saw
 unfoldable pub seen_in : ℕ → List KeptRun → Hunted
-seen_in first runs = record { tally = summed runs; table = table_of (rows_from first runs) }
+seen_in first runs = record { tally = summed runs; table = table_of (rows_from first runs); near = near_of (near_in runs) }
 
 -- ---- which runs are made
 

@@ -1,15 +1,72 @@
--- What a hunt keeps of a run: what is counted of it, and its reports.
-use Rattle.std.specs.Prelude.{◌≡◌, ℕ, List}
-use Rattle.rv_collide.specs.Stored.{Stored, setting_of}
-use Rattle.rv_explain.specs.Races.{Run, reports}
+-- What a hunt keeps of a run: what is counted of it, its reports, and the near pairs of its walk.
+use Rattle.std.specs.Prelude.{◌≡◌, ℕ, ◌+◌, true, false, All, Some, None, List, [], ◌∷◌, ◌++◌, length, map}
+use Rattle.rv_collide.specs.declared.collider.Finished.{Finished}
+use Rattle.rv_collide.specs.declared.ending.Ending.{Ending}
+use Rattle.rv_explain.specs.Races.{reports_of}
+use Rattle.rv_races.specs.declared.races.Report.{Report}
+use Rattle.rv_hart.specs.State.{start as first_state}
+use Rattle.rv_hunt.specs.Hunt.{Hunt, IsSampledRun, IsWalkOf}
+use Rattle.rv_hunt.specs.Summary.{IsSampledSummary, IsWalkSummary}
 use Rattle.rv_hunt.specs.declared.kept_run.KeptRun.{KeptRun}
-use Rattle.rv_hunt.specs.Summary.{IsSummary}
+use Rattle.rv_hunt.specs.declared.kept_run.PartReport.{PartReport}
+use Rattle.rv_hunt.specs.declared.near.NearRow.{NearRow}
+use Rattle.rv_tally.specs.Plans.{is_sampled, plan_of}
+use Rattle.rv_walk.specs.Part.{IsPart}
+use Rattle.rv_walk.specs.Told.{AreTold, addresses_of}
+use Rattle.rv_walk.specs.Walked.{Walked}
+use Rattle.rv_walk.specs.declared.near_pair.Addresses.{Addresses}
+use Rattle.rv_walk.specs.declared.near_pair.NearPair.{NearPair}
+use Rattle.rv_walk.specs.declared.probes.Part.{Part}
 
--- the run of a core, as reports are told of it
-abbrev pub run_of : Stored → Run
-run_of core = record { image = core.image; start = (setting_of core).start; entries = core.entries }
+-- the reports of endings
+abbrev pub reports_among : Hunt → List Ending → List Report
+reports_among hunt ended = reports_of hunt.source.image hunt.ranges ended (length ended)
 
--- What is kept of the run that is over with this core. The ranges are those of the listed names.
-pub record IsKeptRun (ranges : List (ℕ × ℕ)) (core : Stored) (kept : KeptRun) : Type 0 where
-  pub summary : IsSummary core kept.summary
-  pub reports_are : kept.reports.items ≡ reports (run_of core) ranges
+-- a report of a part of a run, before whose own entries there are so many of its walk
+abbrev pub in_part : ℕ → ℕ → Report → PartReport
+in_part part before report = record { part = part; before = before; report = report }
+
+-- part 0 is a sampled run
+abbrev pub reports_of_sampled : Hunt → List Ending → List PartReport
+reports_of_sampled hunt ended = map (in_part 0 0) (reports_among hunt ended)
+
+-- the reports of the part of that number
+abbrev pub reports_of_part : Hunt → ℕ → Part → List PartReport
+reports_of_part hunt number part = map (in_part number part.place) (reports_among hunt part.probed.finished.endings.items)
+
+-- those of parts, the first of which has that number
+abbrev pub reports_of_parts : Hunt → ℕ → List Part → List PartReport
+reports_of_parts hunt number [] = []
+reports_of_parts hunt number (part ∷ later) = reports_of_part hunt number part ++ reports_of_parts hunt (number + 1) later
+
+-- a near pair that a walk saw, and one that was probed
+abbrev pub seen_pair : NearPair → Addresses × NearRow
+seen_pair pair = (addresses_of pair, record { address = pair.first.access.first; best = None; tries = 0 })
+
+abbrev pub probed_pair : Part → Addresses × NearRow
+probed_pair part = (addresses_of part.pair, record { address = part.pair.first.access.first; best = Some part.probed.reached; tries = 1 })
+
+-- What is kept of the sampled run of that number.
+pub record IsOfSampled (hunt : Hunt) (run : ℕ) (kept : KeptRun) : Type 0 where
+  pub left : Finished
+  pub is_run : IsSampledRun hunt run left
+  pub summary : IsSampledSummary (first_state hunt.source.image.segments hunt.source.image.entry (plan_of hunt.given run).harts) left kept.summary
+  pub reports_are : kept.reports.items ≡ reports_of_sampled hunt left.endings.items
+  pub near_are : kept.near.items ≡ []
+
+-- What is kept of a walk of that number, and of its probes: the parts from 1 on.
+pub record IsOfWalk (hunt : Hunt) (run : ℕ) (kept : KeptRun) : Type 0 where
+  pub walk : Walked
+  pub is_walk : IsWalkOf hunt run walk
+  pub pairs : List NearPair
+  pub are_told : AreTold walk pairs
+  pub parts : List Part
+  pub are_parts : All (IsPart walk) parts
+  pub summary : IsWalkSummary walk parts kept.summary
+  pub reports_are : kept.reports.items ≡ reports_of_parts hunt 1 parts
+  pub near_are : kept.near.items ≡ map seen_pair pairs ++ map probed_pair parts
+
+-- what is kept of the run of that number
+pub record IsOfRun (hunt : Hunt) (run : ℕ) (kept : KeptRun) : Type 0 where
+  pub sampled : is_sampled hunt.given.mix run ≡ true → IsOfSampled hunt run kept
+  pub walked : is_sampled hunt.given.mix run ≡ false → IsOfWalk hunt run kept

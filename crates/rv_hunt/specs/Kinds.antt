@@ -1,23 +1,24 @@
 -- How harts ended, kind by kind.
-use Rattle.std.specs.Prelude.{ℕ, ◌+◌, ◌==◌, ◌&&◌, Bool, true, false, nat_lt, if◌then◌else◌, List, [], ◌∷◌, ◌++◌, length, map}
+use Rattle.std.specs.Prelude.{ℕ, ◌+◌, ◌==◌, ◌&&◌, Bool, nat_lt, if◌then◌else◌, List, [], ◌∷◌, ◌++◌, length, map}
 use Rattle.std.specs.List.{list_any}
 use Rattle.rv_collide.specs.Counts.{saturated}
 use Rattle.rv_hart.specs.Cause.{number}
 use Rattle.rv_tally.specs.declared.end.End.{End}
-use Rattle.rv_tally.specs.declared.end.End.TheVariants.{Exited, Stopped, OutOfSteps}
+use Rattle.rv_tally.specs.declared.end.End.TheVariants.{Exited, Stopped, Polls, Parked, OutOfSteps}
 use Rattle.rv_hunt.specs.declared.tally.kinds.Kind.{Kind}
+use Rattle.rv_hunt.specs.declared.tally.kinds.Mark.{Mark}
 
--- the same code, or the same cause at the same address
+-- what tells a way of ending from others: which it is, and its code, or its cause and address, or its address
+abbrev pub mark : End → Mark
+mark (Exited code) = record { way = 0; cause = code; address = 0 }
+mark (Stopped cause pc) = record { way = 1; cause = number cause; address = pc }
+mark (Polls pc) = record { way = 2; cause = 0; address = pc }
+mark Parked = record { way = 3; cause = 0; address = 0 }
+mark OutOfSteps = record { way = 4; cause = 0; address = 0 }
+
 abbrev pub same_end : End → End → Bool
-same_end (Exited code) (Exited other) = code == other
-same_end (Exited code) (Stopped cause pc) = false
-same_end (Exited code) OutOfSteps = false
-same_end (Stopped cause pc) (Exited code) = false
-same_end (Stopped cause pc) (Stopped other_cause other_pc) = (number cause == number other_cause) && (pc == other_pc)
-same_end (Stopped cause pc) OutOfSteps = false
-same_end OutOfSteps (Exited code) = false
-same_end OutOfSteps (Stopped cause pc) = false
-same_end OutOfSteps OutOfSteps = true
+same_end one other =
+    (mark one).way == (mark other).way && (mark one).cause == (mark other).cause && (mark one).address == (mark other).address
 
 -- The kinds that were met first, each with how many there were of it, and how many there were of all others.
 pub record Kinds : Type 0 where

@@ -1,13 +1,17 @@
 -- What the page of a hunt shows beside its texts: the places that it has, its links, and its numbers. Each function puts what a
 -- part shows before what was shown so far, so that the last stands first.
-use Rattle.std.specs.Prelude.{ℕ, zero, suc, ◌+◌, ◌==◌, ◌&&◌, Bool, true, false, nat_le, if◌then◌else◌, List, [], ◌∷◌, length}
+use Rattle.std.specs.Prelude.{ℕ, zero, suc, ◌+◌, ◌==◌, ◌&&◌, Bool, true, false, nat_le, if◌then◌else◌, List, [], ◌∷◌, length, take}
 use Rattle.std.specs.List.{fold}
 use Rattle.rv_races.specs.declared.classes.RaceClass.TheVariants.{Named}
 use Rattle.rv_hunt.specs.EndedRows.{ended_rows}
-use Rattle.rv_hunt.specs.Outcome.{Outcome, seen_numbers}
-use Rattle.rv_hunt.specs.Tally.{Ended as HowEnded, Tally}
+use Rattle.rv_hunt.specs.Near.{unmet}
+use Rattle.rv_hunt.specs.Outcome.{Outcome, sampled_numbers, walk_numbers}
+use Rattle.rv_hunt.specs.Tally.{Ended as HowEnded}
 use Rattle.rv_hunt.specs.ToldOrder.{of_class, reports_of}
-use Rattle.rv_hunt.specs.Warnings.{warnings_of}
+use Rattle.rv_hunt.specs.Warnings.{all_sampled, warnings_of}
+use Rattle.rv_hunt.specs.declared.hunted.Hunted.{Hunted}
+use Rattle.rv_hunt.specs.declared.near.NearRow.{NearRow}
+use Rattle.rv_hunt.specs.declared.page.near.TheConstants.{MOST_ROWS}
 use Rattle.rv_hunt.specs.declared.row.RaceRow.{RaceRow}
 use Rattle.rv_hunt.specs.declared.saying.ended.EndedRow.{EndedRow}
 use Rattle.rv_hunt.specs.declared.saying.lines.Seen as lines
@@ -15,6 +19,7 @@ use Rattle.rv_markup.specs.declared.markup.Fact.{Fact}
 use Rattle.rv_markup.specs.declared.markup.Fact.TheVariants.{Target, Link, Number}
 use Rattle.rv_markup.specs.declared.tag.Place.TheVariants.{Warnings, Races, Race, Aside, Ended, Seen}
 use Rattle.rv_report.specs.declared.key.Key.{Key}
+use Rattle.rv_walk.specs.declared.near_pair.Addresses.{Addresses}
 
 -- ---- above the races
 
@@ -23,7 +28,7 @@ links_facts facts = Link Seen ∷ Link Ended ∷ Link Races ∷ facts
 
 -- warnings have a part where there are any
 abbrev pub warnings_facts : Outcome → List Fact → List Fact
-warnings_facts outcome facts = if length (warnings_of outcome.sites outcome.saw) == 0 then facts else Target Warnings ∷ facts
+warnings_facts outcome facts = if length (warnings_of outcome) == 0 then facts else Target Warnings ∷ facts
 
 -- ---- the races
 
@@ -79,14 +84,30 @@ number_row_facts numbers facts = fold (λ shown (one : lines.Seen). Number one.n
 abbrev pub numbers_facts : List ℕ → List Fact → List Fact
 numbers_facts numbers facts = fold (λ shown n. Number n ∷ shown) facts numbers
 
-abbrev pub seen_facts : ℕ → Tally → List Fact → List Fact
-seen_facts sites saw facts = numbers_facts (seen_numbers sites saw) (Target Seen ∷ facts)
+-- of walks there are rows where not all runs are sampled ones
+abbrev pub walk_facts : Bool → Hunted → List Fact → List Fact
+walk_facts true saw facts = facts
+walk_facts false saw facts = numbers_facts (walk_numbers saw) facts
+
+-- of the near pairs that were not met the first have a row, with the number of their probes
+abbrev pub pair_rows_facts : List (Addresses × NearRow) → List Fact → List Fact
+pair_rows_facts pairs facts = fold (λ shown (pair : Addresses × NearRow). Number pair.1.tries ∷ shown) facts pairs
+
+abbrev pub near_facts : Hunted → List Fact → List Fact
+near_facts saw facts = pair_rows_facts (take MOST_ROWS (unmet saw.table saw.near)) facts
+
+abbrev pub seen_row_facts : ℕ → Bool → Hunted → List Fact → List Fact
+seen_row_facts sites sampled saw facts =
+    near_facts saw (Number saw.tally.runs ∷ walk_facts sampled saw (numbers_facts (sampled_numbers sites saw.tally) facts))
+
+abbrev pub seen_facts : Outcome → List Fact → List Fact
+seen_facts outcome facts = seen_row_facts outcome.sites (all_sampled outcome.mix) outcome.saw (Target Seen ∷ facts)
 
 -- ---- the page
 
 -- what stands below the races
 abbrev pub runs_facts : Outcome → List Fact → List Fact
-runs_facts outcome facts = seen_facts outcome.sites outcome.saw (ended_facts outcome.saw.ended (aside_facts outcome facts))
+runs_facts outcome facts = seen_facts outcome (ended_facts outcome.saw.tally.ended (aside_facts outcome facts))
 
 -- the races of a table, in the order in which they are told, of which so many are shown in full
 abbrev pub told_facts : List (Key × RaceRow) → ℕ → List Fact → List Fact

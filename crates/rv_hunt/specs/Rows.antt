@@ -1,18 +1,23 @@
 -- The rows of a hunt table, as a function of the whole list of rows that were added to it.
-use Rattle.std.specs.Prelude.{ℕ, ◌+◌, Bool, if◌then◌else◌, Some, List, [], ◌∷◌}
+use Rattle.std.specs.Prelude.{ℕ, ◌+◌, min, Bool, if◌then◌else◌, Some, List, [], ◌∷◌}
 use Rattle.std.specs.List.{fold, list_any}
 use Rattle.rv_explain.specs.Classes.{rank}
-use Rattle.rv_races.specs.declared.races.Report.{Report}
+use Rattle.rv_hunt.specs.Keyed.{added_by}
+use Rattle.rv_hunt.specs.declared.kept_run.PartReport.{PartReport}
 use Rattle.rv_hunt.specs.declared.row.RaceRow.{RaceRow}
 use Rattle.rv_collide.specs.Counts.{saturated}
 use Rattle.rv_report.specs.Races.{same_key}
 use Rattle.rv_report.specs.declared.key.Key.{Key}
 pub use Rattle.rv_tally.specs.Strongest as strongest
 
--- the row of a single report of a run
-abbrev pub row_of : ℕ → Report → Key × RaceRow
-row_of run report =
-    (report.key, record { count = 1; class = report.class; run = run; entry = report.ending.paused_at; old = report.ending.old; new = report.ending.new; address = Some report.ending.access.first })
+-- A place has 32 bits; that of a run is far less.
+abbrev pub saturated_word : ℕ → ℕ
+saturated_word n = min n 4_294_967_295
+
+-- the row of a single report of a run: the place of its pause is that in the run, with the steps of a walk that stand before
+abbrev pub row_of : ℕ → PartReport → Key × RaceRow
+row_of run it =
+    (it.report.key, record { count = 1; class = it.report.class; run = run; part = it.part; entry = saturated_word (it.before + it.report.ending.paused_at); old = it.report.ending.old; new = it.report.ending.new; address = Some it.report.ending.access.first })
 
 -- of two rows of a race the one that it is told by: the later only where its class is the stronger
 abbrev pub told_by : RaceRow → RaceRow → RaceRow
@@ -24,8 +29,7 @@ joined first later = record (told_by first later) { count = saturated (first.cou
 
 -- A row more: it is joined to that of its race, or comes last where there is none.
 abbrev pub added : List (Key × RaceRow) → Key × RaceRow → List (Key × RaceRow)
-added [] row = row ∷ []
-added (e ∷ es) row = if same_key row.0 e.0 then (e.0, joined e.1 row.1) ∷ es else e ∷ added es row
+added = added_by same_key joined
 
 -- the table of rows, in the order of the first row of each race
 unfoldable pub table_of : List (Key × RaceRow) → List (Key × RaceRow)

@@ -1,10 +1,12 @@
 -- What only private contracts cite: no reader has to believe it.
 pub mod Adding
 pub mod Counting
+pub mod Gathered
 pub mod Lookup
 pub mod Lots
 pub mod MakeFault
 pub mod Opened
+pub mod RunWalk
 pub mod Shaped
 pub mod Showing
 pub mod Sought

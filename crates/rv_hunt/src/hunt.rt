@@ -1,18 +1,20 @@
 //! Hunts: runs of consecutive numbers, as many as a limit allows.
 ghost use Rattle.std.specs.Prelude.{◌≡◌, ◌<◌, ◌≤◌, ◌+◌, ◌^◌, true, length, IfOk, OnOk};
+ghost use Rattle.rv_hunt.specs.Hunt.{IsHunt};
 ghost use Rattle.rv_hunt.specs.Hunted as spec;
+ghost use Rattle.rv_hunt.specs.KeptRun.{IsOfRun};
 ghost use Rattle.rv_hunt.specs.internal.Lots as internal;
 
 use crate::hunted::Hunted;
-use crate::kept_run::{Keeper, KeptRun};
-use crate::tally::COST_OF_A_RUN;
-use rv_campaign::{Series, SeriesFault, SeriesRun, kept_runs};
+use crate::kept_run::KeptRun;
+use rv_campaign::{Jobs, PoolFault, all_made};
 use rv_elf::Image;
 use rv_memory::store::NoMemory;
 use rv_prune::named_bytes::NamedBytes;
 use rv_sample::Sampler;
 use rv_tally::limit::{Limit, next_number};
 use rv_tally::plans::Plans;
+use rv_walk::sites::Sites;
 use std::alloc::Global;
 use std::marker::Model;
 use std::sync::Wait;
@@ -24,16 +26,15 @@ const MOST_HELD: u32 = 256;
 /// How many addresses these arm together at most, where there are more than one.
 const MOST_HELD_ARMS: u32 = 16_384;
 
-/// How many runs are made together at least, for each worker, where the budget may be spent by fewer.
-const LEAST_MADE: u64 = 4;
-
 /// A hunt: the image, the seed and the sites that its runs are made of, their plans, the ranges of the listed names,
 /// the number of its first run, and how far it goes.
 #[derive(Drop)]
 pub struct Hunt<'a> {
     pub image: &'a Image,
-    pub seed: u64,
+    pub seed: u32,
     pub sampler: &'a Sampler,
+    /// The same sites, found at one look.
+    pub sites: &'a Sites,
     pub plans: &'a Plans,
     pub ranges: &'a NamedBytes,
     pub first: u32,
@@ -41,7 +42,8 @@ pub struct Hunt<'a> {
 }
 
 impl<'a> Model for Hunt<'a> {
-    ghost use Rattle.rv_hunt.specs.Hunted.{Hunt as Asked};
+    ghost use Rattle.std.specs.Prelude.{◌≡◌};
+    ghost use Rattle.rv_hunt.specs.Hunt.{Hunt as Asked};
 
     ghost Value = { Asked };
 
@@ -52,6 +54,8 @@ impl<'a> Model for Hunt<'a> {
       first = h.first;
       limit = h.limit;
     } };
+
+    ghost invariant = { λ h. h.sites.now ≡ h.sampler.now };
 }
 
 /// Is told how far a hunt has come.
@@ -63,28 +67,44 @@ pub trait Watch {
     fn shows(&mut self, shown: usize, all: usize);
 }
 
-/// So many runs from a number on, each with its plan.
-fn runs_from<'a>(
-    alloc: Global,
-    plans: &Plans,
+/// So many runs of a hunt from a number on, as jobs.
+#[derive(Drop)]
+struct Lot<'a, 'h> {
+    hunt: &'a Hunt<'h>,
     next: u32,
     count: u32,
-    keep: &'a Keeper<'a>,
-) -> Result<Vec<SeriesRun<'a, Keeper<'a>>>, NoMemory>
-    requires { next + count ≤ 2 ^ 32 }
-    ensures are { IfOk result (λ runs. internal.AreNext plans.now next keep.now runs.items) }
-    ensures count { IfOk result (λ runs. length runs.items ≡ count) }
-{
-    let mut runs = Vec::new(alloc);
-    for place in 0..count {
-        let number = next + place;
-        runs.push(SeriesRun {
-            number,
-            plan: plans.plan(number),
-            keep,
-        })?;
+}
+
+impl<'a, 'h> Model for Lot<'a, 'h> {
+    ghost use Rattle.std.specs.Prelude.{◌+◌, ◌≤◌, ◌^◌};
+    ghost use Rattle.rv_hunt.specs.internal.Lots.{Lot as Asked};
+
+    ghost Value = { Asked };
+
+    ghost view = { λ l. record { hunt = l.hunt.now; next = l.next; count = l.count } };
+
+    ghost invariant = { λ l. l.next + l.count ≤ 2 ^ 32 };
+}
+
+impl<'a, 'h> Jobs for Lot<'a, 'h> {
+    type Made = KeptRun;
+
+    ghost jobs = { λ lot. lot.count };
+
+    ghost makes = { λ lot place kept. IsOfRun lot.hunt (lot.next + place) kept };
+
+    fn count(&self) -> u32 {
+        self.count
     }
-    Ok(runs)
+
+    fn size(&self, place: u32) -> u32 {
+        let hunt = self.hunt;
+        hunt.plans.plan(self.next.wrapping_add(place)).steps
+    }
+
+    fn make(&self, alloc: Global, place: u32) -> Result<KeptRun, NoMemory> {
+        self.hunt.kept(alloc, self.next + place)
+    }
 }
 
 impl Hunt<'_> {
@@ -97,7 +117,7 @@ impl Hunt<'_> {
 
     /// The number of the next run.
     fn next(&self, hunted: &Hunted) -> u32
-        requires hunt { spec.IsHunt self.now }
+        requires hunt { IsHunt self.now }
         requires goes_on { spec.is_due self.now hunted.now.tally ≡ true }
         ensures { result ≡ self.now.first + hunted.now.tally.runs }
     {
@@ -113,42 +133,29 @@ impl Hunt<'_> {
         u64::from(each) * u64::from(workers.max(1))
     }
 
-    /// How many of at most so many runs from a number on are made for certain, where so many steps are left of the
-    /// budget: those before which it can't be spent.
-    fn affordable(&self, next: u32, most: u32, left: u64) -> u32
-        requires { next + most ≤ 2 ^ 32 }
-        ensures { result ≤ most }
-    {
-        let mut spent = 0u64;
-        for place in 0..most {
-            if left <= spent {
-                return place;
-            }
-            let steps = u64::from(self.plans.plan(next + place).steps);
-            spent = spent.saturating_add(steps + COST_OF_A_RUN);
-        }
-        most
-    }
-
-    /// How many runs are made together next: some that are made for certain, and no more than are held.
+    /// How many runs are made together next: no more than are held, and where the budget may be spent by fewer than that, as many as
+    /// it allows by what runs have cost so far, but at least one for each worker.
     fn lot_len(&self, hunted: &Hunted, next: u32, workers: u8) -> u32
         ensures some { 1 ≤ result }
         ensures numbers { next + result ≤ 2 ^ 32 }
     {
         let most = self
             .most_held(next, workers)
-            .min((1 << 32) - u64::from(next)) as u32;
+            .min((1 << 32) - u64::from(next));
         let reached = hunted.tally.reached();
-        match self.limit {
-            Limit::Runs(all) => {
-                (all.saturating_sub(reached.runs).min(u64::from(most)) as u32).max(1)
-            }
+        let wanted = match self.limit {
+            Limit::Runs(all) => all.saturating_sub(reached.runs),
             Limit::Budget(steps) => {
-                let some = LEAST_MADE * u64::from(workers.max(1));
-                self.affordable(next, most, steps.saturating_sub(reached.cost))
-                    .max(u64::from(most).min(some) as u32)
+                let each = reached.cost / reached.runs.max(1);
+                let left = steps.saturating_sub(reached.cost);
+                let some = u64::from(workers.max(1));
+                match reached.runs {
+                    0 => some,
+                    _ => (left / each.max(1)).saturating_add(1).max(some),
+                }
             }
-        }
+        };
+        (wanted.min(most) as u32).max(1)
     }
 
     /// Some of the runs from a number on.
@@ -159,35 +166,27 @@ impl Hunt<'_> {
         hunted: &Hunted,
         next: u32,
         workers: u8,
-    ) -> Result<Vec<KeptRun>, SeriesFault>
+    ) -> Result<Vec<KeptRun>, PoolFault>
         requires { workers ≤ 16 }
         ensures lot { IfOk result (λ lot. internal.IsLot self.now next lot.items) }
         ensures some { IfOk result (λ lot. 1 ≤ length lot.items) }
         ensures numbers { IfOk result (λ lot. next + length lot.items ≤ 2 ^ 32) }
     {
-        let count = self.lot_len(hunted, next, workers);
-        let keep = Keeper {
-            image: self.image,
-            ranges: self.ranges,
+        let lot = Lot {
+            hunt: self,
+            next,
+            count: self.lot_len(hunted, next, workers),
         };
-        let runs = runs_from(alloc, self.plans, next, count, &keep)?;
-        let series = Series {
-            image: self.image,
-            seed: self.seed,
-            sampler: self.sampler,
-            runs: &runs,
-        };
-        let lot = kept_runs(rt, alloc, &series, workers)?;
-        Ok(lot)
+        all_made(rt, alloc, &lot, workers)
     }
 
     /// Adds what the next run saw.
     fn add(&self, hunted: &mut Hunted, run: u32, kept: &KeptRun) -> Result<(), NoMemory>
         requires so_far { spec.IsSoFar self.now hunted.old }
         requires goes_on { spec.is_due self.now hunted.old.tally ≡ true }
-        requires hunt { spec.IsHunt self.now }
+        requires hunt { IsHunt self.now }
         requires next { run ≡ self.now.first + hunted.old.tally.runs }
-        requires kept { spec.IsOfRun self.now run kept.now }
+        requires kept { IsOfRun self.now run kept.now }
         ensures so_far { OnOk result (spec.IsSoFar self.now hunted.new) }
         ensures runs { OnOk result (hunted.new.tally.runs ≡ hunted.old.tally.runs + 1) }
     {
@@ -205,7 +204,7 @@ impl Hunt<'_> {
     ) -> Result<(), NoMemory>
         requires so_far { spec.IsSoFar self.now hunted.old }
         requires goes_on { spec.is_due self.now hunted.old.tally ≡ true }
-        requires hunt { spec.IsHunt self.now }
+        requires hunt { IsHunt self.now }
         requires next { next ≡ self.now.first + hunted.old.tally.runs }
         requires lot { internal.IsLot self.now next lot.now }
         requires some { 1 ≤ length lot.now }
@@ -231,9 +230,9 @@ impl Hunt<'_> {
         hunted: &mut Hunted,
         workers: u8,
         watch: &mut W,
-    ) -> Result<(), SeriesFault>
+    ) -> Result<(), PoolFault>
         requires so_far { spec.IsSoFar self.now hunted.old }
-        requires hunt { spec.IsHunt self.now }
+        requires hunt { IsHunt self.now }
         requires workers { workers ≤ 16 }
         ensures { OnOk result (spec.IsHunted self.now hunted.new) }
     {
@@ -254,8 +253,8 @@ impl Hunt<'_> {
         alloc: Global,
         workers: u8,
         watch: &mut W,
-    ) -> Result<Hunted, SeriesFault>
-        requires hunt { spec.IsHunt self.now }
+    ) -> Result<Hunted, PoolFault>
+        requires hunt { IsHunt self.now }
         requires workers { workers ≤ 16 }
         ensures { IfOk result (λ hunted. spec.IsHunted self.now hunted) }
     {

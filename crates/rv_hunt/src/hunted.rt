@@ -2,27 +2,29 @@
 ghost use Rattle.std.specs.Prelude.{◌≡◌, OnOk, map, [], length};
 ghost use Rattle.std.specs.List.{fold};
 ghost use Rattle.rv_hunt.specs.Hunted as spec;
+ghost use Rattle.rv_hunt.specs.Near as near;
 ghost use Rattle.rv_hunt.specs.Rows as rows;
 ghost use Rattle.rv_hunt.specs.internal.Lots as internal;
 
-use crate::kept_run::KeptRun;
+use crate::kept_run::{KeptRun, PartReport};
+use crate::near::NearTable;
 use crate::row::row_of;
 use crate::table::HuntTable;
 use crate::tally::Tally;
-use rv_explain::races::Report;
 use rv_memory::store::NoMemory;
 use std::alloc::Global;
 
-/// What runs saw: the sums over all of them, and a row for each race. The row's run is the one that made the report
-/// that the race is told by, and its entry the place of that report's pause.
+/// What runs saw: the sums over all of them, a row for each race, and the near pairs of their walks. A row's run is the one that made
+/// the report that the race is told by, and its entry the place of that report's pause.
 #[derive(Drop)]
 pub struct Hunted {
     pub tally: Tally,
     pub table: HuntTable,
+    pub near: NearTable,
 }
 
 /// Adds a row for each report of a run.
-fn add_reports(table: &mut HuntTable, run: u32, reports: &[Report]) -> Result<(), NoMemory>
+fn add_reports(table: &mut HuntTable, run: u32, reports: &[PartReport]) -> Result<(), NoMemory>
     ensures { OnOk result (table.new ≡ fold rows.added table.old (map (rows.row_of run) reports.now)) }
 {
     for report in reports {
@@ -34,13 +36,14 @@ fn add_reports(table: &mut HuntTable, run: u32, reports: &[Report]) -> Result<()
 
 impl Hunted {
     /// What no run has seen.
-    #[tactic(auto, unfolding(crate::specs::Tally::tally_of))]
+    #[tactic(auto, unfolding(crate::specs::Tally::tally_of, crate::specs::Near::near_of))]
     pub(crate) fn new(alloc: Global) -> Hunted
-        ensures { result ≡ record { tally = spec.summed []; table = [] } }
+        ensures { result ≡ record { tally = spec.summed []; table = []; near = near.near_of [] } }
     {
         Hunted {
             tally: Tally::new(alloc),
             table: HuntTable::new(alloc),
+            near: NearTable::new(alloc),
         }
     }
 
@@ -50,6 +53,7 @@ impl Hunted {
         ensures { OnOk result (self.new ≡ internal.with_run self.old run kept.now) }
     {
         self.tally.add(&kept.summary)?;
-        add_reports(&mut self.table, run, &kept.reports)
+        add_reports(&mut self.table, run, &kept.reports)?;
+        self.near.add_all(&kept.near)
     }
 }

@@ -1,41 +1,159 @@
 //! What a hunt keeps of a run.
-ghost use Rattle.std.specs.Prelude.{◌≡◌};
+ghost use Rattle.std.specs.Prelude.{◌≡◌, IfOk, map};
 ghost use Rattle.rv_hunt.specs.KeptRun as spec;
+ghost use Rattle.rv_campaign.specs.Kept.{IsCoreOf};
+ghost use Rattle.rv_collide.specs.Grammar.{IsWritable};
+ghost use Rattle.rv_collide.specs.Numbers.{numbers};
+ghost use Rattle.rv_hunt.specs.Hunt.{IsSampledRun};
+ghost use Rattle.rv_hunt.specs.internal.Gathered.{AreGathered};
+ghost use Rattle.rv_hunt.specs.internal.RunWalk.{IsRunWalk};
+ghost use Rattle.rv_tally.specs.Plans.{plan_of};
 
-use crate::summary::{Summary, summary_of};
-use rv_campaign::Keep;
-use rv_collide::collider::Collider;
-use rv_elf::Image;
+use crate::gathered::Gathered;
+use crate::hunt::Hunt;
+use crate::near::NearRow;
+use crate::run_walk::{RunWalk, drawn_pairs, probes_of, walk_of};
+use crate::summary::{Summary, ends_of, sampled_summary};
+use crate::tally::counts::Counts;
+use rv_campaign::{core_sampled, left_by};
+use rv_collide::collider::{Collider, Finished};
+use rv_collide::ending::Ending;
+use rv_collide::schedule::laws::legal_is_writable;
 use rv_explain::races::{Report, reports_of};
 use rv_memory::flat::Flat;
 use rv_memory::store::NoMemory;
-use rv_prune::named_bytes::NamedBytes;
+use rv_walk::near_pair::Addresses;
 use std::alloc::Global;
 
-/// What is kept of a run: what is counted of it, and its reports, in order. The run's entries, which are far more, are
-/// let go.
+/// A report of a run: of its part of that number, before whose own entries there are so many of the run's walk. Part 0 is a
+/// sampled run, and the others are the probes of a walk, in the order of their forks.
+#[derive(Clone, Copy)]
+pub struct PartReport {
+    pub part: u32,
+    pub before: u32,
+    pub report: Report,
+}
+
+/// What is kept of a run: what is counted of it, its reports, in the order of its parts, and the near pairs that its walk saw and
+/// that were probed. The run's entries, which are far more, are let go.
 #[derive(Drop)]
 pub struct KeptRun {
     pub summary: Summary,
-    pub reports: Vec<Report>,
+    pub reports: Vec<PartReport>,
+    pub near: Vec<(Addresses, NearRow)>,
 }
 
-/// Keeps of each run of an image what a hunt needs. The ranges are those of the listed names.
-#[derive(Drop)]
-pub(crate) struct Keeper<'a> {
-    pub(crate) image: &'a Image,
-    pub(crate) ranges: &'a NamedBytes,
+/// The reports of a part.
+pub(crate) fn reports_in_part(
+    alloc: Global,
+    hunt: &Hunt<'_>,
+    part: u32,
+    before: u32,
+    endings: &[Ending],
+) -> Result<Vec<PartReport>, NoMemory>
+    ensures { IfOk result (λ reports.
+        reports.items ≡ map (spec.in_part part before) (spec.reports_among hunt.now endings.now)) }
+{
+    let reports = reports_of(alloc, hunt.image, hunt.ranges, endings)?;
+    Ok(
+        reports
+            .iter()
+            .map(|report| PartReport {
+                part,
+                before,
+                report: *report,
+            })
+            .collect(alloc)?,
+    )
 }
 
-impl<'a> Keep for Keeper<'a> {
-    type Kept = KeptRun;
+/// What the sampled run of that number leaves.
+pub(crate) fn sampled_run(alloc: Global, hunt: &Hunt<'_>, number: u32) -> Result<Finished, NoMemory>
+    ensures run { IfOk result (IsSampledRun hunt.now number) }
+    ensures writable { IfOk result (λ left. IsWritable (numbers left.plan) left.entries.items) }
+{
+    legal_is_writable();
+    let core = core_of(alloc, hunt, number)?;
+    core.facts();
+    Ok(left_by(core))
+}
 
-    ghost keeps = { λ k core kept. core.image ≡ k.image.now → spec.IsKeptRun k.ranges.now core kept };
+/// The core with which the sampled run of that number is over.
+fn core_of(alloc: Global, hunt: &Hunt<'_>, number: u32) -> Result<Collider<Flat>, NoMemory>
+    ensures { IfOk result (IsCoreOf hunt.now.source (plan_of hunt.now.given number) number) }
+{
+    let plan = hunt.plans.plan(number);
+    let seed = u64::from(hunt.seed);
+    core_sampled(alloc, hunt.image, plan, seed, number, hunt.sampler)
+}
 
-    fn keep(&self, alloc: Global, core: Collider<Flat>) -> Result<KeptRun, NoMemory> {
-        let summary = summary_of(alloc, &core)?;
-        let endings = core.finish().endings;
-        let reports = reports_of(alloc, self.image, self.ranges, &endings)?;
-        Ok(KeptRun { summary, reports })
+impl Hunt<'_> {
+    /// What is kept of the run of that number.
+    pub(crate) fn kept(&self, alloc: Global, number: u32) -> Result<KeptRun, NoMemory>
+        ensures { IfOk result (spec.IsOfRun self.now number) }
+    {
+        if self.plans.mix().is_sampled(number) {
+            self.kept_of_sampled(alloc, number)
+        } else {
+            self.kept_of_walk(alloc, number)
+        }
     }
+
+    fn kept_of_sampled(&self, alloc: Global, number: u32) -> Result<KeptRun, NoMemory>
+        ensures { IfOk result (spec.IsOfSampled self.now number) }
+    {
+        let core = core_of(alloc, self, number)?;
+        let ends = ends_of(alloc, &core)?;
+        let left = left_by(core);
+        let reports = reports_in_part(alloc, self, 0, 0, &left.endings)?;
+        let summary = sampled_summary(alloc, ends, &left)?;
+        Ok(KeptRun {
+            summary,
+            reports,
+            near: Vec::new(alloc),
+        })
+    }
+
+    fn kept_of_walk(&self, alloc: Global, number: u32) -> Result<KeptRun, NoMemory>
+        ensures { IfOk result (spec.IsOfWalk self.now number) }
+    {
+        let walk = walk_of(alloc, self, number)?;
+        let gathered = gathered(alloc, &*self, number, &walk)?;
+        let is_spent = walk.is_spent();
+        let summary = Summary {
+            most_steps: self.plans.plan(number).steps,
+            ends: walk.ends,
+            armed: Vec::new(alloc),
+            paused: Vec::new(alloc),
+            counts: gathered.counts,
+            sampled: Counts::none(),
+            probes: u64::from(gathered.parts),
+            walk: Some(is_spent),
+        };
+        Ok(KeptRun {
+            summary,
+            reports: gathered.reports,
+            near: gathered.near,
+        })
+    }
+}
+
+/// What the probes of a walk come to.
+fn gathered<'a>(
+    alloc: Global,
+    hunt: &'a Hunt<'a>,
+    number: u32,
+    walk: &'a RunWalk,
+) -> Result<Gathered, NoMemory>
+    requires { IsRunWalk hunt.now number walk.now }
+    ensures { IfOk result (AreGathered hunt.now number walk.now) }
+{
+    let drawn = drawn_pairs(alloc, hunt, number, walk)?;
+    let mut gathered = Gathered::of(alloc, walk)?;
+    let mut probes = probes_of(alloc, hunt, number, walk)?;
+    for pair in &drawn {
+        let part = probes.probe(alloc, pair)?;
+        gathered.add(alloc, hunt, &part)?;
+    }
+    Ok(gathered)
 }

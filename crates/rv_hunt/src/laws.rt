@@ -12,8 +12,8 @@ pub fn pieces_are_merged()
     ensures one { TableIsKept }
 {}
 
-/// What is asked of a hunt determines what it sees; the tables of its pieces make the table of the whole; and each row of
-/// its table is told by the run that the row names.
+/// What is asked of a hunt of sampled runs determines what it sees; the tables of a hunt's pieces make the table of the whole; and each
+/// row of its table is told by a report of the run that the row names.
 pub fn hunts_have_one_result()
     ensures one { OneResult }
     ensures pieces { PiecesAreWhole }

@@ -260,6 +260,7 @@ fn row_within(said: &Said) -> Option<(Key, RaceRow)>
         count,
         class: said.class,
         run,
+        part: 0,
         entry,
         old: said.values.old,
         new: said.values.new,

@@ -26,6 +26,7 @@ use rv_report::key::Key;
 use std::alloc::Global;
 
 mod elements;
+mod near;
 pub mod parts;
 mod races;
 mod runs;
@@ -99,12 +100,17 @@ fn told_races(
 }
 
 /// What stands below the races.
-fn runs_seen(page: Markup, alloc: Global, outcome: &Outcome) -> Result<Markup, NoMemory>
+fn below_races(
+    page: Markup,
+    alloc: Global,
+    symbols: &SymbolTable,
+    outcome: &Outcome,
+) -> Result<Markup, NoMemory>
     ensures { IfOk result (λ more. more ≡ record page { facts = spec.runs_facts outcome.now page.facts }) }
 {
     let page = aside_part(page, alloc, outcome)?;
-    let page = ended_part(page, alloc, outcome.saw)?;
-    seen_part(page, outcome.sites, outcome.saw)
+    let page = ended_part(page, alloc, symbols, &outcome.saw.tally)?;
+    seen_part(page, alloc, symbols, outcome)
 }
 
 /// The page of what a hunt came to. The races that are told stand in their order, the first of them in full.
@@ -122,8 +128,8 @@ pub fn page_text(
 {
     let summary = summary_line(alloc, outcome)?;
     let page = begin_page(Markup::new(alloc), line, summary.as_bytes())?;
-    let page = warnings_part(page, alloc, outcome)?;
+    let page = warnings_part(page, alloc, symbols, outcome)?;
     let page = told_races(page, alloc, line, symbols, told, shown)?;
-    let page = runs_seen(page, alloc, outcome)?;
+    let page = below_races(page, alloc, symbols, outcome)?;
     Ok(end_line(end_line(page)?)?.finish())
 }

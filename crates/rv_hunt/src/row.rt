@@ -2,21 +2,23 @@
 ghost use Rattle.std.specs.Prelude.{◌≡◌};
 ghost use Rattle.rv_hunt.specs.Rows as spec;
 
+use crate::kept_run::PartReport;
 use rv_explain::block::RaceClass;
 use rv_explain::classes::rank;
-use rv_explain::races::Report;
 use rv_report::key::Key;
 use rv_tally::strongest;
 
-/// What a table keeps of a race: how many reports there were, up to 2^64 - 1, and one of them: its class, its run,
-/// the place of its pause in that run, and its access's bytes when the pause began and ended. It is the first of
+/// What a table keeps of a race: how many reports there were, up to 2^64 - 1, and one of them: its class, its run, the part of that,
+/// the place of its pause in the part, from the run's begin on, and its access's bytes when the pause began and ended. It is the first of
 /// those that have the strongest class. A race of two instructions is of hits, one of a single instruction of
-/// reports that found their bytes changed. `address` is that of the access's first byte, which no text of a table has.
+/// reports that found their bytes changed. `part` and `address`, which is that of the access's first byte, stand in no text of a table:
+/// part 0 and no address are read from one.
 #[derive(Clone, Copy)]
 pub struct RaceRow {
     pub count: u64,
     pub class: RaceClass,
     pub run: u32,
+    pub part: u32,
     pub entry: u32,
     pub old: u32,
     pub new: u32,
@@ -24,14 +26,16 @@ pub struct RaceRow {
 }
 
 /// The row of a single report of a run.
-pub fn row_of(run: u32, report: &Report) -> (Key, RaceRow)
-    ensures { result ≡ spec.row_of run report.now }
+pub fn row_of(run: u32, it: &PartReport) -> (Key, RaceRow)
+    ensures { result ≡ spec.row_of run it.now }
 {
+    let report = &it.report;
     let row = RaceRow {
         count: 1,
         class: report.class,
         run,
-        entry: report.ending.paused_at,
+        part: it.part,
+        entry: it.before.saturating_add(report.ending.paused_at),
         old: report.ending.old,
         new: report.ending.new,
         address: Some(report.ending.access.first),
@@ -55,6 +59,7 @@ pub(crate) fn joined(first: &RaceRow, later: &RaceRow) -> RaceRow
         count: first.count.saturating_add(later.count),
         class: told.class,
         run: told.run,
+        part: told.part,
         entry: told.entry,
         old: told.old,
         new: told.new,

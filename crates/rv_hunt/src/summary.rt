@@ -1,12 +1,15 @@
 //! What is counted of a run, as `specs/Summary.antt` has it.
-ghost use Rattle.std.specs.Prelude.{◌≡◌, ◌++◌, ◌≤◌, IfOk, OnOk, is_some, length, map};
+ghost use Rattle.std.specs.Prelude.{◌≡◌, ◌++◌, ◌≤◌, None, IfOk, OnOk, is_some, length, map};
 ghost use Rattle.std.specs.Option.{option_to_list};
 ghost use Rattle.rv_collide.specs.Entries.{stepped_at, stepped_hart, steps as steps_of};
+ghost use Rattle.rv_collide.specs.Numbers.{numbers};
+ghost use Rattle.rv_collide.specs.Stored.{setting_of};
+ghost use Rattle.rv_hart.specs.State.{State};
 ghost use Rattle.rv_hunt.specs.Summary as spec;
 ghost use Rattle.rv_hunt.specs.internal.Counting as internal;
 
 use crate::tally::counts::{Counts, raised};
-use rv_collide::collider::Collider;
+use rv_collide::collider::{Collider, Finished};
 use rv_collide::ending::{Ending, Verdict};
 use rv_collide::entry::Entry;
 use rv_hart::hart::Status;
@@ -15,8 +18,10 @@ use rv_memory::store::NoMemory;
 use rv_tally::end::End;
 use std::alloc::Global;
 
-/// What is counted of a run: how many steps its plan allows, how its harts ended, in their order; the addresses that
-/// were armed, and those at which its harts were paused, in their order and as often as that was done; and numbers.
+/// What is counted of a run: how many steps its plan allows, and how its harts ended, in their order; of a sampled run the
+/// addresses that were armed, and those at which its harts were paused, in their order and as often as that was done; its numbers,
+/// with those of its probes, and once more if it is a sampled run; how many probes it made; and of a walk whether it made all steps
+/// that a walk may make and saw no near pair.
 #[derive(Drop)]
 pub struct Summary {
     pub most_steps: u32,
@@ -24,9 +29,12 @@ pub struct Summary {
     pub armed: Vec<u32>,
     pub paused: Vec<u32>,
     pub counts: Counts,
+    pub sampled: Counts,
+    pub probes: u64,
+    pub walk: Option<bool>,
 }
 
-fn end_with(status: Status, pc: u32) -> End
+pub(crate) fn end_with(status: Status, pc: u32) -> End
     ensures { result ≡ spec.end_with status pc }
 {
     match status {
@@ -36,9 +44,9 @@ fn end_with(status: Status, pc: u32) -> End
     }
 }
 
-/// How the harts of a run ended.
-fn ends(alloc: Global, core: &Collider<Flat>) -> Result<Vec<End>, NoMemory>
-    ensures { IfOk result (λ ends. ends.items ≡ spec.ends core.now) }
+/// How the harts of a run ended, with whose core it is over.
+pub(crate) fn ends_of(alloc: Global, core: &Collider<Flat>) -> Result<Vec<End>, NoMemory>
+    ensures { IfOk result (λ ends. ends.items ≡ spec.ends (setting_of core.now).start core.now.entries) }
 {
     let machine = core.machine();
     let mut ends = Vec::new(alloc);
@@ -79,42 +87,48 @@ fn push_some(addresses: &mut Vec<u32>, address: Option<u32>) -> Result<(), NoMem
     Ok(())
 }
 
-/// The addresses that were armed in a run, and how many steps its harts made.
-fn armed_and_steps(alloc: Global, core: &Collider<Flat>) -> Result<(Vec<u32>, u64), NoMemory>
-    ensures armed { IfOk result (λ told. told.0.items ≡ spec.armed_in core.now.entries) }
-    ensures steps { IfOk result (λ told. told.1 ≡ length (steps_of core.now.entries)) }
+/// The addresses that were armed in a run.
+fn armed_in(alloc: Global, entries: &[Entry]) -> Result<Vec<u32>, NoMemory>
+    ensures { IfOk result (λ armed. armed.items ≡ spec.armed_in entries.now) }
 {
     let mut armed = Vec::new(alloc);
-    let mut steps = 0u64;
-    for n in 0..core.entries() {
-        let entry = core.entry(n);
+    for n in 0..entries.len() {
+        let entry = entries[n];
         push_some(&mut armed, armed_address(entry))?;
+    }
+    Ok(armed)
+}
+
+/// How many steps the harts of a run made.
+fn steps_in(entries: &[Entry]) -> u64
+    ensures { result ≡ length (steps_of entries.now) }
+{
+    let mut steps = 0u64;
+    for n in 0..entries.len() {
+        let entry = entries[n];
         steps += steps_at(entry);
     }
-    Ok((armed, steps))
+    steps
 }
 
 /// Whether a hart makes a step at a place.
 #[tactic(auto, unfolding(rv_collide::specs::Entries::stepped_at))]
-fn is_step(core: &Collider<Flat>, place: u32) -> bool
-    ensures { result ≡ is_some (stepped_at core.now.entries place) }
+fn is_step(entries: &[Entry], place: u32) -> bool
+    ensures { result ≡ is_some (stepped_at entries.now place) }
 {
-    if place >= core.entries() {
-        return false;
-    }
-    match core.entry(place) {
-        Entry::Stepped(_) => true,
-        Entry::Paused(_, _) | Entry::Resumed(_) | Entry::Armed(_) | Entry::Disarmed(_) => false,
+    match entries.get(place as usize) {
+        Some(Entry::Stepped(_)) => true,
+        _ => false,
     }
 }
 
 /// Whether a hart makes a step within a pause.
-fn has_step_within(core: &Collider<Flat>, ending: &Ending) -> bool
-    ensures { result ≡ spec.has_step_within core.now.entries ending.now }
+fn has_step_within(entries: &[Entry], ending: &Ending) -> bool
+    ensures { result ≡ spec.has_step_within entries.now ending.now }
 {
     let first = u64::from(ending.paused_at) + 1;
     for place in first..u64::from(ending.resumed_at) {
-        if is_step(core, place as u32) {
+        if is_step(entries, place as u32) {
             return true;
         }
     }
@@ -122,8 +136,8 @@ fn has_step_within(core: &Collider<Flat>, ending: &Ending) -> bool
 }
 
 /// The numbers with one more pause, that ended so.
-fn with_ending(core: &Collider<Flat>, counts: Counts, ending: &Ending) -> Counts
-    ensures { result ≡ internal.with_ending core.now.entries counts ending.now }
+fn with_ending(entries: &[Entry], counts: Counts, ending: &Ending) -> Counts
+    ensures { result ≡ internal.with_ending entries.now counts ending.now }
 {
     let mut more = counts;
     match ending.verdict {
@@ -132,47 +146,56 @@ fn with_ending(core: &Collider<Flat>, counts: Counts, ending: &Ending) -> Counts
         Verdict::Changed => more.changed = counts.changed.saturating_add(1),
     }
     more.unwatched = raised(counts.unwatched, ending.slot.is_none());
-    more.passed = raised(counts.passed, has_step_within(core, ending));
+    more.passed = raised(counts.passed, has_step_within(entries, ending));
     more
 }
 
-/// The addresses at which harts were paused in a run of so many steps, and the run's numbers.
-fn paused_and_counts(
-    alloc: Global,
-    core: &Collider<Flat>,
-    steps: u64,
-) -> Result<(Vec<u32>, Counts), NoMemory>
-    ensures paused { IfOk result (λ told. told.0.items ≡ map spec.paused_at (spec.ended core.now)) }
-    ensures counts { IfOk result (λ told. told.1 ≡ spec.counts_of core.now.entries steps (spec.ended core.now)) }
+/// The numbers of a schedule whose pauses ended so.
+pub(crate) fn counts_of(entries: &[Entry], endings: &[Ending]) -> Counts
+    ensures { result ≡ spec.counts_of entries.now endings.now }
 {
-    let mut paused = Vec::new(alloc);
     let mut counts = Counts {
-        steps,
-        quiet: 0,
-        hit: 0,
-        changed: 0,
-        unwatched: 0,
-        passed: 0,
+        steps: steps_in(entries),
+        ..Counts::none()
     };
-    for n in 0..core.endings() {
-        let ending = core.ending(n);
-        paused.push(ending.access.pc)?;
-        counts = with_ending(core, counts, &ending);
+    for n in 0..endings.len() {
+        counts = with_ending(entries, counts, &endings[n]);
     }
-    Ok((paused, counts))
+    counts
 }
 
-/// What is counted of a run that is over, whose core this is.
-pub fn summary_of(alloc: Global, core: &Collider<Flat>) -> Result<Summary, NoMemory>
-    ensures { IfOk result (λ summary. spec.IsSummary core.now summary) }
+/// The addresses at which harts were paused, as often as that was done.
+fn paused_in(alloc: Global, endings: &[Ending]) -> Result<Vec<u32>, NoMemory>
+    ensures { IfOk result (λ paused. paused.items ≡ map spec.paused_at endings.now) }
 {
-    let (armed, steps) = armed_and_steps(alloc, core)?;
-    let (paused, counts) = paused_and_counts(alloc, core, steps)?;
+    Ok(
+        endings
+            .iter()
+            .map(|ending| ending.access.pc)
+            .collect(alloc)?,
+    )
+}
+
+/// What is counted of a sampled run whose harts ended so.
+pub(crate) fn sampled_summary(
+    alloc: Global,
+    ends: Vec<End>,
+    left: &Finished,
+) -> Result<Summary, NoMemory>
+    ensures { IfOk result (λ summary. (start : State) → ends.items ≡ spec.ends start left.now.entries.items
+        → spec.IsSampledSummary start left.now summary) }
+{
+    let counts = counts_of(&left.entries, &left.endings);
+    let armed = armed_in(alloc, &left.entries)?;
+    let paused = paused_in(alloc, &left.endings)?;
     Ok(Summary {
-        most_steps: core.plan().steps,
-        ends: ends(alloc, core)?,
+        most_steps: left.plan.steps,
+        ends,
         armed,
         paused,
         counts,
+        sampled: counts,
+        probes: 0,
+        walk: None,
     })
 }

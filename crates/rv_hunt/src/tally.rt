@@ -19,8 +19,10 @@ pub mod counts;
 pub mod ended;
 pub mod kinds;
 
-/// What a run costs besides its steps.
-pub(crate) const COST_OF_A_RUN: u64 = 300;
+/// What a run costs besides its steps, and what each of its probes does.
+const COST_OF_A_RUN: u64 = 300;
+
+const COST_OF_A_PROBE: u64 = 20;
 
 /// How many steps the plans of the longest runs have, and how many harts exited in those runs.
 #[derive(Clone, Copy)]
@@ -29,17 +31,30 @@ pub struct Longest {
     pub exits: u64,
 }
 
+/// Of the walks with the most harts: how many harts these have, how many walks there were, and how many of them made all steps that
+/// a walk may make without a near pair.
+#[derive(Clone, Copy)]
+pub struct Widest {
+    pub harts: u64,
+    pub walks: u64,
+    pub spent: u64,
+}
+
 /// What runs saw, added up in their order. Numbers stay at 2^64 - 1 once there.
 #[derive(Drop)]
 pub struct Tally {
     runs: u64,
+    walks: u64,
+    probes: u64,
     ended: Ended,
     armed: Addresses,
     paused: Addresses,
     counts: Counts,
+    sampled: Counts,
     some_stopped: u64,
     each_stopped: u64,
     longest: Longest,
+    widest: Widest,
 }
 
 impl Model for Tally {
@@ -49,13 +64,17 @@ impl Model for Tally {
 
     ghost view = { λ t. record {
       runs = t.runs;
+      walks = t.walks;
+      probes = t.probes;
       ended = t.ended;
       armed = t.armed;
       paused = t.paused;
       counts = t.counts;
+      sampled = t.sampled;
       some_stopped = t.some_stopped;
       each_stopped = t.each_stopped;
       longest = t.longest;
+      widest = t.widest;
     } };
 }
 
@@ -78,7 +97,7 @@ fn counted(ends: &[End]) -> Ends
         match end.way() {
             Way::Exit => exits = exits.saturating_add(1),
             Way::Trap => traps = traps.saturating_add(1),
-            Way::Spent => {}
+            Way::Wait | Way::Spent => {}
         }
     }
     Ends { exits, traps }
@@ -100,6 +119,37 @@ fn longest_with(longest: Longest, steps: u32, exits: u64) -> Longest
     }
 }
 
+/// The widest walks, after one of so many harts.
+fn widest_with(widest: Widest, harts: u64, spent: bool) -> Widest
+    ensures { result ≡ spec.widest_with widest harts (spec.one_if spent) }
+{
+    if widest.harts < harts {
+        Widest {
+            harts,
+            walks: 1,
+            spent: u64::from(spent),
+        }
+    } else if widest.harts == harts {
+        Widest {
+            harts: widest.harts,
+            walks: widest.walks.saturating_add(1),
+            spent: raised(widest.spent, spent),
+        }
+    } else {
+        widest
+    }
+}
+
+/// The same after a run that may be a walk: whether it was spent.
+fn widest_after(widest: Widest, harts: u64, walk: Option<bool>) -> Widest
+    ensures { result ≡ spec.widest_after widest harts walk }
+{
+    match walk {
+        Some(spent) => widest_with(widest, harts, spent),
+        None => widest,
+    }
+}
+
 impl Tally {
     /// What no run has seen.
     pub fn new(alloc: Global) -> Tally
@@ -107,20 +157,21 @@ impl Tally {
     {
         Tally {
             runs: 0,
+            walks: 0,
+            probes: 0,
             ended: Ended::new(alloc),
             armed: Addresses::new(alloc),
             paused: Addresses::new(alloc),
-            counts: Counts {
-                steps: 0,
-                quiet: 0,
-                hit: 0,
-                changed: 0,
-                unwatched: 0,
-                passed: 0,
-            },
+            counts: Counts::none(),
+            sampled: Counts::none(),
             some_stopped: 0,
             each_stopped: 0,
             longest: Longest { steps: 0, exits: 0 },
+            widest: Widest {
+                harts: 0,
+                walks: 0,
+                spent: 0,
+            },
         }
     }
 
@@ -133,11 +184,15 @@ impl Tally {
         self.armed.add_all(&run.armed)?;
         self.paused.add_all(&run.paused)?;
         self.runs = self.runs.saturating_add(1);
+        self.walks = raised(self.walks, run.walk.is_some());
+        self.probes = self.probes.saturating_add(run.probes);
         self.counts = sum(self.counts, run.counts);
+        self.sampled = sum(self.sampled, run.sampled);
         let ends = counted(&run.ends);
         self.some_stopped = raised(self.some_stopped, 1 <= ends.traps);
         self.each_stopped = raised(self.each_stopped, ends.traps == run.ends.len() as u64);
         self.longest = longest_with(self.longest, run.most_steps, ends.exits);
+        self.widest = widest_after(self.widest, run.ends.len() as u64, run.walk);
         Ok(())
     }
 
@@ -146,6 +201,20 @@ impl Tally {
         ensures { result ≡ self.now.runs }
     {
         self.runs
+    }
+
+    /// How many of them walked.
+    pub fn walks(&self) -> u64
+        ensures { result ≡ self.now.walks }
+    {
+        self.walks
+    }
+
+    /// How many probes these made.
+    pub fn probes(&self) -> u64
+        ensures { result ≡ self.now.probes }
+    {
+        self.probes
     }
 
     /// How their harts ended.
@@ -176,14 +245,18 @@ impl Tally {
         self.counts
     }
 
+    /// The numbers of the sampled runs alone.
+    pub fn sampled(&self) -> Counts
+        ensures { result ≡ self.now.sampled }
+    {
+        self.sampled
+    }
+
     /// How many pauses were made.
     pub fn pauses(&self) -> u64
         ensures { result ≡ saturated (spec.pauses self.now) }
     {
-        self.counts
-            .quiet
-            .saturating_add(self.counts.hit)
-            .saturating_add(self.counts.changed)
+        self.counts.pauses()
     }
 
     /// Whether the first 48 runs show that the image is built for another machine.
@@ -202,7 +275,8 @@ impl Tally {
             cost: self
                 .counts
                 .steps
-                .saturating_add(self.runs.saturating_mul(COST_OF_A_RUN)),
+                .saturating_add(self.runs.saturating_mul(COST_OF_A_RUN))
+                .saturating_add(self.probes.saturating_mul(COST_OF_A_PROBE)),
             is_hopeless: self.is_hopeless(),
         }
     }
@@ -234,6 +308,13 @@ impl Tally {
     {
         let half = sites / 2 + sites % 2;
         self.armed.count() < half
+    }
+
+    /// Whether each walk of the most harts made all steps that a walk may make, and saw no near pair.
+    pub fn walked_in_vain(&self) -> bool
+        ensures { result ≡ warning.walked_in_vain self.now }
+    {
+        1 <= self.widest.walks && self.widest.spent == self.widest.walks
     }
 
     /// Whether no hart exited in any of the runs whose plan has the most steps.

@@ -5,6 +5,8 @@ use Rattle.std.specs.declared.io.ErrorKind.TheVariants as kind
 use Rattle.rv_engines.specs.CommandFault.{refusal_output, status}
 use Rattle.rv_command.specs.declared.command.LineFault.{LineFault}
 use Rattle.rv_command.specs.declared.command.LineFault.TheVariants as fault
+use Rattle.rv_command.specs.Status.{code}
+use Rattle.rv_command.specs.declared.status.Status.TheVariants as exit
 use Rattle.rvcollide.specs.declared.failure.Failure.{Failure}
 use Rattle.rvcollide.specs.declared.failure.Failure.TheVariants.{Line, NotText, Told, Filed, OfFile, Found}
 use Rattle.rv_engines.specs.declared.fault.Fault.{Fault}
@@ -45,14 +47,14 @@ after_place (Some place) said = place_output place ++ (codes ": " ++ said)
 abbrev pub file_line_output : FileLine → Option (List ℕ)
 file_line_output line = option_map (after_place line.file) (file_said_output line.stands line.fault)
 
--- the exit status: 2 for a refused command line, 5 where a hunt found what it was to look for, and else the fault's
+-- the exit status: that of a refused command line, that of what a hunt was to look for, and else the fault's
 abbrev pub status_of : Failure → ℕ
-status_of Line = 2
-status_of NotText = 2
+status_of Line = code exit.Line
+status_of NotText = code exit.Line
 status_of (Told fault) = status fault
 status_of (Filed line) = status line.fault
 status_of (OfFile line) = file.status line.fault
-status_of Found = 5
+status_of Found = code exit.Found
 
 -- what is wrong was told already
 abbrev pub is_told : Failure → Bool

@@ -4,6 +4,7 @@ ghost use Rattle.rvcollide.specs.Failure as spec;
 
 use crate::file_line::FileLine;
 use rv_command::command::LineFault;
+use rv_command::status::Status;
 use rv_engines::fault::Fault;
 use rv_engines::run::fault::CommandFault;
 use rv_engines::sentences::FaultLine;
@@ -43,11 +44,11 @@ impl Failure<'_> {
         ensures { result ≡ spec.status_of self.entry }
     {
         match self {
-            Failure::Line | Failure::NotText => 2,
+            Failure::Line | Failure::NotText => Status::Line.code(),
             Failure::Told(fault) => fault.status(),
             Failure::Filed(line) => line.fault.status(),
             Failure::OfFile(line) => line.fault.status(),
-            Failure::Found => 5,
+            Failure::Found => Status::Found.code(),
         }
     }
 }

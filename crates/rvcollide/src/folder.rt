@@ -55,14 +55,16 @@ impl<'a> ScheduleFolder<'a> {
         self.stands
     }
 
-    /// Notes why the folder takes no file, the first time.
+    /// Notes why the folder takes no file: the first time, or of the race with the least number.
     fn note(&mut self, fault: FolderFault, race: Option<u64>)
         ensures failed { self.new.failed ≡ (self.old.failed || is_write fault) }
         ensures used { self.new.is_used ≡ self.old.is_used }
     {
-        if matches!(fault, FolderFault::Write) && !self.failed {
+        if matches!(fault, FolderFault::Write) {
+            if !self.failed || race < self.at {
+                self.at = race;
+            }
             self.failed = true;
-            self.at = race;
         }
     }
 }

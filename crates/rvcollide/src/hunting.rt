@@ -8,6 +8,7 @@ use crate::folder::ScheduleFolder;
 use crate::hunt_failure::{Failed, WRITE_FAULT, at_fault_in, failure_of};
 use crate::paths::{expect_path, ignore_path};
 use crate::shown_line::ShownLine;
+use rv_collide::plan::DEFAULT_SLOTS;
 use rv_command::arguments::{FolderPath, ImagePath, PagePath};
 use rv_command::command::hunt::HuntLine;
 use rv_hunt::engine::found::Found;
@@ -19,10 +20,13 @@ use rv_hunt::hunted::Hunted;
 use rv_memory::buffered::Buffered;
 use rv_memory::flagged::Flagged;
 use rv_tally::limit::Limit;
-use rv_tally::plans::Plans;
+use rv_tally::plans::{Mix, Plans};
 use std::io::IsTerminal;
 use std::sync::Wait;
 use std::thread::{Threads, available_parallelism};
+
+/// How many slots the runs of a hunt have, where not all are sampled ones: in contended programs many harts are paused at once.
+const SLOTS: u8 = 8;
 
 /// How many lines of progress there are at most.
 const LINES: u64 = 100;
@@ -48,12 +52,17 @@ impl Progress<'_> {
 
     fn tell(&self, hunted: &Hunted) {
         let (runs, races) = (hunted.tally.runs(), hunted.table.len());
+        let probes = hunted.tally.probes();
         // Where the standard error fails there is nothing left to tell it to.
         let _ = match self.limit {
-            Limit::Runs(all) => eprintln!(self.rt; "runs {runs} of {all}, races {races}"),
+            Limit::Runs(all) => eprintln!(self.rt;
+                "runs {runs} of {all}, probes {probes}, races {races}"
+            ),
             Limit::Budget(all) => {
                 let spent = hunted.tally.reached().cost.min(all);
-                eprintln!(self.rt; "runs {runs}, races {races}, {spent} of {all} steps")
+                eprintln!(self.rt;
+                    "runs {runs}, probes {probes}, races {races}, {spent} of {all} steps"
+                )
             }
         };
     }
@@ -84,6 +93,20 @@ fn workers_of(rt: &impl Threads, line: &HuntLine) -> u8 {
     }
 }
 
+/// What the runs of the line are.
+fn mix_of(line: &HuntLine) -> Mix {
+    if line.sampled {
+        Mix::Sampled
+    } else {
+        Mix::Mixed
+    }
+}
+
+/// How many slots there are, where the line doesn't say.
+fn slots_of(line: &HuntLine) -> u8 {
+    if line.sampled { DEFAULT_SLOTS } else { SLOTS }
+}
+
 /// The engine's options, where the numbers are in their ranges, as those of a line are.
 fn options_of<'a, 'b>(
     line: &HuntLine<'a>,
@@ -92,7 +115,8 @@ fn options_of<'a, 'b>(
 ) -> Option<HuntOptions<'a, 'b>>
     ensures { IfSome result (λ options. AreLegal options) }
 {
-    let plans = Plans::new(line.harts, line.slots, line.lengths)?;
+    let slots = line.slots.unwrap_or(slots_of(line));
+    let plans = Plans::new(mix_of(line), line.harts, slots, line.lengths)?;
     let options = HuntOptions {
         plans,
         seed: line.seed,

@@ -1,6 +1,5 @@
 //! What a hunt's text tells of its command line.
 use crate::paths::ignore_path;
-use rv_collide::plan::DEFAULT_SLOTS;
 use rv_command::arguments::{FolderPath, ImagePath};
 use rv_command::command::hunt::{DEFAULT_SEED, HuntLine};
 use rv_engines::shown::Shown;
@@ -157,9 +156,12 @@ fn options_of(alloc: Global, line: &HuntLine<'_>) -> Result<String, AllocError> 
         alloc,
         &mut text,
         "slots",
-        u32::from(line.slots),
-        u32::from(DEFAULT_SLOTS),
+        u32::from(line.slots.unwrap_or(0)),
+        0,
     )?;
+    if line.sampled {
+        text.push_str(" --sampled")?;
+    }
     push_text(alloc, &mut text, "named", line.named)?;
     push_text(alloc, &mut text, "skip", line.skip)?;
     push_text(alloc, &mut text, "ignore", ignore_path(line.ignore))?;

@@ -18,7 +18,7 @@ use rv_memory::buffered::{Buffered, MOST_PENDING};
 use rv_memory::flagged::Flagged;
 use rv_memory::output::Output;
 use rv_tally::limit::Limit;
-use rv_tally::plans::{Lengths, Plans};
+use rv_tally::plans::{Lengths, Mix, Plans};
 use std::alloc::Global;
 use std::io::{Read, Write};
 use std::process::Abort;
@@ -49,7 +49,7 @@ const LENGTHS: Lengths = Lengths {
 /// A hunt of one run of three harts, which finds two races.
 fn options(rt: &impl Abort) -> HuntOptions<'static, 'static> {
     HuntOptions {
-        plans: Plans::new(Some(3), 4, Some(LENGTHS)).expect(rt, "plans"),
+        plans: Plans::new(Mix::Sampled, Some(3), 4, Some(LENGTHS)).expect(rt, "plans"),
         seed: 0,
         first: 1,
         limit: Limit::Runs(1),

@@ -21,6 +21,7 @@ fn row(first: u32, class: RaceClass, address: u32) -> (Key, RaceRow) {
         count: 1,
         class,
         run: 0,
+        part: 0,
         entry: 1,
         old: 0,
         new: 1,

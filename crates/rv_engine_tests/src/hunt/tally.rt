@@ -7,7 +7,7 @@ use rv_hunt::tally::Tally;
 use rv_hunt::tally::counts::Counts;
 use rv_tally::end::End::{self, Exited, OutOfSteps, Stopped};
 use rv_tally::limit::Limit;
-use rv_tally::plans::{Lengths, Plans};
+use rv_tally::plans::{Lengths, Mix, Plans};
 use std::alloc::Global;
 use std::process::Abort;
 
@@ -47,7 +47,7 @@ fn numbers(plan: Plan) -> (u8, u32, u32, u32, u8) {
 
 #[test]
 fn plans_go_through_all_scales(rt: HostRuntime) {
-    let plans = Plans::new(None, 4, None).expect(&rt, "plans");
+    let plans = Plans::new(Mix::Sampled, None, 4, None).expect(&rt, "plans");
     for run in 0..2048u32 {
         let steps = steps_of(run);
         let wanted = (HARTS[(run % 3) as usize], steps, 64, steps / 20, 4);
@@ -57,16 +57,31 @@ fn plans_go_through_all_scales(rt: HostRuntime) {
     assert_is(&rt, last, (2, 1_000_000, 64, 50_000, 4), "the last run's");
 }
 
+/// Runs go in fours: each has the lengths of its four, and the last of it is a sampled one.
+#[test]
+fn fours_go_through_all_scales(rt: HostRuntime) {
+    let plans = Plans::new(Mix::Mixed, None, 8, None).expect(&rt, "plans");
+    for run in 0..2048u32 {
+        let steps = steps_of(run / 4);
+        let wanted = (HARTS[(run % 3) as usize], steps, 64, steps / 20, 8);
+        assert_is(&rt, (run, numbers(plans.plan(run))), (run, wanted), "plan");
+        let sampled = [false, false, false, true][(run % 4) as usize];
+        assert_is(&rt, Mix::Mixed.is_sampled(run), sampled, "sampled");
+    }
+}
+
 #[test]
 fn what_is_given_each_run_has(rt: HostRuntime) {
-    let given = Plans::new(None, 4, Some(lengths((2000, 64, 100)))).expect(&rt, "plans");
+    let given = Plans::new(Mix::Sampled, None, 4, Some(lengths((2000, 64, 100)))).expect(
+        &rt, "plans",
+    );
     assert_is(
         &rt,
         numbers(given.plan(2)),
         (8, 2000, 64, 100, 4),
         "lengths",
     );
-    let one = Plans::new(Some(1), 8, None).expect(&rt, "plans");
+    let one = Plans::new(Mix::Sampled, Some(1), 8, None).expect(&rt, "plans");
     assert_is(&rt, numbers(one.plan(1)), (1, 2000, 64, 100, 8), "one hart");
 }
 
@@ -94,7 +109,7 @@ fn refuses_what_is_out_of_range(rt: HostRuntime) {
             Some(given) => Some(lengths(*given)),
             None => None,
         };
-        let refused = Plans::new(*harts, *slots, given).is_none();
+        let refused = Plans::new(Mix::Mixed, *harts, *slots, given).is_none();
         assert_is(&rt, refused, true, "out of range");
     }
 }
@@ -120,6 +135,9 @@ fn run(rt: &impl Abort, alloc: Global, steps: u64, ends: &[End]) -> Summary {
         armed: vec![in alloc; 0x10000u32, 0x10008, 0x10000].expect(rt, "memory"),
         paused: vec![in alloc; 0x10008u32].expect(rt, "memory"),
         counts: counts(steps, 0),
+        sampled: counts(steps, 0),
+        probes: 0,
+        walk: None,
     }
 }
 

@@ -1,6 +1,6 @@
 -- What the options of `hunt` ask for.
 use Rattle.std.specs.Prelude.{ℕ, ◌≤◌, Option, option_map, List}
-use Rattle.rv_hunt.specs.Hunted.{AreNumbers}
+use Rattle.rv_hunt.specs.Hunt.{AreNumbers}
 use Rattle.rv_tally.specs.GoesOn.{IsLimit}
 use Rattle.rv_tally.specs.Plans.{Given}
 use Rattle.rv_tally.specs.declared.limit.Limit.{Limit}

@@ -3,7 +3,8 @@ use Rattle.std.specs.Prelude.{◌≡◌, ⊤, ℕ, Bool, false, ◌||◌, Option
 use Rattle.std.specs.Option.{option_map_or}
 use Rattle.rv_elf.specs.Contents.{Contents}
 use Rattle.rv_hunt.specs.HuntText.{table_text}
-use Rattle.rv_hunt.specs.Hunted.{Hunt, IsHunted}
+use Rattle.rv_hunt.specs.Hunt.{Hunt}
+use Rattle.rv_hunt.specs.Hunted.{IsHunted}
 use Rattle.rv_hunt.specs.Outcome.{Outcome}
 use Rattle.rv_hunt.specs.PageFacts.{page_facts}
 use Rattle.rv_hunt.specs.ToldOrder.{AreInOrder, benign, bugs}
@@ -98,7 +99,8 @@ ignored_by hunting saw = filter (λ (row : Key × RaceRow). is_ignored hunting.h
 abbrev pub outcome : Hunting → Hunted → Outcome
 outcome hunting saw = record {
   sites = length hunting.hunt.source.sites;
-  saw = saw.tally;
+  mix = hunting.hunt.given.mix;
+  saw = saw;
   rows = told_in hunting saw;
   ignored = ignored_by hunting saw;
 }

@@ -1,6 +1,5 @@
 -- The races that are shown in full, each of the run that its row names, made again.
-use Rattle.std.specs.Prelude.{◌≡◌, ℕ, ◌+◌, Some, List, length, slice_get}
-use Rattle.rv_campaign.specs.Run.{IsRunOver}
+use Rattle.std.specs.Prelude.{◌≡◌, ℕ, ◌+◌, true, false, Some, List, length, slice_get}
 use Rattle.rv_collide.specs.Grammar.{schedule_text}
 use Rattle.rv_collide.specs.Numbers.{numbers}
 use Rattle.rv_collide.specs.Verdict.{endings}
@@ -11,17 +10,29 @@ use Rattle.rv_explain.specs.BlockOf.{race_shown}
 use Rattle.rv_explain.specs.Blocks.{shown_of}
 use Rattle.rv_explain.specs.Races.{Run, run_of}
 use Rattle.rv_races.specs.declared.races.Race.{Race}
-use Rattle.rv_hunt.specs.Hunted.{Hunt}
+use Rattle.rv_hunt.specs.Hunt.{Hunt, IsSampledRun, IsWalkOf}
 use Rattle.rv_hunt.specs.Remade.{race_in}
 use Rattle.rv_hunt.specs.declared.row.RaceRow.{RaceRow}
 use Rattle.rv_hunt.specs.declared.engine.shown.ShownRace.{ShownRace}
 use Rattle.rv_hunt.specs.declared.engine.shown.TheConstants.{AROUND}
 use Rattle.rv_report.specs.declared.key.Key.{Key}
-use Rattle.rv_tally.specs.Plans.{plan_of}
+use Rattle.rv_tally.specs.Plans.{is_sampled}
+use Rattle.rv_walk.specs.Part.{IsPart, IsWhole}
+use Rattle.rv_walk.specs.Walked.{Walked}
+use Rattle.rv_walk.specs.declared.probes.Part.{Part}
 
--- the run of that number of a hunt
-abbrev pub IsRunOf : Hunt → ℕ → Finished → Type 0
-IsRunOf hunt number run = IsRunOver hunt.source.image (plan_of hunt.given number) hunt.source.sites hunt.source.seed number run
+-- A part of the walk of that number: the walk's steps up to the fork, and then the part's own entries.
+pub record IsPartOf (hunt : Hunt) (number : ℕ) (run : Finished) : Type 0 where
+  pub walk : Walked
+  pub is_walk : IsWalkOf hunt number walk
+  pub part : Part
+  pub is_part : IsPart walk part
+  pub is_whole : IsWhole walk part run
+
+-- The sampled run of that number of a hunt, or a part of its walk.
+pub record IsRunOf (hunt : Hunt) (number : ℕ) (run : Finished) : Type 0 where
+  pub sampled : is_sampled hunt.given.mix number ≡ true → IsSampledRun hunt number run
+  pub walked : is_sampled hunt.given.mix number ≡ false → IsPartOf hunt number run
 
 -- a run that is over, as its races are told
 abbrev pub run_told : Contents → Finished → Run

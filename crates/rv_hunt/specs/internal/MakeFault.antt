@@ -1,7 +1,7 @@
 -- Why the runs of a hunt, or what is told of them, were not made.
 use Rattle.std.specs.Prelude.{Bool, true, false, Result, Ok, Err}
-use Rattle.rv_campaign.specs.declared.kept.SeriesFault.{SeriesFault}
-use Rattle.rv_campaign.specs.declared.kept.SeriesFault.TheVariants as series
+use Rattle.rv_campaign.specs.declared.pool.PoolFault.{PoolFault}
+use Rattle.rv_campaign.specs.declared.pool.PoolFault.TheVariants as pool
 use Rattle.rv_engines.specs.declared.fault.Fault.TheVariants as fault
 use Rattle.rv_engines.specs.declared.run.fault.CommandFault.{CommandFault}
 use Rattle.rv_engines.specs.declared.run.fault.CommandFault.TheVariants as command
@@ -15,9 +15,9 @@ as_command NoMemory = command.Plain fault.NoMemory
 as_command NoThread = command.NoThread
 as_command Write = command.Plain fault.Write
 
-abbrev pub of_series : SeriesFault → MakeFault
-of_series series.NoMemory = NoMemory
-of_series series.NoThread = NoThread
+abbrev pub of_pool : PoolFault → MakeFault
+of_pool pool.NoMemory = NoMemory
+of_pool pool.NoThread = NoThread
 
 abbrev pub of_folder : FolderFault → MakeFault
 of_folder folder.NoMemory = NoMemory

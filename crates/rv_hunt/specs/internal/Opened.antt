@@ -3,7 +3,7 @@ use Rattle.std.specs.Prelude.{Result, Ok}
 use Rattle.rv_elf.specs.Contents.{Contents}
 use Rattle.rv_engines.specs.Campaigns.{elements, listed, skipped}
 use Rattle.rv_engines.specs.CommandFault.{Refusal}
-use Rattle.rv_hunt.specs.Hunted.{Hunt}
+use Rattle.rv_hunt.specs.Hunt.{Hunt}
 use Rattle.rv_memory.specs.Chain.{◌>>=◌}
 use Rattle.rv_sample.specs.Sites.{sites}
 use Rattle.rv_hunt.specs.engine.Asked.{Asked}

@@ -1,23 +1,19 @@
 -- What is shown of the races of one run.
-use Rattle.std.specs.Prelude.{◌≡◌, ℕ, ◌+◌, All, Option, Some, List, length, slice_get}
-use Rattle.rv_campaign.specs.Kept.{IsCoreOf}
-use Rattle.rv_campaign.specs.declared.kept.SeriesRun.{SeriesRun}
+use Rattle.std.specs.Prelude.{◌≡◌, ℕ, ◌+◌, All, Option, Some, List, Vec, length, slice_get}
+use Rattle.std.specs.declared.alloc.Global.{Global}
 use Rattle.rv_collide.specs.Grammar.{schedule_text}
 use Rattle.rv_collide.specs.Numbers.{numbers}
-use Rattle.rv_collide.specs.Stored.{Stored}
 use Rattle.rv_collide.specs.Verdict.{endings}
 use Rattle.rv_collide.specs.declared.collider.Finished.{Finished}
 use Rattle.rv_explain.specs.Races.{Run, reports_of as reports_among}
 use Rattle.rv_races.specs.declared.races.Report.{Report}
 use Rattle.rv_hunt.specs.declared.engine.shown.InFull.{InFull}
-use Rattle.rv_hunt.specs.declared.engine.shown.Shower.{Shower}
 use Rattle.rv_hunt.specs.declared.engine.shown.ShownRace.{ShownRace}
-use Rattle.rv_hunt.specs.declared.engine.shown.ShownRun.{ShownRun}
+use Rattle.rv_hunt.specs.declared.engine.shown.ShownPart.{ShownPart}
 use Rattle.rv_hunt.specs.declared.row.RaceRow.{RaceRow}
-use Rattle.rv_hunt.specs.Hunted.{Hunt}
-use Rattle.rv_hunt.specs.engine.Shown.{IsRaceShown, IsRunOf, IsShown, run_told}
+use Rattle.rv_hunt.specs.Hunt.{Hunt}
+use Rattle.rv_hunt.specs.engine.Shown.{IsRaceShown, IsShown, run_told}
 use Rattle.rv_report.specs.declared.key.Key.{Key}
-use Rattle.rv_tally.specs.Plans.{plan_of}
 
 -- the reports of a run
 abbrev pub reports_of : InFull → Run → List Report
@@ -30,29 +26,19 @@ pub record IsOfRow (full : InFull) (run : Run) (harts place : ℕ) (shown : Show
   pub there : slice_get full.rows.now place ≡ Some row
   pub is_shown : IsRaceShown full.hunt.now.ranges harts row run shown
 
--- the row at a place tells of the run
-pub record IsOfRun (shower : Shower) (place : ℕ) : Type 0 where
+-- the row at a place names the run
+pub record IsOfRun (full : InFull) (number place : ℕ) : Type 0 where
   pub row : Key × RaceRow
-  pub there : slice_get shower.full.rows.now place ≡ Some row
-  pub names : row.1.run ≡ shower.run
+  pub there : slice_get full.rows.now place ≡ Some row
+  pub names : row.1.run ≡ number
 
-abbrev pub IsPlaced : Shower → Run → ℕ → ℕ × ShownRace → Type 0
-IsPlaced shower run harts one = IsOfRow shower.full run harts one.0 one.1 × IsOfRun shower one.0
+abbrev pub IsPlaced : InFull → ℕ → Run → ℕ → ℕ × ShownRace → Type 0
+IsPlaced full number run harts one = IsOfRow full run harts one.0 one.1 × IsOfRun full number one.0
 
--- what is shown of a run that is over
-pub record IsShownRun (shower : Shower) (run : Finished) (shown : ShownRun) : Type 0 where
+-- what is shown of a part of the run of that number, made again
+pub record IsShownPart (full : InFull) (number : ℕ) (run : Finished) (shown : ShownPart) : Type 0 where
   pub schedule_is : shown.schedule.items ≡ schedule_text (numbers run.plan) run.entries.items
-  pub races_are : All (IsPlaced shower (run_told shower.full.symbols.now run) run.plan.harts) shown.races.items
-
--- the same of the run of the number, with whose core it is over
-pub record IsShownOf (shower : Shower) (shown : ShownRun) : Type 0 where
-  pub run : Finished
-  pub is_run : IsRunOf shower.full.hunt.now shower.run run
-  pub is_shown : IsShownRun shower run shown
-
-abbrev pub KeepsShown : Shower → Stored → ShownRun → Type 0
-KeepsShown shower core shown =
-    IsCoreOf shower.full.hunt.now.source (plan_of shower.full.hunt.now.given shower.run) shower.run core → IsShownOf shower shown
+  pub races_are : All (IsPlaced full number (run_told full.symbols.now run) run.plan.harts) shown.races.items
 
 -- ---- the slots of all rows
 
@@ -70,8 +56,15 @@ pub record IsOfSchedule (full : Full) (schedule : List ℕ) (place : ℕ) (shown
   pub there : slice_get full.rows place ≡ Some row
   pub is_shown : IsShown full.hunt (λ text. text ≡ schedule) row shown
 
-abbrev pub IsShownIn : Full → ShownRun → Type 0
-IsShownIn full run = All (λ (one : ℕ × ShownRace). IsOfSchedule full run.schedule.items one.0 one.1) run.races.items
+abbrev pub IsShownIn : Full → ShownPart → Type 0
+IsShownIn full part = All (λ (one : ℕ × ShownRace). IsOfSchedule full part.schedule.items one.0 one.1) part.races.items
+
+-- what is shown of the parts of a run
+abbrev pub AreShown : Full → Vec ShownPart Global → Type 0
+AreShown full parts = All (IsShownIn full) parts.items
+
+abbrev pub AreShownIn : InFull → List ShownPart → Type 0
+AreShownIn full parts = full.symbols.now ≡ full.hunt.now.source.image → All (IsShownIn (of_full full)) parts
 
 -- what a slot holds is the race of the row at its place, whose schedule is saved
 pub record IsInSlot (full : Full) (Saves : ℕ → List ℕ → Type 0) (place : ℕ) (shown : ShownRace) : Type 0 where
@@ -87,9 +80,3 @@ AreSlots full Saves slots =
 abbrev pub AreHeld : List (Option ShownRace) → List ShownRace → Type 0
 AreHeld slots races =
     (place : ℕ) (shown : ShownRace) → slice_get races place ≡ Some shown → slice_get slots place ≡ Some (Some shown)
-
--- a run of a series is the one that its keeper shows
-pub record IsSeriesRun (full : InFull) (run : SeriesRun Shower) : Type 0 where
-  pub full_is : run.keep.now.full ≡ full
-  pub number_is : run.number ≡ run.keep.now.run
-  pub plan_is : numbers run.plan ≡ plan_of full.hunt.now.given run.number

@@ -5,7 +5,7 @@ ghost use Rattle.rv_hunt.specs.internal.MakeFault as made;
 
 use crate::engine::folder::FolderFault;
 use crate::merge::fault::FileFault;
-use rv_campaign::SeriesFault;
+use rv_campaign::PoolFault;
 use rv_engines::fault::Fault;
 use rv_engines::run::fault::CommandFault;
 use rv_memory::flagged::WriteFault;
@@ -60,13 +60,13 @@ impl MakeFault {
     }
 }
 
-impl From<SeriesFault> for MakeFault {
-    ghost from_gives = { λ given fault. fault ≡ made.of_series given };
+impl From<PoolFault> for MakeFault {
+    ghost from_gives = { λ given fault. fault ≡ made.of_pool given };
 
-    fn from(given: SeriesFault) -> MakeFault {
+    fn from(given: PoolFault) -> MakeFault {
         match given {
-            SeriesFault::NoMemory => MakeFault::NoMemory,
-            SeriesFault::NoThread => MakeFault::NoThread,
+            PoolFault::NoMemory => MakeFault::NoMemory,
+            PoolFault::NoThread => MakeFault::NoThread,
         }
     }
 }

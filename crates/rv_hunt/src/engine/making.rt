@@ -27,13 +27,14 @@ use crate::page::parts::Outcome;
 use crate::row::RaceRow;
 use crate::saying::order::{benign, bugs, told_rows};
 use crate::saying::warnings::warnings_text;
-use rv_campaign::SeriesFault;
+use rv_campaign::PoolFault;
 use rv_engines::new_file::NewFile;
 use rv_explain::symbol_table::SymbolTable;
 use rv_memory::flagged::WriteFault;
 use rv_memory::store::NoMemory;
 use rv_report::key::Key;
 use rv_sample::Sampler;
+use rv_walk::sites::Sites;
 use std::alloc::Global;
 use std::sync::Wait;
 use std::thread::Threads;
@@ -61,11 +62,11 @@ fn texts_of(
     match shows {
         Shows::Text => {
             let text = hunt_text(alloc, line, symbols, outcome, told, shown)?;
-            Ok((text, warnings_text(alloc, outcome)?))
+            Ok((text, warnings_text(alloc, symbols, outcome)?))
         }
         Shows::Table => {
             let text = table_of(alloc, outcome.rows)?;
-            Ok((text, table_notes(alloc, line, outcome)?))
+            Ok((text, table_notes(alloc, line, symbols, outcome)?))
         }
     }
 }
@@ -148,7 +149,7 @@ fn made_of<R: Threads + Wait, D: Folder, F: NewFile, P: Watch>(
     folder: &mut Option<D>,
     page: &mut Option<F>,
     watch: &mut P,
-) -> Result<Made, SeriesFault>
+) -> Result<Made, PoolFault>
     requires legal { AreLegal options.now }
     requires hunted { IsHunted hunt.now saw.now }
     ensures made { IfOk result (λ made. spec.IsMade
@@ -161,7 +162,8 @@ fn made_of<R: Threads + Wait, D: Folder, F: NewFile, P: Watch>(
     let told = told_rows(alloc, &symbols, &parted.told)?;
     let outcome = Outcome {
         sites: hunt.sampler.len() as u64,
-        saw: &saw.tally,
+        mix: hunt.plans.mix(),
+        saw,
         rows: &parted.told,
         ignored: &parted.ignored,
     };
@@ -250,10 +252,12 @@ pub(crate) fn make_hunt<T: Threads + Wait + Sync, P: Watch, D: Folder, F: NewFil
     look(folder)?;
     look_at_page(page)?;
     let sampler = Sampler::sites(alloc, &opened.image, &opened.lists.excluded)?;
+    let sites = Sites::of(alloc, &sampler)?;
     let hunt = Hunt {
         image: &opened.image,
-        seed: u64::from(options.seed),
+        seed: options.seed,
         sampler: &sampler,
+        sites: &sites,
         plans: &options.plans,
         ranges: &opened.lists.ranges,
         first: options.first,

@@ -1,6 +1,6 @@
 //! What `hunt` is asked for, beside its files.
 ghost use Rattle.std.specs.Prelude.{◌≡◌, ◌≤◌, ◌↔◌, true};
-ghost use Rattle.rv_hunt.specs.Hunted.{AreNumbers};
+ghost use Rattle.rv_hunt.specs.Hunt.{AreNumbers};
 ghost use Rattle.rv_tally.specs.GoesOn.{IsLimit};
 ghost use Rattle.rv_hunt.specs.engine.Asked.{AreLegal};
 

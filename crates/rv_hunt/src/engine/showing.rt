@@ -5,9 +5,9 @@ ghost use Rattle.rv_hunt.specs.engine.Shown.{AreShown};
 ghost use Rattle.rv_hunt.specs.internal.Showing as spec;
 
 use crate::engine::folder::{Folder, FolderFault};
-use crate::engine::shown::{InFull, Shower, ShownRace, ShownRun};
+use crate::engine::shown::{InFull, Showers, ShownPart, ShownRace};
 use crate::hunt::Watch;
-use rv_campaign::{Series, SeriesFault, SeriesRun, kept_runs};
+use rv_campaign::{PoolFault, all_made};
 use rv_memory::store::NoMemory;
 use std::alloc::Global;
 use std::sync::Wait;
@@ -73,42 +73,60 @@ fn save_and_put<D: Folder>(
     Ok(())
 }
 
-/// Takes in what is shown of a run.
-fn take_run<D: Folder>(
+/// Takes in what is shown of a part of a run.
+fn take_part<D: Folder>(
     slots: &mut Slots,
     folder: &mut Option<D>,
-    run: ShownRun,
+    part: ShownPart,
 ) -> Result<(), NoMemory>
-    ensures slots { OnOk result ((full : spec.Full) → spec.IsShownIn full run
+    ensures slots { OnOk result ((full : spec.Full) → spec.IsShownIn full part
         → spec.AreSlots full (IfSaved D.has_failed D.Holds folder.old) slots.old.items
         → spec.AreSlots full (IfSaved D.has_failed D.Holds folder.new) slots.new.items) }
     ensures count { length slots.new.items ≡ length slots.old.items }
     ensures wanted { is_some folder.new ≡ is_some folder.old }
 {
-    let ShownRun {
+    let ShownPart {
         mut races,
         schedule,
-    } = run;
+    } = part;
     while let Some((place, shown)) = races.pop() {
         save_and_put(slots, folder, place, shown, &schedule)?;
     }
     Ok(())
 }
 
-/// Takes in what is shown of some runs.
-fn take_runs<D: Folder>(
+/// Takes in what is shown of the parts of a run.
+fn take_parts<D: Folder>(
     slots: &mut Slots,
     folder: &mut Option<D>,
-    mut runs: Vec<ShownRun>,
+    mut parts: Vec<ShownPart>,
 ) -> Result<(), NoMemory>
-    ensures slots { OnOk result ((full : spec.Full) → All (spec.IsShownIn full) runs.items
+    ensures slots { OnOk result ((full : spec.Full) → All (spec.IsShownIn full) parts.items
         → spec.AreSlots full (IfSaved D.has_failed D.Holds folder.old) slots.old.items
         → spec.AreSlots full (IfSaved D.has_failed D.Holds folder.new) slots.new.items) }
     ensures count { length slots.new.items ≡ length slots.old.items }
     ensures wanted { is_some folder.new ≡ is_some folder.old }
 {
-    while let Some(run) = runs.pop() {
-        take_run(slots, folder, run)?;
+    while let Some(part) = parts.pop() {
+        take_part(slots, folder, part)?;
+    }
+    Ok(())
+}
+
+/// Takes in what is shown of runs.
+fn take_runs<D: Folder>(
+    slots: &mut Slots,
+    folder: &mut Option<D>,
+    mut runs: Vec<Vec<ShownPart>>,
+) -> Result<(), NoMemory>
+    ensures slots { OnOk result ((full : spec.Full) → All (spec.AreShown full) runs.items
+        → spec.AreSlots full (IfSaved D.has_failed D.Holds folder.old) slots.old.items
+        → spec.AreSlots full (IfSaved D.has_failed D.Holds folder.new) slots.new.items) }
+    ensures count { length slots.new.items ≡ length slots.old.items }
+    ensures wanted { is_some folder.new ≡ is_some folder.old }
+{
+    while let Some(parts) = runs.pop() {
+        take_parts(slots, folder, parts)?;
     }
     Ok(())
 }
@@ -138,60 +156,49 @@ fn races_in(alloc: Global, mut slots: Slots) -> Result<Vec<ShownRace>, NoMemory>
 }
 
 impl<'a, 'h, 's> InFull<'a, 'h, 's> {
-    /// What shows the next runs: at most so many, which rows from a place on name whose slots are empty.
+    /// The numbers of the next runs: at most so many, which rows from a place on name whose slots are empty.
     fn next(
         &self,
         alloc: Global,
         slots: &[Option<ShownRace>],
         from: usize,
         most: usize,
-    ) -> Result<Vec<Shower<'a, 'h, 's>>, NoMemory>
+    ) -> Result<Vec<u32>, NoMemory>
         requires { length slots.now ≡ length self.now.rows.now }
-        ensures { IfOk result (λ showers. All (λ shower. shower.full ≡ self.now) showers.items) }
     {
-        let mut showers: Vec<Shower<'a, 'h, 's>> = Vec::new(alloc);
+        let mut runs: Vec<u32> = Vec::new(alloc);
         for place in from..slots.len() {
             let run = self.rows[place].1.run;
-            let is_next = slots[place].is_none() && showers.len() < most;
-            if is_next && !showers.iter().any(|shower| shower.run == run) {
-                showers.push(Shower { full: *self, run })?;
+            let is_next = slots[place].is_none() && runs.len() < most;
+            if is_next && !runs.iter().any(|other| *other == run) {
+                runs.push(run)?;
             }
         }
-        Ok(showers)
+        Ok(runs)
     }
 
-    /// What is shown of runs, which the workers make; that of the first comes last.
+    /// What is shown of runs, which the workers make.
     fn made<R: Threads + Wait>(
         &self,
         rt: &R,
         alloc: Global,
-        showers: &[Shower<'a, 'h, 's>],
+        runs: &[u32],
         workers: u8,
-    ) -> Result<Vec<ShownRun>, SeriesFault>
+    ) -> Result<Vec<Vec<ShownPart>>, PoolFault>
         requires workers { workers ≤ 16 }
         requires image { self.now.symbols.now ≡ self.now.hunt.now.source.image }
-        requires full { All (λ shower. shower.full ≡ self.now) showers.now }
-        ensures { IfOk result (λ runs. All (spec.IsShownIn (spec.of_full self.now)) runs.items) }
+        ensures { IfOk result (λ runs. All (spec.AreShown (spec.of_full self.now)) runs.items) }
     {
-        let hunt = self.hunt;
-        let mut runs = Vec::new(alloc);
-        // The last is taken in first.
-        for n in 0..showers.len() {
-            let shower = &showers[showers.len() - 1 - n];
-            let again = hunt.plans.numbered(shower.run);
-            runs.push(SeriesRun {
-                number: again.number,
-                plan: again.plan,
-                keep: shower,
-            })?;
-        }
-        let series = Series {
-            image: hunt.image,
-            seed: hunt.seed,
-            sampler: hunt.sampler,
-            runs: &runs,
+        // There are far fewer runs than 2^32.
+        let Ok(count) = u32::try_from(runs.len()) else {
+            return Err(PoolFault::NoMemory);
         };
-        kept_runs(rt, alloc, &series, workers)
+        let showers = Showers {
+            full: *self,
+            runs,
+            count,
+        };
+        all_made(rt, alloc, &showers, workers)
     }
 
     /// Where the slot at a place is empty, makes the next runs that rows from there on name, and takes in what is shown of them.
@@ -204,7 +211,7 @@ impl<'a, 'h, 's> InFull<'a, 'h, 's> {
         slots: &mut Slots,
         folder: &mut Option<D>,
         watch: &mut W,
-    ) -> Result<(), SeriesFault>
+    ) -> Result<(), PoolFault>
         requires workers { workers ≤ 16 }
         requires image { self.now.symbols.now ≡ self.now.hunt.now.source.image }
         requires place { place < length self.now.rows.now }
@@ -219,8 +226,8 @@ impl<'a, 'h, 's> InFull<'a, 'h, 's> {
         }
         watch.shows(place, slots.len());
         let most = RUNS_OF_A_WORKER * usize::from(workers.max(1));
-        let showers = self.next(alloc, slots, place, most)?;
-        let runs = self.made(rt, alloc, &showers, workers)?;
+        let numbers = self.next(alloc, slots, place, most)?;
+        let runs = self.made(rt, alloc, &numbers, workers)?;
         take_runs(slots, folder, runs)?;
         Ok(())
     }
@@ -233,7 +240,7 @@ impl<'a, 'h, 's> InFull<'a, 'h, 's> {
         workers: u8,
         folder: &mut Option<D>,
         watch: &mut W,
-    ) -> Result<Vec<ShownRace>, SeriesFault>
+    ) -> Result<Vec<ShownRace>, PoolFault>
         requires workers { workers ≤ 16 }
         requires image { self.now.symbols.now ≡ self.now.hunt.now.source.image }
         ensures shown { IfOk result (λ shown. AreShown self.now.hunt.now

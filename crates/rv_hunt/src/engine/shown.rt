@@ -1,5 +1,5 @@
-//! A race that is shown in full: the values of its block, in the run that its row names, made again.
-ghost use Rattle.std.specs.Prelude.{◌≡◌, ◌<◌, ◌++◌, IfOk, OnOk, IfSome, All, Some, find, length, option_map, slice_get};
+//! A race that is shown in full: the values of its block, in the part of the run that its row names, made again.
+ghost use Rattle.std.specs.Prelude.{◌≡◌, ◌<◌, ◌≤◌, ◌++◌, ◌∷◌, [], true, false, IfOk, OnOk, IfSome, All, Some, find, length, option_map, slice_get};
 ghost use Rattle.std.specs.Option.{option_copied, option_to_list};
 ghost use Rattle.rv_collide.specs.Grammar.{IsWritable, schedule_text};
 ghost use Rattle.rv_collide.specs.Numbers.{numbers};
@@ -8,12 +8,17 @@ ghost use Rattle.rv_debug.specs.Placed.{moved};
 ghost use Rattle.rv_explain.specs.Races as races;
 ghost use Rattle.rv_hunt.specs.Remade.{is_told_by};
 ghost use Rattle.rv_hunt.specs.engine.Shown.{IsRaceShown};
+ghost use Rattle.rv_hunt.specs.internal.RunWalk.{AreProbesOf, IsRunWalk};
+ghost use Rattle.rv_tally.specs.Plans.{is_sampled};
+ghost use Rattle.rv_walk.specs.declared.course.TheConstants.{MOST_WALKED};
 ghost use Rattle.rv_hunt.specs.internal.Showing as internal;
 
 use crate::hunt::Hunt;
+use crate::kept_run::sampled_run;
 use crate::row::RaceRow;
-use rv_campaign::{Keep, left_by};
-use rv_collide::collider::{Collider, Finished};
+use crate::run_walk::{RunWalk, drawn_pairs, probes_of, walk_of};
+use rv_campaign::Jobs;
+use rv_collide::collider::Finished;
 use rv_collide::schedule::laws::legal_is_writable;
 use rv_collide::schedule::write_schedule;
 use rv_debug::session::Session;
@@ -23,9 +28,11 @@ use rv_explain::race_block::race_block;
 use rv_explain::races::{Race, Report, reports_of};
 use rv_explain::symbol_table::SymbolTable;
 use rv_memory::flagged::Flagged;
-use rv_memory::flat::Flat;
+use rv_memory::paged::Paged;
 use rv_memory::store::NoMemory;
 use rv_report::key::Key;
+use rv_walk::near_pair::NearPair;
+use rv_walk::probes::Probes;
 use std::alloc::Global;
 
 /// How many entries are told before and after each place of a block.
@@ -38,9 +45,16 @@ pub struct ShownRace {
     pub harts: u8,
 }
 
-/// What is shown of the races of one run, each with the place of its row, and the run's schedule as text.
+/// A part of a run of a hunt.
+#[derive(Clone, Copy)]
+pub(crate) struct RunPart {
+    pub(crate) run: u32,
+    pub(crate) part: u32,
+}
+
+/// What is shown of the races of one part of a run, each with the place of its row, and the schedule as text.
 #[derive(Drop)]
-pub(crate) struct ShownRun {
+pub(crate) struct ShownPart {
     pub(crate) races: Vec<(u32, ShownRace)>,
     pub(crate) schedule: Vec<u8>,
 }
@@ -53,22 +67,38 @@ pub(crate) struct InFull<'a, 'h, 's> {
     pub(crate) rows: &'a [(Key, RaceRow)],
 }
 
-/// Shows the races of the run of that number.
-#[derive(Clone, Copy)]
-pub(crate) struct Shower<'a, 'h, 's> {
+/// Runs whose races are shown, as jobs.
+#[derive(Drop)]
+pub(crate) struct Showers<'a, 'h, 's> {
     pub(crate) full: InFull<'a, 'h, 's>,
-    pub(crate) run: u32,
+    pub(crate) runs: &'a [u32],
+    pub(crate) count: u32,
 }
 
-impl<'a, 'h, 's> Keep for Shower<'a, 'h, 's> {
-    type Kept = ShownRun;
+impl<'a, 'h, 's> Jobs for Showers<'a, 'h, 's> {
+    type Made = Vec<ShownPart>;
 
-    ghost keeps = { λ k core kept. internal.KeepsShown k core kept };
+    ghost jobs = { λ k. k.count };
 
-    fn keep(&self, alloc: Global, core: Collider<Flat>) -> Result<ShownRun, NoMemory> {
-        legal_is_writable();
-        core.facts();
-        self.shown(alloc, left_by(core))
+    ghost makes = { λ k _ parts. internal.AreShownIn k.full parts.items };
+
+    fn count(&self) -> u32 {
+        self.count
+    }
+
+    fn size(&self, place: u32) -> u32 {
+        let hunt = self.full.hunt;
+        match self.runs.get(place as usize) {
+            Some(run) => hunt.plans.plan(*run).steps,
+            None => 0,
+        }
+    }
+
+    fn make(&self, alloc: Global, place: u32) -> Result<Vec<ShownPart>, NoMemory> {
+        match self.runs.get(place as usize) {
+            Some(run) => self.full.run(alloc, *run),
+            None => Err(NoMemory),
+        }
     }
 }
 
@@ -141,50 +171,59 @@ impl InFull<'_, '_, '_> {
             reports: row.count,
             told: *told,
         };
-        let block = race_block(alloc, session, self.symbols.image(), AROUND, &race)?;
+        let block = race_block(alloc, session, self.symbols, AROUND, &race)?;
         Ok(Some(ShownRace { block, harts }))
     }
 }
 
-impl Shower<'_, '_, '_> {
-    /// What is shown of the run's races; the first of them comes last.
+impl InFull<'_, '_, '_> {
+    /// Whether a row is shown by that part of a run.
+    fn names(&self, of: RunPart) -> bool {
+        self.rows
+            .iter()
+            .any(|(_, row)| row.run == of.run && row.part == of.part)
+    }
+
+    /// What is shown of the races of a part; the first of them comes last.
     fn races(
         &self,
         alloc: Global,
         session: &mut Session,
         reports: &[Report],
         harts: u8,
+        of: RunPart,
     ) -> Result<Vec<(u32, ShownRace)>, NoMemory>
-        requires image { session.old.image ≡ self.now.full.symbols.now }
-        requires reports { reports.now ≡ internal.reports_of self.now.full (races.run_of session.old) }
+        requires image { session.old.image ≡ self.now.symbols.now }
+        requires reports { reports.now ≡ internal.reports_of self.now (races.run_of session.old) }
         ensures { IfOk result (λ shown. All (λ one.
-            internal.IsOfRow self.now.full (races.run_of session.old) harts one.0 one.1
-            × internal.IsOfRun self.now one.0) shown.items) }
+            internal.IsOfRow self.now (races.run_of session.old) harts one.0 one.1
+            × internal.IsOfRun self.now of.run one.0) shown.items) }
     {
         let mut shown = Vec::new(alloc);
         // The last is taken in first.
-        for n in 0..self.full.rows.len() {
-            let place = self.full.rows.len() - 1 - n;
-            if self.full.rows[place].1.run != self.run {
+        for n in 0..self.rows.len() {
+            let place = self.rows.len() - 1 - n;
+            let row = &self.rows[place].1;
+            if row.run != of.run || row.part != of.part {
                 continue;
             }
             // There are far fewer rows than 2^32.
             let Ok(short) = u32::try_from(place) else {
                 return Err(NoMemory);
             };
-            let found = self.full.row(alloc, session, reports, harts, place)?;
+            let found = self.row(alloc, session, reports, harts, place)?;
             push_found(&mut shown, short, found)?;
         }
         Ok(shown)
     }
 
-    /// What is shown of the run.
-    fn shown(&self, alloc: Global, run: Finished) -> Result<ShownRun, NoMemory>
+    /// What is shown of a part that was made again.
+    fn part(&self, alloc: Global, of: RunPart, run: Finished) -> Result<ShownPart, NoMemory>
         requires { IsWritable (numbers run.plan) run.entries.items }
-        ensures { IfOk result (λ shown. internal.IsShownRun self.now run shown) }
+        ensures { IfOk result (λ shown. internal.IsShownPart self.now of.run run shown) }
     {
-        let hunt = self.full.hunt;
-        let image = self.full.symbols.image();
+        let hunt = self.hunt;
+        let image = self.symbols.image();
         let schedule = schedule_of(alloc, &run)?;
         let harts = run.plan.harts;
         // A run that was made is legal: only want of memory refuses it.
@@ -192,7 +231,86 @@ impl Shower<'_, '_, '_> {
             return Err(NoMemory);
         };
         let reports = reports_of(alloc, image, hunt.ranges, session.endings())?;
-        let races = self.races(alloc, &mut session, &reports, harts)?;
-        Ok(ShownRun { races, schedule })
+        let races = self.races(alloc, &mut session, &reports, harts, of)?;
+        Ok(ShownPart { races, schedule })
     }
+
+    /// What is shown of a run.
+    fn run(&self, alloc: Global, run: u32) -> Result<Vec<ShownPart>, NoMemory>
+        ensures { IfOk result (λ parts. internal.AreShownIn self.now parts.items) }
+    {
+        let hunt = self.hunt;
+        if hunt.plans.mix().is_sampled(run) {
+            self.sampled(alloc, run)
+        } else {
+            self.walked(alloc, run)
+        }
+    }
+
+    /// What is shown of a sampled run.
+    fn sampled(&self, alloc: Global, run: u32) -> Result<Vec<ShownPart>, NoMemory>
+        requires { is_sampled self.now.hunt.now.given.mix run ≡ true }
+        ensures { IfOk result (λ parts. internal.AreShownIn self.now parts.items) }
+    {
+        let left = sampled_run(alloc, self.hunt, run)?;
+        let part = self.part(alloc, RunPart { run, part: 0 }, left)?;
+        let mut parts = Vec::new(alloc);
+        parts.push(part)?;
+        Ok(parts)
+    }
+
+    /// What is shown of the probes of a walk.
+    fn walked(&self, alloc: Global, run: u32) -> Result<Vec<ShownPart>, NoMemory>
+        requires { is_sampled self.now.hunt.now.given.mix run ≡ false }
+        ensures { IfOk result (λ parts. internal.AreShownIn self.now parts.items) }
+    {
+        let walk = walk_of(alloc, self.hunt, run)?;
+        let drawn = drawn_pairs(alloc, self.hunt, run, &walk)?;
+        probed_parts(alloc, *self, run, &walk, &drawn)
+    }
+
+    /// What is shown of one probe of a walk.
+    fn probed(
+        &self,
+        alloc: Global,
+        probes: &mut Probes<'_, Paged>,
+        walk: &RunWalk,
+        of: RunPart,
+        pair: &NearPair,
+    ) -> Result<ShownPart, NoMemory>
+        requires walked { is_sampled self.now.hunt.now.given.mix of.run ≡ false }
+        requires probes { AreProbesOf self.now.hunt.now of.run walk.now probes.old }
+        requires few { length walk.now.left.harts.items ≤ MOST_WALKED }
+        ensures same { probes.new ≡ probes.old }
+        ensures shown { IfOk result (λ shown. internal.AreShownIn self.now (shown ∷ [])) }
+    {
+        let part = probes.probe(alloc, pair)?;
+        let whole = part.whole(alloc, &walk.left.harts)?;
+        legal_is_writable();
+        self.part(alloc, of, whole)
+    }
+}
+
+/// What is shown of the probes of a walk that rows name.
+fn probed_parts<'x>(
+    alloc: Global,
+    full: InFull<'x, 'x, 'x>,
+    run: u32,
+    walk: &'x RunWalk,
+    drawn: &[NearPair],
+) -> Result<Vec<ShownPart>, NoMemory>
+    requires walked { is_sampled full.hunt.now.given.mix run ≡ false }
+    requires walk { IsRunWalk full.hunt.now run walk.now }
+    ensures { IfOk result (λ parts. internal.AreShownIn full.entry parts.items) }
+{
+    let mut probes = probes_of(alloc, full.hunt, run, walk)?;
+    let mut parts = Vec::new(alloc);
+    for (part, pair) in (1..u32::MAX).zip(drawn) {
+        let of = RunPart { run, part };
+        if full.names(of) {
+            let shown = full.probed(alloc, &mut probes, walk, of, pair)?;
+            parts.push(shown)?;
+        }
+    }
+    Ok(parts)
 }

@@ -29,7 +29,10 @@ pub(crate) fn race_text(
 ) -> Result<Vec<u8>, NoMemory> {
     let run = row.run;
     let harts = shown.harts;
-    let words = format!(in alloc; ", first in run {run}, {harts} harts")?;
+    let words = match row.part {
+        0 => format!(in alloc; ", first in run {run}, {harts} harts")?,
+        part => format!(in alloc; ", first in run {run}, probe {part}, {harts} harts")?,
+    };
     let mut text = block_text(alloc, symbols, words.as_bytes(), number, &shown.block)?;
     push_gdb_line(alloc, &mut text, line, number, shown.block.number)?;
     Ok(text)
@@ -52,7 +55,7 @@ pub(crate) fn hunt_text(
         text.extend_from_slice(&race_text(alloc, line, symbols, n as u64 + 1, row, race)?)?;
     }
     text.push(b'\n')?;
-    push_behind(alloc, &mut text, outcome)?;
+    push_behind(alloc, &mut text, symbols, outcome)?;
     push_keep_line(alloc, &mut text, line)?;
     Ok(text)
 }
@@ -61,10 +64,11 @@ pub(crate) fn hunt_text(
 pub(crate) fn table_notes(
     alloc: Global,
     line: &LineParts<'_>,
+    symbols: &SymbolTable,
     outcome: &Outcome,
 ) -> Result<Vec<u8>, NoMemory> {
-    let mut notes = warnings_text(alloc, outcome)?;
-    push_behind(alloc, &mut notes, outcome)?;
+    let mut notes = warnings_text(alloc, symbols, outcome)?;
+    push_behind(alloc, &mut notes, symbols, outcome)?;
     push_keep_line(alloc, &mut notes, line)?;
     Ok(notes)
 }

@@ -1,14 +1,16 @@
 //! What the page is made of.
+use crate::hunted::Hunted;
 use crate::row::RaceRow;
-use crate::tally::Tally;
 use rv_report::key::Key;
+use rv_tally::plans::Mix;
 use std::marker::Model;
 
-/// What a hunt came to: how many sites there are, what its runs saw, the rows of its races, and those that are ignored.
+/// What a hunt came to: how many sites there are, what its runs are, what they saw, the rows of its races, and those that are ignored.
 #[derive(Drop)]
 pub struct Outcome<'a> {
     pub sites: u64,
-    pub saw: &'a Tally,
+    pub mix: Mix,
+    pub saw: &'a Hunted,
     pub rows: &'a [(Key, RaceRow)],
     pub ignored: &'a [(Key, RaceRow)],
 }
@@ -18,5 +20,5 @@ impl<'a> Model for Outcome<'a> {
 
     ghost Value = { Came };
 
-    ghost view = { λ o. record { sites = o.sites; saw = o.saw.now; rows = o.rows.now; ignored = o.ignored.now } };
+    ghost view = { λ o. record { sites = o.sites; mix = o.mix; saw = o.saw.now; rows = o.rows.now; ignored = o.ignored.now } };
 }

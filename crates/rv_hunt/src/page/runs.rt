@@ -1,21 +1,24 @@
 //! What the runs saw, in tables.
 ghost use Rattle.std.specs.Prelude.{◌≡◌, ◌∷◌, IfOk};
-ghost use Rattle.rv_hunt.specs.Outcome.{seen_numbers};
+ghost use Rattle.rv_hunt.specs.Outcome.{sampled_numbers, walk_numbers};
 ghost use Rattle.rv_hunt.specs.PageFacts as spec;
 ghost use Rattle.rv_markup.specs.declared.markup.Fact.TheVariants as fact;
 
+use crate::hunted::Hunted;
 use crate::page::elements::{
     begin_part, begin_row, begin_rows, begin_table, cell, column, end_line, end_table, number_cell,
     number_column,
 };
+use crate::page::near::near_table;
 use crate::page::parts::Outcome;
 use crate::row::RaceRow;
 use crate::saying::ended::{EndedRow, ended_rows, ways_words};
-use crate::saying::lines::{Seen, seen_numbers};
+use crate::saying::lines::{Seen, runs_seen, sampled_numbers, walk_numbers};
 use crate::saying::order::{of_class, reports_of};
-use crate::saying::warnings::{Warning, warning_words, warnings_of};
+use crate::saying::warnings::{Warning, all_sampled, warning_words, warnings_of};
 use crate::tally::Tally;
 use rv_explain::block::RaceClass;
+use rv_explain::symbol_table::SymbolTable;
 use rv_markup::markup::Markup;
 use rv_markup::tag::Place;
 use rv_memory::store::NoMemory;
@@ -26,14 +29,15 @@ use std::alloc::Global;
 fn warning_rows(
     page: Markup,
     alloc: Global,
-    saw: &Tally,
+    symbols: &SymbolTable,
+    saw: &Hunted,
     warnings: &[Warning],
 ) -> Result<Markup, NoMemory>
     ensures { IfOk result (λ more. more ≡ page) }
 {
     let mut page = page;
     for warning in warnings {
-        let words = warning_words(alloc, saw, *warning)?;
+        let words = warning_words(alloc, symbols, saw, *warning)?;
         page = end_line(cell(begin_row(page)?, words.as_bytes())?)?;
     }
     Ok(page)
@@ -43,17 +47,18 @@ fn warning_rows(
 pub(crate) fn warnings_part(
     page: Markup,
     alloc: Global,
+    symbols: &SymbolTable,
     outcome: &Outcome,
 ) -> Result<Markup, NoMemory>
     ensures { IfOk result (λ more. more ≡ record page { facts = spec.warnings_facts outcome.now page.facts }) }
 {
-    let warnings = warnings_of(alloc, outcome.sites, outcome.saw)?;
+    let warnings = warnings_of(alloc, outcome)?;
     if warnings.is_empty() {
         return Ok(page);
     }
     let page = begin_part(page, Place::Warnings, b"Warnings")?;
     let page = begin_rows(begin_table(page)?)?;
-    let page = warning_rows(page, alloc, outcome.saw, &warnings)?;
+    let page = warning_rows(page, alloc, symbols, outcome.saw, &warnings)?;
     end_line(end_table(page)?)
 }
 
@@ -88,12 +93,17 @@ pub(crate) fn aside_part(page: Markup, alloc: Global, outcome: &Outcome) -> Resu
 }
 
 /// A row of each way in which harts ended.
-fn ended_rows_of(page: Markup, alloc: Global, rows: &[EndedRow]) -> Result<Markup, NoMemory>
+fn ended_rows_of(
+    page: Markup,
+    alloc: Global,
+    symbols: &SymbolTable,
+    rows: &[EndedRow],
+) -> Result<Markup, NoMemory>
     ensures { IfOk result (λ more. more ≡ record page { facts = spec.ended_row_facts rows.now page.facts }) }
 {
     let mut page = page;
     for row in rows {
-        let words = ways_words(alloc, row.ways)?;
+        let words = ways_words(alloc, symbols, row.ways)?;
         page = cell(begin_row(page)?, words.as_bytes())?;
         page = end_line(number_cell(page, row.harts)?)?;
     }
@@ -101,7 +111,12 @@ fn ended_rows_of(page: Markup, alloc: Global, rows: &[EndedRow]) -> Result<Marku
 }
 
 /// How harts ended.
-pub(crate) fn ended_part(page: Markup, alloc: Global, saw: &Tally) -> Result<Markup, NoMemory>
+pub(crate) fn ended_part(
+    page: Markup,
+    alloc: Global,
+    symbols: &SymbolTable,
+    saw: &Tally,
+) -> Result<Markup, NoMemory>
     ensures { IfOk result (λ more. more ≡ record page { facts = spec.ended_facts saw.now.ended page.facts }) }
 {
     let rows = ended_rows(alloc, saw.ended())?;
@@ -109,7 +124,7 @@ pub(crate) fn ended_part(page: Markup, alloc: Global, saw: &Tally) -> Result<Mar
     let page = column(begin_row(begin_table(page)?)?, b"")?;
     let page = number_column(page, b"harts")?;
     let page = begin_rows(end_line(page)?)?;
-    let page = ended_rows_of(page, alloc, &rows)?;
+    let page = ended_rows_of(page, alloc, symbols, &rows)?;
     end_line(end_table(page)?)
 }
 
@@ -126,18 +141,71 @@ fn number_rows(page: Markup, numbers: &[Seen]) -> Result<Markup, NoMemory>
     Ok(page)
 }
 
-fn seen_rows(page: Markup, sites: u64, saw: &Tally) -> Result<Markup, NoMemory>
-    ensures { IfOk result (λ more. more ≡ record page { facts = spec.numbers_facts (seen_numbers sites saw.now) page.facts }) }
+fn sampled_rows(page: Markup, sites: u64, saw: &Tally) -> Result<Markup, NoMemory>
+    ensures { IfOk result (λ more. more ≡ record page { facts = spec.numbers_facts (sampled_numbers sites saw.now) page.facts }) }
 {
-    number_rows(page, &seen_numbers(sites, saw))
+    number_rows(page, &sampled_numbers(sites, saw))
+}
+
+fn walk_rows(page: Markup, saw: &Hunted) -> Result<Markup, NoMemory>
+    ensures { IfOk result (λ more. more ≡ record page { facts = spec.numbers_facts (walk_numbers saw.now) page.facts }) }
+{
+    number_rows(page, &walk_numbers(saw))
+}
+
+/// The rows of walks, where not all runs are sampled ones.
+fn walks_if(page: Markup, all_sampled: bool, saw: &Hunted) -> Result<Markup, NoMemory>
+    ensures { IfOk result (λ more. more ≡ record page { facts = spec.walk_facts all_sampled saw.now page.facts }) }
+{
+    if all_sampled {
+        Ok(page)
+    } else {
+        walk_rows(page, saw)
+    }
+}
+
+/// The row of the runs.
+fn runs_row(page: Markup, saw: &Tally) -> Result<Markup, NoMemory>
+    ensures { IfOk result (λ more. more ≡ record page { facts = fact.Number saw.now.runs ∷ page.facts }) }
+{
+    number_rows(page, &[runs_seen(saw)])
+}
+
+/// The rows of what was seen, and behind them the near pairs that were not met.
+fn seen_rows(
+    page: Markup,
+    alloc: Global,
+    symbols: &SymbolTable,
+    sites: u64,
+    all_sampled: bool,
+    saw: &Hunted,
+) -> Result<Markup, NoMemory>
+    ensures { IfOk result (λ more. more ≡ record page { facts = spec.seen_row_facts sites all_sampled saw.now page.facts }) }
+{
+    let page = begin_rows(begin_table(page)?)?;
+    let page = sampled_rows(page, sites, &saw.tally)?;
+    let page = walks_if(page, all_sampled, saw)?;
+    let page = runs_row(page, &saw.tally)?;
+    near_table(end_table(page)?, alloc, symbols, saw)
 }
 
 /// What was seen.
-pub(crate) fn seen_part(page: Markup, sites: u64, saw: &Tally) -> Result<Markup, NoMemory>
-    ensures { IfOk result (λ more. more ≡ record page { facts = spec.seen_facts sites saw.now page.facts }) }
+pub(crate) fn seen_part(
+    page: Markup,
+    alloc: Global,
+    symbols: &SymbolTable,
+    outcome: &Outcome,
+) -> Result<Markup, NoMemory>
+    ensures { IfOk result (λ more. more ≡ record page { facts = spec.seen_facts outcome.now page.facts }) }
 {
     let page = begin_part(page, Place::Seen, b"What was seen")?;
-    let page = begin_rows(begin_table(page)?)?;
-    let page = seen_rows(page, sites, saw)?;
-    end_line(end_table(page)?)
+    let all_sampled = all_sampled(outcome.mix);
+    end_line(seen_rows(
+        page,
+        alloc,
+        symbols,
+        outcome.sites,
+        all_sampled,
+        outcome.saw,
+    )?)
 }

@@ -4,10 +4,13 @@ ghost use Rattle.rv_hunt.specs.EndedRows as spec;
 
 use crate::tally::ended::Ended;
 use crate::tally::kinds::Kinds;
+use rv_explain::names::address_text;
+use rv_explain::symbol_table::SymbolTable;
 use rv_hart::hart::Cause;
 use rv_memory::store::NoMemory;
 use rv_tally::end::End;
 use std::alloc::Global;
+use std::str;
 
 /// A way in which harts ended, or all ways of a kind that have no row of their own.
 #[derive(Clone, Copy)]
@@ -15,6 +18,7 @@ pub enum Ways {
     One(End),
     OtherExits,
     OtherStops,
+    OtherWaits,
 }
 
 /// How many harts ended so.
@@ -47,13 +51,15 @@ fn push_kinds(rows: &mut Vec<EndedRow>, kinds: &Kinds, others: Ways) -> Result<(
     push_if(rows, others, kinds.rest())
 }
 
-/// How harts ended: exits by code, then traps by cause and address, then those that had no steps left.
+/// How harts ended: exits by code, then traps by cause and address, then those that waited for ever, then those that had no steps
+/// left.
 pub(crate) fn ended_rows(alloc: Global, ended: &Ended) -> Result<Vec<EndedRow>, NoMemory>
     ensures { IfOk result (λ rows. rows.items ≡ spec.ended_rows ended.now) }
 {
     let mut rows = Vec::new(alloc);
     push_kinds(&mut rows, ended.exits(), Ways::OtherExits)?;
     push_kinds(&mut rows, ended.stops(), Ways::OtherStops)?;
+    push_kinds(&mut rows, ended.waits(), Ways::OtherWaits)?;
     push_if(&mut rows, Ways::One(End::OutOfSteps), ended.out_of_steps())?;
     Ok(rows)
 }
@@ -74,15 +80,26 @@ fn cause_words(cause: Cause) -> &'static str {
 }
 
 /// In which way harts ended.
-pub(crate) fn ways_words(alloc: Global, ways: Ways) -> Result<String, NoMemory> {
+pub(crate) fn ways_words(
+    alloc: Global,
+    symbols: &SymbolTable,
+    ways: Ways,
+) -> Result<String, NoMemory> {
     match ways {
         Ways::One(End::Exited(code)) => Ok(format!(in alloc; "exited {code:08x}")?),
         Ways::One(End::Stopped(cause, pc)) => {
             let words = cause_words(cause);
             Ok(format!(in alloc; "stopped by {words} at {pc:08x}")?)
         }
+        Ways::One(End::Polls(pc)) => {
+            let place = address_text(alloc, symbols, pc)?;
+            let words = str::from_utf8(&place).unwrap_or("");
+            Ok(format!(in alloc; "waiting at {words}")?)
+        }
+        Ways::One(End::Parked) => Ok(format!(in alloc; "parked")?),
         Ways::One(End::OutOfSteps) => Ok(format!(in alloc; "out of steps")?),
         Ways::OtherExits => Ok(format!(in alloc; "exited otherwise")?),
         Ways::OtherStops => Ok(format!(in alloc; "stopped otherwise")?),
+        Ways::OtherWaits => Ok(format!(in alloc; "waiting elsewhere")?),
     }
 }

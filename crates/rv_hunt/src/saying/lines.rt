@@ -3,19 +3,23 @@ ghost use Rattle.std.specs.Prelude.{◌≡◌, map};
 ghost use Rattle.rv_hunt.specs.Outcome as spec;
 ghost use Rattle.rv_hunt.specs.declared.saying.lines.Seen.{Seen};
 
+use crate::hunted::Hunted;
+use crate::near::Fate;
 use crate::page::parts::Outcome;
 use crate::row::RaceRow;
 use crate::saying::ended::{ended_rows, ways_words};
 use crate::saying::order::{benign, bugs, of_class, reports_of};
+use crate::saying::warnings::all_sampled;
 use crate::tally::Tally;
 use rv_explain::block::RaceClass;
+use rv_explain::symbol_table::SymbolTable;
 use rv_memory::store::NoMemory;
 use rv_report::key::Key;
 use std::alloc::Global;
 
 /// The first line.
 pub(crate) fn summary_line(alloc: Global, outcome: &Outcome) -> Result<String, NoMemory> {
-    let saw = outcome.saw;
+    let saw = &outcome.saw.tally;
     let bugs = bugs(outcome.rows);
     let benign = benign(outcome.rows);
     let reports = saw.counts().hit.saturating_add(saw.counts().changed);
@@ -69,11 +73,11 @@ fn number_seen(before: &'static str, name: &'static str, number: u64, meaning: &
     }
 }
 
-/// The sites, how the pauses ended, and the runs.
-pub(crate) fn seen_numbers(sites: u64, saw: &Tally) -> [Seen; 10]
-    ensures { map (λ (one : Seen). one.number) result ≡ spec.seen_numbers sites saw.now }
+/// The sites, and of the sampled runs how the pauses ended, and the steps.
+pub(crate) fn sampled_numbers(sites: u64, saw: &Tally) -> [Seen; 9]
+    ensures { map (λ (one : Seen). one.number) result ≡ spec.sampled_numbers sites saw.now }
 {
-    let counts = saw.counts();
+    let counts = saw.sampled();
     [
         number_seen(
             " ",
@@ -93,7 +97,12 @@ pub(crate) fn seen_numbers(sites: u64, saw: &Tally) -> [Seen; 10]
             saw.paused().count(),
             "sites at which a hart was paused",
         ),
-        number_seen("; ", "pauses", saw.pauses(), "how often a hart was paused"),
+        number_seen(
+            "; ",
+            "pauses",
+            counts.pauses(),
+            "how often a hart was paused",
+        ),
         number_seen(
             ": ",
             "quiet",
@@ -119,28 +128,109 @@ pub(crate) fn seen_numbers(sites: u64, saw: &Tally) -> [Seen; 10]
             counts.steps,
             "instructions that harts executed",
         ),
-        number_seen("; ", "runs", saw.runs(), "whole runs of the program"),
     ]
 }
 
-/// Adds what was seen; the runs are in the first line.
-fn push_seen(alloc: Global, text: &mut Vec<u8>, sites: u64, saw: &Tally) -> Result<(), NoMemory> {
-    text.extend_from_slice(b"seen")?;
-    for seen in &seen_numbers(sites, saw)[..9] {
+/// The walks, their probes, and what came of the near pairs.
+pub(crate) fn walk_numbers(saw: &Hunted) -> [Seen; 9]
+    ensures { map (λ (one : Seen). one.number) result ≡ spec.walk_numbers saw.now }
+{
+    let held = saw.near.how_many(&saw.table, Fate::Held);
+    let waited = saw.near.how_many(&saw.table, Fate::OthersWaited);
+    let never = saw.near.how_many(&saw.table, Fate::NeverReached);
+    [
+        number_seen("; ", "walks", saw.tally.walks(), "runs without a pause"),
+        number_seen(
+            ", ",
+            "probes",
+            saw.tally.probes(),
+            "runs from the middle of a walk on, in which a hart is held",
+        ),
+        number_seen(
+            "; ",
+            "near pairs",
+            saw.near.len() as u64,
+            "pairs of instructions that touched the same bytes from two harts soon after one another",
+        ),
+        number_seen(
+            ": ",
+            "met",
+            saw.near.how_many(&saw.table, Fate::Met),
+            "pairs that a report is of",
+        ),
+        number_seen(
+            ", ",
+            "not met",
+            held.saturating_add(waited).saturating_add(never),
+            "pairs that were probed, and no report is of them",
+        ),
+        number_seen(
+            " (",
+            "held",
+            held,
+            "of these a hart was held while others stepped",
+        ),
+        number_seen(
+            ", ",
+            "others waited",
+            waited,
+            "of these a hart came there only while all others waited",
+        ),
+        number_seen(
+            ", ",
+            "never reached",
+            never,
+            "of these no hart came there again",
+        ),
+        number_seen(
+            "), ",
+            "not tried",
+            saw.near.how_many(&saw.table, Fate::Untried),
+            "pairs that were not probed",
+        ),
+    ]
+}
+
+/// How many runs there were.
+pub(crate) fn runs_seen(saw: &Tally) -> Seen
+    ensures { result.number ≡ saw.now.runs }
+{
+    number_seen("; ", "runs", saw.runs(), "whole runs of the program")
+}
+
+/// Adds numbers, each with its name.
+fn push_numbers(alloc: Global, text: &mut Vec<u8>, numbers: &[Seen]) -> Result<(), NoMemory> {
+    for seen in numbers {
         let before = seen.before;
         let name = seen.name;
         let number = seen.number;
         let part = format!(in alloc; "{before}{name} {number}")?;
         text.extend_from_slice(part.as_bytes())?;
     }
+    Ok(())
+}
+
+/// Adds what was seen; the runs are in the first line.
+fn push_seen(alloc: Global, text: &mut Vec<u8>, outcome: &Outcome) -> Result<(), NoMemory> {
+    let saw = outcome.saw;
+    text.extend_from_slice(b"seen")?;
+    push_numbers(alloc, text, &sampled_numbers(outcome.sites, &saw.tally))?;
+    if !all_sampled(outcome.mix) {
+        push_numbers(alloc, text, &walk_numbers(saw))?;
+    }
     text.extend_from_slice(b"\n")?;
     Ok(())
 }
 
 /// Adds how the harts of all runs ended.
-fn push_ended(alloc: Global, text: &mut Vec<u8>, saw: &Tally) -> Result<(), NoMemory> {
+fn push_ended(
+    alloc: Global,
+    text: &mut Vec<u8>,
+    symbols: &SymbolTable,
+    saw: &Tally,
+) -> Result<(), NoMemory> {
     for row in &ended_rows(alloc, saw.ended())? {
-        let words = ways_words(alloc, row.ways)?;
+        let words = ways_words(alloc, symbols, row.ways)?;
         let harts = row.harts;
         let line = format!(in alloc; "ended {words}: {harts}\n")?;
         text.extend_from_slice(line.as_bytes())?;
@@ -152,11 +242,12 @@ fn push_ended(alloc: Global, text: &mut Vec<u8>, saw: &Tally) -> Result<(), NoMe
 pub(crate) fn push_behind(
     alloc: Global,
     text: &mut Vec<u8>,
+    symbols: &SymbolTable,
     outcome: &Outcome,
 ) -> Result<(), NoMemory> {
     let named = of_class(alloc, outcome.rows, RaceClass::Named)?;
     push_apart(alloc, text, "named", &named)?;
     push_apart(alloc, text, "ignored", outcome.ignored)?;
-    push_ended(alloc, text, outcome.saw)?;
-    push_seen(alloc, text, outcome.sites, outcome.saw)
+    push_ended(alloc, text, symbols, &outcome.saw.tally)?;
+    push_seen(alloc, text, outcome)
 }

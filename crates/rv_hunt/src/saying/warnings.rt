@@ -2,10 +2,13 @@
 ghost use Rattle.std.specs.Prelude.{◌≡◌, IfOk};
 ghost use Rattle.rv_hunt.specs.Warnings as spec;
 
+use crate::hunted::Hunted;
+use crate::near::Fate;
 use crate::page::parts::Outcome;
 use crate::saying::ended::{Ways, ways_words};
-use crate::tally::Tally;
+use rv_explain::symbol_table::SymbolTable;
 use rv_memory::store::NoMemory;
+use rv_tally::plans::Mix;
 use std::alloc::Global;
 
 /// Why a clean answer would mean nothing.
@@ -19,61 +22,100 @@ pub enum Warning {
     Trapped,
     /// Pauses were made, and in none of them another hart made a step.
     NoOtherStep,
-    /// Fewer than half of the sites were ever armed.
+    /// Fewer than half of the sites were ever armed, where all runs are sampled ones.
     FewArmed,
+    /// No walk saw a near pair.
+    NoNear,
+    /// More than half of the near pairs were not probed.
+    ManyUntried,
+    /// Each walk of the most harts made all steps that a walk may make, and saw no near pair.
+    WalkedInVain,
     /// In none of the longest runs a hart exited.
     NoExit,
 }
 
 /// All of them, in the order in which they are told.
-const WARNINGS: [Warning; 6] = [
+const WARNINGS: [Warning; 9] = [
     Warning::NoSite,
     Warning::NoPause,
     Warning::Trapped,
     Warning::NoOtherStep,
     Warning::FewArmed,
+    Warning::NoNear,
+    Warning::ManyUntried,
+    Warning::WalkedInVain,
     Warning::NoExit,
 ];
 
-/// Whether the warning holds of an image with so many sites and of what runs saw.
-fn holds(warning: Warning, sites: u64, saw: &Tally) -> bool
-    ensures { result ≡ spec.holds sites saw.now warning }
+/// Whether all runs are sampled ones.
+pub(crate) fn all_sampled(mix: Mix) -> bool
+    ensures { result ≡ spec.all_sampled mix }
 {
+    match mix {
+        Mix::Sampled => true,
+        Mix::Mixed | Mix::Walks => false,
+    }
+}
+
+/// Whether walks saw no near pair.
+fn saw_no_pair(saw: &Hunted) -> bool
+    ensures { result ≡ spec.saw_no_pair saw.now }
+{
+    1 <= saw.tally.walks() && saw.near.len() == 0
+}
+
+/// Whether more than half of the near pairs were not probed, nor met.
+fn tried_few(saw: &Hunted) -> bool
+    ensures { result ≡ spec.tried_few saw.now }
+{
+    let untried = u128::from(saw.near.how_many(&saw.table, Fate::Untried));
+    (saw.near.len() as u128) < 2 * untried
+}
+
+/// Whether the warning holds of what a hunt came to.
+fn holds(warning: Warning, outcome: &Outcome) -> bool
+    ensures { result ≡ spec.holds outcome.now warning }
+{
+    let saw = &outcome.saw.tally;
     match warning {
-        Warning::NoSite => sites == 0,
+        Warning::NoSite => outcome.sites == 0,
         Warning::NoPause => saw.made_no_pause(),
         Warning::Trapped => saw.each_run_trapped(),
         Warning::NoOtherStep => saw.passed_no_step(),
-        Warning::FewArmed => saw.armed_few(sites),
+        Warning::FewArmed => all_sampled(outcome.mix) && saw.armed_few(outcome.sites),
+        Warning::NoNear => saw_no_pair(outcome.saw),
+        Warning::ManyUntried => tried_few(outcome.saw),
+        Warning::WalkedInVain => saw.walked_in_vain(),
         Warning::NoExit => saw.exited_nowhere(),
     }
 }
 
-/// Those of the warnings that hold of an image with so many sites and of what runs saw.
-pub(crate) fn warnings_of(alloc: Global, sites: u64, saw: &Tally) -> Result<Vec<Warning>, NoMemory>
-    ensures { IfOk result (λ warnings. warnings.items ≡ spec.warnings_of sites saw.now) }
+/// Those of the warnings that hold of what a hunt came to.
+pub(crate) fn warnings_of(alloc: Global, outcome: &Outcome) -> Result<Vec<Warning>, NoMemory>
+    ensures { IfOk result (λ warnings. warnings.items ≡ spec.warnings_of outcome.now) }
 {
     let those = WARNINGS.iter().copied();
     Ok(
         those
-            .filter(|warning| holds(*warning, sites, saw))
+            .filter(|warning| holds(*warning, outcome))
             .collect(alloc)?,
     )
 }
 
 /// The first trap that was met.
-fn first_stop(alloc: Global, saw: &Tally) -> Result<String, NoMemory> {
-    let [kind, ..] = saw.ended().stops().told() else {
+fn first_stop(alloc: Global, symbols: &SymbolTable, saw: &Hunted) -> Result<String, NoMemory> {
+    let [kind, ..] = saw.tally.ended().stops().told() else {
         return Ok(String::new(alloc));
     };
-    let words = ways_words(alloc, Ways::One(kind.end))?;
+    let words = ways_words(alloc, symbols, Ways::One(kind.end))?;
     Ok(format!(in alloc; ", the first {words}")?)
 }
 
 /// The words of a warning.
 pub(crate) fn warning_words(
     alloc: Global,
-    saw: &Tally,
+    symbols: &SymbolTable,
+    saw: &Hunted,
     warning: Warning,
 ) -> Result<String, NoMemory> {
     let words = match warning {
@@ -84,7 +126,7 @@ pub(crate) fn warning_words(
             "no pause was made, so that no race could be seen: do the harts reach a load or a store?"
         }
         Warning::Trapped => {
-            let first = first_stop(alloc, saw)?;
+            let first = first_stop(alloc, symbols, saw)?;
             return Ok(format!(in alloc;
                 "in every run a trap stopped a hart{first}: is the program built for RV32IMA without an operating system?"
             )?);
@@ -95,6 +137,15 @@ pub(crate) fn warning_words(
         Warning::FewArmed => {
             "fewer than half of the sites were ever armed: take a greater --budget"
         }
+        Warning::NoNear => {
+            "in no walk a plain load or store touched the same bytes as another hart soon before or after: do the harts share anything?"
+        }
+        Warning::ManyUntried => {
+            "more than half of the near pairs were not tried: take a greater --budget"
+        }
+        Warning::WalkedInVain => {
+            "walks of the most harts came to 900000 steps without a near pair: does the program get to where its harts work together?"
+        }
         Warning::NoExit => {
             "in the longest runs no hart exited: if the program ends, take more steps by --plan"
         }
@@ -103,10 +154,14 @@ pub(crate) fn warning_words(
 }
 
 /// A line of each warning that holds.
-pub(crate) fn warnings_text(alloc: Global, outcome: &Outcome) -> Result<Vec<u8>, NoMemory> {
+pub(crate) fn warnings_text(
+    alloc: Global,
+    symbols: &SymbolTable,
+    outcome: &Outcome,
+) -> Result<Vec<u8>, NoMemory> {
     let mut text = Vec::new(alloc);
-    for warning in &warnings_of(alloc, outcome.sites, outcome.saw)? {
-        let words = warning_words(alloc, outcome.saw, *warning)?;
+    for warning in &warnings_of(alloc, outcome)? {
+        let words = warning_words(alloc, symbols, outcome.saw, *warning)?;
         let line = format!(in alloc; "rvcollide: warning: {words}\n")?;
         text.extend_from_slice(line.as_bytes())?;
     }

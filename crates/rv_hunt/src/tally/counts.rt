@@ -15,6 +15,31 @@ pub struct Counts {
     pub passed: u64,
 }
 
+impl Counts {
+    /// Those of no run.
+    pub(crate) fn none() -> Counts
+        ensures { result ≡ spec.no_counts }
+    {
+        Counts {
+            steps: 0,
+            quiet: 0,
+            hit: 0,
+            changed: 0,
+            unwatched: 0,
+            passed: 0,
+        }
+    }
+
+    /// How many pauses were made.
+    pub fn pauses(&self) -> u64
+        ensures { result ≡ saturated (spec.pauses_in self.now) }
+    {
+        self.quiet
+            .saturating_add(self.hit)
+            .saturating_add(self.changed)
+    }
+}
+
 /// A count, and one more where it holds.
 pub(crate) fn raised(count: u64, holds: bool) -> u64
     ensures { result ≡ saturated (count + spec.one_if holds) }

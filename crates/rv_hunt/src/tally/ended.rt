@@ -8,11 +8,12 @@ use rv_tally::end::{End, Way};
 use std::alloc::Global;
 use std::marker::Model;
 
-/// Exits by code, traps by cause and address, and the harts that had no steps left.
+/// Exits by code, traps by cause and address, harts that waited, and those that had no steps left.
 #[derive(Drop)]
 pub struct Ended {
     exits: Kinds,
     stops: Kinds,
+    waits: Kinds,
     out_of_steps: u64,
 }
 
@@ -21,7 +22,7 @@ impl Model for Ended {
 
     ghost Value = { HowEnded };
 
-    ghost view = { λ e. record { exits = e.exits; stops = e.stops; out_of_steps = e.out_of_steps } };
+    ghost view = { λ e. record { exits = e.exits; stops = e.stops; waits = e.waits; out_of_steps = e.out_of_steps } };
 }
 
 impl Ended {
@@ -31,6 +32,7 @@ impl Ended {
         Ended {
             exits: Kinds::new(alloc),
             stops: Kinds::new(alloc),
+            waits: Kinds::new(alloc),
             out_of_steps: 0,
         }
     }
@@ -49,6 +51,13 @@ impl Ended {
         &self.stops
     }
 
+    /// Where harts polled for ever, and those that were parked.
+    pub fn waits(&self) -> &Kinds
+        ensures { result.now ≡ self.now.waits }
+    {
+        &self.waits
+    }
+
     /// How many harts had no steps left.
     pub fn out_of_steps(&self) -> u64
         ensures { result ≡ self.now.out_of_steps }
@@ -63,6 +72,7 @@ impl Ended {
         match end.way() {
             Way::Exit => self.exits.add(end)?,
             Way::Trap => self.stops.add(end)?,
+            Way::Wait => self.waits.add(end)?,
             Way::Spent => self.out_of_steps = self.out_of_steps.saturating_add(1),
         }
         Ok(())

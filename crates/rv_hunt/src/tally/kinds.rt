@@ -34,18 +34,38 @@ impl Model for Kinds {
     ghost view = { λ k. record { told = k.told.items; rest = k.rest } };
 }
 
+/// What tells a way of ending from others: which it is, its code or its cause, and its address.
+#[derive(Clone, Copy)]
+struct Mark {
+    way: u8,
+    cause: u32,
+    address: u32,
+}
+
+fn marked(end: End) -> Mark
+    ensures { result ≡ spec.mark end }
+{
+    let (way, cause, address) = match end {
+        End::Exited(code) => (0, code, 0),
+        End::Stopped(cause, pc) => (1, u32::from(cause.number()), pc),
+        End::Polls(pc) => (2, 0, pc),
+        End::Parked => (3, 0, 0),
+        End::OutOfSteps => (4, 0, 0),
+    };
+    Mark {
+        way,
+        cause,
+        address,
+    }
+}
+
 /// Whether two harts ended in one way.
 fn is_same(end: End, other: End) -> bool
     ensures { result ≡ spec.same_end end other }
 {
-    match (end, other) {
-        (End::Exited(code), End::Exited(other)) => code == other,
-        (End::Stopped(cause, pc), End::Stopped(other, at)) => {
-            cause.number() == other.number() && pc == at
-        }
-        (End::OutOfSteps, End::OutOfSteps) => true,
-        _ => false,
-    }
+    let one = marked(end);
+    let two = marked(other);
+    one.way == two.way && one.cause == two.cause && one.address == two.address
 }
 
 /// Counts one more end of a kind, if it is of that.

@@ -6,7 +6,7 @@ pub returns-clause-one : goal.returns-clause-one
 returns-clause-one c = one_result c.seeded_runs.ensures.one
 
 pub returns-clause-pieces : goal.returns-clause-pieces
-returns-clause-pieces c = pieces_are_whole c.seeded_runs.ensures.one
+returns-clause-pieces c = pieces_are_whole
 
 pub returns-clause-told : goal.returns-clause-told
-returns-clause-told c = rows_told c.seeded_runs.ensures.one
+returns-clause-told c = rows_told

@@ -11,7 +11,7 @@ pub returns-then-is_step : goal.returns-then-is_step
 unfolding has_step_within within between
 returns-then-is_step c =
     let e = c.args.ending.now in
-    let p : ℕ → Bool = λ place. is_some (stepped_at c.args.core.now.entries place) in
+    let p : ℕ → Bool = λ place. is_some (stepped_at c.args.entries.now place) in
     let from = c.loop-place.invariant.from in
     let below = c.loop-place-test.true in
     let first = c.from-first.ensures in
@@ -20,7 +20,7 @@ returns-then-is_step c =
 
 pub loop-place-preserved : goal.loop-place-preserved
 loop-place-preserved c =
-    let p : ℕ → Bool = λ place. is_some (stepped_at c.args.core.now.entries place) in
+    let p : ℕ → Bool = λ place. is_some (stepped_at c.args.entries.now place) in
     let a = c.from-first.result + 1 in
     let place = c.loop-place.place in
     let from = c.loop-place.invariant.from in
@@ -35,7 +35,7 @@ pub returns : goal.returns
 unfolding has_step_within within between
 returns c =
     let e = c.args.ending.now in
-    let p : ℕ → Bool = λ place. is_some (stepped_at c.args.core.now.entries place) in
+    let p : ℕ → Bool = λ place. is_some (stepped_at c.args.entries.now place) in
     let place = c.loop-place.place in
     let over = c.loop-place-test.false in
     let last = c.from-place-end.ensures in

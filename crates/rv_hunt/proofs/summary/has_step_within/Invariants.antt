@@ -7,5 +7,5 @@ use Rattle.rv_hunt.proofs.summary.has_step_within.Given as goal
 abbrev pub invariant-loop-place : goal.invariant-loop-place
 invariant-loop-place l = record {
   from : l.first ≤ l.place;
-  none : list_any (λ place. is_some (stepped_at l.core.entries place)) (range_with_len l.first (l.place - l.first)) ≡ false;
+  none : list_any (λ place. is_some (stepped_at l.entries place)) (range_with_len l.first (l.place - l.first)) ≡ false;
 }

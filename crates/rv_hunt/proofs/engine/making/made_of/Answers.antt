@@ -1,5 +1,5 @@
-use Rattle.std.proofs.Common.{◌≡◌, ◌∙◌, List, length, ap, refl}
-use Rattle.rv_hunt.specs.Hunted.{Hunt}
+use Rattle.std.proofs.Common.{◌≡◌, ◌∙◌, List, length, ap}
+use Rattle.rv_hunt.specs.Hunt.{Hunt}
 use Rattle.rv_hunt.specs.engine.Hunting.{found_in}
 use Rattle.rv_hunt.specs.internal.Opened.{hunting_with}
 use Rattle.rv_hunt.proofs.MadeLemmas.{made_is, outcome_is}
@@ -12,7 +12,7 @@ returns-clause-made g c =
     let sites = c.len.ensures ∙ ap (λ (h : Hunt). length h.source.sites) c.hunt.view_is in
     let rows = c.deref-2.ensures.value ∙ c.in_ok-parted.ensures.told in
     let ignored = c.deref-3.ensures.value ∙ c.in_ok-parted.ensures.ignored in
-    let came = outcome_is hunting c.args.saw.now c.len.result c.args.saw.now.tally c.deref-2.result.now c.deref-3.result.now sites refl rows ignored in
+    let came = outcome_is hunting c.args.saw.now c.len.result c.mix.result c.deref-2.result.now c.deref-3.result.now sites (c.mix.ensures ∙ ap (λ (h : Hunt). h.given.mix) c.hunt.view_is) rows ignored in
     made_is _ hunting c.args.saw.now _ _ c.in_ok-parted.parted.told.items c.in_ok-told.told.items c.first_of.result.now _ c.in_ok-shown.shown.items _ _ c.requires.hunted c.in_ok-parted.ensures.told
     (rw (c.deref.ensures.value, image) at c.in_ok-told.ensures)
     (rw (c.full_of-most.ensures, c.is_some.ensures, c.is_some-2.ensures, c.deref-4.ensures.value) at c.first_of.ensures)

@@ -2,16 +2,16 @@
 use Rattle.std.proofs.Common.{◌≡◌, All, length}
 use Rattle.std.specs.Prelude.{is_some}
 use Rattle.rv_hunt.specs.engine.Late.{IfSaved}
-use Rattle.rv_hunt.specs.internal.Showing.{AreSlots, Full, IsShownIn}
+use Rattle.rv_hunt.specs.internal.Showing.{AreSlots, Full, AreShown}
 use Rattle.rv_hunt.proofs.engine.showing.take_runs.Given as goal
 
-abbrev pub invariant-loop-run : goal.invariant-loop-run
-invariant-loop-run g l = record {
-  left : (full : Full) → All (IsShownIn full) l.initial.runs.items → All (IsShownIn full) l.runs.items;
-  slots : (full : Full) → All (IsShownIn full) l.initial.runs.items → AreSlots full (IfSaved g.D.Folder.has_failed g.D.Folder.Holds l.initial.folder) l.initial.slots.items → AreSlots full (IfSaved g.D.Folder.has_failed g.D.Folder.Holds l.folder) l.slots.items;
+abbrev pub invariant-loop-parts : goal.invariant-loop-parts
+invariant-loop-parts g l = record {
+  left : (full : Full) → All (AreShown full) l.initial.runs.items → All (AreShown full) l.runs.items;
+  slots : (full : Full) → All (AreShown full) l.initial.runs.items → AreSlots full (IfSaved g.D.Folder.has_failed g.D.Folder.Holds l.initial.folder) l.initial.slots.items → AreSlots full (IfSaved g.D.Folder.has_failed g.D.Folder.Holds l.folder) l.slots.items;
   count : length l.slots.items ≡ length l.initial.slots.items;
   wanted : is_some l.folder ≡ is_some l.initial.folder;
 }
 
-abbrev pub decreases-loop-run : goal.decreases-loop-run
-decreases-loop-run g l = length l.runs.items
+abbrev pub decreases-loop-parts : goal.decreases-loop-parts
+decreases-loop-parts g l = length l.runs.items

@@ -1,0 +1,36 @@
+use Rattle.std.proofs.Common.{◌∙◌, ◌∷◌, ◌++◌, [], arith, subst, sym}
+use Rattle.rv_hunt.proofs.WalkLemmas.{all_more, of_walk}
+use Rattle.rv_hunt.specs.internal.RunWalk.{AreProbesOf}
+use Rattle.rv_walk.specs.Part.{IsPart}
+use Rattle.rv_hunt.proofs.kept_run.gathered.Goals as goal
+
+pub loop-pair-init : goal.loop-pair-init
+loop-pair-init c = record {
+  probes = c.in_ok-probes.ensures;
+  gathered = record {
+    walk = c.in_ok-probes.probes;
+    is_walk = c.in_ok-probes.ensures.is_walk;
+    harts_are = c.in_ok-probes.ensures.harts_are;
+    parts = [];
+    are_parts = λ k d below. absurd (omega (arith, below));
+    is_gathered = c.in_ok-gathered.ensures c.args.hunt.now;
+  };
+}
+
+pub loop-pair-preserved : goal.loop-pair-preserved
+loop-pair-preserved c =
+    let p = c.loop-pair.invariant.probes in
+    let g = c.loop-pair.invariant.gathered in
+    let part = c.in_ok-part.part in
+    record {
+      probes = subst (AreProbesOf c.args.hunt.now c.args.number c.args.walk.now) (sym c.probe.ensures.same) p;
+      gathered = record {
+        walk = g.walk;
+        is_walk = g.is_walk;
+        harts_are = g.harts_are;
+        parts = g.parts ++ part ∷ [];
+        are_parts = all_more (IsPart g.walk) g.parts part g.are_parts
+            (of_walk c.loop-pair.probes g.walk part (g.is_walk.start_is ∙ sym p.is_walk.start_is) (g.harts_are ∙ sym p.harts_are) (g.is_walk.sites_are ∙ sym p.is_walk.sites_are) c.in_ok-part.ensures.part);
+        is_gathered = c.in_ok-add.ensures _ _ _ g.is_gathered;
+      };
+    }

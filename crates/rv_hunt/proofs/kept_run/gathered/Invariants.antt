@@ -1,0 +1,11 @@
+-- the parts so far, of the same walk
+use Rattle.std.proofs.Common.{◌≡◌, All, List, ℕ}
+use Rattle.rv_hunt.specs.internal.Gathered.{AreGathered}
+use Rattle.rv_hunt.specs.internal.RunWalk.{AreProbesOf}
+use Rattle.rv_hunt.proofs.kept_run.gathered.Given as goal
+
+abbrev pub invariant-loop-pair : goal.invariant-loop-pair
+invariant-loop-pair l = record {
+  probes : AreProbesOf l.hunt l.number l.walk l.probes;
+  gathered : AreGathered l.hunt l.number l.walk l.gathered;
+}

@@ -1,0 +1,87 @@
+//! What the probes of a walk come to, added up while they are made.
+ghost use Rattle.std.specs.Prelude.{◌≡◌, ℕ, ◌∷◌, ◌++◌, [], List, OnOk, IfOk, map};
+ghost use Rattle.rv_hunt.specs.Hunt.{Hunt as Asked};
+ghost use Rattle.rv_hunt.specs.KeptRun as spec;
+ghost use Rattle.rv_hunt.specs.Near as near;
+ghost use Rattle.rv_hunt.specs.internal.Gathered as internal;
+ghost use Rattle.rv_walk.specs.declared.near_pair.NearPair.{NearPair as Pair};
+ghost use Rattle.rv_walk.specs.declared.probes.Part.{Part as Made};
+
+use crate::hunt::Hunt;
+use crate::kept_run::{PartReport, reports_in_part};
+use crate::near::{NearRow, probed_pair, seen_pair};
+use crate::run_walk::RunWalk;
+use crate::summary::counts_of;
+use crate::tally::counts::{Counts, sum};
+use rv_memory::store::NoMemory;
+use rv_walk::near_pair::{Addresses, NearPair};
+use rv_walk::probes::Part;
+use std::alloc::Global;
+
+/// The numbers of a walk and of its parts so far, how many these are, their reports, and the near pairs.
+#[derive(Drop)]
+pub(crate) struct Gathered {
+    pub(crate) counts: Counts,
+    pub(crate) parts: u32,
+    pub(crate) reports: Vec<PartReport>,
+    pub(crate) near: Vec<(Addresses, NearRow)>,
+}
+
+/// Adds what stands in a list to another.
+fn append_reports(reports: &mut Vec<PartReport>, mut more: Vec<PartReport>) -> Result<(), NoMemory>
+    ensures { OnOk result (reports.new.items ≡ reports.old.items ++ more.items) }
+{
+    reports.append(&mut more)?;
+    Ok(())
+}
+
+/// The near pairs that a walk saw.
+fn seen_pairs(alloc: Global, pairs: &[NearPair]) -> Result<Vec<(Addresses, NearRow)>, NoMemory>
+    ensures { IfOk result (λ near. near.items ≡ map spec.seen_pair pairs.now) }
+{
+    Ok(pairs.iter().map(seen_pair).collect(alloc)?)
+}
+
+impl Gathered {
+    /// Of a walk before its first probe.
+    pub(crate) fn of(alloc: Global, walk: &RunWalk) -> Result<Gathered, NoMemory>
+        ensures { IfOk result (λ gathered. (hunt : Asked) →
+            internal.IsGathered hunt walk.now.left.harts.items walk.now.left.pairs.items [] gathered) }
+    {
+        let near = seen_pairs(alloc, &walk.left.pairs)?;
+        let counts = Counts {
+            steps: walk.left.harts.len() as u64,
+            ..Counts::none()
+        };
+        Ok(Gathered {
+            counts,
+            parts: 0,
+            reports: Vec::new(alloc),
+            near,
+        })
+    }
+
+    /// Adds what the next part comes to.
+    pub(crate) fn add(
+        &mut self,
+        alloc: Global,
+        hunt: &Hunt<'_>,
+        part: &Part,
+    ) -> Result<(), NoMemory>
+        ensures { OnOk result ((harts : List ℕ) (pairs : List Pair) (parts : List Made) →
+            internal.IsGathered hunt.now harts pairs parts self.old
+            → internal.IsGathered hunt.now harts pairs (parts ++ part.now ∷ []) self.new) }
+    {
+        // A walk has far fewer probes than 2^32.
+        let Some(number) = self.parts.checked_add(1) else {
+            return Err(NoMemory);
+        };
+        let finished = &part.probed.finished;
+        let reports = reports_in_part(alloc, hunt, number, part.place, &finished.endings)?;
+        append_reports(&mut self.reports, reports)?;
+        self.near.push(probed_pair(part))?;
+        self.parts = number;
+        self.counts = sum(self.counts, counts_of(&finished.entries, &finished.endings));
+        Ok(())
+    }
+}
