@@ -1,0 +1,4 @@
+pub mod EndLemmas
+pub mod KeyLemmas
+pub mod RangeLemmas
+pub mod RoundStepLemmas
