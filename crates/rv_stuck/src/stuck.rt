@@ -136,13 +136,13 @@ fn steps_of<S: ByteStore>(
 {
     let mut steps = Vec::new(alloc);
     for _made in 0..count {
-        steps.push(step_of(copy, h)?)?;
+        steps.push(step_made(copy, h)?)?;
     }
     Ok(steps)
 }
 
 /// The next step of a hart, which is made.
-fn step_of<S: ByteStore>(copy: &mut Machine<S>, h: u8) -> Result<RoundStep, NoMemory>
+fn step_made<S: ByteStore>(copy: &mut Machine<S>, h: u8) -> Result<RoundStep, NoMemory>
     requires { h < length copy.old.state.harts }
     ensures step { IfOk result (λ step. IsStepOf h step copy.old.state copy.new.state) }
     ensures harts { length copy.new.state.harts ≡ length copy.old.state.harts }
