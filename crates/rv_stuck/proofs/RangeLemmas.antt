@@ -10,7 +10,7 @@ abbrev pub place_in : Range → List Range → ℕ
 place_in range ranges = prefix_len (λ other. is_before other range) ranges
 
 -- the range among others whose first is x, by whether x is before it and it before x
-abbrev placed : Bool → Bool → Range → Range → List Range → List Range → List Range
+abbrev pub placed : Bool → Bool → Range → Range → List Range → List Range → List Range
 placed after before range x more xs = if after then x ∷ more else (if before then range ∷ x ∷ xs else x ∷ xs)
 
 abbrev InsertedAt : Range → List Range → ℕ → List Range → Type 0

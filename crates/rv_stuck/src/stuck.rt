@@ -36,7 +36,8 @@ pub struct StuckEnd {
 }
 
 /// What each hart does, where some hart runs and each that runs is seen to wait within `MOST_ROUND` of its own steps. None
-/// says that this wasn't seen. The machine stays as it is (its store may share pages).
+/// says that this wasn't seen: a hart that has yet to come to its round, as one that looks at a taken lock for the first time, is not
+/// seen to wait. The machine stays as it is (its store may share pages).
 pub fn stuck_end<S: Fork>(
     alloc: Global,
     machine: &mut Machine<S>,
