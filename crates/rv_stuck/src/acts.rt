@@ -1,5 +1,5 @@
 //! What each hart of a stuck end does, as two stuck ends are compared.
-ghost use Rattle.std.specs.Prelude.{◌≡◌, ◌≤◌, ◌++◌, [], true, false, IfOk, IfSome, IsSomeAnd, OnOk, length, map, slice_get};
+ghost use Rattle.std.specs.Prelude.{◌≡◌, ◌≤◌, ◌++◌, true, false, IfOk, IfSome, IsSomeAnd, OnOk, length, map, slice_get};
 ghost use Rattle.std.specs.List.{flat_map, prefix_len};
 ghost use Rattle.rv_stuck.specs.Acts as spec;
 ghost use Rattle.rv_stuck.specs.Key as key;
@@ -148,8 +148,8 @@ fn is_before(one: Range, other: Range) -> bool
     one.first < other.first || (one.first == other.first && one.size < other.size)
 }
 
-/// Two stuck ends are one where their acts have the same key. Of each hart it has a word for what it does: 0 exited, 1 stopped, 2 parked, 3
-/// polls; and of one that polls its address, and each range as 4, its first address and its size.
+/// Two stuck ends are one where their acts have the same key. Of each hart it has a word for what it does: 0 exited, 1 stopped,
+/// 2 parked, 3 polls; and of one that polls its address, and each range as 4, its first address and its size.
 pub fn key_of(alloc: Global, acts: &[Act]) -> Result<Vec<u32>, NoMemory>
     ensures { IfOk result (λ words. words.items ≡ key.key (map spec.conduct_in acts.now)) }
 {

@@ -1,5 +1,4 @@
 //! The machines that are tried.
-ghost use Rattle.std.specs.Prelude.{◌≡◌};
 ghost use Rattle.rv_memory.specs.Extent.{IsExtent};
 
 use rv_hart::machine::{MOST_HARTS, Machine};
