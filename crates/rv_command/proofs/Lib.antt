@@ -1,3 +1,4 @@
+pub mod CommaLemmas
 pub mod GivenLemmas
 pub mod LineLemmas
 pub mod NumberLemmas

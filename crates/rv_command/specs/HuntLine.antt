@@ -1,5 +1,5 @@
 -- The options of `hunt`: what each value means.
-use Rattle.std.specs.Prelude.{ℕ, ◌+◌, ◌-◌, ◌&&◌, Bool, List, [], ◌∷◌, Option, Some, None, option_and_then, option_map, codes, not, if◌then◌else◌}
+use Rattle.std.specs.Prelude.{ℕ, ◌+◌, ◌-◌, ◌||◌, Bool, List, [], ◌∷◌, Option, Some, None, option_and_then, option_map, codes, if◌then◌else◌}
 use Rattle.clap.specs.Walk.{is_empty}
 use Rattle.clap.specs.Words.{Row, Text, first_of}
 use Rattle.rv_text.specs.Pieces.{pieces_of}
@@ -12,6 +12,7 @@ use Rattle.rv_collide.specs.declared.plan.TheConstants.{MOST_ARMS, MOST_PAUSE, M
 use Rattle.rv_break.specs.declared.claim.TheConstants.{MOST_SLOTS}
 use Rattle.rv_hart.specs.declared.machine.TheConstants.{MOST_HARTS}
 use Rattle.rv_command.specs.Values.{flag_at, if_given, number_in, number_if, number_or}
+use Rattle.rv_command.specs.declared.arguments.Aim.{Aim}
 use Rattle.rv_command.specs.declared.command.hunt.HuntLine.{HuntLine}
 use Rattle.rv_command.specs.declared.command.hunt.TheConstants.{DEFAULT_BLOCKS, DEFAULT_BUDGET, DEFAULT_SEED, LAST_RUN, MOST_BLOCKS}
 use Rattle.rv_command.specs.declared.command.run.TheConstants.{MOST_SEED}
@@ -26,6 +27,7 @@ pub record Hunting : Type 0 where
   pub lengths : Option Lengths
   pub slots : Option ℕ
   pub sampled : Bool
+  pub aim : Option (Text × Text)
   pub named : Option Text
   pub skip : Option Text
   pub ignore : Option Text
@@ -38,6 +40,10 @@ pub record Hunting : Type 0 where
   pub expect : Option Text
   pub is_quiet : Bool
 
+-- the sides as texts
+abbrev pub sides : Aim → Text × Text
+sides aim = (aim.one.now, aim.other.now)
+
 -- the same of the options, their lists and paths as texts
 abbrev pub hunting : HuntLine → Hunting
 hunting line = record {
@@ -49,6 +55,7 @@ hunting line = record {
   lengths = line.lengths;
   slots = line.slots;
   sampled = line.sampled;
+  aim = option_map sides line.aim;
   named = option_map (λ text. text.now) line.named;
   skip = option_map (λ text. text.now) line.skip;
   ignore = option_map (λ path. path.0.now) line.ignore;
@@ -96,9 +103,25 @@ lengths_in text = lengths_by (pieces_of 44 text)
 abbrev pub lengths_at : List Row → Option (Option Lengths)
 lengths_at rows = if_given lengths_in (first_of (codes "plan") rows)
 
+-- neither side is empty
+abbrev pub sides_by : List Text → Option (Text × Text)
+sides_by (one ∷ other ∷ []) = if is_empty one || is_empty other then None else Some (one, other)
+sides_by _ = None
+
+-- A,B: two sides with a comma (44) between them
+abbrev pub sides_in : Text → Option (Text × Text)
+sides_in text = sides_by (pieces_of 44 text)
+
+-- sampled runs make no probes that could be aimed
+abbrev pub aim_by : Bool → Text → Option (Text × Text)
+aim_by sampled text = if sampled then None else sides_in text
+
+abbrev pub aim_at : List Row → Option (Option (Text × Text))
+aim_at rows = if_given (aim_by (flag_at (codes "sampled") rows)) (first_of (codes "aim") rows)
+
 abbrev pub hunting_at : List Row → Option Hunting
 hunting_at rows =
-    option_and_then (λ harts. option_and_then (λ seed. option_and_then (λ first. option_and_then (λ limit. option_and_then (λ workers. option_and_then (λ lengths. option_and_then (λ slots. option_map (λ blocks.
+    option_and_then (λ harts. option_and_then (λ seed. option_and_then (λ first. option_and_then (λ limit. option_and_then (λ workers. option_and_then (λ lengths. option_and_then (λ slots. option_and_then (λ aim. option_map (λ blocks.
     record {
       harts = harts;
       seed = seed;
@@ -108,6 +131,7 @@ hunting_at rows =
       lengths = lengths;
       slots = slots;
       sampled = flag_at (codes "sampled") rows;
+      aim = aim;
       named = first_of (codes "named") rows;
       skip = first_of (codes "skip") rows;
       ignore = first_of (codes "ignore") rows;
@@ -121,6 +145,7 @@ hunting_at rows =
       is_quiet = flag_at (codes "quiet") rows;
     })
     (number_or DEFAULT_BLOCKS (codes "blocks") 0 MOST_BLOCKS rows))
+    (aim_at rows))
     (number_if (codes "slots") 1 MOST_SLOTS rows))
     (lengths_at rows))
     (number_if (codes "workers") 1 MOST_WORKERS rows))

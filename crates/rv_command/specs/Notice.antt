@@ -61,6 +61,9 @@ complaint_output (complaint.Number option value) =
 complaint_output (complaint.Lengths value) =
     Some (codes "error: invalid value '" ++ (shown value.now ++ (codes "' for '--plan': it is STEPS,ARMS,PAUSE: numbers from 1 to "
     ++ (decimal MOST_STEPS ++ (codes ", 0 to " ++ (decimal MOST_ARMS ++ (codes " and 1 to " ++ (decimal MOST_PAUSE ++ codes "\n"))))))))
+complaint_output (complaint.Aim value) =
+    Some (codes "error: invalid value '" ++ (shown value.now ++ codes "' for '--aim': it is A,B: two names or addresses with one comma\n"))
+complaint_output complaint.SampledAim = Some (codes "error: '--aim' cannot be used with '--sampled': sampled runs make no probes\n")
 complaint_output (complaint.Keep value runs) =
     Some (codes "error: invalid value '" ++ (shown value.now ++ (codes "' for '--keep': it is less than '--runs', which is "
     ++ (decimal runs ++ codes "\n"))))

@@ -32,6 +32,14 @@ pub struct FolderPath<'a>(pub &'a str);
 #[derive(Clone, Copy, Debug, PartialEq, Eq)]
 pub struct IgnorePath<'a>(pub &'a str);
 
+/// The sides of the near pairs that alone are probed: each a symbol's name, or an address in eight hexadecimal digits. They
+/// may be the same.
+#[derive(Clone, Copy, Debug, PartialEq, Eq)]
+pub struct Aim<'a> {
+    pub one: &'a str,
+    pub other: &'a str,
+}
+
 /// The path of a table of races.
 #[derive(Clone, Copy, Debug, PartialEq, Eq)]
 pub struct TablePath<'a>(pub &'a str);

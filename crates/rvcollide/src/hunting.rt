@@ -97,6 +97,9 @@ fn workers_of(rt: &impl Threads, line: &HuntLine) -> u8 {
 fn mix_of(line: &HuntLine) -> Mix {
     if line.sampled {
         Mix::Sampled
+    } else if line.aim.is_some() {
+        // Sampled runs make no probes.
+        Mix::Walks
     } else {
         Mix::Mixed
     }

@@ -1,6 +1,6 @@
 //! What a hunt's text tells of its command line.
 use crate::paths::ignore_path;
-use rv_command::arguments::{FolderPath, ImagePath};
+use rv_command::arguments::{Aim, FolderPath, ImagePath};
 use rv_command::command::hunt::{DEFAULT_SEED, HuntLine};
 use rv_engines::shown::Shown;
 use rv_hunt::engine::options::LineParts;
@@ -140,6 +140,15 @@ fn push_lengths(
     text.push_str(option.as_str())
 }
 
+/// Adds the sides that are aimed at, where they are given.
+fn push_aim(alloc: Global, text: &mut String, aim: Option<Aim<'_>>) -> Result<(), AllocError> {
+    let Some(aim) = aim else {
+        return Ok(());
+    };
+    let sides = format!(in alloc; "{},{}", aim.one, aim.other)?;
+    push_text(alloc, text, "aim", Some(sides.as_str()))
+}
+
 /// The options that make the runs what they are, with a blank before each word.
 fn options_of(alloc: Global, line: &HuntLine<'_>) -> Result<String, AllocError> {
     let mut text = String::new(alloc);
@@ -162,6 +171,7 @@ fn options_of(alloc: Global, line: &HuntLine<'_>) -> Result<String, AllocError> 
     if line.sampled {
         text.push_str(" --sampled")?;
     }
+    push_aim(alloc, &mut text, line.aim)?;
     push_text(alloc, &mut text, "named", line.named)?;
     push_text(alloc, &mut text, "skip", line.skip)?;
     push_text(alloc, &mut text, "ignore", ignore_path(line.ignore))?;

@@ -213,6 +213,11 @@ pub const COMMANDS: [Subcommand; 12] = [
                 help: "Make every run a sampled one, with four slots by default",
             },
             Argument::Optional {
+                name: "aim",
+                value: "A,B",
+                help: "Probe only near pairs of these two, again and again: names or addresses",
+            },
+            Argument::Optional {
                 name: "named",
                 value: "LIST",
                 help: "Symbols, separated by commas: races on their bytes are counted, not reported",

@@ -25,6 +25,12 @@ pub enum Complaint<'a> {
     Lengths {
         value: &'a str,
     },
+    /// The value of `--aim` is not two sides.
+    Aim {
+        value: &'a str,
+    },
+    /// `--aim` and `--sampled` are both given.
+    SampledAim,
     /// The tables of `merge` do not stand together.
     Tables,
     /// The run whose schedule is saved is not among the runs.
@@ -60,6 +66,14 @@ impl<'a> fmt::Display for Complaint<'a> {
                 MOST_STEPS,
                 MOST_ARMS,
                 MOST_PAUSE
+            ),
+            Complaint::Aim { value } => write!(
+                f,
+                "error: invalid value '{}' for '--aim': it is A,B: two names or addresses with one comma\n",
+                Shown(*value)
+            ),
+            Complaint::SampledAim => f.write_str(
+                "error: '--aim' cannot be used with '--sampled': sampled runs make no probes\n",
             ),
             Complaint::Keep { value, runs } => write!(
                 f,

@@ -9,7 +9,7 @@ use super::complaint::{Complaint, NumberOption};
 use super::number::{flag_of, number_between, number_if, number_or};
 use super::run::{HARTS, SEED, SLOTS, WORKERS};
 use super::{Job, text_of};
-use crate::arguments::{FolderPath, IgnorePath, ImagePath, PagePath, TablePath};
+use crate::arguments::{Aim, FolderPath, IgnorePath, ImagePath, PagePath, TablePath};
 use clap::ArgMatches;
 use rv_collide::plan::{MOST_ARMS, MOST_PAUSE, MOST_STEPS};
 use rv_tally::limit::{Limit, MOST_BUDGET};
@@ -66,6 +66,8 @@ pub struct HuntLine<'a> {
     pub slots: Option<u8>,
     /// Every run is a sampled one.
     pub sampled: bool,
+    /// Only near pairs of these two sides are probed.
+    pub aim: Option<Aim<'a>>,
     /// Names of symbols, with a comma between two: races on their bytes are told apart.
     pub named: Option<&'a str>,
     /// Addresses in eight hexadecimal digits, with a comma between two: no hart is paused there.
@@ -114,6 +116,7 @@ fn line_of<'a>(given: &ArgMatches<'a>) -> Result<HuntLine<'a>, Complaint<'a>>
     let workers = number_if(given, WORKERS)?;
     let lengths = lengths_of(given)?;
     let slots = number_if(given, SLOTS)?;
+    let aim = aim_of(given)?;
     let blocks = number_or(given, BLOCKS, u64::from(DEFAULT_BLOCKS))?;
     Ok(HuntLine {
         harts: harts.map(|n| n as u8),
@@ -124,6 +127,7 @@ fn line_of<'a>(given: &ArgMatches<'a>) -> Result<HuntLine<'a>, Complaint<'a>>
         lengths,
         slots: slots.map(|n| n as u8),
         sampled: flag_of(given, "sampled"),
+        aim,
         named: text_of(given, "named"),
         skip: text_of(given, "skip"),
         ignore: ignore_of(given),
@@ -232,4 +236,33 @@ fn three_lengths(steps: &[u8], arms: &[u8], pause: &[u8]) -> Option<Lengths>
         arms: arms as u32,
         pause: pause as u32,
     })
+}
+
+/// The sides that are aimed at, where they are given.
+fn aim_of<'a>(given: &ArgMatches<'a>) -> Result<Option<Aim<'a>>, Complaint<'a>>
+    ensures { MatchResult result (λ aim. line.aim_at (rows_of (found_of given.now)) ≡ Some (option_map line.sides aim))
+        (λ _. line.aim_at (rows_of (found_of given.now)) ≡ None) }
+{
+    let Some(value) = text_of(given, "aim") else {
+        return Ok(None);
+    };
+    if flag_of(given, "sampled") {
+        return Err(Complaint::SampledAim);
+    }
+    match aim_in(value) {
+        Some(aim) => Ok(Some(aim)),
+        None => Err(Complaint::Aim { value }),
+    }
+}
+
+/// The sides that a text names, as in `main,00010054`.
+#[tactic(auto, using(std::proofs::lemmas::List::Splits::slice_split_first, crate::proofs::CommaLemmas::one_piece, crate::proofs::CommaLemmas::too_many))]
+fn aim_in<'a>(text: &'a str) -> Option<Aim<'a>>
+    ensures { option_map line.sides result ≡ line.sides_in text.entry.now }
+{
+    let (one, other) = text.split_once(',')?;
+    if other.split_once(',').is_some() || one.is_empty() || other.is_empty() {
+        return None;
+    }
+    Some(Aim { one, other })
 }

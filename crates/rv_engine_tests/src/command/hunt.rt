@@ -1,5 +1,5 @@
-use crate::command::asserting::assert_asks;
-use rv_command::arguments::{FolderPath, IgnorePath, ImagePath, PagePath, TablePath};
+use crate::command::asserting::{assert_asks, assert_refused};
+use rv_command::arguments::{Aim, FolderPath, IgnorePath, ImagePath, PagePath, TablePath};
 use rv_command::command::Job;
 use rv_command::command::hunt::HuntLine;
 use rv_tally::limit::Limit;
@@ -15,6 +15,7 @@ const PLAIN: HuntLine = HuntLine {
     lengths: None,
     slots: None,
     sampled: false,
+    aim: None,
     named: None,
     skip: None,
     ignore: None,
@@ -46,6 +47,11 @@ const LENGTHS: Lengths = Lengths {
     pause: 100,
 };
 
+const AIM: Aim = Aim {
+    one: "f",
+    other: "00010000",
+};
+
 /// What a line asks for that gives each option but `--sampled`.
 const ALL: HuntLine = HuntLine {
     harts: Some(2),
@@ -56,6 +62,7 @@ const ALL: HuntLine = HuntLine {
     lengths: Some(LENGTHS),
     slots: Some(8),
     sampled: false,
+    aim: Some(AIM),
     named: Some("a,,b"),
     skip: Some("00010000,x"),
     ignore: Some(IgnorePath("i.txt")),
@@ -75,6 +82,15 @@ const SAMPLED: HuntLine = HuntLine {
     ..PLAIN
 };
 
+/// What a line asks for that aims at a side and itself.
+const AIMED: HuntLine = HuntLine {
+    aim: Some(Aim {
+        one: "f",
+        other: "f",
+    }),
+    ..PLAIN
+};
+
 fn job<'a>(line: HuntLine<'a>) -> Option<Job<'a>> {
     Some(Job::Hunt {
         image: ImagePath("a.elf"),
@@ -82,16 +98,18 @@ fn job<'a>(line: HuntLine<'a>) -> Option<Job<'a>> {
     })
 }
 
-/// Lines that give no option, two that give the most runs and steps, one of sampled runs, and one that gives each other option.
+/// Lines that give no option, two that give the most runs and steps, one of sampled runs, one with an aim, and one that gives each
+/// option but `--sampled`.
 const LINES: &[(&str, HuntLine)] = &[
     ("rvcollide hunt a.elf", PLAIN),
     ("rvcollide hunt -- a.elf", PLAIN),
     ("rvcollide hunt a.elf --runs 4294967296", MOST_RUNS),
     ("rvcollide hunt --sampled a.elf", SAMPLED),
+    ("rvcollide hunt a.elf --aim f,f", AIMED),
     ("rvcollide hunt a.elf --budget 1000000000000000", MOST_STEPS),
     (
         "rvcollide hunt --quiet --expect=t.txt --check-all --check --table \
---blocks=7 --page=p.html --save-to=d --ignore=i.txt --skip=00010000,x --named=a,,b --slots=8 --plan=02000,064,100 --workers=6 --runs=3 \
+--blocks=7 --page=p.html --save-to=d --ignore=i.txt --skip=00010000,x --named=a,,b --aim=f,00010000 --slots=8 --plan=02000,064,100 --workers=6 --runs=3 \
 --first=12 --seed=7 --harts=2 -- a.elf",
         ALL,
     ),
@@ -100,7 +118,7 @@ const LINES: &[(&str, HuntLine)] = &[
 /// A line that gives each option in another order, and a budget beside the runs.
 const GIVEN: &str =
     "rvcollide hunt a.elf --harts 2 --seed 7 --first 12 --runs 3 --budget 5 --workers 6 \
---plan 2000,64,100 --slots 8 --named a,,b --skip 00010000,x --ignore i.txt --save-to d \
+--plan 2000,64,100 --slots 8 --aim f,00010000 --named a,,b --skip 00010000,x --ignore i.txt --save-to d \
 --page p.html --blocks 7 --table --check --check-all --expect t.txt --quiet";
 
 /// All options left out, all given, in any order, with and without `=`.
@@ -110,4 +128,32 @@ fn reads_the_options(rt: HostRuntime) {
         assert_asks(&rt, rt.alloc(), line, job(*wanted));
     }
     assert_asks(&rt, rt.alloc(), GIVEN, job(ALL));
+}
+
+/// Aims that are not two sides, one beside sampled runs, and what is told of each.
+const OTHER_AIMS: &[(&str, &str)] = &[
+    (
+        "rvcollide hunt a.elf --aim f",
+        "invalid value 'f' for '--aim': it is A,B: two names or addresses with one comma\n",
+    ),
+    ("rvcollide hunt a.elf --aim f,g,h", "'f,g,h' for '--aim'"),
+    ("rvcollide hunt a.elf --aim f,g,", "'f,g,' for '--aim'"),
+    ("rvcollide hunt a.elf --aim ,g", "',g' for '--aim'"),
+    ("rvcollide hunt a.elf --aim f,", "'f,' for '--aim'"),
+    ("rvcollide hunt a.elf --aim=", "'' for '--aim'"),
+    (
+        "rvcollide hunt a.elf --aim f,g --sampled",
+        "'--aim' cannot be used with '--sampled': sampled runs make no probes\n",
+    ),
+    (
+        "rvcollide hunt a.elf --aim f,g --aim f,g",
+        "'--aim <A,B>' cannot be used multiple times",
+    ),
+];
+
+#[test]
+fn refuses_other_aims(rt: HostRuntime) {
+    for (line, part) in OTHER_AIMS {
+        assert_refused(&rt, rt.alloc(), line, part);
+    }
 }
