@@ -30,6 +30,7 @@ pub record Hunting : Type 0 where
   pub aim : Option (Text × Text)
   pub named : Option Text
   pub skip : Option Text
+  pub idle : Option Text
   pub ignore : Option Text
   pub save_to : Option Text
   pub page : Option Text
@@ -37,6 +38,7 @@ pub record Hunting : Type 0 where
   pub shows_table : Bool
   pub checks : Bool
   pub checks_all : Bool
+  pub check_ends : Bool
   pub expect : Option Text
   pub is_quiet : Bool
 
@@ -58,6 +60,7 @@ hunting line = record {
   aim = option_map sides line.aim;
   named = option_map (λ text. text.now) line.named;
   skip = option_map (λ text. text.now) line.skip;
+  idle = option_map (λ text. text.now) line.idle;
   ignore = option_map (λ path. path.0.now) line.ignore;
   save_to = option_map (λ path. path.0.now) line.save_to;
   page = option_map (λ path. path.0.now) line.page;
@@ -65,6 +68,7 @@ hunting line = record {
   shows_table = line.shows_table;
   checks = line.checks;
   checks_all = line.checks_all;
+  check_ends = line.check_ends;
   expect = option_map (λ path. path.0.now) line.expect;
   is_quiet = line.is_quiet;
 }
@@ -134,6 +138,7 @@ hunting_at rows =
       aim = aim;
       named = first_of (codes "named") rows;
       skip = first_of (codes "skip") rows;
+      idle = first_of (codes "idle") rows;
       ignore = first_of (codes "ignore") rows;
       save_to = first_of (codes "save-to") rows;
       page = first_of (codes "page") rows;
@@ -141,6 +146,7 @@ hunting_at rows =
       shows_table = flag_at (codes "table") rows;
       checks = flag_at (codes "check") rows;
       checks_all = flag_at (codes "check-all") rows;
+      check_ends = flag_at (codes "check-ends") rows;
       expect = first_of (codes "expect") rows;
       is_quiet = flag_at (codes "quiet") rows;
     })

@@ -15,7 +15,7 @@ pub enum Status {
     /// A file or stream can't be read or written.
     Stream,
     Memory,
-    /// There is a race that the command line asks for.
+    /// There is a race or a stuck end that the command line asks for.
     Found,
 }
 
@@ -41,7 +41,7 @@ impl Status {
             Status::Line => "the command line is refused",
             Status::Stream => "a file or stream cannot be read or written",
             Status::Memory => "there is not enough memory",
-            Status::Found => "there is a race that",
+            Status::Found => "there is a finding that",
         }
     }
 }

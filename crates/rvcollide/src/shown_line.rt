@@ -174,6 +174,7 @@ fn options_of(alloc: Global, line: &HuntLine<'_>) -> Result<String, AllocError> 
     push_aim(alloc, &mut text, line.aim)?;
     push_text(alloc, &mut text, "named", line.named)?;
     push_text(alloc, &mut text, "skip", line.skip)?;
+    push_text(alloc, &mut text, "idle", line.idle)?;
     push_text(alloc, &mut text, "ignore", ignore_path(line.ignore))?;
     Ok(text)
 }

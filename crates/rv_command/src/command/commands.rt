@@ -165,7 +165,7 @@ pub const COMMANDS: [Subcommand; 12] = [
         name: "hunt",
         about: "Find races in an image: nothing but the image is needed",
         after: HUNT,
-        found_by: Some("--check, --check-all or --expect"),
+        found_by: Some("--check, --check-all, --check-ends or --expect"),
         arguments: &[
             IMAGE,
             Argument::Optional {
@@ -228,6 +228,11 @@ pub const COMMANDS: [Subcommand; 12] = [
                 help: "Addresses of instructions never to pause at, separated by commas",
             },
             Argument::Optional {
+                name: "idle",
+                value: "LIST",
+                help: "Functions in which harts may wait for ever, separated by commas",
+            },
+            Argument::Optional {
                 name: "ignore",
                 value: "FILE",
                 help: "List of known races that are counted, not reported: two symbols or addresses a line",
@@ -258,6 +263,10 @@ pub const COMMANDS: [Subcommand; 12] = [
             Argument::Flag {
                 name: "check-all",
                 help: "Exit with status 5 if there is a race, also a likely benign one",
+            },
+            Argument::Flag {
+                name: "check-ends",
+                help: "Exit with status 5 if a stuck end is reported",
             },
             Argument::Optional {
                 name: "expect",

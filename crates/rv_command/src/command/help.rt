@@ -36,7 +36,7 @@ To find and read a first race:
 
 The exit status is 0 if all went well, 1 if an input was refused, 2 if the command line was, 3 if a file
 or stream could not be read or written, 4 if there was not enough memory, and 5 if a hunt with --check,
---check-all or --expect, or a merge with --expect, found such a race.
+--check-all, --check-ends or --expect, or a merge with --expect, found what these ask for.
 ";
 
 /// What `help faults` writes: for each fault's name the sentence that `sentence` gives.

@@ -72,6 +72,8 @@ pub struct HuntLine<'a> {
     pub named: Option<&'a str>,
     /// Addresses in eight hexadecimal digits, with a comma between two: no hart is paused there.
     pub skip: Option<&'a str>,
+    /// Names of functions, with a comma between two: harts may wait in them for ever.
+    pub idle: Option<&'a str>,
     /// The list of races that are to be ignored.
     pub ignore: Option<IgnorePath<'a>>,
     /// The folder for the schedules of the races.
@@ -86,6 +88,8 @@ pub struct HuntLine<'a> {
     pub checks: bool,
     /// So does one that is likely benign.
     pub checks_all: bool,
+    /// So does a stuck end that is reported.
+    pub check_ends: bool,
     /// The table of the races that are expected: another one that may be a bug gives the status 5 too.
     pub expect: Option<TablePath<'a>>,
     /// No progress is told.
@@ -130,6 +134,7 @@ fn line_of<'a>(given: &ArgMatches<'a>) -> Result<HuntLine<'a>, Complaint<'a>>
         aim,
         named: text_of(given, "named"),
         skip: text_of(given, "skip"),
+        idle: text_of(given, "idle"),
         ignore: ignore_of(given),
         save_to: folder_of(given),
         page: page_of(given),
@@ -137,6 +142,7 @@ fn line_of<'a>(given: &ArgMatches<'a>) -> Result<HuntLine<'a>, Complaint<'a>>
         shows_table: flag_of(given, "table"),
         checks: flag_of(given, "check"),
         checks_all: flag_of(given, "check-all"),
+        check_ends: flag_of(given, "check-ends"),
         expect: expect_of(given),
         is_quiet: flag_of(given, "quiet"),
     })

@@ -18,6 +18,7 @@ const PLAIN: HuntLine = HuntLine {
     aim: None,
     named: None,
     skip: None,
+    idle: None,
     ignore: None,
     save_to: None,
     page: None,
@@ -25,6 +26,7 @@ const PLAIN: HuntLine = HuntLine {
     shows_table: false,
     checks: false,
     checks_all: false,
+    check_ends: false,
     expect: None,
     is_quiet: false,
 };
@@ -65,6 +67,7 @@ const ALL: HuntLine = HuntLine {
     aim: Some(AIM),
     named: Some("a,,b"),
     skip: Some("00010000,x"),
+    idle: Some("sleep,"),
     ignore: Some(IgnorePath("i.txt")),
     save_to: Some(FolderPath("d")),
     page: Some(PagePath("p.html")),
@@ -72,6 +75,7 @@ const ALL: HuntLine = HuntLine {
     shows_table: true,
     checks: true,
     checks_all: true,
+    check_ends: true,
     expect: Some(TablePath("t.txt")),
     is_quiet: true,
 };
@@ -108,8 +112,8 @@ const LINES: &[(&str, HuntLine)] = &[
     ("rvcollide hunt a.elf --aim f,f", AIMED),
     ("rvcollide hunt a.elf --budget 1000000000000000", MOST_STEPS),
     (
-        "rvcollide hunt --quiet --expect=t.txt --check-all --check --table \
---blocks=7 --page=p.html --save-to=d --ignore=i.txt --skip=00010000,x --named=a,,b --aim=f,00010000 --slots=8 --plan=02000,064,100 --workers=6 --runs=3 \
+        "rvcollide hunt --quiet --expect=t.txt --check-ends --check-all --check --table \
+--blocks=7 --page=p.html --save-to=d --ignore=i.txt --idle=sleep, --skip=00010000,x --named=a,,b --aim=f,00010000 --slots=8 --plan=02000,064,100 --workers=6 --runs=3 \
 --first=12 --seed=7 --harts=2 -- a.elf",
         ALL,
     ),
@@ -118,8 +122,8 @@ const LINES: &[(&str, HuntLine)] = &[
 /// A line that gives each option in another order, and a budget beside the runs.
 const GIVEN: &str =
     "rvcollide hunt a.elf --harts 2 --seed 7 --first 12 --runs 3 --budget 5 --workers 6 \
---plan 2000,64,100 --slots 8 --aim f,00010000 --named a,,b --skip 00010000,x --ignore i.txt --save-to d \
---page p.html --blocks 7 --table --check --check-all --expect t.txt --quiet";
+--plan 2000,64,100 --slots 8 --aim f,00010000 --named a,,b --skip 00010000,x --idle sleep, --ignore i.txt --save-to d \
+--page p.html --blocks 7 --table --check --check-all --check-ends --expect t.txt --quiet";
 
 /// All options left out, all given, in any order, with and without `=`.
 #[test]
