@@ -6,6 +6,7 @@ pub mod Frame
 pub mod Meeting
 pub mod Names
 pub mod Pieces
+pub mod Stuck
 pub mod Told
 pub mod internal
 pub use Rattle.rv_races.specs.Classes

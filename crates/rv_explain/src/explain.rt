@@ -9,7 +9,6 @@ ghost use Rattle.rv_races.specs.Races.{AreTold, run_of};
 use crate::block::Block;
 use crate::race_block::{numbered_block, race_block};
 use rv_debug::session::Session;
-use rv_elf::Image;
 use rv_memory::store::NoMemory;
 use rv_races::races::{Race, RunRaces};
 use rv_symbols::symbol_table::SymbolTable;
@@ -20,22 +19,21 @@ use std::alloc::Global;
 pub fn blocks_asked(
     alloc: Global,
     session: &mut Session,
-    image: &Image,
+    symbols: &SymbolTable,
     found: &RunRaces,
     around: u32,
     asked: Option<u64>,
 ) -> Result<Option<Vec<Block>>, NoMemory>
-    requires image { session.old.image ≡ image.now }
+    requires image { session.old.image ≡ symbols.now }
     requires told { AreTold (run_of session.old) found.now.races.items }
     ensures blocks { IfOk result (λ blocks. option_map (λ some. map shown_of some.items) blocks
         ≡ spec.blocks_asked (run_of session.old) around found.now.races.items asked) }
     ensures same { session.new ≡ moved session.old session.new.place }
 {
-    let symbols = SymbolTable::new(alloc, image)?;
     let Some(k) = asked else {
-        return Ok(Some(all_blocks(alloc, session, &symbols, &found.races, around)?));
+        return Ok(Some(all_blocks(alloc, session, symbols, &found.races, around)?));
     };
-    match numbered_block(alloc, session, &symbols, found, around, k)? {
+    match numbered_block(alloc, session, symbols, found, around, k)? {
         Some(block) => Ok(Some(vec![in alloc; block]?)),
         None => Ok(None),
     }

@@ -1,8 +1,9 @@
 //! Reports for people: the block of a race, told by names, instructions, values and what the harts did.
 //!
 //! To the layer above, `race_block` makes the `Block` of a race of a run and `blocks_asked` those of a run, which are the
-//! values of `specs/BlockOf.antt`; `row_here` is what is told of an entry. `block_text` and `picture` write a block for people,
-//! which knows no file: `tests/explain` and `tests/program` compare their bytes, and a picture is proved to be well-formed markup.
+//! values of `specs/BlockOf.antt`; `row_here` is what is told of an entry; `stuck_block` makes that of a schedule's end where it is
+//! stuck, by `specs/Stuck.antt`. `block_text`, `stuck_text` and `picture` write a block for people, which knows no file:
+//! `tests/explain` and `tests/program` compare their bytes, and a picture is proved to be well-formed markup.
 #![tactic(auto)]
 
 pub use rv_races::classes;
@@ -23,5 +24,6 @@ pub mod races;
 pub mod row;
 mod rows;
 mod sides;
+pub mod stuck;
 pub mod told;
 mod walk;

@@ -35,7 +35,7 @@ pub(crate) fn stepped(entry: Entry) -> Option<u8>
 }
 
 /// The bytes of an access.
-fn bytes_in(machine: &Machine<Paged>, access: &Access) -> u32
+pub(crate) fn bytes_in(machine: &Machine<Paged>, access: &Access) -> u32
     ensures { result ≡ spec.bytes_in machine.now.state.memory access.now }
 {
     match access.size {

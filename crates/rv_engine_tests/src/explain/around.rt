@@ -57,7 +57,7 @@ fn told(
     let symbols = SymbolTable::new(alloc, image).expect(rt, "memory");
     let mut session = Session::new(alloc, image, plan, entries).expect(rt, "a session");
     let found = races_in(alloc, image, &session, &none).expect(rt, "races");
-    let blocks = blocks_asked(alloc, &mut session, image, &found, around, race).expect(
+    let blocks = blocks_asked(alloc, &mut session, &symbols, &found, around, race).expect(
         rt, "memory",
     );
     drop(session);

@@ -9,6 +9,7 @@ use rv_debug::session::Session;
 use rv_elf::Image;
 use rv_explain::explain::blocks_asked;
 use rv_explain::races::races_in;
+use rv_explain::symbol_table::SymbolTable;
 use std::alloc::Global;
 use std::process::Abort;
 
@@ -133,7 +134,8 @@ fn callers_of(
     let none = bytes_of(rt, alloc, &[]);
     let mut session = Session::new(alloc, image, plan, entries).expect(rt, "a session");
     let found = races_in(alloc, image, &session, &none).expect(rt, "races");
-    let blocks = blocks_asked(alloc, &mut session, image, &found, 0, None).expect(rt, "memory");
+    let symbols = SymbolTable::new(alloc, image).expect(rt, "memory");
+    let blocks = blocks_asked(alloc, &mut session, &symbols, &found, 0, None).expect(rt, "memory");
     drop(session);
     let blocks = blocks?;
     let block = blocks.first()?;

@@ -14,17 +14,18 @@ ghost use Rattle.rv_engines.specs.Explains as spec;
 ghost use Rattle.rv_engines.specs.Fault as plain;
 ghost use Rattle.rv_engines.specs.Replay.{IfKnown};
 
-use crate::explain::opening::{Opened, open_run};
+use crate::explain::opening::open_run;
 use crate::explain::options::ExplainOptions;
 use crate::fault::Fault;
 use crate::new_file::NewFile;
 use crate::run::fault::CommandFault;
-use rv_elf::Image;
+use rv_debug::session::Session;
 use rv_explain::block::Block;
 use rv_explain::blocks::{block_text, totals_text};
 use rv_explain::explain::blocks_asked;
 use rv_explain::picture::picture_text;
 use rv_explain::races::RunRaces;
+use rv_explain::stuck::{stuck_block, stuck_text};
 use rv_explain::symbol_table::SymbolTable;
 use rv_memory::buffered::Buffered;
 use rv_memory::flagged::Flagged;
@@ -43,25 +44,25 @@ struct Texts {
 /// The blocks that are asked for. A picture is of the first of them, so where one is wanted there must be one.
 fn blocks_of<'a>(
     alloc: Global,
-    opened: &mut Opened,
+    session: &mut Session,
+    symbols: &SymbolTable,
+    found: &RunRaces,
     options: &ExplainOptions<'a>,
     draws: bool,
 ) -> Result<Vec<Block>, CommandFault<'a>>
-    requires image { opened.old.session.image ≡ opened.old.image }
-    requires told { AreTold (placed_run opened.old.session) opened.old.found.races.items }
+    requires image { session.old.image ≡ symbols.now }
+    requires told { AreTold (placed_run session.old) found.now.races.items }
     ensures ok { IfOk result (λ blocks.
-        spec.shown_in_run draws (asking options.now) (placed_run opened.old.session) (found_of opened.old.found)
+        spec.shown_in_run draws (asking options.now) (placed_run session.old) (found_of found.now)
         ≡ Ok (map shown_of blocks.items)) }
     ensures err { IfErr result (λ fault. IsTold
-        (spec.shown_in_run draws (asking options.now) (placed_run opened.old.session) (found_of opened.old.found)) (refusal fault)) }
+        (spec.shown_in_run draws (asking options.now) (placed_run session.old) (found_of found.now)) (refusal fault)) }
     ensures drawn { IfOk result (λ blocks. draws ≡ true → 0 < length blocks.items) }
     ensures reader { fails_by is_read result ≡ false }
     ensures writer { fails_by is_write result ≡ false }
     ensures thread { fails_by is_thread result ≡ false }
 {
-    let session = &mut opened.session;
-    let (image, found) = (&opened.image, &opened.found);
-    let asked = blocks_asked(alloc, session, image, found, options.around, options.race)?;
+    let asked = blocks_asked(alloc, session, symbols, found, options.around, options.race)?;
     let Some(blocks) = asked else {
         return Err(CommandFault::NoRace);
     };
@@ -71,32 +72,64 @@ fn blocks_of<'a>(
     Ok(blocks)
 }
 
-/// The text of blocks that are numbered from that number on.
+/// The number of the first block that is told.
+fn first_number(options: &ExplainOptions) -> u64 {
+    options.race.unwrap_or(1)
+}
+
+/// Adds what is told of a schedule that ends where harts wait for ever for what they read.
+fn add_stuck(
+    alloc: Global,
+    text: &mut Vec<u8>,
+    symbols: &SymbolTable,
+    session: &Session,
+) -> Result<(), NoMemory> {
+    let harts = session.machine().harts();
+    let Some(block) = stuck_block(alloc, symbols, harts, session.entries())? else {
+        return Ok(());
+    };
+    if !block.polls() {
+        return Ok(());
+    }
+    let steps = block.steps;
+    let ending = if steps == 1 { "" } else { "s" };
+    let words = format!(in alloc; ", after {steps} step{ending}")?;
+    let block = stuck_text(alloc, symbols, words.as_bytes(), 1, &block)?;
+    text.push(b'\n')?;
+    text.extend_from_slice(&block)?;
+    Ok(())
+}
+
+/// The text of the blocks that are asked for. Where no single one is, the schedule's end is told too.
 fn text_of(
     alloc: Global,
     symbols: &SymbolTable,
+    session: &Session,
     found: &RunRaces,
-    first: u64,
+    options: &ExplainOptions,
     blocks: &[Block],
 ) -> Result<Vec<u8>, NoMemory> {
     let races = found.races.len() as u64;
     let mut text = totals_text(alloc, races, found.reports, found.endings)?;
     for (n, block) in blocks.iter().enumerate() {
-        let number = first.saturating_add(n as u64);
+        let number = first_number(options).saturating_add(n as u64);
         let block = block_text(alloc, symbols, b"", number, block)?;
         text.push(b'\n')?;
         text.extend_from_slice(&block)?;
     }
+    if options.race.is_none() {
+        add_stuck(alloc, &mut text, symbols, session)?;
+    }
     Ok(text)
 }
 
-/// What is told of blocks that are numbered from that number on: their text, and the picture of the first where one is
-/// wanted.
+/// What is told of a run: the text, and the picture of the first block where one is wanted.
 fn texts_of(
     alloc: Global,
-    image: &Image,
+    symbols: &SymbolTable,
+    session: &Session,
     found: &RunRaces,
-    first: u64,
+    options: &ExplainOptions,
     blocks: &[Block],
     draws: bool,
 ) -> Result<Texts, NoMemory>
@@ -104,14 +137,15 @@ fn texts_of(
     ensures drawn { IfOk result (λ texts. is_some texts.picture ≡ draws) }
     ensures markup { IfOk result (λ texts. IfSome texts.picture (λ drawn. IsDocument drawn.items [])) }
 {
-    let symbols = SymbolTable::new(alloc, image)?;
-    let text = text_of(alloc, &symbols, found, first, blocks)?;
+    let text = text_of(alloc, symbols, session, found, options, blocks)?;
+    let first = first_number(options);
     let picture = match blocks.first() {
-        Some(block) if draws => Some(picture_text(alloc, &symbols, first, block)?),
+        Some(block) if draws => Some(picture_text(alloc, symbols, first, block)?),
         _ => None,
     };
     Ok(Texts { text, picture })
 }
+
 /// Makes the file of the picture, where one is wanted, and then writes the text, to its last byte.
 fn publish<F: NewFile, W: Write>(
     texts: &Texts,
@@ -167,9 +201,12 @@ pub fn run_explain<'a, R: Read, Q: Read, F: NewFile, W: Write>(
 {
     let draws = picture.is_some();
     let mut opened = open_run(alloc, options, draws, image, schedule)?;
-    let blocks = blocks_of(alloc, &mut opened, options, draws)?;
-    let first = options.race.unwrap_or(1);
-    let texts = texts_of(alloc, &opened.image, &opened.found, first, &blocks, draws)?;
+    let run = &mut opened;
+    let symbols = SymbolTable::new(alloc, &run.image)?;
+    let found = &run.found;
+    let blocks = blocks_of(alloc, &mut run.session, &symbols, found, options, draws)?;
+    let session = &run.session;
+    let texts = texts_of(alloc, &symbols, session, found, options, &blocks, draws)?;
     match publish(&texts, picture, writer) {
         Ok(()) => Ok(()),
         Err(fault) => Err(CommandFault::from(fault)),

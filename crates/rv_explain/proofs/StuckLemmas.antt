@@ -1,0 +1,55 @@
+-- The state that one more entry leads to, and what is shown of it.
+use Rattle.std.proofs.Common.{◌≡◌, ℕ, ◌+◌, ◌<◌, List, [], ◌∷◌, ◌++◌, Option, Some, None, get_or, length, map, take, refl, ap, ◌∙◌}
+use Rattle.std.specs.Prelude.{option_and_then}
+use Rattle.std.specs.Option.{option_to_list}
+use Rattle.std.proofs.lemmas.List.{take_more}
+use Rattle.std.proofs.lemmas.List.Elements.{filter_map-append}
+use Rattle.rv_collide.specs.Entries.{stepped_hart, steps}
+use Rattle.rv_collide.specs.StateAt.{state_at}
+use Rattle.rv_collide.specs.declared.entry.Entry.{Entry}
+use Rattle.rv_collide.specs.declared.entry.Entry.TheVariants.{Stepped, Paused, Resumed, Armed, Disarmed}
+use Rattle.rv_explain.specs.Stuck.{IsShownEnd, does, shown_as}
+use Rattle.rv_explain.specs.declared.stuck.StuckBlock.{StuckBlock}
+use Rattle.rv_hart.specs.Run.{run}
+use Rattle.rv_hart.specs.State.{State}
+use Rattle.rv_hart.specs.Step.{step_of}
+use Rattle.rv_hart.specs.declared.access.Event.{Event}
+use Rattle.rv_stuck.specs.StuckEnd.{IsStuckEnd}
+use Rattle.rv_stuck.specs.declared.stuck.StuckEnd.{StuckEnd}
+
+run_append : (s : State) (hs ks : List ℕ) → run s (hs ++ ks) ≡ option_and_then (λ t. run t ks) (run s hs)
+run_append s [] ks = refl
+run_append s (h ∷ hs) ks =
+    elim (step_of s h) as (λ (o : Option (Event × State)). option_and_then (λ step. run step.1 (hs ++ ks)) o ≡ option_and_then (λ t. run t ks) (option_and_then (λ step. run step.1 hs) o)) [
+      | None ↦ refl
+      | Some step ↦ run_append step.1 hs ks
+    ]
+
+steps_of_one : (entry : Entry) → steps (entry ∷ []) ≡ option_to_list (stepped_hart entry)
+unfolding steps
+steps_of_one (Stepped hart) = refl
+steps_of_one (Paused hart slot) = refl
+steps_of_one (Resumed hart) = refl
+steps_of_one (Armed address) = refl
+steps_of_one (Disarmed address) = refl
+
+steps_more : (entries : List Entry) (entry : Entry) → steps (entries ++ entry ∷ []) ≡ steps entries ++ option_to_list (stepped_hart entry)
+unfolding steps
+steps_more entries entry = filter_map-append stepped_hart entries (entry ∷ []) ∙ ap (λ hs. steps entries ++ hs) (steps_of_one entry)
+
+-- the state at the next place, by the entry at this one
+pub state_next : (start s t : State) (entries : List Entry) (place : ℕ) (other : Entry) → place < length entries → state_at start entries place ≡ Some s
+    → run s (option_to_list (stepped_hart (get_or entries place other))) ≡ Some t → state_at start entries (place + 1) ≡ Some t
+unfolding state_at
+state_next start s t entries place other below here on =
+    let entry : Entry = get_or entries place other in
+    ap (λ es. run start (steps es)) (take_more entries place other below)
+    ∙ ap (run start) (steps_more (take place entries) entry)
+    ∙ run_append start (steps (take place entries)) (option_to_list (stepped_hart entry))
+    ∙ ap (option_and_then (λ u. run u (option_to_list (stepped_hart entry)))) here
+    ∙ on
+
+-- the harts of a stuck end of the schedule's state are shown
+pub shown_end : (start s : State) (entries : List Entry) (block : StuckBlock) (end : StuckEnd) → state_at start entries (length entries) ≡ Some s → IsStuckEnd s end
+    → map shown_as block.harts.items ≡ map does end.harts.items → IsShownEnd start entries block
+shown_end start s entries block end at is shown = rw at (end, is, shown)

@@ -1,0 +1,222 @@
+//! What is shown of the end of a schedule that is stuck, as `specs/Stuck.antt` has it: what each hart does, what its round
+//! reads, and who wrote that last.
+ghost use Rattle.std.specs.Prelude.{◌≡◌, ◌≤◌, IfOk, IfSome, length, map};
+ghost use Rattle.rv_collide.specs.Entries.{steps};
+ghost use Rattle.rv_explain.specs.Stuck as spec;
+ghost use Rattle.rv_hart.specs.State.{start as first_state};
+
+use crate::caller::caller_in;
+use crate::told::stepped;
+use after::machine_after;
+use reads::{find_writers, reads_of};
+use rv_collide::collider::machine_of;
+use rv_collide::entry::Entry;
+use rv_hart::machine::{MOST_HARTS, Machine, OUTPUT_LIMIT};
+use rv_memory::paged::Paged;
+use rv_memory::store::NoMemory;
+use rv_stuck::{Doing, RoundStep, StuckEnd, acts_of, stuck_end};
+use rv_symbols::symbol_table::SymbolTable;
+use std::alloc::Global;
+
+mod after;
+mod reads;
+mod text;
+
+pub use text::{stuck_lines, stuck_text};
+
+/// A step that wrote: its hart, its place among the schedule's entries, and its instruction's address.
+#[derive(Clone, Copy, Debug, PartialEq, Eq)]
+pub struct Writer {
+    pub hart: u8,
+    pub entry: u32,
+    pub pc: u32,
+}
+
+/// 1, 2 or 4 bytes that a round reads: what they are, as a little-endian number, and the last step that wrote one of them, where
+/// there was one.
+#[derive(Clone, Copy, Debug, PartialEq, Eq)]
+pub struct ReadBytes {
+    pub first: u32,
+    pub size: u8,
+    pub value: u32,
+    pub writer: Option<Writer>,
+}
+
+/// A hart that waits: the steps of its round, from the one that is next; what they read, each range once, in ascending order;
+/// and where the function at the round's least address returns to, where that is certain. One that reads nothing is parked.
+#[derive(Drop)]
+pub struct Waiting {
+    pub steps: Vec<RoundStep>,
+    pub reads: Vec<ReadBytes>,
+    pub caller: Option<u32>,
+}
+
+/// What a hart does at a stuck end.
+#[derive(Drop)]
+pub enum StuckHart {
+    Exited,
+    Stopped,
+    Waits(Waiting),
+}
+
+/// What is shown of a stuck end: what each hart does, in the order of the harts, and after how many steps.
+#[derive(Drop)]
+pub struct StuckBlock {
+    pub harts: Vec<StuckHart>,
+    pub steps: u32,
+}
+
+impl StuckBlock {
+    /// Whether some hart polls: its round reads data.
+    pub fn polls(&self) -> bool
+        ensures { result ≡ spec.some_polls self.now.harts.items }
+    {
+        self.harts.iter().any(polls)
+    }
+}
+
+fn polls(hart: &StuckHart) -> bool
+    ensures { result ≡ spec.polls hart.now }
+{
+    match hart {
+        StuckHart::Exited | StuckHart::Stopped => false,
+        StuckHart::Waits(waiting) => !waiting.reads.is_empty(),
+    }
+}
+
+/// What is shown of the end of a schedule from an image's start, with so many harts, where that is stuck. None says that this
+/// wasn't seen, or that the schedule's steps can't be made. It makes them twice.
+pub fn stuck_block(
+    alloc: Global,
+    symbols: &SymbolTable,
+    harts: u8,
+    entries: &[Entry],
+) -> Result<Option<StuckBlock>, NoMemory>
+    requires some { 1 ≤ harts }
+    requires within { harts ≤ MOST_HARTS }
+    ensures stuck { IfOk result (λ block. IfSome block (λ it.
+        spec.IsShownEnd (first_state symbols.now.segments symbols.now.entry harts) entries.now it)) }
+    ensures steps { IfOk result (λ block. IfSome block (λ it. it.steps ≡ spec.step_count entries.now)) }
+{
+    let image = symbols.image();
+    let Some(mut machine) = machine_after(alloc, image, harts, entries)? else {
+        return Ok(None);
+    };
+    let Some(end) = stuck_end(alloc, &mut machine)? else {
+        return Ok(None);
+    };
+    Ok(Some(block_of(alloc, symbols, &mut machine, &end, entries)?))
+}
+
+/// What is shown of a stuck end, by a machine that stands there after a schedule.
+fn block_of(
+    alloc: Global,
+    symbols: &SymbolTable,
+    machine: &mut Machine<Paged>,
+    end: &StuckEnd,
+    entries: &[Entry],
+) -> Result<StuckBlock, NoMemory>
+    ensures harts { IfOk result (λ block. map spec.shown_as block.harts.items ≡ map spec.does end.now.harts.items) }
+    ensures steps { IfOk result (λ block. block.steps ≡ spec.step_count entries.now) }
+{
+    let mut reads = reads_of(alloc, machine, &acts_of(alloc, end)?)?;
+    let mut again = machine_of(alloc, symbols.image(), machine.harts(), OUTPUT_LIMIT)?;
+    find_writers(&mut again, entries, &mut reads)?;
+    Ok(StuckBlock {
+        harts: harts_of(alloc, symbols, machine, end, &reads)?,
+        steps: count_steps(entries),
+    })
+}
+
+/// How many entries are steps, as far as a number of 32 bits says it.
+fn count_steps(entries: &[Entry]) -> u32
+    ensures { result ≡ spec.step_count entries.now }
+{
+    let count = count_all_steps(entries);
+    count.min(u32::MAX as usize) as u32
+}
+
+#[tactic(auto, unfolding(rv_collide::specs::Entries::steps))]
+fn count_all_steps(entries: &[Entry]) -> usize
+    ensures { result ≡ length (steps entries.now) }
+{
+    entries.iter().filter_map(|entry| stepped(*entry)).count()
+}
+
+/// What each hart does, by a machine that stands at the end. What each round reads is given.
+fn harts_of(
+    alloc: Global,
+    symbols: &SymbolTable,
+    machine: &mut Machine<Paged>,
+    end: &StuckEnd,
+    reads: &[Vec<ReadBytes>],
+) -> Result<Vec<StuckHart>, NoMemory>
+    ensures { IfOk result (λ harts. map spec.shown_as harts.items ≡ map spec.does end.now.harts.items) }
+{
+    let mut harts = Vec::new(alloc);
+    for h in 0..end.harts.len() {
+        harts.push(hart_of(alloc, symbols, machine, h, &end.harts[h], reads)?)?;
+    }
+    Ok(harts)
+}
+
+/// What a hart does.
+fn hart_of(
+    alloc: Global,
+    symbols: &SymbolTable,
+    machine: &mut Machine<Paged>,
+    h: usize,
+    doing: &Doing,
+    reads: &[Vec<ReadBytes>],
+) -> Result<StuckHart, NoMemory>
+    ensures { IfOk result (λ hart. spec.shown_as hart ≡ spec.does doing.now) }
+{
+    match doing {
+        Doing::Exited => Ok(StuckHart::Exited),
+        Doing::Stopped => Ok(StuckHart::Stopped),
+        Doing::Waits(steps) => Ok(StuckHart::Waits(Waiting {
+            steps: Vec::from_slice(alloc, steps)?,
+            reads: copy_at(alloc, reads, h)?,
+            // There are at most 16 harts.
+            caller: caller_of(symbols, machine, u8::try_from(h).unwrap_or(u8::MAX), steps)?,
+        })),
+    }
+}
+
+/// What a hart reads.
+fn copy_at(alloc: Global, reads: &[Vec<ReadBytes>], h: usize) -> Result<Vec<ReadBytes>, NoMemory> {
+    match reads.get(h) {
+        Some(reads) => Ok(Vec::from_slice(alloc, reads)?),
+        None => Ok(Vec::new(alloc)),
+    }
+}
+
+/// Where the function at the least address of a hart's round returns to. The hart goes on in its round to there, since its
+/// registers may be another function's before.
+fn caller_of(
+    symbols: &SymbolTable,
+    machine: &mut Machine<Paged>,
+    hart: u8,
+    steps: &[RoundStep],
+) -> Result<Option<u32>, NoMemory> {
+    for _made in 0..least_place(steps) {
+        // The round's steps were made once: nothing but memory refuses one.
+        if machine.step(hart).is_err() {
+            return Err(NoMemory);
+        }
+    }
+    Ok(caller_in(symbols, machine, hart, least_pc(steps)))
+}
+
+/// The least address of an instruction of a round.
+fn least_pc(steps: &[RoundStep]) -> u32 {
+    steps
+        .iter()
+        .fold(u32::MAX, |least, step| least.min(step.pc))
+}
+
+/// The place of the first step that is at the least address.
+fn least_place(steps: &[RoundStep]) -> usize {
+    let least = least_pc(steps);
+    steps.iter().position(|step| step.pc == least).unwrap_or(0)
+}
