@@ -22,3 +22,7 @@ second_failed i g e a b y first next = rw (first, next) (second i g e y)
 
 pub third_failed : (i g e a b c z : Bool) → a ≡ (i || false) → b ≡ (g || false) → c ≡ (e || z) → ((a || b) || c) ≡ (((i || g) || e) || z)
 third_failed i g e a b c z first next last = rw (first, next, last) (third i g e z)
+
+-- none of them failed by a fault that is none of a reader's
+pub none_failed : (i g e a b c z : Bool) → a ≡ (i || false) → b ≡ (g || false) → c ≡ (e || false) → z ≡ false → ((a || b) || c) ≡ (((i || g) || e) || z)
+none_failed i g e a b c z first next last never = rw never (third_failed i g e a b c false first next last)

@@ -6,10 +6,13 @@ use Rattle.rv_hunt.specs.Hunt.{Hunt}
 use Rattle.rv_hunt.specs.engine.Asked.{Asked}
 use Rattle.rv_hunt.specs.engine.HuntFault.{IsTold}
 use Rattle.rv_hunt.specs.engine.Hunting.{Files, Hunting, IsHuntingOf, expected_in, hunt_of, ignored_in}
-use Rattle.rv_hunt.specs.declared.engine.fault.HuntFault.TheVariants.{Ignored, Expected}
+use Rattle.rv_hunt.specs.merge.Ignore.{aimed_in}
+use Rattle.rv_hunt.specs.declared.engine.fault.HuntFault.TheVariants.{Ignored, Expected, Aimed}
 use Rattle.rv_hunt.specs.merge.FileFault as file
 use Rattle.rv_hunt.specs.declared.merge.fault.FileFault.{FileFault}
 use Rattle.rv_hunt.specs.declared.merge.ignore.Line.{Line}
+use Rattle.rv_hunt.specs.declared.row.RaceRow.{RaceRow}
+use Rattle.rv_report.specs.declared.key.Key.{Key}
 
 -- the bytes of the files, where they are known
 abbrev pub files_in : Option (List ℕ) → Option (Option (List ℕ)) → Option (Option (List ℕ)) → Option Files
@@ -17,11 +20,11 @@ files_in image ignored expected =
     option_and_then (λ i. option_and_then (λ g. option_map (λ e. record { image = i; ignored = g; expected = e }) expected) ignored) image
 
 pub hunting_known : (image : Option (List ℕ)) (ignored expected : Option (Option (List ℕ))) (asked : Asked) (hunting : Hunting) → IfSome image (λ bytes. hunt_of asked bytes ≡ Ok hunting.hunt)
-    → IfSome ignored (λ bytes. ignored_in hunting.hunt.source.image bytes ≡ Ok hunting.ignored) → IfSome expected (λ bytes. expected_in bytes ≡ Ok hunting.expected) → IfSome (files_in image ignored expected) (λ files. IsHuntingOf asked files hunting)
-hunting_known None ignored expected asked hunting h g e = tt
-hunting_known (Some i) None expected asked hunting h g e = tt
-hunting_known (Some i) (Some l) None asked hunting h g e = tt
-hunting_known (Some i) (Some l) (Some t) asked hunting h g e = record { hunt_is = h; ignored_is = g; expected_is = e }
+    → IfSome ignored (λ bytes. ignored_in hunting.hunt.source.image bytes ≡ Ok hunting.ignored) → IfSome expected (λ bytes. expected_in bytes ≡ Ok hunting.expected) → aimed_in hunting.hunt.source.image asked.aim ≡ Ok hunting.aim → IfSome (files_in image ignored expected) (λ files. IsHuntingOf asked files hunting)
+hunting_known None ignored expected asked hunting h g e a = tt
+hunting_known (Some i) None expected asked hunting h g e a = tt
+hunting_known (Some i) (Some l) None asked hunting h g e a = tt
+hunting_known (Some i) (Some l) (Some t) asked hunting h g e a = record { hunt_is = h; ignored_is = g; expected_is = e; aim_is = a }
 
 never : {P : Type 0} → true ≡ false → P
 never h = cc
@@ -47,3 +50,14 @@ expected_told (Some i) None expected asked hunt lines fault h g e = tt
 expected_told (Some i) (Some l) None asked hunt lines fault h g e = tt
 expected_told (Some i) (Some l) (Some t) asked hunt lines fault h g e =
     (and_ok (hunt_of asked i) hunt (λ (found : Hunt). IsOk (ignored_in found.source.image l)) h (is_ok (ignored_in hunt.source.image l) lines g), e)
+
+pub aim_told : (image : Option (List ℕ)) (ignored expected : Option (Option (List ℕ))) (asked : Asked) (hunt : Hunt) (lines : List Line) (table : Option (List (Key × RaceRow))) (fault : FileFault) → IfSome image (λ bytes. hunt_of asked bytes ≡ Ok hunt)
+    → IfSome ignored (λ bytes. ignored_in hunt.source.image bytes ≡ Ok lines) → IfSome expected (λ bytes. expected_in bytes ≡ Ok table) → file.IsTold (aimed_in hunt.source.image asked.aim) fault → IfSome (files_in image ignored expected) (λ files. IsTold asked files (Aimed fault))
+aim_told None ignored expected asked hunt lines table fault h g e a = tt
+aim_told (Some i) None expected asked hunt lines table fault h g e a = tt
+aim_told (Some i) (Some l) None asked hunt lines table fault h g e a = tt
+aim_told (Some i) (Some l) (Some t) asked hunt lines table fault h g e a = (
+  and_ok (hunt_of asked i) hunt (λ (found : Hunt). IsOk (ignored_in found.source.image l)) h (is_ok (ignored_in hunt.source.image l) lines g),
+  is_ok (expected_in t) table e,
+  and_ok (hunt_of asked i) hunt (λ (found : Hunt). file.IsTold (aimed_in found.source.image asked.aim) fault) h a,
+)

@@ -1,5 +1,5 @@
 -- Each race is counted once.
-use Rattle.std.proofs.Common.{◌≡◌, ℕ, suc, ◌+◌, Bool, true, false, cond, not, ◌==◌, List, [], ◌∷◌, ◌++◌, map, Option, Some, ap, ◌∙◌, sym, refl, arith}
+use Rattle.std.proofs.Common.{◌≡◌, ℕ, suc, ◌+◌, Bool, true, false, cond, not, ◌==◌, List, [], ◌∷◌, ◌++◌, map, Some, ap, ◌∙◌, refl, arith}
 use Rattle.std.specs.Prelude.{nat_lt, slice_get, sum_by, filter, if◌then◌else◌}
 use Rattle.std.specs.Option.{option_map_or}
 use Rattle.std.proofs.lemmas.List.Filters.{sum_by-filter_both}
@@ -10,7 +10,7 @@ use Rattle.rv_explain.specs.Classes.{rank}
 use Rattle.rv_races.specs.declared.classes.RaceClass.{RaceClass}
 use Rattle.rv_races.specs.declared.classes.RaceClass.TheVariants.{Kept, Counter, Flag, Ordered, Named}
 use Rattle.rv_hunt.specs.ShownOnce.{EachIsShownOnce}
-use Rattle.rv_hunt.specs.ToldOrder.{AreAt, group_of, is_of, of_class, standing_of, standings, standings_from}
+use Rattle.rv_hunt.specs.ToldOrder.{AreAt, group_of, is_of, standing_of, standings, standings_from}
 use Rattle.rv_hunt.specs.declared.row.RaceRow.{RaceRow}
 use Rattle.rv_hunt.specs.declared.saying.order.Group.{Group}
 use Rattle.rv_hunt.specs.declared.saying.order.Standing.{Standing}

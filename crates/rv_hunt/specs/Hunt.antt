@@ -9,12 +9,13 @@ use Rattle.rv_tally.specs.declared.limit.Limit.{Limit}
 use Rattle.rv_tally.specs.declared.limit.Limit.TheVariants.{Runs, Budget}
 use Rattle.rv_walk.specs.Walked.{Walked}
 
--- What is asked of a hunt: what its runs are made of, what is given of their plans, the ranges of the listed names,
--- the number of the first run, and how far it goes.
+-- What is asked of a hunt: what its runs are made of, what is given of their plans, the ranges of the listed names and of those in
+-- which a hart may wait for ever, the number of the first run, and how far it goes.
 pub record Hunt : Type 0 where
   pub source : Source
   pub given : Given
   pub ranges : List (ℕ × ℕ)
+  pub idle : List (ℕ × ℕ)
   pub first : ℕ
   pub limit : Limit
 

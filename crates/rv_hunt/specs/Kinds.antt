@@ -4,7 +4,7 @@ use Rattle.std.specs.List.{list_any}
 use Rattle.rv_collide.specs.Counts.{saturated}
 use Rattle.rv_hart.specs.Cause.{number}
 use Rattle.rv_tally.specs.declared.end.End.{End}
-use Rattle.rv_tally.specs.declared.end.End.TheVariants.{Exited, Stopped, Polls, Parked, OutOfSteps}
+use Rattle.rv_tally.specs.declared.end.End.TheVariants.{Exited, Stopped, Polls, Idle, Parked, OutOfSteps}
 use Rattle.rv_hunt.specs.declared.tally.kinds.Kind.{Kind}
 use Rattle.rv_hunt.specs.declared.tally.kinds.Mark.{Mark}
 
@@ -15,6 +15,7 @@ mark (Stopped cause pc) = record { way = 1; cause = number cause; address = pc }
 mark (Polls pc) = record { way = 2; cause = 0; address = pc }
 mark Parked = record { way = 3; cause = 0; address = 0 }
 mark OutOfSteps = record { way = 4; cause = 0; address = 0 }
+mark Idle = record { way = 5; cause = 0; address = 0 }
 
 abbrev pub same_end : End → End → Bool
 same_end one other =

@@ -1,5 +1,5 @@
 -- The rows of a hunt table, as a function of the whole list of rows that were added to it.
-use Rattle.std.specs.Prelude.{ℕ, ◌+◌, min, Bool, if◌then◌else◌, Some, List, [], ◌∷◌}
+use Rattle.std.specs.Prelude.{ℕ, ◌+◌, min, Bool, Some, List, []}
 use Rattle.std.specs.List.{fold, list_any}
 use Rattle.rv_explain.specs.Classes.{rank}
 use Rattle.rv_hunt.specs.Keyed.{added_by}

@@ -5,3 +5,4 @@ pub mod HuntFault
 pub mod Hunting
 pub mod Late
 pub mod Shown
+pub mod StuckShown

@@ -16,7 +16,7 @@ use crate::engine::fault::HuntFault;
 use crate::engine::folder::Folder;
 use crate::engine::found::Found;
 use crate::engine::inputs::Inputs;
-use crate::engine::lists::{Lists, read_ignored, read_known};
+use crate::engine::lists::{Lists, read_aim, read_ignored, read_known};
 use crate::engine::making::{Made, make_hunt};
 use crate::engine::opening::{Opened, open};
 use crate::engine::options::HuntOptions;
@@ -41,6 +41,7 @@ mod opening;
 pub mod options;
 mod showing;
 pub mod shown;
+pub mod stuck_ends;
 pub(crate) mod texts;
 
 /// Writes the notes to their last byte, and then the text.
@@ -62,7 +63,7 @@ fn publish<W: Write, E: Write>(
     writer.finish()
 }
 
-/// Reads the image, and then the lists.
+/// Reads the image, and then the lists, and looks for what is aimed at.
 fn read<'a, R: Read>(
     alloc: Global,
     options: &HuntOptions<'a, '_>,
@@ -80,10 +81,19 @@ fn read<'a, R: Read>(
         Ok(ignored) => ignored,
         Err(fault) => return Err(HuntFault::Ignored(fault)),
     };
-    match read_known(alloc, &mut inputs.expected) {
-        Ok(expected) => Ok((opened, Lists { ignored, expected })),
-        Err(fault) => Err(HuntFault::Expected(fault)),
-    }
+    let expected = match read_known(alloc, &mut inputs.expected) {
+        Ok(expected) => expected,
+        Err(fault) => return Err(HuntFault::Expected(fault)),
+    };
+    let lists = match read_aim(alloc, &opened.image, options) {
+        Ok(aim) => Lists {
+            ignored,
+            expected,
+            aim,
+        },
+        Err(fault) => return Err(HuntFault::Aimed(fault)),
+    };
+    Ok((opened, lists))
 }
 
 /// Reads the image and the lists, looks at the folder, and makes the runs of a hunt, the schedules of the races that are told,

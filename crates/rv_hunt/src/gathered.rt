@@ -11,20 +11,24 @@ use crate::hunt::Hunt;
 use crate::kept_run::{PartReport, reports_in_part};
 use crate::near::{NearRow, probed_pair, seen_pair};
 use crate::run_walk::RunWalk;
+use crate::stuck::{StuckSeen, is_reported};
 use crate::summary::counts_of;
 use crate::tally::counts::{Counts, sum};
 use rv_memory::store::NoMemory;
+use rv_stuck::acts_of;
 use rv_walk::near_pair::{Addresses, NearPair};
 use rv_walk::probes::Part;
 use std::alloc::Global;
 
-/// The numbers of a walk and of its parts so far, how many these are, their reports, and the near pairs.
+/// The numbers of a walk and of its parts so far, how many these are, their reports, the near pairs, and the stuck ends that are
+/// reported.
 #[derive(Drop)]
 pub(crate) struct Gathered {
     pub(crate) counts: Counts,
     pub(crate) parts: u32,
     pub(crate) reports: Vec<PartReport>,
     pub(crate) near: Vec<(Addresses, NearRow)>,
+    pub(crate) stuck: Vec<StuckSeen>,
 }
 
 /// Adds what stands in a list to another.
@@ -40,6 +44,29 @@ fn seen_pairs(alloc: Global, pairs: &[NearPair]) -> Result<Vec<(Addresses, NearR
     ensures { IfOk result (λ near. near.items ≡ map spec.seen_pair pairs.now) }
 {
     Ok(pairs.iter().map(seen_pair).collect(alloc)?)
+}
+
+/// Adds the stuck end of the part of that number, where it is one that is reported.
+fn push_stuck(
+    alloc: Global,
+    stuck: &mut Vec<StuckSeen>,
+    hunt: &Hunt<'_>,
+    number: u32,
+    part: &Part,
+) -> Result<(), NoMemory> {
+    let Some(end) = &part.stuck else {
+        return Ok(());
+    };
+    let acts = acts_of(alloc, end)?;
+    if is_reported(&acts, hunt.idle) {
+        let own = counts_of(&part.probed.finished.entries, &[]).steps;
+        stuck.push(StuckSeen {
+            acts,
+            part: number,
+            steps: own.saturating_add(u64::from(part.place)),
+        })?;
+    }
+    Ok(())
 }
 
 impl Gathered {
@@ -58,6 +85,7 @@ impl Gathered {
             parts: 0,
             reports: Vec::new(alloc),
             near,
+            stuck: Vec::new(alloc),
         })
     }
 
@@ -81,6 +109,7 @@ impl Gathered {
         append_reports(&mut self.reports, reports)?;
         self.near.push(probed_pair(part))?;
         self.parts = number;
+        push_stuck(alloc, &mut self.stuck, hunt, number, part)?;
         self.counts = sum(self.counts, counts_of(&finished.entries, &finished.endings));
         Ok(())
     }

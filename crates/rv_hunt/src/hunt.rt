@@ -5,8 +5,10 @@ ghost use Rattle.rv_hunt.specs.Hunted as spec;
 ghost use Rattle.rv_hunt.specs.KeptRun.{IsOfRun};
 ghost use Rattle.rv_hunt.specs.internal.Lots as internal;
 
+use crate::aim::Aim;
 use crate::hunted::Hunted;
 use crate::kept_run::KeptRun;
+use crate::noted::Noted;
 use rv_campaign::{Jobs, PoolFault, all_made};
 use rv_elf::Image;
 use rv_memory::store::NoMemory;
@@ -14,6 +16,7 @@ use rv_prune::named_bytes::NamedBytes;
 use rv_sample::Sampler;
 use rv_tally::limit::{Limit, next_number};
 use rv_tally::plans::Plans;
+use rv_walk::code::{Code, Marks};
 use rv_walk::sites::Sites;
 use std::alloc::Global;
 use std::marker::Model;
@@ -26,8 +29,8 @@ const MOST_HELD: u32 = 256;
 /// How many addresses these arm together at most, where there are more than one.
 const MOST_HELD_ARMS: u32 = 16_384;
 
-/// A hunt: the image, the seed and the sites that its runs are made of, their plans, the ranges of the listed names,
-/// the number of its first run, and how far it goes.
+/// A hunt: the image, the seed and the sites that its runs are made of, their plans, the ranges of the listed names and of those in
+/// which a hart may wait for ever, what near pairs alone are probed, if not all, the number of its first run, and how far it goes.
 #[derive(Drop)]
 pub struct Hunt<'a> {
     pub image: &'a Image,
@@ -35,8 +38,12 @@ pub struct Hunt<'a> {
     pub sampler: &'a Sampler,
     /// The same sites, found at one look.
     pub sites: &'a Sites,
+    /// The words of the image's code.
+    pub code: &'a Code,
     pub plans: &'a Plans,
     pub ranges: &'a NamedBytes,
+    pub idle: &'a NamedBytes,
+    pub aim: &'a Option<Aim>,
     pub first: u32,
     pub limit: Limit,
 }
@@ -51,6 +58,7 @@ impl<'a> Model for Hunt<'a> {
       source = record { image = h.image.now; sites = h.sampler.now; seed = h.seed };
       given = h.plans.now;
       ranges = h.ranges.now;
+      idle = h.idle.now;
       first = h.first;
       limit = h.limit;
     } };
@@ -67,10 +75,11 @@ pub trait Watch {
     fn shows(&mut self, shown: usize, all: usize);
 }
 
-/// So many runs of a hunt from a number on, as jobs.
+/// So many runs of a hunt from a number on, as jobs. The words of code that were executed in earlier ones are counted.
 #[derive(Drop)]
 struct Lot<'a, 'h> {
     hunt: &'a Hunt<'h>,
+    counted: &'a Marks,
     next: u32,
     count: u32,
 }
@@ -103,7 +112,7 @@ impl<'a, 'h> Jobs for Lot<'a, 'h> {
     }
 
     fn make(&self, alloc: Global, place: u32) -> Result<KeptRun, NoMemory> {
-        self.hunt.kept(alloc, self.next + place)
+        self.hunt.kept(alloc, self.next + place, self.counted)
     }
 }
 
@@ -164,6 +173,7 @@ impl Hunt<'_> {
         rt: &R,
         alloc: Global,
         hunted: &Hunted,
+        counted: &Marks,
         next: u32,
         workers: u8,
     ) -> Result<Vec<KeptRun>, PoolFault>
@@ -174,6 +184,7 @@ impl Hunt<'_> {
     {
         let lot = Lot {
             hunt: self,
+            counted,
             next,
             count: self.lot_len(hunted, next, workers),
         };
@@ -194,10 +205,12 @@ impl Hunt<'_> {
         Ok(())
     }
 
-    /// Adds what the next runs saw, as long as the hunt goes on.
+    /// Adds what the next runs saw, as long as the hunt goes on, and notes what is noted beside.
     fn add_lot<W: Watch>(
         &self,
+        alloc: Global,
         hunted: &mut Hunted,
+        noted: &mut Noted,
         next: u32,
         lot: &[KeptRun],
         watch: &mut W,
@@ -217,6 +230,7 @@ impl Hunt<'_> {
                 return Ok(());
             }
             self.add(hunted, next + place as u32, &lot[place])?;
+            noted.add(alloc, next + place as u32, &lot[place])?;
             watch.saw(hunted);
         }
         Ok(())
@@ -228,6 +242,7 @@ impl Hunt<'_> {
         rt: &R,
         alloc: Global,
         hunted: &mut Hunted,
+        noted: &mut Noted,
         workers: u8,
         watch: &mut W,
     ) -> Result<(), PoolFault>
@@ -238,8 +253,8 @@ impl Hunt<'_> {
     {
         while self.goes_on(hunted) {
             let next = self.next(hunted);
-            let lot = self.lot(rt, alloc, hunted, next, workers)?;
-            self.add_lot(hunted, next, &lot, watch)?;
+            let lot = self.lot(rt, alloc, hunted, &noted.words, next, workers)?;
+            self.add_lot(alloc, hunted, noted, next, &lot, watch)?;
         }
         Ok(())
     }
@@ -252,6 +267,7 @@ impl Hunt<'_> {
         rt: &R,
         alloc: Global,
         workers: u8,
+        noted: &mut Noted,
         watch: &mut W,
     ) -> Result<Hunted, PoolFault>
         requires hunt { IsHunt self.now }
@@ -259,7 +275,7 @@ impl Hunt<'_> {
         ensures { IfOk result (λ hunted. spec.IsHunted self.now hunted) }
     {
         let mut hunted = Hunted::new(alloc);
-        self.go_on(rt, alloc, &mut hunted, workers, watch)
+        self.go_on(rt, alloc, &mut hunted, noted, workers, watch)
             .and(Ok(hunted))
     }
 }

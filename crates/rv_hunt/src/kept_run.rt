@@ -6,22 +6,28 @@ ghost use Rattle.rv_collide.specs.Grammar.{IsWritable};
 ghost use Rattle.rv_collide.specs.Numbers.{numbers};
 ghost use Rattle.rv_hunt.specs.Hunt.{IsSampledRun};
 ghost use Rattle.rv_hunt.specs.internal.Gathered.{AreGathered};
-ghost use Rattle.rv_hunt.specs.internal.RunWalk.{IsRunWalk};
+ghost use Rattle.rv_hunt.specs.internal.RunWalk.{IsBegin, IsRunWalk};
 ghost use Rattle.rv_tally.specs.Plans.{plan_of};
 
 use crate::gathered::Gathered;
 use crate::hunt::Hunt;
 use crate::near::NearRow;
-use crate::run_walk::{RunWalk, drawn_pairs, probes_of, walk_of};
+use crate::run_walk::{Repeats, RunWalk, begin_of, drawn_pairs, probes_of, walk_of};
+use crate::stuck::{StuckRun, StuckSeen};
 use crate::summary::{Summary, ends_of, sampled_summary};
 use crate::tally::counts::Counts;
 use rv_campaign::{core_sampled, left_by};
-use rv_collide::collider::{Collider, Finished};
+use rv_collide::collider::{Collider, Finished, machine_of};
 use rv_collide::ending::Ending;
+use rv_collide::entry::Entry;
 use rv_collide::schedule::laws::legal_is_writable;
 use rv_explain::races::{Report, reports_of};
+use rv_hart::machine::Machine;
 use rv_memory::flat::Flat;
+use rv_memory::paged::Paged;
 use rv_memory::store::NoMemory;
+use rv_stuck::Act;
+use rv_walk::code::{Executed, Marks};
 use rv_walk::near_pair::Addresses;
 use std::alloc::Global;
 
@@ -34,13 +40,16 @@ pub struct PartReport {
     pub report: Report,
 }
 
-/// What is kept of a run: what is counted of it, its reports, in the order of its parts, and the near pairs that its walk saw and
-/// that were probed. The run's entries, which are far more, are let go.
+/// What is kept of a run: what is counted of it, its reports, in the order of its parts, the near pairs that its walk saw and that
+/// were probed, the numbers of the words of code that its harts executed beside those that were counted, and its stuck ends. The
+/// run's entries, which are far more, are let go.
 #[derive(Drop)]
 pub struct KeptRun {
     pub summary: Summary,
     pub reports: Vec<PartReport>,
     pub near: Vec<(Addresses, NearRow)>,
+    pub words: Vec<u32>,
+    pub stuck: StuckRun,
 }
 
 /// The reports of a part.
@@ -88,18 +97,28 @@ fn core_of(alloc: Global, hunt: &Hunt<'_>, number: u32) -> Result<Collider<Flat>
 }
 
 impl Hunt<'_> {
-    /// What is kept of the run of that number.
-    pub(crate) fn kept(&self, alloc: Global, number: u32) -> Result<KeptRun, NoMemory>
+    /// What is kept of the run of that number, where the words of code that were executed in earlier runs are counted.
+    pub(crate) fn kept(
+        &self,
+        alloc: Global,
+        number: u32,
+        counted: &Marks,
+    ) -> Result<KeptRun, NoMemory>
         ensures { IfOk result (spec.IsOfRun self.now number) }
     {
         if self.plans.mix().is_sampled(number) {
-            self.kept_of_sampled(alloc, number)
+            self.kept_of_sampled(alloc, number, counted)
         } else {
-            self.kept_of_walk(alloc, number)
+            self.kept_of_walk(alloc, number, counted)
         }
     }
 
-    fn kept_of_sampled(&self, alloc: Global, number: u32) -> Result<KeptRun, NoMemory>
+    fn kept_of_sampled(
+        &self,
+        alloc: Global,
+        number: u32,
+        counted: &Marks,
+    ) -> Result<KeptRun, NoMemory>
         ensures { IfOk result (spec.IsOfSampled self.now number) }
     {
         let core = core_of(alloc, self, number)?;
@@ -107,19 +126,27 @@ impl Hunt<'_> {
         let left = left_by(core);
         let reports = reports_in_part(alloc, self, 0, 0, &left.endings)?;
         let summary = sampled_summary(alloc, ends, &left)?;
+        let words = executed_in(alloc, self, &left, counted)?;
         Ok(KeptRun {
             summary,
             reports,
             near: Vec::new(alloc),
+            words,
+            stuck: StuckRun::none(alloc),
         })
     }
 
-    fn kept_of_walk(&self, alloc: Global, number: u32) -> Result<KeptRun, NoMemory>
+    fn kept_of_walk(&self, alloc: Global, number: u32, counted: &Marks) -> Result<KeptRun, NoMemory>
         ensures { IfOk result (spec.IsOfWalk self.now number) }
     {
-        let walk = walk_of(alloc, self, number)?;
-        let gathered = gathered(alloc, &*self, number, &walk)?;
+        let mut begin = begin_of(alloc, self, number)?;
+        let walk = walk_of(alloc, self, number, &mut begin, counted)?;
+        let gathered = gathered(alloc, &*self, number, &walk, begin)?;
         let is_spent = walk.is_spent();
+        let stuck = StuckRun {
+            ends: all_ends(walk.stuck, walk.left.harts.len() as u64, gathered.stuck)?,
+            walk_ended: walk.ended,
+        };
         let summary = Summary {
             most_steps: self.plans.plan(number).steps,
             ends: walk.ends,
@@ -134,25 +161,81 @@ impl Hunt<'_> {
             summary,
             reports: gathered.reports,
             near: gathered.near,
+            words: walk.left.words,
+            stuck,
         })
     }
 }
 
-/// What the probes of a walk come to.
+/// The stuck ends of a walk, of so many steps, and of its parts.
+fn all_ends(
+    walk: Option<Vec<Act>>,
+    steps: u64,
+    parts: Vec<StuckSeen>,
+) -> Result<Vec<StuckSeen>, NoMemory> {
+    let mut ends = parts;
+    if let Some(acts) = walk {
+        ends.push(StuckSeen {
+            acts,
+            part: 0,
+            steps,
+        })?;
+    }
+    Ok(ends)
+}
+
+/// The numbers of the words of code that the harts of a sampled run executed, beside those that were counted.
+fn executed_in(
+    alloc: Global,
+    hunt: &Hunt<'_>,
+    left: &Finished,
+    counted: &Marks,
+) -> Result<Vec<u32>, NoMemory> {
+    let plan = &left.plan;
+    let mut machine: Machine<Flat> = machine_of(alloc, hunt.image, plan.harts, plan.steps)?;
+    let mut executed = Executed::beside(alloc, hunt.code, counted)?;
+    for entry in &left.entries {
+        if let Entry::Stepped(h) = *entry {
+            execute(&mut machine, &mut executed, h)?;
+        }
+    }
+    Ok(executed.into_new())
+}
+
+/// A step of a hart, whose word is executed.
+fn execute(
+    machine: &mut Machine<Flat>,
+    executed: &mut Executed<'_>,
+    h: u8,
+) -> Result<(), NoMemory> {
+    if h < machine.harts() {
+        executed.mark(machine.pc(h))?;
+    }
+    match machine.step(h) {
+        Ok(_) => Ok(()),
+        // A hart that stepped in the run steps here: only want of memory refuses it.
+        Err(_) => Err(NoMemory),
+    }
+}
+
+/// What the probes of a walk come to, by a machine as it began.
 fn gathered<'a>(
     alloc: Global,
     hunt: &'a Hunt<'a>,
     number: u32,
     walk: &'a RunWalk,
+    begin: Machine<Paged>,
 ) -> Result<Gathered, NoMemory>
-    requires { IsRunWalk hunt.now number walk.now }
+    requires walk { IsRunWalk hunt.now number walk.now }
+    requires begin { IsBegin hunt.now number begin }
     ensures { IfOk result (AreGathered hunt.now number walk.now) }
 {
     let drawn = drawn_pairs(alloc, hunt, number, walk)?;
     let mut gathered = Gathered::of(alloc, walk)?;
-    let mut probes = probes_of(alloc, hunt, number, walk)?;
+    let mut probes = probes_of(begin, hunt, number, walk);
+    let mut repeats = Repeats::none();
     for pair in &drawn {
-        let part = probes.probe(alloc, pair)?;
+        let part = probes.probe(alloc, pair, repeats.before(pair))?;
         gathered.add(alloc, hunt, &part)?;
     }
     Ok(gathered)

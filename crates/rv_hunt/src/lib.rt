@@ -10,6 +10,8 @@
 //! definitions of its own in `specs/page/`.
 #![tactic(auto)]
 
+pub mod aim;
+pub mod code_seen;
 pub mod engine;
 pub mod expected;
 pub mod fault;
@@ -22,12 +24,14 @@ pub mod laws;
 pub mod line;
 pub mod merge;
 pub mod near;
+pub mod noted;
 mod number;
 pub mod page;
 pub mod reading;
 pub mod row;
 mod run_walk;
 pub mod saying;
+pub mod stuck;
 pub mod summary;
 pub mod table;
 pub mod tally;

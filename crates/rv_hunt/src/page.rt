@@ -12,6 +12,7 @@ use crate::page::elements::{code, end_line};
 use crate::page::parts::Outcome;
 use crate::page::races::{races_part, races_shown};
 use crate::page::runs::{aside_part, ended_part, seen_part, warnings_part};
+use crate::page::stuck::stuck_part;
 use crate::page::style::RULES;
 use crate::row::RaceRow;
 use crate::saying::lines::summary_line;
@@ -25,11 +26,13 @@ use rv_memory::store::NoMemory;
 use rv_report::key::Key;
 use std::alloc::Global;
 
+mod code;
 mod elements;
 mod near;
 pub mod parts;
 mod races;
 mod runs;
+mod stuck;
 mod style;
 
 /// What stands before the body.
@@ -130,6 +133,7 @@ pub fn page_text(
     let page = begin_page(Markup::new(alloc), line, summary.as_bytes())?;
     let page = warnings_part(page, alloc, symbols, outcome)?;
     let page = told_races(page, alloc, line, symbols, told, shown)?;
+    let page = stuck_part(page, alloc, line, symbols, outcome)?;
     let page = below_races(page, alloc, symbols, outcome)?;
     Ok(end_line(end_line(page)?)?.finish())
 }

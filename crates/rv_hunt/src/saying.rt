@@ -3,4 +3,5 @@ pub mod ended;
 pub(crate) mod index;
 pub mod lines;
 pub mod order;
+pub(crate) mod stuck;
 pub mod warnings;

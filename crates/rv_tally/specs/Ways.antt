@@ -1,6 +1,6 @@
 -- In which way a hart ended.
 use Rattle.rv_tally.specs.declared.end.End.{End}
-use Rattle.rv_tally.specs.declared.end.End.TheVariants.{Exited, Stopped, Polls, Parked, OutOfSteps}
+use Rattle.rv_tally.specs.declared.end.End.TheVariants.{Exited, Stopped, Polls, Idle, Parked, OutOfSteps}
 use Rattle.rv_tally.specs.declared.end.Way.{Way}
 use Rattle.rv_tally.specs.declared.end.Way.TheVariants.{Exit, Trap, Wait, Spent}
 
@@ -9,5 +9,6 @@ abbrev pub way : End → Way
 way (Exited code) = Exit
 way (Stopped cause pc) = Trap
 way (Polls pc) = Wait
+way Idle = Wait
 way Parked = Wait
 way OutOfSteps = Spent

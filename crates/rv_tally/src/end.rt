@@ -5,12 +5,13 @@ ghost use Rattle.rv_tally.specs.Ways as spec;
 use rv_hart::hart::Cause;
 
 /// How a hart ended: it exited with a code, a trap stopped it at an address, or it ran when its run was over: all that ran waited,
-/// and it polled, with the least address of its round, or was parked; or the steps were spent.
+/// and it polled, with the least address of its round, or did so where it may, or was parked; or the steps were spent.
 #[derive(Clone, Copy)]
 pub enum End {
     Exited(u32),
     Stopped(Cause, u32),
     Polls(u32),
+    Idle,
     Parked,
     OutOfSteps,
 }
@@ -32,7 +33,7 @@ impl End {
         match self {
             End::Exited(_) => Way::Exit,
             End::Stopped(_, _) => Way::Trap,
-            End::Polls(_) | End::Parked => Way::Wait,
+            End::Polls(_) | End::Idle | End::Parked => Way::Wait,
             End::OutOfSteps => Way::Spent,
         }
     }

@@ -1,6 +1,9 @@
 -- Where a walk stands.
 use Rattle.std.proofs.Common.{◌≡◌, ℕ, zero, suc, ◌<◌, Bool, true, false, List, [], ◌∷◌, length, Option, Some, None, sym, subst, ap, ◌∙◌, arith}
-use Rattle.std.specs.Prelude.{IfSome, IsTrue, ◌↔◌, is_some, not, slice_get}
+use Rattle.std.specs.Prelude.{IfOk, IfSome, IsTrue, ◌↔◌, Err, Ok, Result, is_some, not, slice_get}
+use Rattle.rv_memory.specs.declared.store.NoMemory.{NoMemory}
+use Rattle.rv_stuck.specs.StuckEnd.{IsStuckEnd}
+use Rattle.rv_stuck.specs.declared.stuck.StuckEnd.{StuckEnd}
 use Rattle.rv_waits.specs.Touches.{Loads}
 use Rattle.rv_walk.specs.Rounds.{IsPolled}
 use Rattle.rv_hart.specs.Refusals.{is_running_hart}
@@ -46,3 +49,10 @@ pub runs_within : (harts : List Hart) (h : ℕ) → is_running_hart (slice_get h
 runs_within [] h is = let e : false ≡ true = is in cc
 runs_within (x ∷ xs) zero is = omega arith
 runs_within (x ∷ xs) (suc h) is = let e : h < length xs = runs_within xs h is in omega arith
+
+-- what is known of a stuck end in a state holds in each that is the same
+pub stuck_there : (told : Result (Option StuckEnd) NoMemory) (state : State) (At : State → Type 0) → ((s : State) → At s → state ≡ s)
+    → IfOk told (λ end. IfSome end (λ it. IsStuckEnd state it)) → IfOk told (λ end. IfSome end (λ it. (s : State) → At s → IsStuckEnd s it))
+stuck_there (Err fault) state At same is = tt
+stuck_there (Ok None) state At same is = tt
+stuck_there (Ok (Some it)) state At same is = λ s at. subst (λ (u : State). IsStuckEnd u it) (same s at) is

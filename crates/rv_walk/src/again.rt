@@ -4,10 +4,12 @@ ghost use Rattle.rv_collide.specs.Numbers.{numbers};
 ghost use Rattle.rv_walk.specs.Again.{IsForkAt};
 
 use rv_collide::detector::Detector;
+use rv_collide::entry::Entry;
 use rv_collide::plan::Plan;
 use rv_hart::laws::what_no_step_does;
 use rv_hart::machine::{Machine, OUTPUT_LIMIT};
-use rv_memory::store::{Fork, NoMemory};
+use rv_memory::store::{ByteStore, Fork, NoMemory};
+use rv_stuck::{StuckEnd, stuck_end};
 use std::alloc::Global;
 use std::marker::Model;
 use std::snapshot::Snapshot;
@@ -83,6 +85,27 @@ impl<'a, S: Fork> Again<'a, S> {
         Detector::begin(alloc, machine, plan)
     }
 
+    /// What each hart does behind such entries from where the walk has been gone over to, where all that run are seen to wait then.
+    pub fn stuck_behind(
+        &mut self,
+        alloc: Global,
+        entries: &[Entry],
+    ) -> Result<Option<StuckEnd>, NoMemory>
+        ensures { self.new ≡ self.old }
+    {
+        let printed = self.machine.output().len();
+        let limit = printed
+            .saturating_add(entries.len())
+            .min(OUTPUT_LIMIT as usize);
+        // No machine has printed more.
+        if printed > limit {
+            return Ok(None);
+        }
+        let mut machine = self.machine.share(limit as u32)?;
+        make_steps(&mut machine, entries)?;
+        stuck_end(alloc, &mut machine)
+    }
+
     /// Makes the steps before a place.
     fn go_to(&mut self, place: u32) -> Result<(), NoMemory>
         requires ahead { self.old.place ≤ place }
@@ -112,4 +135,18 @@ impl<'a, S: Fork> Again<'a, S> {
         self.place += 1;
         Ok(())
     }
+}
+
+/// Makes the steps that are among entries.
+fn make_steps<S: ByteStore>(machine: &mut Machine<S>, entries: &[Entry]) -> Result<(), NoMemory> {
+    for entry in entries {
+        let Entry::Stepped(h) = *entry else {
+            continue;
+        };
+        // A hart that stepped in the probe steps here, where memory is not refused.
+        if machine.step(h).is_err() {
+            return Err(NoMemory);
+        }
+    }
+    Ok(())
 }

@@ -1,5 +1,5 @@
 //! Which near pairs of a walk are probed, and by what plans.
-ghost use Rattle.std.specs.Prelude.{◌≡◌, ◌+◌, ◌≤◌, ◌<◌, ◌^◌, IfOk, length};
+ghost use Rattle.std.specs.Prelude.{◌≡◌, ◌+◌, ◌≤◌, ◌<◌, ◌^◌, IfOk, OnOk, length};
 ghost use Rattle.std.specs.List.{All};
 ghost use Rattle.rv_break.specs.declared.claim.TheConstants.{MOST_SLOTS};
 ghost use Rattle.rv_walk.specs.NearPair.{IsNearPair};
@@ -69,6 +69,65 @@ pub fn drawn(
     Ok(drawn)
 }
 
+/// How many steps the probes of a walk of so many may make together.
+fn most_of(made: u32) -> u64
+    ensures { result < 2 ^ 63 }
+{
+    TIMES * u64::from(made) + MORE
+}
+
+/// How many steps the probe of a pair makes at most.
+fn cost_of(pair: &NearPair) -> u64
+    ensures some { 1 ≤ result }
+    ensures few { result < 2 ^ 32 }
+{
+    u64::from(PAUSES * pause_of(pair))
+}
+
+/// The near pairs that are probed of a walk of so many steps where these pairs alone are aimed at, in the order of their forks: each
+/// as often as the steps of all allow, and where they don't allow each once those that are drawn.
+pub fn repeated(
+    alloc: Global,
+    pairs: &[NearPair],
+    made: u32,
+    words: &mut Generator,
+) -> Result<Vec<NearPair>, NoMemory>
+    requires { words.old.taken + length pairs.now < 2 ^ 64 }
+    ensures { IfOk result (λ drawn. (walk : Walked) → All (IsNearPair walk) pairs.now → All (IsNearPair walk) drawn.items) }
+{
+    let mut cost = 0u64;
+    for pair in pairs {
+        cost = cost.saturating_add(cost_of(pair));
+    }
+    let times = most_of(made) / cost.max(1);
+    if times == 0 {
+        return drawn(alloc, pairs, made, words);
+    }
+    each_so_often(alloc, pairs, times)
+}
+
+/// Each of the pairs so many times, one after another.
+fn each_so_often(alloc: Global, pairs: &[NearPair], times: u64) -> Result<Vec<NearPair>, NoMemory>
+    ensures { IfOk result (λ all. (walk : Walked) → All (IsNearPair walk) pairs.now → All (IsNearPair walk) all.items) }
+{
+    let mut all = Vec::new(alloc);
+    for pair in pairs {
+        push_often(&mut all, pair, times)?;
+    }
+    Ok(all)
+}
+
+/// Adds a pair so many times.
+fn push_often(all: &mut Vec<NearPair>, pair: &NearPair, times: u64) -> Result<(), NoMemory>
+    ensures { OnOk result ((walk : Walked) → All (IsNearPair walk) all.old.items → IsNearPair walk pair.now
+        → All (IsNearPair walk) all.new.items) }
+{
+    for _ in 0..times {
+        all.push(*pair)?;
+    }
+    Ok(())
+}
+
 /// A near pair, and the word that it has in the draw.
 #[derive(Clone, Copy)]
 pub(crate) struct Worded {
@@ -99,11 +158,11 @@ fn with_words(
 fn affordable(alloc: Global, order: &[Worded], made: u32) -> Result<Vec<NearPair>, NoMemory>
     ensures { IfOk result (λ drawn. (walk : Walked) → AreWorded walk order.now → All (IsNearPair walk) drawn.items) }
 {
-    let most = TIMES * u64::from(made) + MORE;
+    let most = most_of(made);
     let mut cost = 0u64;
     let mut drawn = Vec::new(alloc);
     for it in order {
-        cost = cost.saturating_add(u64::from(PAUSES * pause_of(&it.pair)));
+        cost = cost.saturating_add(cost_of(&it.pair));
         if cost > most {
             return Ok(drawn);
         }

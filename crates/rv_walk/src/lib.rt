@@ -7,6 +7,7 @@
 
 mod accesses;
 pub mod again;
+pub mod code;
 pub mod course;
 pub mod drawn;
 pub mod near_pair;

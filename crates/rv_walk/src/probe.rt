@@ -33,11 +33,12 @@ pub enum Reached {
     Held,
 }
 
-/// What a probe leaves.
+/// What a probe leaves, and whether it ended where harts run and none may go.
 #[derive(Drop)]
 pub struct Probed {
     pub finished: Finished,
     pub reached: Reached,
+    pub rests: bool,
 }
 
 /// A hart that is held, and how many steps of others are left of its pause.
@@ -371,6 +372,18 @@ impl<'a, S: ByteStore> Prober<'a, S> {
         }
     }
 
+    /// Whether harts run, and none of them may go.
+    fn rests(&self) -> bool {
+        let mut some_runs = false;
+        for h in 0..self.detector.plan().harts {
+            if self.goes(h) {
+                return false;
+            }
+            some_runs = some_runs || self.detector.runs(h);
+        }
+        some_runs
+    }
+
     fn finish(self) -> Probed
         ensures plan { numbers result.finished.plan ≡ self.entry.core.plan }
         ensures few { length result.finished.entries.items ≤ most_entries self.entry.core.plan }
@@ -379,9 +392,11 @@ impl<'a, S: ByteStore> Prober<'a, S> {
         ensures probe { IsProbe self.entry.aim (begun self.entry.core.start self.entry.core.plan result.finished.entries.items) }
     {
         self.is_short();
+        let rests = self.rests();
         Probed {
             finished: self.detector.finish(),
             reached: self.reached,
+            rests,
         }
     }
 }

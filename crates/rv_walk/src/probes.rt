@@ -17,18 +17,20 @@ use rv_collide::join::joined;
 use rv_hart::machine::Machine;
 use rv_memory::store::{Fork, NoMemory};
 use rv_sample::Generator;
+use rv_stuck::StuckEnd;
 use std::alloc::Global;
 use std::marker::Model;
 
 /// How many steps before the first access of its pair a probe begins, so that it meets the harts on their way.
 const BEFORE: u32 = 8;
 
-/// A part of a run: the probe of a near pair, from a place of the walk on.
+/// A part of a run: the probe of a near pair, from a place of the walk on, and what each hart does where it ended and all that run wait.
 #[derive(Drop)]
 pub struct Part {
     pub pair: NearPair,
     pub place: u32,
     pub probed: Probed,
+    pub stuck: Option<StuckEnd>,
 }
 
 /// What the probes of a run have in common: its walk, the sites, the seed, the run's number, and how many slots there are.
@@ -92,9 +94,9 @@ impl<'a, S: Fork> Probes<'a, S> {
         }
     }
 
-    /// The probe of a near pair. It forks some steps before the pair, where the walk hasn't been gone over for longer: so the pairs
-    /// are given in the order of their first places.
-    pub fn probe(&mut self, alloc: Global, pair: &NearPair) -> Result<Part, NoMemory>
+    /// The probe of a near pair that was probed so many times before. It forks some steps before the pair, where the walk hasn't been
+    /// gone over for longer: so the pairs are given in the order of their first places.
+    pub fn probe(&mut self, alloc: Global, pair: &NearPair, before: u32) -> Result<Part, NoMemory>
         ensures same { self.new ≡ self.old }
         ensures part { IfOk result (λ part. IsPart self.old part) }
         ensures pair { IfOk result (λ part. part.pair ≡ pair.now) }
@@ -104,14 +106,29 @@ impl<'a, S: Fork> Probes<'a, S> {
         let plan = plan_of(pair, self.harts, self.slots);
         let detector = self.again.fork_at(alloc, place, plan)?;
         let addresses = pair.addresses();
-        let stream = stream_of(addresses.lesser, addresses.greater, self.run);
+        let stream = stream_of(addresses.lesser, addresses.greater, self.run, before);
         let mut words = Generator::new(u64::from(self.seed), stream);
         let probed = probe(alloc, detector, addresses, self.sites, &mut words)?;
+        let stuck = self.stuck_behind(alloc, &probed)?;
         Ok(Part {
             pair: *pair,
             place,
             probed,
+            stuck,
         })
+    }
+}
+
+impl<'a, S: Fork> Probes<'a, S> {
+    /// What each hart does at the end of a probe that forked where the walk has been gone over to, where all that run wait.
+    fn stuck_behind(&mut self, alloc: Global, probed: &Probed) -> Result<Option<StuckEnd>, NoMemory>
+        ensures { self.new ≡ self.old }
+    {
+        if probed.rests {
+            self.again.stuck_behind(alloc, &probed.finished.entries)
+        } else {
+            Ok(None)
+        }
     }
 }
 
@@ -124,9 +141,11 @@ fn fork_place<S: Fork>(again: &Again<'_, S>, pair: &NearPair) -> u32
     wanted.min(again.steps()).max(again.place())
 }
 
-/// The stream of a probe's words: both addresses and the run's number make it.
-fn stream_of(lesser: u32, greater: u32, run: u32) -> u64 {
-    (u64::from(lesser) << 32 | u64::from(greater)) ^ (u64::from(run) << 16)
+/// The stream of a probe's words: both addresses, the run's number, and how often the pair was probed before make it.
+fn stream_of(lesser: u32, greater: u32, run: u32, before: u32) -> u64 {
+    (u64::from(lesser) << 32 | u64::from(greater))
+        ^ (u64::from(run) << 16)
+        ^ (u64::from(before) << 40)
 }
 
 impl Part {
@@ -145,7 +164,7 @@ impl Part {
 }
 
 /// The entries of steps.
-fn steps_of(alloc: Global, harts: &[u8]) -> Result<Vec<Entry>, NoMemory>
+pub fn steps_of(alloc: Global, harts: &[u8]) -> Result<Vec<Entry>, NoMemory>
     ensures { IfOk result (λ entries. entries.items ≡ entries_of harts.now) }
 {
     Ok(harts.iter().map(|h| Entry::Stepped(*h)).collect(alloc)?)

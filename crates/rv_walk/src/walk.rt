@@ -1,6 +1,8 @@
 //! A walk, burst by burst.
-ghost use Rattle.std.specs.Prelude.{◌≡◌, ◌+◌, ◌-◌, ◌^◌, ◌<◌, ◌≤◌, [], true, false, IsTrue, IfOk, OnErr, OnOk, IfSome, IfNone, length, ◌⊎◌, ℕ};
+ghost use Rattle.std.specs.Prelude.{◌≡◌, ◌+◌, ◌-◌, ◌^◌, ◌<◌, ◌≤◌, [], true, false, IsTrue, IfOk, OnErr, OnOk, IfSome, IfNone, Some, length, ◌⊎◌, ℕ};
+ghost use Rattle.rv_hart.specs.Run.{run};
 ghost use Rattle.rv_hart.specs.State.{State};
+ghost use Rattle.rv_stuck.specs.StuckEnd.{IsStuckEnd};
 ghost use Rattle.rv_waits.specs.Stuck.{Runs};
 ghost use Rattle.rv_walk.specs.Burst.{AllMayRest, IsNextFrom, IsShortened, MayRest, longer};
 ghost use Rattle.rv_walk.specs.Rounds.{IsPolled};
@@ -9,13 +11,15 @@ ghost use Rattle.rv_walk.specs.Told.{AreTold};
 ghost use Rattle.rv_walk.specs.Walked.{IsAt};
 
 use crate::accesses::Accesses;
+use crate::code::Executed;
 use crate::near_pair::NearPair;
 use crate::sites::Sites;
 use rv_break::claim::Seen;
 use rv_hart::access::Event;
 use rv_hart::laws::{reservations_and_accesses, what_no_step_does};
 use rv_hart::machine::{Machine, StepFault};
-use rv_memory::store::{ByteStore, NoMemory};
+use rv_memory::store::{ByteStore, Fork, NoMemory};
+use rv_stuck::{StuckEnd, stuck_end};
 use rv_waits::round::Round;
 use rv_waits::watch::Watch;
 use std::alloc::Global;
@@ -34,13 +38,16 @@ pub struct Walk<'a, S: ByteStore> {
     watch: Watch,
     harts: Vec<u8>,
     accesses: Accesses,
+    executed: Executed<'a>,
 }
 
-/// What a walk leaves: the harts that stepped, in their order, and its near pairs.
+/// What a walk leaves: the harts that stepped, in their order, its near pairs, and the numbers of the words of code that it
+/// executed beside those that were counted before.
 #[derive(Drop)]
 pub struct WalkLeft {
     pub harts: Vec<u8>,
     pub pairs: Vec<NearPair>,
+    pub words: Vec<u32>,
 }
 
 impl<'a, S: ByteStore> Model for Walk<'a, S> {
@@ -58,12 +65,13 @@ impl<'a, S: ByteStore> Model for Walk<'a, S> {
 
 impl<'a, S: ByteStore> Walk<'a, S> {
     /// A walk from where a machine stands, of so many steps at most, with room to print a byte at each. Its room is made here, but for
-    /// that of the accesses that it keeps.
+    /// that of the accesses that it keeps and of the words that it executes.
     pub fn begin(
         alloc: Global,
         machine: Machine<S>,
         most: u32,
         sites: &'a Sites,
+        executed: Executed<'a>,
     ) -> Result<Walk<'a, S>, NoMemory>
         requires { length machine.state.output + most ≤ machine.limit }
         ensures { IfOk result (λ walk. walk ≡ record {
@@ -84,7 +92,15 @@ impl<'a, S: ByteStore> Walk<'a, S> {
             watch,
             harts,
             accesses,
+            executed,
         })
+    }
+
+    /// What holds of each walk: its steps lead to a state.
+    pub fn facts(&self)
+        ensures { (end : State) × (run self.now.start self.now.harts ≡ Some end) }
+    {
+        let _ = &self.begin;
     }
 
     /// The machine as it is now.
@@ -173,6 +189,27 @@ impl<'a, S: ByteStore> Walk<'a, S> {
         ensures steps { OnOk result (self.new ≡ longer self.old h 1) }
         ensures refused { OnErr result (IsShortened self.old self.new h 1) }
     {
+        self.mark(h)?;
+        self.advance(h)
+    }
+
+    /// The word at the pc of a hart that runs is executed.
+    #[inline(always)]
+    fn mark(&mut self, h: u8) -> Result<(), NoMemory>
+        requires { (s : State) → IsAt self.old s → Runs s h }
+        ensures { self.new ≡ self.old }
+    {
+        self.executed.mark(self.machine.pc(h))
+    }
+
+    /// One step of a hart that runs, whose word was marked.
+    #[inline(always)]
+    fn advance(&mut self, h: u8) -> Result<(), NoMemory>
+        requires runs { (s : State) → IsAt self.old s → Runs s h }
+        requires left { length self.old.harts < self.old.most }
+        ensures steps { OnOk result (self.new ≡ longer self.old h 1) }
+        ensures refused { OnErr result (IsShortened self.old self.new h 1) }
+    {
         what_no_step_does();
         reservations_and_accesses();
         let event = match self.watch.step(&mut self.machine, h) {
@@ -209,7 +246,18 @@ impl<'a, S: ByteStore> Walk<'a, S> {
         Ok(WalkLeft {
             harts: self.harts,
             pairs,
+            words: self.executed.into_new(),
         })
+    }
+}
+
+impl<'a, S: Fork> Walk<'a, S> {
+    /// What each hart does, where all that run are seen to wait.
+    pub fn stuck_end(&mut self, alloc: Global) -> Result<Option<StuckEnd>, NoMemory>
+        ensures same { self.new ≡ self.old }
+        ensures stuck { IfOk result (λ end. IfSome end (λ it. (s : State) → IsAt self.old s → IsStuckEnd s it)) }
+    {
+        stuck_end(alloc, &mut self.machine)
     }
 }
 

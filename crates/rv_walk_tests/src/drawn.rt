@@ -6,6 +6,7 @@ use rv_elf::Image;
 use rv_hart::access::Event;
 use rv_memory::flat::Flat;
 use rv_sample::{Generator, Sampler};
+use rv_walk::code::{Code, Executed, Marks};
 use rv_walk::course::go;
 use rv_walk::near_pair::{FAR, MOST_KEPT, NearPair};
 use rv_walk::sites::Sites;
@@ -72,7 +73,10 @@ fn program(rt: &impl Abort, alloc: Global, number: u32) -> Vec<u32> {
 
 fn walked(rt: &impl Abort, alloc: Global, image: &Image, sites: &Sites, run: u32) -> WalkLeft {
     let machine = machine_of::<Flat>(alloc, image, HARTS, MOST).expect(rt, "memory");
-    let mut walk = Walk::begin(alloc, machine, MOST, sites).expect(rt, "memory");
+    let code = Code::of(alloc, image).expect(rt, "memory");
+    let none = Marks::none(alloc, code.len()).expect(rt, "memory");
+    let executed = Executed::beside(alloc, &code, &none).expect(rt, "memory");
+    let mut walk = Walk::begin(alloc, machine, MOST, sites, executed).expect(rt, "memory");
     let mut words = Generator::new(2, u64::from(run));
     let _over = go(&mut walk, course_of(run), &mut words).expect(rt, "memory");
     walk.finish(alloc).expect(rt, "memory")

@@ -8,6 +8,7 @@ use rv_memory::flat::Flat;
 use rv_memory::paged::Paged;
 use rv_memory::store::Fork;
 use rv_sample::{Generator, Sampler};
+use rv_walk::code::{Code, Executed, Marks};
 use rv_walk::course::{MOST_WALKED, Over, go};
 use rv_walk::drawn::drawn;
 use rv_walk::probe::Reached;
@@ -39,7 +40,10 @@ fn walked<S: Fork>(
     sites: &Sites,
 ) -> (WalkLeft, Over) {
     let machine = machine_of::<S>(alloc, image, 2, MOST_WALKED).expect(rt, "memory");
-    let mut walk = Walk::begin(alloc, machine, MOST_WALKED, sites).expect(rt, "memory");
+    let code = Code::of(alloc, image).expect(rt, "memory");
+    let none = Marks::none(alloc, code.len()).expect(rt, "memory");
+    let executed = Executed::beside(alloc, &code, &none).expect(rt, "memory");
+    let mut walk = Walk::begin(alloc, machine, MOST_WALKED, sites, executed).expect(rt, "memory");
     let mut words = Generator::new(1, 0);
     let over = go(&mut walk, course_of(0), &mut words).expect(rt, "memory");
     (walk.finish(alloc).expect(rt, "memory"), over)
@@ -98,7 +102,7 @@ fn found_by<S: Fork>(rt: &impl Abort, alloc: Global, image: &Image) -> Outcome {
     let machine = machine_of::<S>(alloc, image, 2, MOST_WALKED).expect(rt, "memory");
     let mut probes = Probes::of(machine, &left.harts, &sites, 1, 0, 8);
     for pair in &drawn {
-        let part = probes.probe(alloc, pair).expect(rt, "memory");
+        let part = probes.probe(alloc, pair, 0).expect(rt, "memory");
         seen.held = seen
             .held
             .saturating_add(u32::from(part.probed.reached == Reached::Held));

@@ -8,6 +8,11 @@ use rv_text::decimal::read_decimal;
 use std::fs::{self, File};
 use std::io;
 
+/// What the names of the files of races and of stuck ends begin with.
+const RACE: &str = "race";
+
+const STUCK: &str = "stuck";
+
 /// The name of the file by which a folder is tried.
 const TRIED: &str = "race-1.schedule";
 
@@ -69,9 +74,12 @@ impl<'a> ScheduleFolder<'a> {
     }
 }
 
-/// The race whose schedule a file of that name is: `race-K.schedule`.
-fn race_in(name: &str) -> Option<u64> {
-    let digits = name.strip_prefix("race-")?.strip_suffix(".schedule")?;
+/// The number of the schedule of that kind that a file of that name is: `KIND-K.schedule`.
+fn number_in(kind: &str, name: &str) -> Option<u64> {
+    let digits = name
+        .strip_prefix(kind)?
+        .strip_prefix("-")?
+        .strip_suffix(".schedule")?;
     let number = read_decimal(digits.as_bytes(), u32::MAX)?;
     Some(u64::from(number))
 }
@@ -84,7 +92,7 @@ fn fault_of(error: &io::Error) -> FolderFault {
     }
 }
 
-/// A race whose schedule lies in the folder, if there is one.
+/// A race whose schedule lies in the folder, if there is one. A stuck end's must not lie there either.
 fn race_there(rt: &HostRuntime, path: &str) -> Result<Option<u64>, FolderFault> {
     let entries = match fs::read_dir(rt, path) {
         Ok(entries) => entries,
@@ -93,8 +101,12 @@ fn race_there(rt: &HostRuntime, path: &str) -> Result<Option<u64>, FolderFault> 
     for entry in entries {
         match entry {
             Ok(entry) => {
-                if let Some(race) = race_in(entry.file_name()) {
+                let name = entry.file_name();
+                if let Some(race) = number_in(RACE, name) {
                     return Ok(Some(race));
+                }
+                if number_in(STUCK, name).is_some() {
+                    return Err(FolderFault::Write);
                 }
             }
             // A name that is no text is not that of a schedule.
@@ -118,14 +130,15 @@ fn make_file(rt: &HostRuntime, path: &str, bytes: &[u8]) -> Result<(), FolderFau
     Ok(())
 }
 
-/// Makes the file of a race in a folder.
+/// Makes the file of a race or a stuck end in a folder.
 fn make_schedule(
     rt: &HostRuntime,
     folder: &str,
-    race: u64,
+    kind: &str,
+    number: u64,
     bytes: &[u8],
 ) -> Result<(), FolderFault> {
-    let Ok(path) = format!(in rt.alloc(); "{folder}/race-{race}.schedule") else {
+    let Ok(path) = format!(in rt.alloc(); "{folder}/{kind}-{number}.schedule") else {
         return Err(FolderFault::NoMemory);
     };
     make_file(rt, path.as_str(), bytes)
@@ -175,10 +188,21 @@ impl Folder for ScheduleFolder<'_> {
 
     fn make(&mut self, number: u64, bytes: &[u8]) -> Result<(), FolderFault> {
         self.is_used = true;
-        match make_schedule(self.rt, self.path, number, bytes) {
+        match make_schedule(self.rt, self.path, RACE, number, bytes) {
             Ok(()) => Ok(()),
             Err(fault) => {
                 self.note(fault, Some(number));
+                Err(fault)
+            }
+        }
+    }
+
+    fn make_stuck(&mut self, number: u64, bytes: &[u8]) -> Result<(), FolderFault> {
+        self.is_used = true;
+        match make_schedule(self.rt, self.path, STUCK, number, bytes) {
+            Ok(()) => Ok(()),
+            Err(fault) => {
+                self.note(fault, None);
                 Err(fault)
             }
         }

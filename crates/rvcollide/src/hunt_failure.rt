@@ -122,6 +122,7 @@ pub fn failure_of<'a>(
     match fault {
         HuntFault::Ignored(fault) => of_file(ignore_path(line.ignore), fault),
         HuntFault::Expected(fault) => of_file(expect_path(line.expect), fault),
+        HuntFault::Aimed(fault) => of_file(Some(image.0), fault),
         HuntFault::Command(fault) => of_command(image, line, failed, fault),
     }
 }

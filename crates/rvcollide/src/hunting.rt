@@ -13,7 +13,7 @@ use rv_command::arguments::{FolderPath, ImagePath, PagePath};
 use rv_command::command::hunt::HuntLine;
 use rv_hunt::engine::found::Found;
 use rv_hunt::engine::inputs::Inputs;
-use rv_hunt::engine::options::{HuntOptions, LineParts, MOST_WORKERS, Shows};
+use rv_hunt::engine::options::{HuntOptions, LineParts, MOST_WORKERS, Shows, Sides};
 use rv_hunt::engine::run_hunt;
 use rv_hunt::hunt::Watch;
 use rv_hunt::hunted::Hunted;
@@ -128,6 +128,8 @@ fn options_of<'a, 'b>(
         workers,
         named: line.named,
         skip: line.skip,
+        idle: line.idle,
+        aim: sides_of(line),
         shows: shown_by(line),
         blocks: line.blocks,
         line: parts,
@@ -137,6 +139,15 @@ fn options_of<'a, 'b>(
     } else {
         None
     }
+}
+
+/// The two sides that the line aims at, if it does.
+fn sides_of<'a>(line: &HuntLine<'a>) -> Option<Sides<'a>> {
+    let aim = line.aim?;
+    Some(Sides {
+        one: aim.one,
+        other: aim.other,
+    })
 }
 
 /// What the line asks to be shown.
@@ -152,7 +163,8 @@ fn shown_by(line: &HuntLine) -> Shows {
 fn is_asked(line: &HuntLine, found: Found) -> bool {
     let has_bug = (line.checks || line.checks_all) && 0 < found.bugs;
     let has_benign = line.checks_all && 0 < found.benign;
-    has_bug || has_benign || found.is_unexpected
+    let has_end = line.check_ends && 0 < found.stuck;
+    has_bug || has_benign || has_end || found.is_unexpected
 }
 
 /// The file of a path, where one is given. It is opened when it is first read.

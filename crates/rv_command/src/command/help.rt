@@ -121,6 +121,9 @@ ignore line N NAME, of a list of --ignore:
   Shape: a line is two sides, each an address of eight hexadecimal digits, a symbol's name or *
   Unknown: the image has no symbol with this name
 
+ignore aim NAME, of --aim:
+  Unknown: the image has no symbol with this name
+
 campaign NAME, of run and hunt:
   TooLarge: the runs could have more than 16777216 entries in total: use fewer runs, steps or arms
   NoThread: a thread could not be started: try fewer workers

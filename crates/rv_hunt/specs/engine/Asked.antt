@@ -5,10 +5,11 @@ use Rattle.rv_tally.specs.GoesOn.{IsLimit}
 use Rattle.rv_tally.specs.Plans.{Given}
 use Rattle.rv_tally.specs.declared.limit.Limit.{Limit}
 use Rattle.rv_hunt.specs.declared.engine.options.HuntOptions.{HuntOptions}
+use Rattle.rv_hunt.specs.declared.engine.options.Sides.{Sides}
 use Rattle.rv_hunt.specs.declared.engine.options.TheConstants.{MOST_WORKERS}
 
--- What is given of the runs' plans, their seed, the number of the first, how far the hunt goes, and the names and the
--- addresses that are listed.
+-- What is given of the runs' plans, their seed, the number of the first, how far the hunt goes, the names, the addresses and
+-- the idle functions that are listed, and the two sides that are aimed at.
 pub record Asked : Type 0 where
   pub given : Given
   pub seed : ℕ
@@ -16,6 +17,8 @@ pub record Asked : Type 0 where
   pub limit : Limit
   pub named : Option (List ℕ)
   pub skip : Option (List ℕ)
+  pub idle : Option (List ℕ)
+  pub aim : Option (List ℕ × List ℕ)
 
 -- what some options ask for, their lists as texts
 abbrev pub asked : HuntOptions → Asked
@@ -26,6 +29,8 @@ asked options = record {
   limit = options.limit;
   named = option_map (λ text. text.now) options.named;
   skip = option_map (λ text. text.now) options.skip;
+  idle = option_map (λ text. text.now) options.idle;
+  aim = option_map (λ (sides : Sides). (sides.one.now, sides.other.now)) options.aim;
 }
 
 -- There can be such a hunt: by its limit and the numbers of its runs, and by the number of its workers.

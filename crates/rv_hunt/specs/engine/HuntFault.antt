@@ -9,8 +9,9 @@ use Rattle.rv_hunt.specs.Hunt.{Hunt}
 use Rattle.rv_hunt.specs.engine.Asked.{Asked}
 use Rattle.rv_hunt.specs.engine.Hunting.{Files, Hunting, IsHuntingOf, expected_in, hunt_of, ignored_in}
 use Rattle.rv_hunt.specs.declared.engine.fault.HuntFault.{HuntFault}
-use Rattle.rv_hunt.specs.declared.engine.fault.HuntFault.TheVariants.{Command, Ignored, Expected}
+use Rattle.rv_hunt.specs.declared.engine.fault.HuntFault.TheVariants.{Command, Ignored, Expected, Aimed}
 use Rattle.rv_hunt.specs.merge.FileFault as file
+use Rattle.rv_hunt.specs.merge.Ignore.{aimed_in}
 
 -- the fault is neither that a device failed, nor that memory is out, nor that a thread could not be started
 abbrev pub is_plain_refusal : CommandFault → Bool
@@ -31,7 +32,7 @@ abbrev pub IsListRead : Asked → Files → Type 0
 IsListRead asked files = IsOkAnd (hunt_of asked files.image) (λ (hunt : Hunt). IsOk (ignored_in hunt.source.image files.ignored))
 
 -- The fault is the one that is told of the files, which are read in their order: the image with the lists of the line,
--- the list of races to be ignored, the table of expected ones. That no thread could be started is told only where none
+-- the list of races to be ignored, the table of expected ones; then what is aimed at is looked for. That no thread could be started is told only where none
 -- of them is refused.
 abbrev pub IsTold : Asked → Files → HuntFault → Type 0
 IsTold asked files (Command given) =
@@ -39,24 +40,29 @@ IsTold asked files (Command given) =
 IsTold asked files (Ignored given) =
     IsOkAnd (hunt_of asked files.image) (λ (hunt : Hunt). file.IsTold (ignored_in hunt.source.image files.ignored) given)
 IsTold asked files (Expected given) = IsListRead asked files × file.IsTold (expected_in files.expected) given
+IsTold asked files (Aimed given) =
+    IsListRead asked files × IsOk (expected_in files.expected) × IsOkAnd (hunt_of asked files.image) (λ (hunt : Hunt). file.IsTold (aimed_in hunt.source.image asked.aim) given)
 
 -- the fault is that a reader failed
 abbrev pub is_read : HuntFault → Bool
 is_read (Command given) = command.is_read (command.refusal given)
 is_read (Ignored given) = file.is_read given
 is_read (Expected given) = file.is_read given
+is_read (Aimed given) = file.is_read given
 
 -- the fault is that a writer, a file or a folder failed
 abbrev pub is_write : HuntFault → Bool
 is_write (Command given) = command.is_write (command.refusal given)
 is_write (Ignored given) = file.is_write given
 is_write (Expected given) = file.is_write given
+is_write (Aimed given) = file.is_write given
 
 -- the fault is of what the files or the line say, and of no device
 abbrev pub is_of_files : HuntFault → Bool
 is_of_files (Command given) = is_plain_refusal given
 is_of_files (Ignored given) = true
 is_of_files (Expected given) = true
+is_of_files (Aimed given) = true
 
 -- something was refused, and the fault passes the test
 abbrev pub fails_by : {A : Type 0} → (HuntFault → Bool) → Result A HuntFault → Bool

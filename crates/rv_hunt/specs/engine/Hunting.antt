@@ -18,13 +18,15 @@ use Rattle.rv_engines.specs.CommandFault.{Refusal, plainly}
 use Rattle.rv_engines.specs.Images.{image_of}
 use Rattle.rv_hunt.specs.engine.Asked.{Asked}
 use Rattle.rv_hunt.specs.engine.Shown.{AreShown}
+use Rattle.rv_hunt.specs.engine.StuckShown.{AreStuckShown}
+use Rattle.rv_hunt.specs.declared.engine.stuck_ends.ShownStuck.{ShownStuck}
 use Rattle.rv_hunt.specs.declared.engine.shown.ShownRace.{ShownRace}
 use Rattle.rv_hunt.specs.declared.engine.found.Found.{Found}
 use Rattle.rv_hunt.specs.declared.engine.inputs.Inputs.{Inputs}
 use Rattle.rv_hunt.specs.declared.engine.options.HuntOptions.{HuntOptions}
 use Rattle.rv_hunt.specs.declared.engine.options.Shows.{Shows}
 use Rattle.rv_hunt.specs.declared.engine.options.Shows.TheVariants.{Text, Table}
-use Rattle.rv_hunt.specs.merge.Ignore.{ignores_of, is_ignored, is_told}
+use Rattle.rv_hunt.specs.merge.Ignore.{aimed_in, ignores_of, is_ignored, is_told}
 use Rattle.rv_hunt.specs.merge.Merge.{bytes_if, is_unexpected}
 use Rattle.rv_hunt.specs.merge.TableFiles.{expected_table}
 use Rattle.rv_hunt.specs.declared.merge.fault.FileFault.{FileFault}
@@ -35,13 +37,14 @@ use Rattle.rv_report.specs.declared.key.Key.{Key}
 -- ---- what is hunted
 
 -- The hunt that an image's bytes and the options ask for, or why it is refused: by the image, by the list of addresses,
--- or by the list of names.
+-- by the list of names, or by that of idle functions.
 unfoldable pub hunt_of : Asked → List ℕ → Result Hunt Refusal
 hunt_of asked bytes = do
   image ← plainly (image_of bytes)
   excluded ← skipped (elements asked.skip)
   ranges ← listed image (elements asked.named)
-  Ok (record { source = record { image = image; sites = sites image excluded; seed = asked.seed }; given = asked.given; ranges = ranges; first = asked.first; limit = asked.limit })
+  idle ← listed image (elements asked.idle)
+  Ok (record { source = record { image = image; sites = sites image excluded; seed = asked.seed }; given = asked.given; ranges = ranges; idle = idle; first = asked.first; limit = asked.limit })
 
 -- ---- the files
 
@@ -74,17 +77,19 @@ abbrev pub expected_in : Option (List ℕ) → Result (Option (List (Key × Race
 expected_in None = Ok None
 expected_in (Some bytes) = expected_table bytes >>= λ table. Ok (Some table)
 
--- What is hunted, which races are counted and not told, and which are expected.
+-- What is hunted, which races are counted and not told, which are expected, and what is aimed at.
 pub record Hunting : Type 0 where
   pub hunt : Hunt
   pub ignored : List Line
   pub expected : Option (List (Key × RaceRow))
+  pub aim : List Line
 
 -- the files and the options ask for it
 pub record IsHuntingOf (asked : Asked) (files : Files) (hunting : Hunting) : Type 0 where
   pub hunt_is : hunt_of asked files.image ≡ Ok hunting.hunt
   pub ignored_is : ignored_in hunting.hunt.source.image files.ignored ≡ Ok hunting.ignored
   pub expected_is : expected_in files.expected ≡ Ok hunting.expected
+  pub aim_is : aimed_in hunting.hunt.source.image asked.aim ≡ Ok hunting.aim
 
 -- ---- what is told
 
@@ -115,12 +120,18 @@ abbrev pub full_of : Shows → Bool → ℕ → ℕ
 full_of Text files blocks = blocks
 full_of Table files blocks = if files then blocks else 0
 
--- how many races may be a bug, how many are likely benign, and whether one that may be a bug is not expected
-abbrev pub found_in : Option (List (Key × RaceRow)) → List (Key × RaceRow) → Found
-found_in expected rows = record { bugs = bugs rows; benign = benign rows; is_unexpected = is_unexpected expected rows }
+-- how many races may be a bug, how many are likely benign, whether one that may be a bug is not expected, and how many stuck ends are
+-- shown
+abbrev pub found_in : Option (List (Key × RaceRow)) → List (Key × RaceRow) → ℕ → Found
+found_in expected rows stuck = record {
+  bugs = bugs rows;
+  benign = benign rows;
+  is_unexpected = is_unexpected expected rows;
+  stuck = stuck;
+}
 
-abbrev pub found_of : Hunting → Hunted → Found
-found_of hunting saw = found_in hunting.expected (told_in hunting saw)
+abbrev pub found_of : Hunting → Hunted → ℕ → Found
+found_of hunting saw stuck = found_in hunting.expected (told_in hunting saw) stuck
 
 -- what the standard output gets, and how many races are shown in full
 pub record Showing : Type 0 where
@@ -136,7 +147,7 @@ abbrev pub IsTable : Shows → List (Key × RaceRow) → List ℕ → Type 0
 IsTable Text rows text = ⊤
 IsTable Table rows text = text ≡ table_text rows
 
--- What is made of a hunt: its runs, what they saw, and the races that are shown in full.
+-- What is made of a hunt: its runs, what they saw, and the races and the stuck ends that are shown in full.
 pub record IsMade (way : Showing) (hunting : Hunting) (Saves : ℕ → List ℕ → Type 0) (Pages : List Fact → Type 0) (found : Found) (texts : Texts) : Type 0 where
   pub saw : Hunted
   pub hunted : IsHunted hunting.hunt saw
@@ -146,7 +157,9 @@ pub record IsMade (way : Showing) (hunting : Hunting) (Saves : ℕ → List ℕ 
   pub are_shown : AreShown hunting.hunt Saves (take way.full told) shown
   pub is_table : IsTable way.shows (told_in hunting saw) texts.text
   pub paged : Pages (page_facts (outcome hunting saw) told (length shown))
-  pub found_is : found ≡ found_of hunting saw
+  pub stuck : List ShownStuck
+  pub are_stuck : AreStuckShown hunting.hunt stuck
+  pub found_is : found ≡ found_of hunting saw (length stuck)
 
 -- The runs of the hunt are made; what they saw is shown and counted, the runs of the races that are shown in full are saved,
 -- and the page is made.

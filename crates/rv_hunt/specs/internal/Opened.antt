@@ -18,7 +18,8 @@ abbrev pub hunt_with : Asked → Contents → Result Hunt Refusal
 hunt_with asked image = do
   excluded ← skipped (elements asked.skip)
   ranges ← listed image (elements asked.named)
-  Ok (record { source = record { image = image; sites = sites image excluded; seed = asked.seed }; given = asked.given; ranges = ranges; first = asked.first; limit = asked.limit })
+  idle ← listed image (elements asked.idle)
+  Ok (record { source = record { image = image; sites = sites image excluded; seed = asked.seed }; given = asked.given; ranges = ranges; idle = idle; first = asked.first; limit = asked.limit })
 
 -- the hunt of an image and of lists that are read
 abbrev pub hunt_by : Asked → Contents → Listed → Hunt
@@ -26,6 +27,7 @@ hunt_by asked image lists = record {
   source = record { image = image; sites = sites image lists.excluded.items; seed = asked.seed };
   given = asked.given;
   ranges = lists.ranges;
+  idle = lists.idle;
   first = asked.first;
   limit = asked.limit;
 }
@@ -36,7 +38,7 @@ hunt_in asked opened = hunt_by asked opened.image opened.lists
 
 -- the same with the lists of files
 abbrev pub hunting_with : Hunt → Lists → Hunting
-hunting_with hunt lists = record { hunt = hunt; ignored = lists.ignored; expected = lists.expected }
+hunting_with hunt lists = record { hunt = hunt; ignored = lists.ignored; expected = lists.expected; aim = lists.aim }
 
 abbrev pub texts_in : Made → Texts
 texts_in made = record { text = made.text.items; notes = made.notes.items }

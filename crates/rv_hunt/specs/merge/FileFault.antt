@@ -8,7 +8,7 @@ use Rattle.rv_hunt.specs.declared.fault.ReadFault.TheVariants as table
 use Rattle.rv_hunt.specs.declared.fault.TableFault.{TableFault}
 use Rattle.rv_memory.specs.declared.flagged.ReadFault.{ReadFault}
 use Rattle.rv_hunt.specs.declared.merge.fault.FileFault.{FileFault}
-use Rattle.rv_hunt.specs.declared.merge.fault.FileFault.TheVariants.{Plain, Table, Ignore}
+use Rattle.rv_hunt.specs.declared.merge.fault.FileFault.TheVariants.{Plain, Table, Ignore, Aim}
 use Rattle.rv_hunt.specs.declared.merge.fault.IgnoreFault.{IgnoreFault}
 
 abbrev pub no_memory : FileFault
@@ -44,12 +44,14 @@ abbrev pub is_read : FileFault → Bool
 is_read (Plain fault) = plain.is_read fault
 is_read (Table fault) = false
 is_read (Ignore fault) = false
+is_read Aim = false
 
 -- the fault is that the writer failed
 abbrev pub is_write : FileFault → Bool
 is_write (Plain fault) = plain.is_write fault
 is_write (Table fault) = false
 is_write (Ignore fault) = false
+is_write Aim = false
 
 -- what is said of a file's bytes by the fault; that a device failed or memory is out says nothing of them
 abbrev pub UnlessDevice : FileFault → Type 0 → Type 0

@@ -6,7 +6,7 @@ use Rattle.rv_engines.specs.Sentences.{fault_sentence}
 use Rattle.rv_hunt.specs.declared.fault.TableKind.{TableKind}
 use Rattle.rv_hunt.specs.declared.fault.TableKind.TheVariants as table
 use Rattle.rv_hunt.specs.declared.merge.fault.FileFault.{FileFault}
-use Rattle.rv_hunt.specs.declared.merge.fault.FileFault.TheVariants.{Plain, Table, Ignore}
+use Rattle.rv_hunt.specs.declared.merge.fault.FileFault.TheVariants.{Plain, Table, Ignore, Aim}
 use Rattle.rv_hunt.specs.declared.merge.fault.IgnoreKind.{IgnoreKind}
 use Rattle.rv_hunt.specs.declared.merge.fault.IgnoreKind.TheVariants as ignore
 
@@ -25,6 +25,7 @@ abbrev pub fault_output : FileFault → Option (List ℕ)
 fault_output (Plain fault) = plain.fault_output fault
 fault_output (Table fault) = Some (codes "table line " ++ (decimal fault.line ++ (codes " " ++ table_kind_name fault.kind)))
 fault_output (Ignore fault) = Some (codes "ignore line " ++ (decimal fault.line ++ (codes " " ++ ignore_kind_name fault.kind)))
+fault_output Aim = Some (codes "ignore aim " ++ ignore_kind_name ignore.Unknown)
 
 abbrev pub table_sentence : TableKind → List ℕ
 table_sentence table.Shape = codes "the line is not the row of a race: is this a table of hunt?"
@@ -41,9 +42,11 @@ abbrev pub sentence : FileFault → List ℕ
 sentence (Plain fault) = fault_sentence fault
 sentence (Table fault) = table_sentence fault.kind
 sentence (Ignore fault) = ignore_sentence fault.kind
+sentence Aim = ignore_sentence ignore.Unknown
 
 -- the exit status: 1 for a refused file, 3 for a device that failed, 4 for want of memory
 abbrev pub status : FileFault → ℕ
 status (Plain fault) = plain.status fault
 status (Table fault) = 1
 status (Ignore fault) = 1
+status Aim = 1

@@ -10,6 +10,7 @@ use Rattle.rv_memory.specs.Chain.{◌>>=◌, want}
 use Rattle.rv_engines.specs.Words.{unless_long}
 use Rattle.rv_hunt.specs.merge.FileFault.{plainly, told_ignore}
 use Rattle.rv_hunt.specs.declared.merge.fault.FileFault.{FileFault}
+use Rattle.rv_hunt.specs.declared.merge.fault.FileFault.TheVariants as fault
 use Rattle.rv_hunt.specs.declared.merge.fault.IgnoreFault.{IgnoreFault}
 use Rattle.rv_hunt.specs.declared.merge.fault.IgnoreKind.{IgnoreKind}
 use Rattle.rv_hunt.specs.declared.merge.fault.IgnoreKind.TheVariants.{Shape, Unknown}
@@ -101,6 +102,13 @@ unfoldable pub ignores_of : Contents → List ℕ → Result (List Line) FileFau
 ignores_of image bytes = do
   text ← plainly (unless_long bytes)
   told_ignore (lines_from image 1 (pieces_of 10 text))
+
+-- ---- what is aimed at
+
+-- the line that two sides are, or why they are refused; none is, where nothing is aimed at
+abbrev pub aimed_in : Contents → Option (List ℕ × List ℕ) → Result (List Line) FileFault
+aimed_in image None = Ok []
+aimed_in image (Some pair) = if are_known image (sides_of pair) then Ok (sides_of pair ∷ []) else Err fault.Aim
 
 -- ---- which race a line fits
 

@@ -20,6 +20,8 @@ pub enum HuntFault<'a> {
     Ignored(FileFault),
     /// The table of races that are expected is refused.
     Expected(FileFault),
+    /// What is aimed at is refused.
+    Aimed(FileFault),
 }
 
 impl<'a> From<CommandFault<'a>> for HuntFault<'a> {

@@ -10,7 +10,7 @@ pub enum FolderFault {
     Write,
 }
 
-/// A folder that is there, in which a hunt makes a file for each race that it tells.
+/// A folder that is there, in which a hunt makes a file for each race and each stuck end that it shows in full.
 pub trait Folder {
     ghost use Rattle.std.specs.Prelude.{Bool, List, ℕ};
 
@@ -23,7 +23,7 @@ pub trait Folder {
     /// Whether looking, making or writing has failed.
     ghost has_failed: { Self → Bool };
 
-    /// Looks whether the folder is there and has no file that a race could have. Nothing is made.
+    /// Looks whether the folder is there and has no file that a race or a stuck end could have. Nothing is made.
     fn look(&mut self) -> Result<(), FolderFault>
         ensures used { is_used self.new ≡ is_used self.old }
         ensures failed { has_failed self.new ≡ (has_failed self.old || fails_by_write result) };
@@ -32,5 +32,9 @@ pub trait Folder {
     fn make(&mut self, number: u64, bytes: &[u8]) -> Result<(), FolderFault>
         ensures ok { OnOk result (Holds self.new number bytes.now) }
         ensures kept { (n : ℕ) (text : List ℕ) → n ≢ number → Holds self.old n text → Holds self.new n text }
+        ensures failed { has_failed self.new ≡ (has_failed self.old || fails_by_write result) };
+
+    /// Makes the file of the stuck end of that number, with these bytes. Those of races stay.
+    fn make_stuck(&mut self, number: u64, bytes: &[u8]) -> Result<(), FolderFault>
         ensures failed { has_failed self.new ≡ (has_failed self.old || fails_by_write result) };
 }

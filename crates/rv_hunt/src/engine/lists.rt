@@ -1,13 +1,16 @@
-//! The lists of files: races that are to be ignored, and races that are expected.
+//! The lists of files: races that are to be ignored, and races that are expected; and what is aimed at.
 ghost use Rattle.std.specs.Prelude.{◌≡◌, ◌||◌, false, Ok, IfOk, IfErr, IfSome};
 ghost use Rattle.std.specs.Option.{option_map_or};
 ghost use Rattle.rv_memory.specs.Flagged as flag;
+ghost use Rattle.rv_hunt.specs.engine.Asked.{asked};
 ghost use Rattle.rv_hunt.specs.engine.Hunting as spec;
 ghost use Rattle.rv_hunt.specs.merge.FileFault.{IsTold, fails_by, is_read, is_write};
+ghost use Rattle.rv_hunt.specs.merge.Ignore.{aimed_in};
 ghost use Rattle.rv_hunt.specs.merge.Merge as merge;
 
+use crate::engine::options::HuntOptions;
 use crate::merge::fault::FileFault;
-use crate::merge::ignore::{Ignores, read_ignores};
+use crate::merge::ignore::{Ignores, aimed, read_ignores};
 use crate::merge::table_file::read_expected;
 use crate::table::HuntTable;
 use rv_elf::Image;
@@ -15,11 +18,12 @@ use rv_memory::flagged::Flagged;
 use std::alloc::Global;
 use std::io::Read;
 
-/// The races that are to be ignored, and those that are expected.
+/// The races that are to be ignored, those that are expected, and the line of what is aimed at, if something is.
 #[derive(Drop)]
 pub(crate) struct Lists {
     pub(crate) ignored: Ignores,
     pub(crate) expected: Option<HuntTable>,
+    pub(crate) aim: Ignores,
 }
 
 /// Reads the list of races that are to be ignored, where one is given.
@@ -61,5 +65,22 @@ pub(crate) fn read_known<R: Read>(
             Ok(known) => Ok(Some(known)),
             Err(fault) => Err(fault),
         },
+    }
+}
+
+/// The line of what is aimed at, none where nothing is.
+pub(crate) fn read_aim(
+    alloc: Global,
+    image: &Image,
+    options: &HuntOptions<'_, '_>,
+) -> Result<Ignores, FileFault>
+    ensures ok { IfOk result (λ lines. aimed_in image.now (asked options.now).aim ≡ Ok lines) }
+    ensures err { IfErr result (IsTold (aimed_in image.now (asked options.now).aim)) }
+    ensures reader { fails_by is_read result ≡ false }
+    ensures writer { fails_by is_write result ≡ false }
+{
+    match options.aim {
+        None => Ok(Ignores::none(alloc)),
+        Some(sides) => aimed(alloc, image, sides.one.as_bytes(), sides.other.as_bytes()),
     }
 }

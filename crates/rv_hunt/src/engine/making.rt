@@ -10,6 +10,8 @@ ghost use Rattle.rv_hunt.specs.internal.MakeFault.{fails_by_write};
 ghost use Rattle.rv_hunt.specs.internal.Opened.{hunt_in, hunting_with, texts_in};
 ghost use Rattle.rv_hunt.specs.PageFacts.{page_facts};
 
+use crate::aim::Aim;
+use crate::code_seen::code_seen;
 use crate::engine::fault::MakeFault;
 use crate::engine::folder::{Folder, FolderFault};
 use crate::engine::found::Found;
@@ -17,11 +19,13 @@ use crate::engine::lists::Lists;
 use crate::engine::opening::Opened;
 use crate::engine::options::{HuntOptions, LineParts, Shows};
 use crate::engine::shown::{InFull, ShownRace};
+use crate::engine::stuck_ends::{ShownStuck, stuck_ends};
 use crate::engine::texts::{hunt_text, table_notes, table_of};
 use crate::expected::is_unexpected;
 use crate::hunt::{Hunt, Watch};
 use crate::hunted::Hunted;
 use crate::merge::parted::{Parted, part_rows};
+use crate::noted::Noted;
 use crate::page::page_text;
 use crate::page::parts::Outcome;
 use crate::row::RaceRow;
@@ -34,6 +38,7 @@ use rv_memory::flagged::WriteFault;
 use rv_memory::store::NoMemory;
 use rv_report::key::Key;
 use rv_sample::Sampler;
+use rv_walk::code::Code;
 use rv_walk::sites::Sites;
 use std::alloc::Global;
 use std::sync::Wait;
@@ -87,14 +92,15 @@ fn parted_rows(
     part_rows(alloc, symbols, &lists.ignored, &rows)
 }
 
-/// What was found, by the rows of the races that are told.
-fn found_in(lists: &Lists, rows: &[(Key, RaceRow)]) -> Found
-    ensures { result ≡ spec.found_in lists.now.expected rows.now }
+/// What was found, by the rows of the races that are told and the stuck ends that are shown.
+fn found_in(lists: &Lists, rows: &[(Key, RaceRow)], stuck: &[ShownStuck]) -> Found
+    ensures { result ≡ spec.found_in lists.now.expected rows.now (length stuck.now) }
 {
     Found {
         bugs: bugs(rows),
         benign: benign(rows),
         is_unexpected: is_unexpected(&lists.expected, rows),
+        stuck: stuck.len() as u64,
     }
 }
 
@@ -137,33 +143,40 @@ fn make_page<F: NewFile>(
     Ok(())
 }
 
-/// What a hunt shows of all that its runs saw. The schedules of the races in full are saved while these are made again, and the
-/// page is made last: what wants memory comes before it. Where a file can't be made that is noted, and the others are.
+/// What a hunt shows of all that its runs saw. The schedules of stuck ends are saved first, those of the races in full while these are
+/// made again, and the page is made last: what wants memory comes before it. Where a file can't be made that is noted, and the others
+/// are.
 fn made_of<R: Threads + Wait, D: Folder, F: NewFile, P: Watch>(
     rt: &R,
     alloc: Global,
     hunt: &Hunt,
     options: &HuntOptions<'_, '_>,
     lists: &Lists,
+    symbols: &SymbolTable,
     saw: &Hunted,
+    noted: &Noted,
     folder: &mut Option<D>,
     page: &mut Option<F>,
     watch: &mut P,
 ) -> Result<Made, PoolFault>
     requires legal { AreLegal options.now }
+    requires symbols { symbols.now ≡ hunt.now.source.image }
     requires hunted { IsHunted hunt.now saw.now }
     ensures made { IfOk result (λ made. spec.IsMade
         (spec.showing_of options.now (is_some folder.old) (is_some page.old)) (hunting_with hunt.now lists.now)
         (IfSaved D.has_failed D.Holds folder.new) (IfPaged F.has_failed F.Holds page.new) made.found (texts_in made)) }
     ensures wanted { (is_some folder.new ≡ is_some folder.old) × (is_some page.new ≡ is_some page.old) }
 {
-    let symbols = SymbolTable::new(alloc, hunt.image)?;
-    let parted = parted_rows(alloc, hunt, &symbols, lists, saw)?;
-    let told = told_rows(alloc, &symbols, &parted.told)?;
+    let code = code_seen(alloc, symbols, hunt.code, &noted.words)?;
+    let stuck = stuck_ends(alloc, hunt, symbols, &noted.stuck, folder)?;
+    let parted = parted_rows(alloc, hunt, symbols, lists, saw)?;
+    let told = told_rows(alloc, symbols, &parted.told)?;
     let outcome = Outcome {
         sites: hunt.sampler.len() as u64,
         mix: hunt.plans.mix(),
         saw,
+        code: &code,
+        stuck: &stuck,
         rows: &parted.told,
         ignored: &parted.ignored,
     };
@@ -175,7 +188,7 @@ fn made_of<R: Threads + Wait, D: Folder, F: NewFile, P: Watch>(
     );
     let full = InFull {
         hunt,
-        symbols: &symbols,
+        symbols,
         rows: first_of(&told, most),
     };
     let shown = full.show(rt, alloc, options.workers, folder, watch)?;
@@ -183,22 +196,14 @@ fn made_of<R: Threads + Wait, D: Folder, F: NewFile, P: Watch>(
         alloc,
         options.shows,
         &options.line,
-        &symbols,
+        symbols,
         &outcome,
         &told,
         &shown,
     )?;
-    make_page(
-        alloc,
-        &options.line,
-        &symbols,
-        &outcome,
-        &told,
-        &shown,
-        page,
-    )?;
+    make_page(alloc, &options.line, symbols, &outcome, &told, &shown, page)?;
     Ok(Made {
-        found: found_in(lists, &parted.told),
+        found: found_in(lists, &parted.told, &stuck.shown),
         text,
         notes,
     })
@@ -253,18 +258,27 @@ pub(crate) fn make_hunt<T: Threads + Wait + Sync, P: Watch, D: Folder, F: NewFil
     look_at_page(page)?;
     let sampler = Sampler::sites(alloc, &opened.image, &opened.lists.excluded)?;
     let sites = Sites::of(alloc, &sampler)?;
+    let code = Code::of(alloc, &opened.image)?;
+    let symbols = SymbolTable::new(alloc, &opened.image)?;
+    let aim = Aim::of(alloc, options.aim, &symbols, &code)?;
+    let mut noted = Noted::none(alloc, code.len())?;
     let hunt = Hunt {
         image: &opened.image,
         seed: options.seed,
         sampler: &sampler,
         sites: &sites,
+        code: &code,
         plans: &options.plans,
         ranges: &opened.lists.ranges,
+        idle: &opened.lists.idle,
+        aim: &aim,
         first: options.first,
         limit: options.limit,
     };
-    let saw = hunt.hunted(rt, alloc, options.workers, watch)?;
-    let made = made_of(rt, alloc, &hunt, options, lists, &saw, folder, page, watch);
+    let saw = hunt.hunted(rt, alloc, options.workers, &mut noted, watch)?;
+    let made = made_of(
+        rt, alloc, &hunt, options, lists, &symbols, &saw, &noted, folder, page, watch,
+    );
     // It has many parts, which are let go by one call.
     drop(saw);
     match made {

@@ -38,3 +38,23 @@ pub(crate) fn push_gdb_line(
     }
     Ok(())
 }
+
+/// Adds the line that opens a stuck end's schedule in GDB, where schedules are saved: behind its last entry each thread stands in its
+/// loop.
+pub(crate) fn push_stuck_gdb_line(
+    alloc: Global,
+    text: &mut Vec<u8>,
+    line: &LineParts<'_>,
+    number: u64,
+    entries: usize,
+) -> Result<(), NoMemory> {
+    if let Some(folder) = line.folder {
+        let image = line.image;
+        let nested = line.nested_image;
+        let going = format!(in alloc;
+            "  gdb: gdb-multiarch {image} -ex 'set remotetimeout 60' -ex 'target remote | rvcollide gdb {nested} {folder}/stuck-{number}.schedule' -ex 'monitor entry {entries}'\n"
+        )?;
+        text.extend_from_slice(going.as_bytes())?;
+    }
+    Ok(())
+}

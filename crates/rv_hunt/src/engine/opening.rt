@@ -16,11 +16,12 @@ use rv_prune::named_bytes::NamedBytes;
 use std::alloc::Global;
 use std::io::Read;
 
-/// The addresses that are no sites, and the bytes of the listed names.
+/// The addresses that are no sites, the bytes of the listed names, and those of the idle functions.
 #[derive(Drop)]
 pub struct Listed {
     pub excluded: Vec<u32>,
     pub ranges: NamedBytes,
+    pub idle: NamedBytes,
 }
 
 /// An image, and the lists of the line.
@@ -46,8 +47,16 @@ fn read_lists<'a>(
         Ok(excluded) => excluded,
         Err(fault) => return Err(fault),
     };
-    match read_named(alloc, image, options.named) {
-        Ok(ranges) => Ok(Listed { excluded, ranges }),
+    let ranges = match read_named(alloc, image, options.named) {
+        Ok(ranges) => ranges,
+        Err(fault) => return Err(fault),
+    };
+    match read_named(alloc, image, options.idle) {
+        Ok(idle) => Ok(Listed {
+            excluded,
+            ranges,
+            idle,
+        }),
         Err(fault) => Err(fault),
     }
 }

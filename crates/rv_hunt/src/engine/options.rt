@@ -32,6 +32,13 @@ pub struct LineParts<'a> {
     pub folder: Option<&'a str>,
 }
 
+/// Two sides of a race, each the name of a symbol or an address, as a line of an ignore list has them.
+#[derive(Clone, Copy)]
+pub struct Sides<'a> {
+    pub one: &'a str,
+    pub other: &'a str,
+}
+
 /// The options of `hunt`.
 #[derive(Drop)]
 pub struct HuntOptions<'a, 'b> {
@@ -49,6 +56,10 @@ pub struct HuntOptions<'a, 'b> {
     pub named: Option<&'a str>,
     /// Addresses in eight hexadecimal digits, with a comma between two: no hart is paused there.
     pub skip: Option<&'a str>,
+    /// Names of functions, with a comma between two: harts may wait there for ever.
+    pub idle: Option<&'a str>,
+    /// Near pairs of these sides alone are probed.
+    pub aim: Option<Sides<'a>>,
     /// What is written to the standard output.
     pub shows: Shows,
     /// How many races are shown in full.

@@ -8,7 +8,7 @@ ghost use Rattle.rv_debug.specs.Placed.{moved};
 ghost use Rattle.rv_explain.specs.Races as races;
 ghost use Rattle.rv_hunt.specs.Remade.{is_told_by};
 ghost use Rattle.rv_hunt.specs.engine.Shown.{IsRaceShown};
-ghost use Rattle.rv_hunt.specs.internal.RunWalk.{AreProbesOf, IsRunWalk};
+ghost use Rattle.rv_hunt.specs.internal.RunWalk.{AreProbesOf, IsBegin, IsRunWalk};
 ghost use Rattle.rv_tally.specs.Plans.{is_sampled};
 ghost use Rattle.rv_walk.specs.declared.course.TheConstants.{MOST_WALKED};
 ghost use Rattle.rv_hunt.specs.internal.Showing as internal;
@@ -16,9 +16,11 @@ ghost use Rattle.rv_hunt.specs.internal.Showing as internal;
 use crate::hunt::Hunt;
 use crate::kept_run::sampled_run;
 use crate::row::RaceRow;
-use crate::run_walk::{RunWalk, drawn_pairs, probes_of, walk_of};
+use crate::run_walk::{Repeats, RunWalk, begin_of, drawn_pairs, probes_of, walk_of};
 use rv_campaign::Jobs;
 use rv_collide::collider::Finished;
+use rv_collide::entry::Entry;
+use rv_collide::plan::Plan;
 use rv_collide::schedule::laws::legal_is_writable;
 use rv_collide::schedule::write_schedule;
 use rv_debug::session::Session;
@@ -27,10 +29,12 @@ use rv_explain::classes::rank;
 use rv_explain::race_block::race_block;
 use rv_explain::races::{Race, Report, reports_of};
 use rv_explain::symbol_table::SymbolTable;
+use rv_hart::machine::Machine;
 use rv_memory::flagged::Flagged;
 use rv_memory::paged::Paged;
 use rv_memory::store::NoMemory;
 use rv_report::key::Key;
+use rv_walk::code::Marks;
 use rv_walk::near_pair::NearPair;
 use rv_walk::probes::Probes;
 use std::alloc::Global;
@@ -118,13 +122,13 @@ fn first_told<'a>(key: &Key, row: &RaceRow, reports: &'a [Report]) -> Option<&'a
     reports.iter().find(|report| is_told_by(key, row, report))
 }
 
-/// The text of a run's schedule.
-fn schedule_of(alloc: Global, run: &Finished) -> Result<Vec<u8>, NoMemory>
-    requires { IsWritable (numbers run.now.plan) run.now.entries.items }
-    ensures { IfOk result (λ text. text.items ≡ schedule_text (numbers run.now.plan) run.now.entries.items) }
+/// The text of a schedule.
+pub(crate) fn written(alloc: Global, plan: &Plan, entries: &[Entry]) -> Result<Vec<u8>, NoMemory>
+    requires { IsWritable (numbers plan.now) entries.now }
+    ensures { IfOk result (λ text. text.items ≡ schedule_text (numbers plan.now) entries.now) }
 {
     let mut writer = Flagged::new(Vec::new(alloc));
-    match write_schedule(&run.plan, &run.entries, &mut writer) {
+    match write_schedule(plan, entries, &mut writer) {
         Ok(()) => Ok(writer.into_inner()),
         // Only want of memory refuses a byte.
         Err(_) => Err(NoMemory),
@@ -224,7 +228,7 @@ impl InFull<'_, '_, '_> {
     {
         let hunt = self.hunt;
         let image = self.symbols.image();
-        let schedule = schedule_of(alloc, &run)?;
+        let schedule = written(alloc, &run.plan, &run.entries)?;
         let harts = run.plan.harts;
         // A run that was made is legal: only want of memory refuses it.
         let Ok(mut session) = Session::new(alloc, image, run.plan, run.entries) else {
@@ -264,9 +268,12 @@ impl InFull<'_, '_, '_> {
         requires { is_sampled self.now.hunt.now.given.mix run ≡ false }
         ensures { IfOk result (λ parts. internal.AreShownIn self.now parts.items) }
     {
-        let walk = walk_of(alloc, self.hunt, run)?;
-        let drawn = drawn_pairs(alloc, self.hunt, run, &walk)?;
-        probed_parts(alloc, *self, run, &walk, &drawn)
+        let hunt = self.hunt;
+        let none = Marks::none(alloc, hunt.code.len())?;
+        let mut begin = begin_of(alloc, hunt, run)?;
+        let walk = walk_of(alloc, hunt, run, &mut begin, &none)?;
+        let drawn = drawn_pairs(alloc, hunt, run, &walk)?;
+        probed_parts(alloc, *self, run, &walk, begin, &drawn)
     }
 
     /// What is shown of one probe of a walk.
@@ -277,6 +284,7 @@ impl InFull<'_, '_, '_> {
         walk: &RunWalk,
         of: RunPart,
         pair: &NearPair,
+        before: u32,
     ) -> Result<ShownPart, NoMemory>
         requires walked { is_sampled self.now.hunt.now.given.mix of.run ≡ false }
         requires probes { AreProbesOf self.now.hunt.now of.run walk.now probes.old }
@@ -284,7 +292,7 @@ impl InFull<'_, '_, '_> {
         ensures same { probes.new ≡ probes.old }
         ensures shown { IfOk result (λ shown. internal.AreShownIn self.now (shown ∷ [])) }
     {
-        let part = probes.probe(alloc, pair)?;
+        let part = probes.probe(alloc, pair, before)?;
         let whole = part.whole(alloc, &walk.left.harts)?;
         legal_is_writable();
         self.part(alloc, of, whole)
@@ -297,18 +305,22 @@ fn probed_parts<'x>(
     full: InFull<'x, 'x, 'x>,
     run: u32,
     walk: &'x RunWalk,
+    begin: Machine<Paged>,
     drawn: &[NearPair],
 ) -> Result<Vec<ShownPart>, NoMemory>
     requires walked { is_sampled full.hunt.now.given.mix run ≡ false }
     requires walk { IsRunWalk full.hunt.now run walk.now }
+    requires begin { IsBegin full.hunt.now run begin }
     ensures { IfOk result (λ parts. internal.AreShownIn full.entry parts.items) }
 {
-    let mut probes = probes_of(alloc, full.hunt, run, walk)?;
+    let mut probes = probes_of(begin, full.hunt, run, walk);
     let mut parts = Vec::new(alloc);
+    let mut repeats = Repeats::none();
     for (part, pair) in (1..u32::MAX).zip(drawn) {
         let of = RunPart { run, part };
+        let before = repeats.before(pair);
         if full.names(of) {
-            let shown = full.probed(alloc, &mut probes, walk, of, pair)?;
+            let shown = full.probed(alloc, &mut probes, walk, of, pair, before)?;
             parts.push(shown)?;
         }
     }

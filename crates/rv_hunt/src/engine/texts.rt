@@ -2,15 +2,18 @@
 ghost use Rattle.std.specs.Prelude.{◌≡◌, IfOk};
 ghost use Rattle.rv_hunt.specs.HuntText as table;
 
-use crate::engine::onward::{push_gdb_line, push_keep_line};
+use crate::engine::onward::{push_gdb_line, push_keep_line, push_stuck_gdb_line};
 use crate::engine::options::LineParts;
 use crate::engine::shown::ShownRace;
+use crate::engine::stuck_ends::ShownStuck;
 use crate::page::parts::Outcome;
 use crate::row::RaceRow;
 use crate::saying::index::push_index;
 use crate::saying::lines::{push_behind, summary_line};
+use crate::saying::stuck::stuck_block_lines;
 use crate::saying::warnings::warnings_text;
 use crate::table::write_table;
+use crate::tally::Tally;
 use rv_explain::blocks::block_text;
 use rv_explain::symbol_table::SymbolTable;
 use rv_memory::flagged::Flagged;
@@ -38,6 +41,48 @@ pub(crate) fn race_text(
     Ok(text)
 }
 
+/// The block of a stuck end of that number, and how to go there.
+pub(crate) fn stuck_end_text(
+    alloc: Global,
+    line: &LineParts<'_>,
+    symbols: &SymbolTable,
+    saw: &Tally,
+    number: u64,
+    shown: &ShownStuck,
+) -> Result<Vec<u8>, NoMemory> {
+    let mut text = Vec::new(alloc);
+    for shown_line in &stuck_block_lines(alloc, symbols, saw, number, shown)? {
+        text.extend_from_slice(shown_line)?;
+        text.push(b'\n')?;
+    }
+    push_stuck_gdb_line(alloc, &mut text, line, number, shown.entries)?;
+    Ok(text)
+}
+
+/// Adds the stuck ends, where there are any: how many, and a block of each that is shown in full.
+fn push_stuck(
+    alloc: Global,
+    text: &mut Vec<u8>,
+    symbols: &SymbolTable,
+    outcome: &Outcome,
+    line: &LineParts<'_>,
+) -> Result<(), NoMemory> {
+    let ends = outcome.stuck;
+    if ends.count == 0 {
+        return Ok(());
+    }
+    let count = ends.count;
+    let runs = outcome.saw.tally.runs();
+    let first = format!(in alloc; "\nstuck ends {count} in {runs} runs\n")?;
+    text.extend_from_slice(first.as_bytes())?;
+    for (n, shown) in ends.shown.iter().enumerate() {
+        let saw = &outcome.saw.tally;
+        text.push(b'\n')?;
+        text.extend_from_slice(&stuck_end_text(alloc, line, symbols, saw, n as u64 + 1, shown)?)?;
+    }
+    Ok(())
+}
+
 /// The text of a hunt, and how a run is kept. Of the races that are told the first are shown in full.
 pub(crate) fn hunt_text(
     alloc: Global,
@@ -54,13 +99,14 @@ pub(crate) fn hunt_text(
         text.push(b'\n')?;
         text.extend_from_slice(&race_text(alloc, line, symbols, n as u64 + 1, row, race)?)?;
     }
+    push_stuck(alloc, &mut text, symbols, outcome, line)?;
     text.push(b'\n')?;
     push_behind(alloc, &mut text, symbols, outcome)?;
     push_keep_line(alloc, &mut text, line)?;
     Ok(text)
 }
 
-/// The warnings, the lines behind the blocks, and how a run is kept.
+/// The warnings, the stuck ends, the lines behind the blocks, and how a run is kept.
 pub(crate) fn table_notes(
     alloc: Global,
     line: &LineParts<'_>,
@@ -68,6 +114,7 @@ pub(crate) fn table_notes(
     outcome: &Outcome,
 ) -> Result<Vec<u8>, NoMemory> {
     let mut notes = warnings_text(alloc, symbols, outcome)?;
+    push_stuck(alloc, &mut notes, symbols, outcome, line)?;
     push_behind(alloc, &mut notes, symbols, outcome)?;
     push_keep_line(alloc, &mut notes, line)?;
     Ok(notes)

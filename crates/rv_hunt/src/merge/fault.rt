@@ -36,6 +36,8 @@ pub enum FileFault {
     Table(TableFault),
     /// The file is no ignore list.
     Ignore(IgnoreFault),
+    /// A side of what is aimed at is a name that no symbol of the image has.
+    Aim,
 }
 
 impl FileFault {
@@ -46,7 +48,7 @@ impl FileFault {
     {
         match self {
             FileFault::Plain(fault) => fault.status(),
-            FileFault::Table(_) | FileFault::Ignore(_) => 1,
+            FileFault::Table(_) | FileFault::Ignore(_) | FileFault::Aim => 1,
         }
     }
 }
@@ -109,6 +111,7 @@ impl fmt::Display for FileFault {
                     ignore_kind_name(fault.kind)
                 )
             }
+            FileFault::Aim => { write!(f, "ignore aim {}", ignore_kind_name(IgnoreKind::Unknown)) }
         }
     }
 }
@@ -141,6 +144,7 @@ pub fn sentence(fault: FileFault) -> &'static str
         FileFault::Plain(fault) => sentences::sentence(CommandFault::Plain(fault)),
         FileFault::Table(fault) => table_sentence(fault.kind),
         FileFault::Ignore(fault) => ignore_sentence(fault.kind),
+        FileFault::Aim => ignore_sentence(IgnoreKind::Unknown),
     }
 }
 

@@ -2,7 +2,7 @@
 //!
 //! A list and an image may both be long. So the words of a list have numbers, and one pass over the symbols of the image
 //! finds those of every name.
-ghost use Rattle.std.specs.Prelude.{◌≡◌, ◌≤◌, ◌||◌, ◌++◌, false, Ok, Err, IfOk, IfErr, IfSome, OnOk, [], length, filter, drop, slice_get, map, option_map};
+ghost use Rattle.std.specs.Prelude.{◌≡◌, ◌≤◌, ◌||◌, ◌++◌, false, Some, Ok, Err, IfOk, IfErr, IfSome, OnOk, [], length, filter, drop, slice_get, map, option_map};
 ghost use Rattle.std.specs.List.{AllZip};
 ghost use Rattle.std.specs.Option.{option_copied};
 ghost use Rattle.rv_elf.specs.Contents.{Contents};
@@ -320,6 +320,21 @@ fn add_line(
         lines.push(ListedLine { at, line })?;
     }
     Ok(())
+}
+
+/// The line of two sides that are aimed at, where the image has their names.
+pub fn aimed(alloc: Global, image: &Image, one: &[u8], other: &[u8]) -> Result<Ignores, FileFault>
+    ensures ok { IfOk result (λ lines. spec.aimed_in image.now (Some (one.now, other.now)) ≡ Ok lines) }
+    ensures err { IfErr result (IsTold (spec.aimed_in image.now (Some (one.now, other.now)))) }
+    ensures reader { fails_by is_read result ≡ false }
+    ensures writer { fails_by is_write result ≡ false }
+{
+    let mut lines = Vec::new(alloc);
+    add_line(alloc, &mut lines, 1, Some((one, other)))?;
+    match unknown_in(alloc, image, &lines)? {
+        Some(_) => Err(FileFault::Aim),
+        None => Ok(Ignores { lines }),
+    }
 }
 
 /// The lines of a text, whose names are not looked for yet.

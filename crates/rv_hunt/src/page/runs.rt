@@ -4,7 +4,9 @@ ghost use Rattle.rv_hunt.specs.Outcome.{sampled_numbers, walk_numbers};
 ghost use Rattle.rv_hunt.specs.PageFacts as spec;
 ghost use Rattle.rv_markup.specs.declared.markup.Fact.TheVariants as fact;
 
+use crate::code_seen::CodeSeen;
 use crate::hunted::Hunted;
+use crate::page::code::code_table;
 use crate::page::elements::{
     begin_part, begin_row, begin_rows, begin_table, cell, column, end_line, end_table, number_cell,
     number_column,
@@ -171,7 +173,7 @@ fn runs_row(page: Markup, saw: &Tally) -> Result<Markup, NoMemory>
     number_rows(page, &[runs_seen(saw)])
 }
 
-/// The rows of what was seen, and behind them the near pairs that were not met.
+/// The rows of what was seen, and behind them the near pairs that were not met, and the functions.
 fn seen_rows(
     page: Markup,
     alloc: Global,
@@ -179,6 +181,7 @@ fn seen_rows(
     sites: u64,
     all_sampled: bool,
     saw: &Hunted,
+    code: &CodeSeen,
 ) -> Result<Markup, NoMemory>
     ensures { IfOk result (λ more. more ≡ record page { facts = spec.seen_row_facts sites all_sampled saw.now page.facts }) }
 {
@@ -186,7 +189,8 @@ fn seen_rows(
     let page = sampled_rows(page, sites, &saw.tally)?;
     let page = walks_if(page, all_sampled, saw)?;
     let page = runs_row(page, &saw.tally)?;
-    near_table(end_table(page)?, alloc, symbols, saw)
+    let page = near_table(end_table(page)?, alloc, symbols, saw)?;
+    code_table(page, alloc, symbols, code)
 }
 
 /// What was seen.
@@ -207,5 +211,6 @@ pub(crate) fn seen_part(
         outcome.sites,
         all_sampled,
         outcome.saw,
+        outcome.code,
     )?)
 }

@@ -96,6 +96,7 @@ pub(crate) fn ways_words(
             let words = str::from_utf8(&place).unwrap_or("");
             Ok(format!(in alloc; "waiting at {words}")?)
         }
+        Ways::One(End::Idle) => Ok(format!(in alloc; "idle")?),
         Ways::One(End::Parked) => Ok(format!(in alloc; "parked")?),
         Ways::One(End::OutOfSteps) => Ok(format!(in alloc; "out of steps")?),
         Ways::OtherExits => Ok(format!(in alloc; "exited otherwise")?),

@@ -3,6 +3,7 @@ ghost use Rattle.std.specs.Prelude.{◌≡◌, map};
 ghost use Rattle.rv_hunt.specs.Outcome as spec;
 ghost use Rattle.rv_hunt.specs.declared.saying.lines.Seen.{Seen};
 
+use crate::code_seen::CodeSeen;
 use crate::hunted::Hunted;
 use crate::near::Fate;
 use crate::page::parts::Outcome;
@@ -238,7 +239,24 @@ fn push_ended(
     Ok(())
 }
 
-/// Adds the lines behind the blocks: which races were counted and not shown, how harts ended, and what was seen.
+/// Adds how much of the code was executed.
+fn push_code(alloc: Global, text: &mut Vec<u8>, code: &CodeSeen) -> Result<(), NoMemory> {
+    let executed = code.executed;
+    let words = code.words;
+    let line = format!(in alloc; "code {executed} of {words} words")?;
+    text.extend_from_slice(line.as_bytes())?;
+    let functions = code.functions.len();
+    if functions > 0 {
+        let run = code.run_functions();
+        let more = format!(in alloc; ", {run} of {functions} functions")?;
+        text.extend_from_slice(more.as_bytes())?;
+    }
+    text.extend_from_slice(b"\n")?;
+    Ok(())
+}
+
+/// Adds the lines behind the blocks: which races were counted and not shown, how harts ended, what was seen, and how much of the code
+/// was executed.
 pub(crate) fn push_behind(
     alloc: Global,
     text: &mut Vec<u8>,
@@ -249,5 +267,6 @@ pub(crate) fn push_behind(
     push_apart(alloc, text, "named", &named)?;
     push_apart(alloc, text, "ignored", outcome.ignored)?;
     push_ended(alloc, text, symbols, &outcome.saw.tally)?;
-    push_seen(alloc, text, outcome)
+    push_seen(alloc, text, outcome)?;
+    push_code(alloc, text, outcome.code)
 }

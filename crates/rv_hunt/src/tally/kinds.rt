@@ -51,6 +51,7 @@ fn marked(end: End) -> Mark
         End::Polls(pc) => (2, 0, pc),
         End::Parked => (3, 0, 0),
         End::OutOfSteps => (4, 0, 0),
+        End::Idle => (5, 0, 0),
     };
     Mark {
         way,

@@ -6,11 +6,11 @@ use Rattle.rv_hunt.proofs.kept_run.gathered.Goals as goal
 
 pub loop-pair-init : goal.loop-pair-init
 loop-pair-init c = record {
-  probes = c.in_ok-probes.ensures;
+  probes = c.probes_of-probes.ensures;
   gathered = record {
-    walk = c.in_ok-probes.probes;
-    is_walk = c.in_ok-probes.ensures.is_walk;
-    harts_are = c.in_ok-probes.ensures.harts_are;
+    walk = c.probes_of-probes.result;
+    is_walk = c.probes_of-probes.ensures.is_walk;
+    harts_are = c.probes_of-probes.ensures.harts_are;
     parts = [];
     are_parts = λ k d below. absurd (omega (arith, below));
     is_gathered = c.in_ok-gathered.ensures c.args.hunt.now;

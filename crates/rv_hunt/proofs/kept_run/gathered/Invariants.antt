@@ -1,5 +1,4 @@
 -- the parts so far, of the same walk
-use Rattle.std.proofs.Common.{◌≡◌, All, List, ℕ}
 use Rattle.rv_hunt.specs.internal.Gathered.{AreGathered}
 use Rattle.rv_hunt.specs.internal.RunWalk.{AreProbesOf}
 use Rattle.rv_hunt.proofs.kept_run.gathered.Given as goal

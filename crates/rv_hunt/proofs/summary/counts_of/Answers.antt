@@ -1,4 +1,4 @@
-use Rattle.std.proofs.Common.{arith, length}
+use Rattle.std.proofs.Common.{arith}
 use Rattle.std.proofs.lemmas.Option.{slice_get-get_or}
 use Rattle.rv_hunt.proofs.SummaryLemmas.{counted_next}
 use Rattle.rv_hunt.proofs.summary.counts_of.Goals as goal

@@ -6,12 +6,12 @@ use Rattle.rv_hunt.proofs.engine.shown.probed_parts.Goals as goal
 
 pub loop-part-init : goal.loop-part-init
 loop-part-init c = record {
-  probes = c.in_ok-probes.ensures;
+  probes = c.probes_of-probes.ensures;
   parts = subst (AreShownIn c.args.full) (sym c.new-parts.ensures.items) (no_part c.args.full);
 }
 
-pub loop-part-preserved-in-Continue-branch-3 : goal.loop-part-preserved-in-Continue-branch-3
-loop-part-preserved-in-Continue-branch-3 c = record {
+pub loop-part-preserved-in-Continue-branch-2 : goal.loop-part-preserved-in-Continue-branch-2
+loop-part-preserved-in-Continue-branch-2 c = record {
   probes = subst (AreProbesOf c.args.full.hunt.now c.args.run c.args.walk.now) (sym c.probed.ensures.same) c.loop-part.invariant.probes;
   parts = subst (AreShownIn c.args.full) (sym c.in_ok-push.ensures.items) (more_parts c.args.full c.loop-part.parts.items c.in_ok-shown.shown c.loop-part.invariant.parts c.in_ok-shown.ensures.shown);
 }

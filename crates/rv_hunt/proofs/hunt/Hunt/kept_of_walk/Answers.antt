@@ -5,7 +5,7 @@ use Rattle.rv_hunt.proofs.hunt.Hunt.kept_of_walk.Goals as goal
 
 pub returns : goal.returns
 returns c =
-    let w = c.in_ok-walk.ensures in
+    let w = c.in_ok-walk.ensures.walk in
     let g = c.in_ok-gathered.ensures in
     record {
       walk = w.walk;

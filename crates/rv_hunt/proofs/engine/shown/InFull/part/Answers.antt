@@ -14,6 +14,6 @@ returns c =
     ap run_of c.in-Ok.ensures.ok ∙ ap (λ (i : Contents). run_of (placed i (numbers c.args.run.plan) c.args.run.entries.items 0)) c.image-image.ensures
     in
     record {
-      schedule_is = c.in_ok-schedule.ensures;
+      schedule_is = rw c.deref.ensures.value at c.in_ok-schedule.ensures;
       races_are = subst (λ (r : Run). All (IsPlaced full c.args.of.run r c.args.run.plan.harts) c.in_ok-races.races.items) session_is c.in_ok-races.ensures;
     }

@@ -9,7 +9,7 @@ use Rattle.rv_walk.proofs.LongerLemmas.{accesses_longer, last_made, with_steps}
 use Rattle.rv_walk.proofs.ResultLemmas.{on_err}
 use Rattle.rv_walk.proofs.StandsLemmas.{at_run, runs_within}
 use Rattle.rv_walk.proofs.StepLemmas.{inside_after, only_memory}
-use Rattle.rv_walk.proofs.walk.Walk.step.Goals as goal
+use Rattle.rv_walk.proofs.walk.Walk.advance.Goals as goal
 
 pub step-requires-clause-hart : goal.step-requires-clause-hart
 step-requires-clause-hart g c =
