@@ -4,6 +4,7 @@ A contract stands in the code: the clauses of a function (`requires`, `ensures`)
 it is looked up by the `use` lines of its file; a definition leads to the names in its own text; and so on to the end. Names of the toolchain and of
 types of the code lead nowhere, and neither do those of `specs/internal/`, which no public contract cites.
 """
+import itertools
 import pathlib
 import re
 
@@ -111,6 +112,15 @@ def models():
 MODELS = models()
 
 
+def head_of(text):
+    """A function's signature and its clauses: all before its body."""
+    lines = text.splitlines(keepends=True)
+    at = next((at for at, line in enumerate(lines) if line.rstrip().endswith(("{", ";", "{}"))), 0)
+    if not any(re.match(r"\s+(?:requires|ensures)\b", line) for line in lines[: at + 1]):
+        return "".join(lines[: at + 1])
+    return "".join(itertools.takewhile(lambda line: not re.match(r"\s*\{", line), lines))
+
+
 def contract(path):
     """The places of a function that is named as CRATE::..::NAME: its signature and its clauses, each with the `use` lines of its file."""
     crate, *inner, name = path.split("::")
@@ -125,8 +135,7 @@ def contract(path):
             kind = text[begin : text.find("\n", begin)]
             if kinds and not any(re.search(rf"\b{it}\b", kind) for it in kinds):
                 continue
-            end = re.compile(r"(?m)^[ ]*\{").search(text, found.start())
-            yield text[found.start() : end.start() if end else len(text)], imports(text)
+            yield head_of(text[found.start() :]), imports(text)
 
 
 def cited(path):
