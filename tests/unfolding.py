@@ -21,8 +21,13 @@ def file_of(module):
     parts = module.split(".")
     if len(parts) < 4 or parts[0] != "Rattle" or parts[2] != "specs" or parts[3] in ("declared", "internal"):
         return None
-    file = CRATES / parts[1] / "specs" / ("/".join(parts[3:]) + ".antt")
-    return file if file.exists() else None
+    specs = CRATES / parts[1] / "specs"
+    file = specs / ("/".join(parts[3:]) + ".antt")
+    if file.exists():
+        return file
+    # A crate passes on the definitions of a lower one by a line of its root.
+    passed = re.search(rf"(?m)^pub use (Rattle\.[\w.]+\.{parts[3]})$", (specs / "Lib.antt").read_text()) if (specs / "Lib.antt").exists() else None
+    return file_of(passed[1]) if passed else None
 
 
 def imports(text):
