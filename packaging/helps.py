@@ -108,9 +108,13 @@ def version(program):
     return number
 
 
-def changes(number):
-    """The day of a version, and what CHANGELOG.md says of it, an item a change."""
-    found = re.search(rf"(?ms)^## {re.escape(number)}, (\d{{4}}-\d\d-\d\d)$(.*?)(?=^## |\Z)", (TOP / "CHANGELOG.md").read_text())
-    if not found:
-        sys.exit(f"CHANGELOG.md has no heading '## {number}, YEAR-MONTH-DAY'")
-    return found[1], [it.removeprefix("- ").replace("\n", " ") for it in re.findall(r"(?m)^- .*(?:\n  .*)*", found[2])]
+def releases():
+    """The versions that CHANGELOG.md has, the last one first: of each its number, its day, and its changes."""
+    found = re.findall(r"(?ms)^## (\d+\.\d+\.\d+), (\d{4}-\d\d-\d\d)$(.*?)(?=^## |\Z)", (TOP / "CHANGELOG.md").read_text())
+    return [(number, day, [it[2:].replace("\n  ", " ") for it in re.findall(r"(?m)^- .*(?:\n  .*)*", text)]) for number, day, text in found]
+
+
+def released(number):
+    """The day of a version."""
+    days = [day for it, day, _ in releases() if it == number]
+    return days[0] if days else sys.exit(f"CHANGELOG.md has no heading '## {number}, YEAR-MONTH-DAY'")
