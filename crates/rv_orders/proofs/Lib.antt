@@ -1,0 +1,4 @@
+pub mod ActLemmas
+pub mod EndLemmas
+pub mod RunnerLemmas
+pub mod StackLemmas

@@ -1,0 +1,6 @@
+use Rattle.std.proofs.Common.{true}
+use Rattle.rv_orders.specs.internal.Ends.{AreFirstEnds}
+use Rattle.rv_orders.proofs.end.ends_by_acts.Given as goal
+
+abbrev pub invariant-loop-h : goal.invariant-loop-h
+invariant-loop-h g l = AreFirstEnds true l.machine.state l.h l.ends.items
