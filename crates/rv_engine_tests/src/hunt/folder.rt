@@ -21,4 +21,8 @@ impl Folder for NoFolder {
     fn make(&mut self, _: u64, _: &[u8]) -> Result<(), FolderFault> {
         Err(FolderFault::Write)
     }
+
+    fn make_stuck(&mut self, _: u64, _: &[u8]) -> Result<(), FolderFault> {
+        Err(FolderFault::Write)
+    }
 }

@@ -56,6 +56,8 @@ fn options(rt: &impl Abort) -> HuntOptions<'static, 'static> {
         workers: 2,
         named: None,
         skip: None,
+        idle: None,
+        aim: None,
         shows: Shows::Text,
         blocks: 50,
         line: LineParts {
