@@ -1,4 +1,4 @@
--- The one word that a single line gives at an address, or why it gives none.
+-- The one word that a line gives by itself, at an address, or why it gives none.
 use Rattle.std.specs.Prelude.{ℕ, ⊤, if◌then◌else◌, Option, Some, None, Result, Ok, Err, List, ◌∷◌}
 use Rattle.std.specs.List.{list_all}
 use Rattle.std.specs.Char.{is_ascii}

@@ -1,4 +1,4 @@
--- The faults of a line of source, in the order in which they are reported.
+-- The faults of a line of source, in the order in which they are told.
 use Rattle.std.specs.Prelude.{ℕ, nat_le, if◌then◌else◌, Result, Ok, Err}
 use Rattle.rv_asm.specs.declared.statement.AsmKind.{AsmKind}
 use Rattle.rv_asm.specs.declared.statement.AsmKind.TheVariants as kind

@@ -1,4 +1,5 @@
--- What holds of lines, sources and images: each word's line is read back; each statement's bytes are at its address; where a symbol ends.
+-- What holds of lines, sources and images: each word's line is read back; each statement's bytes stand at its
+-- address; where a symbol ends.
 use Rattle.std.specs.Prelude.{◌≡◌, ℕ, ◌^◌, ◌<◌, None, Some, Ok, List, map, length, take, drop}
 use Rattle.std.specs.List.{AllByRecursion}
 use Rattle.rv_isa.specs.Decoded.{decoded}

@@ -1,4 +1,4 @@
--- The address of each line of a source, and of each label.
+-- Where each line of a source stands, and where each label does.
 use Rattle.std.specs.Prelude.{ℕ, ◌+◌, ◌-◌, Bool, ◌&&◌, ◌==◌, nat_le, if◌then◌else◌, List, [], ◌∷◌, length, slice_index, Option, Some, None, option_map, Result, Ok, Err}
 use Rattle.std.specs.List.{onto_first, find, filter_map}
 use Rattle.std.specs.Str.{bytes_eq}

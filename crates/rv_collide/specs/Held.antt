@@ -1,4 +1,4 @@
--- Reservations, defined a second time: by what was done before.
+-- Reservations, told a second time: by what was done before.
 use Rattle.std.specs.Prelude.{◌≡◌, ◌≢◌, ℕ, ◌<◌, Bool, true, false, Option, Some, None, option_map, option_and_then, List, slice_get}
 use Rattle.std.specs.Option.{option_map_or}
 use Rattle.rv_collide.specs.Entries.{stepped_at}

@@ -1,4 +1,4 @@
--- A list behind a prefix: what a run that went on from the middle of another is, seen from that other's start.
+-- A list behind a prefix: what a run that went on from the middle of another is, told from that other's start.
 use Rattle.std.specs.Prelude.{◌≡◌, ℕ, ◌+◌, ◌≤◌, ◌==◌, max, true, Some, List, [], ◌∷◌, ◌++◌, length, map, count_by}
 use Rattle.std.specs.FinSet.{len}
 use Rattle.rv_break.specs.declared.claim.Seen.{Seen}

@@ -1,4 +1,4 @@
--- What is reported of a list of entries that no calls make.
+-- What is told of a list of entries that no calls make.
 use Rattle.std.specs.Prelude.{◌≡◌, ◌≢◌, ℕ, ◌<◌, ⊤, Some, Result, Err, IsOkAnd, List, length, slice_get, take}
 use Rattle.rv_collide.specs.Forced.{Setting, forced}
 use Rattle.rv_collide.specs.Legal.{IsLegal, call_of}

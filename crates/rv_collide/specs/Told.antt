@@ -1,4 +1,4 @@
--- A schedule that is gone through again, entry by entry.
+-- A schedule that is told again, entry by entry.
 use Rattle.std.specs.Prelude.{◌≡◌, ℕ, List, take}
 use Rattle.rv_collide.specs.Stored.{Stored}
 use Rattle.rv_collide.specs.declared.entry.Entry.{Entry}

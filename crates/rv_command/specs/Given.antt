@@ -1,4 +1,4 @@
--- Each value that `clap` finds in a line is among its words. `clap` has a specification of its own, by which Command says what a line
+-- That each value which `clap` finds in a line stands in its words. `clap` has a specification of its own, by which Command says what a line
 -- asks for; this is the check of that in plain words.
 use Rattle.std.specs.Prelude.{◌≡◌, ◌⊎◌, ◌+◌, ℕ, Bool, true, false, IfSome, Contains, List, [], ◌∷◌, ◌++◌, drop, slice_get, Some, codes}
 use Rattle.std.specs.List.{list_any}

@@ -1,4 +1,4 @@
--- A session has one text of answers to given lines, unless memory runs out.
+-- A session has one text of answers to given lines, but for want of memory.
 use Rattle.std.specs.Prelude.{◌≡◌, ℕ, ◌⊎◌, ⊤, List, [], ◌∷◌}
 use Rattle.rv_debug.specs.Answered.{fault_text}
 use Rattle.rv_debug.specs.Placed.{Placed}

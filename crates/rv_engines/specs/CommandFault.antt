@@ -1,4 +1,4 @@
--- Why `run` is refused. A text that a refusal shows is its bytes.
+-- Why `run` is refused. A text that a refusal tells is its bytes.
 use Rattle.std.specs.Prelude.{◌≡◌, ⊤, ℕ, Bool, true, false, Option, Some, List, ◌++◌, codes, Result, Ok, Err}
 use Rattle.std.specs.Result.{IsOk}
 use Rattle.rv_campaign.specs.declared.runs.CampaignFault.{CampaignFault}

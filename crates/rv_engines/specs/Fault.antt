@@ -1,4 +1,4 @@
--- Which fault a command may report, and which device it says has failed.
+-- Which fault a command may tell, and which device it says has failed.
 use Rattle.std.specs.Prelude.{◌≡◌, ⊤, Bool, true, false, if◌then◌else◌, Result, Ok, Err}
 use Rattle.rv_asm.specs.declared.fault.AsmFault.{AsmFault}
 use Rattle.rv_asm.specs.declared.statement.AsmKind.{AsmKind}

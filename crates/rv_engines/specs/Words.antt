@@ -1,4 +1,4 @@
--- What `words` writes of its input, or the fault that it reports.
+-- What `words` writes of its input, or the fault that it tells.
 use Rattle.std.specs.Prelude.{ℕ, nat_lt, if◌then◌else◌, Result, Ok, Err, List, length}
 use Rattle.rv_hart.specs.State.{State}
 use Rattle.rv_hart.specs.Texts.{state_text}

@@ -1,4 +1,4 @@
--- What is shown of an entry of a run: of the state before it and the state after it.
+-- What is told of an entry of a run: of the state before it and the state after it.
 use Rattle.std.specs.Prelude.{◌≡◌, ℕ, ◌+◌, ◌==◌, if◌then◌else◌, Option, Some, None, option_and_then, option_map, unwrap_or, slice_get}
 use Rattle.rv_collide.specs.Entries.{stepped_hart}
 use Rattle.rv_collide.specs.declared.entry.Entry.{Entry}

@@ -1,4 +1,4 @@
--- The text that describes the harts' registers to GDB. (GDB's manual, "Target Description Format".)
+-- The text that tells GDB what the harts' registers are. (GDB's manual, "Target Description Format".)
 use Rattle.std.specs.Prelude.{ℕ, ◌+◌, ◌==◌, min, nat_le, nat_lt, if◌then◌else◌, ◌&&◌, List, ◌++◌, codes, length, take, drop}
 use Rattle.std.specs.List.{flat_map, range_with_len}
 use Rattle.std.specs.Fmt.{decimal}

@@ -1,4 +1,4 @@
--- Where the run stops, and what is reported of it.
+-- Where the run stops, and what is told of it.
 use Rattle.std.specs.Prelude.{ℕ, ◌+◌, ◌==◌, if◌then◌else◌, List, [], ◌∷◌, ◌++◌, codes}
 use Rattle.rv_gdb.specs.declared.point.Kind.{Kind}
 use Rattle.rv_gdb.specs.declared.point.Kind.TheVariants.{Software, Hardware, Write, Read, Access}

@@ -1,4 +1,4 @@
--- What a common step does.
+-- What a common step comes to.
 use Rattle.std.specs.Prelude.{◌≡◌, ℕ, false, true, Option, Some, None}
 use Rattle.rv_hart.specs.NextAccess.{next_plain}
 use Rattle.rv_hart.specs.State.{State}

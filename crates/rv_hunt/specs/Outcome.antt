@@ -1,4 +1,4 @@
--- The outcome of a hunt, and its sums.
+-- What a hunt came to, and its sums.
 use Rattle.std.specs.Prelude.{ℕ, ◌+◌, List, [], ◌∷◌, length}
 use Rattle.rv_collide.specs.Counts.{saturated}
 use Rattle.rv_hunt.specs.Near.{how_many}

@@ -1,4 +1,4 @@
--- The run that a row of a hunt's table names, made again.
+-- The run that a row of a hunt's table is told by, made again.
 use Rattle.std.specs.Prelude.{ℕ, Bool, ◌==◌, ◌&&◌, Option, option_map, find, length, List}
 use Rattle.rv_collide.specs.declared.ending.Ending.{Ending}
 use Rattle.rv_elf.specs.Contents.{Contents}

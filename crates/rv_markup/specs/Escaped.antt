@@ -1,4 +1,4 @@
--- How a text is put into a page: as text, whatever its bytes are.
+-- How a text stands in the page: as text, whatever its bytes are.
 use Rattle.std.specs.Prelude.{ℕ, Bool, ◌==◌, ◌||◌, ◌&&◌, not, nat_lt, if◌then◌else◌, List, [], ◌∷◌, ◌++◌, codes}
 use Rattle.std.specs.List.{flat_map}
 use Rattle.rv_text.specs.Hexadecimal.{byte_digits}

@@ -1,4 +1,4 @@
--- Steps that may be refused, one after another: the answer is the first refusal.
+-- Steps that may be refused, one after another: the first refusal is what is told.
 use Rattle.std.specs.Prelude.{Bool, if◌then◌else◌, Result, Ok, Err}
 
 infixl 10 ◌>>=◌

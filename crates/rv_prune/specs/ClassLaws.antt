@@ -1,4 +1,4 @@
--- What follows from the rules of the classes.
+-- What the rules of the classes come to.
 use Rattle.std.specs.Prelude.{◌≡◌, ◌↔◌, ℕ, ◌+◌, ◌<◌, ◌≤◌, true, bit_and, IsTrue}
 use Rattle.rv_collide.specs.declared.ending.Ending.{Ending}
 use Rattle.rv_hart.specs.Conflict.{Touches}

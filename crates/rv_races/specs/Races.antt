@@ -1,4 +1,4 @@
--- The races of a run: its reports race by race, and the one that represents each race.
+-- The races of a run: its reports race by race, and the one that each race is told by.
 use Rattle.std.specs.Prelude.{◌≡◌, ℕ, ◌+◌, Bool, nat_lt, if◌then◌else◌, Option, option_and_then, option_map, Some, List, [], ◌∷◌, length, slice_get, filter_map}
 use Rattle.std.specs.List.{fold, range_with_len}
 use Rattle.rv_collide.specs.Counts.{saturated}

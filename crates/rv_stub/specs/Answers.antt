@@ -1,4 +1,4 @@
--- What is answered to a packet, and the state of the talk after it.
+-- What is answered to a packet, and how the talk stands after it.
 use Rattle.std.specs.Prelude.{◌≡◌, ℕ, ◌+◌, ◌⊎◌, ◌||◌, Bool, not, true, false, nat_le, is_some, IsTrue, if◌then◌else◌, Option, Some, None, option_and_then, List, [], ◌∷◌, ◌++◌, codes, length, slice_get}
 use Rattle.std.specs.List.{list_all}
 use Rattle.std.specs.Option.{option_map_or}

@@ -1,4 +1,4 @@
--- How a hart is paused at a place of a run, and what is reported of it.
+-- How a hart is paused at a place of a run, and what is told of it.
 use Rattle.std.specs.Prelude.{ℕ, ◌==◌, zero, suc, if◌then◌else◌, Option, Some, None, option_and_then, option_map, List, ◌++◌, codes, slice_get}
 use Rattle.std.specs.Option.{option_map_or}
 use Rattle.rv_collide.specs.Grammar.{slot_text}

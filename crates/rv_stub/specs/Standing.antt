@@ -1,4 +1,4 @@
--- The state of a talk between two packets.
+-- How a talk stands between two packets.
 use Rattle.std.specs.Prelude.{ℕ, ◌&&◌, Bool, true, nat_lt, Option, None, List, []}
 use Rattle.std.specs.Option.{option_map_or}
 use Rattle.rv_debug.specs.Placed.{Placed}

@@ -1,4 +1,4 @@
--- Which symbol of an image names an address.
+-- Which symbol of an image an address is told by.
 use Rattle.std.specs.Prelude.{ℕ, ◌+◌, Bool, false, not, ◌&&◌, ◌||◌, ◌==◌, nat_le, nat_lt, if◌then◌else◌, Option, Some, None, option_and_then, List, [], ◌∷◌, filter, find}
 use Rattle.std.specs.List.{fold}
 use Rattle.rv_elf.specs.Contents.{Contents, Named}

@@ -1,4 +1,4 @@
--- Which of several reports represents a race.
+-- Which of several reports a race is told by.
 use Rattle.std.specs.Prelude.{ℕ, nat_lt, if◌then◌else◌}
 
 -- Of two with the ranks of their classes, the later only where its class is the stronger: it has the lower rank.

@@ -1,4 +1,4 @@
--- The pieces of a text between separators.
+-- The pieces of a text that a separator stands between.
 use Rattle.std.specs.Prelude.{◌≡◌, ℕ, false, ◌==◌, List, [], ◌∷◌, ◌++◌}
 use Rattle.std.specs.List.{list_any, slice_split}
 

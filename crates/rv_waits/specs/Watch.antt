@@ -1,4 +1,4 @@
--- What is kept of the harts' steps, so that it is known at once which of them wait.
+-- What is kept of the harts' steps, so that it can be told at once which of them wait.
 use Rattle.std.specs.Prelude.{◌≡◌, ℕ, true, Some, List, length, slice_get}
 use Rattle.rv_hart.specs.State.{State}
 use Rattle.rv_waits.specs.Round.{IsWhereItWas}

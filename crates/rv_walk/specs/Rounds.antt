@@ -1,4 +1,4 @@
--- What is reported of a hart that waits.
+-- What is told of a hart that waits.
 use Rattle.std.specs.Prelude.{ℕ, IsTrue, ◌↔◌}
 use Rattle.rv_hart.specs.State.{State}
 use Rattle.rv_waits.specs.Round.{IsRound}

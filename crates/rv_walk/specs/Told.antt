@@ -1,4 +1,4 @@
--- The near pairs that are reported of a walk.
+-- The near pairs that are told of a walk.
 use Rattle.std.specs.Prelude.{◌≡◌, ℕ, Bool, Some, List, min, max, slice_get}
 use Rattle.std.specs.List.{All}
 use Rattle.std.specs.List.Sorted.{IsSortedBy}

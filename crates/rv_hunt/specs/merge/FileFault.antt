@@ -1,4 +1,4 @@
--- Which fault may be reported of a file of a hunt, and which device it says has failed.
+-- Which fault may be told of a file of a hunt, and which device it says has failed.
 use Rattle.std.specs.Prelude.{◌≡◌, ⊤, Bool, false, Result, Ok, Err}
 use Rattle.rv_engines.specs.Fault as plain
 use Rattle.rv_engines.specs.declared.fault.Fault.{Fault}

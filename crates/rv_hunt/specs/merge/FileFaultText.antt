@@ -1,4 +1,4 @@
--- What is reported of a file's fault, and the exit status.
+-- What is told of a file's fault, and the exit status.
 use Rattle.std.specs.Prelude.{ℕ, Option, Some, List, ◌++◌, codes}
 use Rattle.std.specs.Fmt.{decimal}
 use Rattle.rv_engines.specs.FaultText as plain
