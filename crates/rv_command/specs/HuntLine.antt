@@ -1,5 +1,6 @@
 -- The options of `hunt`: what each value means.
-use Rattle.std.specs.Prelude.{ℕ, ◌+◌, ◌-◌, ◌||◌, Bool, List, [], ◌∷◌, Option, Some, None, option_and_then, option_map, codes, if◌then◌else◌}
+use Rattle.std.specs.Prelude.{ℕ, ◌+◌, ◌-◌, ◌||◌, Bool, List, [], ◌∷◌, Option, Some, None, option_and_then, option_map, codes, is_some, if◌then◌else◌}
+use Rattle.std.specs.List.{list_all}
 use Rattle.clap.specs.Walk.{is_empty}
 use Rattle.clap.specs.Words.{Row, Text, first_of}
 use Rattle.rv_text.specs.Pieces.{pieces_of}
@@ -14,7 +15,7 @@ use Rattle.rv_hart.specs.declared.machine.TheConstants.{MOST_HARTS}
 use Rattle.rv_command.specs.Values.{flag_at, if_given, number_in, number_if, number_or}
 use Rattle.rv_command.specs.declared.arguments.Aim.{Aim}
 use Rattle.rv_command.specs.declared.command.hunt.HuntLine.{HuntLine}
-use Rattle.rv_command.specs.declared.command.hunt.TheConstants.{DEFAULT_BLOCKS, DEFAULT_BUDGET, DEFAULT_SEED, LAST_RUN, MOST_BLOCKS}
+use Rattle.rv_command.specs.declared.command.hunt.TheConstants.{DEFAULT_BLOCKS, DEFAULT_BUDGET, DEFAULT_SEED, LAST_RUN, MOST_BLOCKS, MOST_CODE}
 use Rattle.rv_command.specs.declared.command.run.TheConstants.{MOST_SEED}
 
 -- What a line of `hunt` asks for, beside its image.
@@ -39,6 +40,7 @@ pub record Hunting : Type 0 where
   pub checks : Bool
   pub checks_all : Bool
   pub check_ends : Bool
+  pub right : Option Text
   pub expect : Option Text
   pub is_quiet : Bool
 
@@ -69,6 +71,7 @@ hunting line = record {
   checks = line.checks;
   checks_all = line.checks_all;
   check_ends = line.check_ends;
+  right = option_map (λ text. text.now) line.right;
   expect = option_map (λ path. path.0.now) line.expect;
   is_quiet = line.is_quiet;
 }
@@ -123,9 +126,24 @@ aim_by sampled text = if sampled then None else sides_in text
 abbrev pub aim_at : List Row → Option (Option (Text × Text))
 aim_at rows = if_given (aim_by (flag_at (codes "sampled") rows)) (first_of (codes "aim") rows)
 
+-- an exit code in decimal digits
+abbrev pub is_code : Text → Bool
+is_code text = is_some (number_in 0 MOST_CODE text)
+
+-- CODES: exit codes with commas (44) between them
+abbrev pub are_codes : Text → Bool
+are_codes text = list_all is_code (pieces_of 44 text)
+
+-- such a list stays as it stands
+abbrev pub right_by : Text → Option Text
+right_by text = if are_codes text then Some text else None
+
+abbrev pub right_at : List Row → Option (Option Text)
+right_at rows = if_given right_by (first_of (codes "right") rows)
+
 abbrev pub hunting_at : List Row → Option Hunting
 hunting_at rows =
-    option_and_then (λ harts. option_and_then (λ seed. option_and_then (λ first. option_and_then (λ limit. option_and_then (λ workers. option_and_then (λ lengths. option_and_then (λ slots. option_and_then (λ aim. option_map (λ blocks.
+    option_and_then (λ harts. option_and_then (λ seed. option_and_then (λ first. option_and_then (λ limit. option_and_then (λ workers. option_and_then (λ lengths. option_and_then (λ slots. option_and_then (λ aim. option_and_then (λ blocks. option_map (λ right.
     record {
       harts = harts;
       seed = seed;
@@ -147,9 +165,11 @@ hunting_at rows =
       checks = flag_at (codes "check") rows;
       checks_all = flag_at (codes "check-all") rows;
       check_ends = flag_at (codes "check-ends") rows;
+      right = right;
       expect = first_of (codes "expect") rows;
       is_quiet = flag_at (codes "quiet") rows;
     })
+    (right_at rows))
     (number_or DEFAULT_BLOCKS (codes "blocks") 0 MOST_BLOCKS rows))
     (aim_at rows))
     (number_if (codes "slots") 1 MOST_SLOTS rows))

@@ -13,6 +13,7 @@ use Rattle.rv_command.specs.declared.command.complaint.Complaint.{Complaint}
 use Rattle.rv_command.specs.declared.command.complaint.Complaint.TheVariants as complaint
 use Rattle.rv_collide.specs.declared.plan.TheConstants.{MOST_ARMS, MOST_PAUSE, MOST_STEPS}
 use Rattle.rv_command.specs.declared.command.exhibit.TheConstants.{MOST_ENDING}
+use Rattle.rv_command.specs.declared.command.hunt.TheConstants.{MOST_CODE}
 use Rattle.rv_command.specs.declared.command.Notice.{Notice}
 use Rattle.rv_command.specs.declared.command.Notice.TheVariants.{Answer, Refusal}
 use Rattle.rv_engines.specs.Shown.{shown}
@@ -64,6 +65,9 @@ complaint_output (complaint.Lengths value) =
 complaint_output (complaint.Aim value) =
     Some (codes "error: invalid value '" ++ (shown value.now ++ codes "' for '--aim': it is A,B: two names or addresses with one comma\n"))
 complaint_output complaint.SampledAim = Some (codes "error: '--aim' cannot be used with '--sampled': sampled runs make no probes\n")
+complaint_output (complaint.Right value) =
+    Some (codes "error: invalid value '" ++ (shown value.now ++ (codes "' for '--right': it is a list of decimal numbers from 0 to "
+    ++ (decimal MOST_CODE ++ codes " with commas between them\n"))))
 complaint_output (complaint.Keep value runs) =
     Some (codes "error: invalid value '" ++ (shown value.now ++ (codes "' for '--keep': it is less than '--runs', which is "
     ++ (decimal runs ++ codes "\n"))))

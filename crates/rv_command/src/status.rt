@@ -15,7 +15,7 @@ pub enum Status {
     /// A file or stream can't be read or written.
     Stream,
     Memory,
-    /// There is a race or a stuck end that the command line asks for.
+    /// There is a race, a stuck end, a trap or a wrong exit code that the command line asks for.
     Found,
 }
 

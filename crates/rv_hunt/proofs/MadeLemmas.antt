@@ -29,7 +29,7 @@ outcome_is hunting saw n mix rows ignored a b c d = rw (a, b, c, d)
 
 pub made_is : (way : Showing) (hunting : Hunting) (saw : Hunted) (Saves : ℕ → List ℕ → Type 0) (Pages : List Fact → Type 0) (rows told full : List Row) (o : Outcome) (shown : List ShownRace) (stuck : List ShownStuck) (found : Found) (texts : Texts) → IsHunted hunting.hunt saw
     → rows ≡ told_in hunting saw → AreInOrder hunting.hunt.source.image rows told → full ≡ take way.full told → o ≡ outcome hunting saw → AreShown hunting.hunt Saves full shown
-    → IsTable way.shows o.rows texts.text → Pages (page_facts o told (length shown)) → AreStuckShown hunting.hunt stuck → found ≡ found_in hunting.expected rows (length stuck)
+    → IsTable way.shows o.rows texts.text → Pages (page_facts o told (length shown)) → AreStuckShown hunting.hunt stuck → found ≡ found_in hunting.expected rows (length stuck) found.has_wrong_end
     → IsMade way hunting Saves Pages found texts
 made_is way hunting saw Saves Pages rows told full o shown stuck found texts hunted are order first came are_shown table paged are_stuck found_is = record {
   saw = saw;
@@ -42,7 +42,7 @@ made_is way hunting saw Saves Pages rows told full o shown stuck found texts hun
   paged = subst (λ (x : Outcome). Pages (page_facts x told (length shown))) came paged;
   stuck = stuck;
   are_stuck = are_stuck;
-  found_is = found_is ∙ ap (λ (rs : List Row). found_in hunting.expected rs (length stuck)) are;
+  found_is = found_is ∙ ap (λ (rs : List Row). found_in hunting.expected rs (length stuck) found.has_wrong_end) are;
 }
 
 never : {P : Type 0} → false ≡ true → P

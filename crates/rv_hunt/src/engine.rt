@@ -30,6 +30,7 @@ use std::io::{Read, Write};
 use std::sync::Wait;
 use std::thread::Threads;
 
+mod beside;
 pub mod fault;
 pub mod folder;
 pub mod found;

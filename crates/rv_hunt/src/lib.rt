@@ -12,6 +12,7 @@
 
 pub mod aim;
 pub mod code_seen;
+pub mod end_runs;
 pub mod engine;
 pub mod expected;
 pub mod fault;

@@ -1,23 +1,26 @@
 //! What is noted of the runs of a hunt beside their sums.
+use crate::end_runs::{EndRuns, RightCodes};
 use crate::kept_run::KeptRun;
 use crate::stuck::StuckTable;
 use rv_memory::store::NoMemory;
 use rv_walk::code::Marks;
 use std::alloc::Global;
 
-/// Which words of code the runs executed, by their numbers, and the stuck ends.
+/// Which words of code the runs executed, by their numbers, the stuck ends, and in which runs harts first ended in each way.
 #[derive(Drop)]
 pub struct Noted {
     pub words: Marks,
     pub stuck: StuckTable,
+    pub ends: EndRuns,
 }
 
 impl Noted {
-    /// Of no run, of an image with so many words of code.
-    pub fn none(alloc: Global, words: u32) -> Result<Noted, NoMemory> {
+    /// Of no run, of an image with so many words of code, whose harts are to exit with these codes.
+    pub fn none(alloc: Global, words: u32, right: RightCodes) -> Result<Noted, NoMemory> {
         Ok(Noted {
             words: Marks::none(alloc, words)?,
             stuck: StuckTable::new(alloc),
+            ends: EndRuns::none(alloc, right),
         })
     }
 
@@ -26,6 +29,7 @@ impl Noted {
         for word in &kept.words {
             self.words.add(*word);
         }
+        self.ends.add(run, &kept.summary.ends)?;
         self.stuck
             .add(alloc, run, kept.summary.ends.len(), &kept.stuck)
     }

@@ -112,7 +112,7 @@ fn below_races(
     ensures { IfOk result (λ more. more ≡ record page { facts = spec.runs_facts outcome.now page.facts }) }
 {
     let page = aside_part(page, alloc, outcome)?;
-    let page = ended_part(page, alloc, symbols, &outcome.saw.tally)?;
+    let page = ended_part(page, alloc, symbols, outcome)?;
     seen_part(page, alloc, symbols, outcome)
 }
 

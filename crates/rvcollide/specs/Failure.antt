@@ -21,6 +21,9 @@ use Rattle.rv_hunt.specs.merge.FileFaultText as file
 use Rattle.rv_hunt.specs.declared.merge.fault.FileFault.{FileFault}
 use Rattle.rvcollide.specs.declared.file_line.FileLine.{FileLine}
 use Rattle.rvcollide.specs.declared.file_line.FilePlace.{FilePlace}
+use Rattle.rvcollide.specs.declared.folder.Kind.{Kind}
+use Rattle.rvcollide.specs.declared.folder.Kind.TheVariants as saved
+use Rattle.rvcollide.specs.declared.folder.Saved.{Saved}
 
 -- what is wrong, or what to do, where the file was to be made and was there already, and else
 abbrev pub sentence_of : Bool → FileFault → List ℕ
@@ -32,12 +35,18 @@ abbrev pub file_said_output : Bool → FileFault → Option (List ℕ)
 file_said_output stands fault = option_map (λ words. words ++ (codes ": " ++ sentence_of stands fault)) (file.fault_output fault)
 
 -- `/race-K.schedule`, of a race's file in a folder
-abbrev pub race_file : Option ℕ → List ℕ
-race_file None = []
-race_file (Some race) = codes "/race-" ++ (decimal race ++ codes ".schedule")
+-- what the names of its files begin with
+abbrev pub word_of : Kind → List ℕ
+word_of saved.Race = codes "race"
+word_of saved.StuckEnd = codes "stuck"
+word_of saved.Ended = codes "end"
+
+abbrev pub schedule_file : Option Saved → List ℕ
+schedule_file None = []
+schedule_file (Some file) = codes "/" ++ (word_of file.kind ++ (codes "-" ++ (decimal file.number ++ codes ".schedule")))
 
 abbrev pub place_output : FilePlace → List ℕ
-place_output place = shown place.path.now ++ race_file place.race
+place_output place = shown place.path.now ++ schedule_file place.schedule
 
 abbrev pub after_place : Option FilePlace → List ℕ → List ℕ
 after_place None said = said

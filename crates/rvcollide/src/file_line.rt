@@ -2,23 +2,30 @@
 ghost use Rattle.std.specs.Prelude.{◌≡◌, Some};
 ghost use Rattle.rvcollide.specs.Failure as spec;
 
+use crate::folder::Saved;
 use rv_engines::shown::Shown;
 use rv_hunt::merge::fault::{FileFault, sentence};
 use std::fmt;
 
-/// A file or a folder, or the schedule of a race in a folder.
+/// A file or a folder, or a schedule in a folder.
 #[derive(Clone, Copy)]
 pub struct FilePlace<'a> {
     pub path: &'a str,
-    pub race: Option<u64>,
+    pub schedule: Option<Saved>,
 }
 
 impl fmt::Display for FilePlace<'_> {
     ghost output = { λ place. Some (spec.place_output place) };
 
     fn fmt<W: fmt::Write>(&self, f: &mut fmt::Formatter<W>) -> fmt::Result {
-        match self.race {
-            Some(race) => write!(f, "{}/race-{race}.schedule", Shown(self.path)),
+        match self.schedule {
+            Some(file) => write!(
+                f,
+                "{}/{}-{}.schedule",
+                Shown(self.path),
+                file.kind.word(),
+                file.number
+            ),
             None => write!(f, "{}", Shown(self.path)),
         }
     }

@@ -1,17 +1,43 @@
 //! The folder of a hunt's schedules, on the system.
 ghost use Rattle.std.specs.Prelude.{◌≡◌, ◌||◌};
-ghost use Rattle.rv_hunt.specs.engine.FolderFault.{is_write};
+ghost use Rattle.rv_hunt.specs.engine.FolderFault.{fails_by_write, is_write};
+ghost use Rattle.rvcollide.specs.Failure.{word_of};
 
-use rv_hunt::engine::folder::{Folder, FolderFault};
+use rv_hunt::engine::folder::{Beside, Folder, FolderFault};
 use rv_memory::flagged::{Flagged, flush, write_whole};
 use rv_text::decimal::read_decimal;
 use std::fs::{self, File};
 use std::io;
 
-/// What the names of the files of races and of stuck ends begin with.
-const RACE: &str = "race";
+/// What a schedule of the folder is of.
+#[derive(Clone, Copy, PartialEq, Eq, PartialOrd, Ord)]
+pub enum Kind {
+    Race,
+    StuckEnd,
+    Ended,
+}
 
-const STUCK: &str = "stuck";
+const KINDS: [Kind; 3] = [Kind::Race, Kind::StuckEnd, Kind::Ended];
+
+impl Kind {
+    /// What the names of its files begin with.
+    pub fn word(self) -> &'static str
+        ensures { result.now ≡ word_of self }
+    {
+        match self {
+            Kind::Race => "race",
+            Kind::StuckEnd => "stuck",
+            Kind::Ended => "end",
+        }
+    }
+}
+
+/// A schedule of the folder.
+#[derive(Clone, Copy, PartialEq, Eq, PartialOrd, Ord)]
+pub struct Saved {
+    pub kind: Kind,
+    pub number: u64,
+}
 
 /// The name of the file by which a folder is tried.
 const TRIED: &str = "race-1.schedule";
@@ -23,7 +49,7 @@ pub struct ScheduleFolder<'a> {
     path: &'a str,
     is_used: bool,
     failed: bool,
-    at: Option<u64>,
+    at: Option<Saved>,
     stands: bool,
 }
 
@@ -46,8 +72,8 @@ impl<'a> ScheduleFolder<'a> {
         self.failed
     }
 
-    /// The race whose file is at fault, where it is no fault of the folder.
-    pub fn race(&self) -> Option<u64>
+    /// The file that is at fault, where it is no fault of the folder.
+    pub fn at_fault(&self) -> Option<Saved>
         ensures { result ≡ self.now.at }
     {
         self.at
@@ -60,28 +86,59 @@ impl<'a> ScheduleFolder<'a> {
         self.stands
     }
 
-    /// Notes why the folder takes no file: the first time, or of the race with the least number.
-    fn note(&mut self, fault: FolderFault, race: Option<u64>)
+    /// Makes a file, and notes where that fails.
+    fn put(&mut self, file: Saved, bytes: &[u8]) -> Result<(), FolderFault>
+        ensures { self.new.failed ≡ (self.old.failed || fails_by_write result) }
+    {
+        self.is_used = true;
+        match make_schedule(self.rt, self.path, file, bytes) {
+            Ok(()) => Ok(()),
+            Err(fault) => {
+                self.note(fault, Some(file));
+                Err(fault)
+            }
+        }
+    }
+
+    /// Notes why the folder takes no file: the first time, or of the first file by kind and number.
+    fn note(&mut self, fault: FolderFault, file: Option<Saved>)
         ensures failed { self.new.failed ≡ (self.old.failed || is_write fault) }
         ensures used { self.new.is_used ≡ self.old.is_used }
     {
         if matches!(fault, FolderFault::Write) {
-            if !self.failed || race < self.at {
-                self.at = race;
+            if !self.failed || file < self.at {
+                self.at = file;
             }
             self.failed = true;
         }
     }
 }
 
-/// The number of the schedule of that kind that a file of that name is: `KIND-K.schedule`.
-fn number_in(kind: &str, name: &str) -> Option<u64> {
+/// The schedule of that kind that a file of that name is: `KIND-K.schedule`.
+fn schedule_of(kind: Kind, name: &str) -> Option<Saved> {
     let digits = name
-        .strip_prefix(kind)?
+        .strip_prefix(kind.word())?
         .strip_prefix("-")?
         .strip_suffix(".schedule")?;
     let number = read_decimal(digits.as_bytes(), u32::MAX)?;
-    Some(u64::from(number))
+    Some(Saved {
+        kind,
+        number: u64::from(number),
+    })
+}
+
+/// The schedule that a file of that name is.
+fn schedule_in(name: &str) -> Option<Saved> {
+    KINDS.iter().find_map(|kind| schedule_of(*kind, name))
+}
+
+/// The first of two schedules, where there are any.
+fn first_of(one: Option<Saved>, other: Option<Saved>) -> Option<Saved> {
+    match (one, other) {
+        (Some(one), Some(other)) => Some(one.min(other)),
+        (Some(one), None) => Some(one),
+        (None, other) => other,
+    }
 }
 
 /// Why the system did not do what it was asked.
@@ -92,29 +149,22 @@ fn fault_of(error: &io::Error) -> FolderFault {
     }
 }
 
-/// A race whose schedule lies in the folder, if there is one. A stuck end's must not lie there either.
-fn race_there(rt: &HostRuntime, path: &str) -> Result<Option<u64>, FolderFault> {
+/// The first schedule of a hunt, by kind and number, that lies in the folder, if there is one.
+fn schedule_there(rt: &HostRuntime, path: &str) -> Result<Option<Saved>, FolderFault> {
     let entries = match fs::read_dir(rt, path) {
         Ok(entries) => entries,
         Err(error) => return Err(fault_of(&error)),
     };
+    let mut first = None;
     for entry in entries {
         match entry {
-            Ok(entry) => {
-                let name = entry.file_name();
-                if let Some(race) = number_in(RACE, name) {
-                    return Ok(Some(race));
-                }
-                if number_in(STUCK, name).is_some() {
-                    return Err(FolderFault::Write);
-                }
-            }
+            Ok(entry) => first = first_of(first, schedule_in(entry.file_name())),
             // A name that is no text is not that of a schedule.
             Err(error) if error.kind() == io::ErrorKind::InvalidFilename => {}
             Err(error) => return Err(fault_of(&error)),
         }
     }
-    Ok(None)
+    Ok(first)
 }
 
 /// Makes a file that is not there yet, with these bytes.
@@ -130,14 +180,15 @@ fn make_file(rt: &HostRuntime, path: &str, bytes: &[u8]) -> Result<(), FolderFau
     Ok(())
 }
 
-/// Makes the file of a race or a stuck end in a folder.
+/// Makes a schedule's file in a folder.
 fn make_schedule(
     rt: &HostRuntime,
     folder: &str,
-    kind: &str,
-    number: u64,
+    file: Saved,
     bytes: &[u8],
 ) -> Result<(), FolderFault> {
+    let kind = file.kind.word();
+    let number = file.number;
     let Ok(path) = format!(in rt.alloc(); "{folder}/{kind}-{number}.schedule") else {
         return Err(FolderFault::NoMemory);
     };
@@ -156,13 +207,13 @@ fn try_folder(rt: &HostRuntime, folder: &str) -> Result<(), FolderFault> {
     }
 }
 
-/// Looks whether the folder has no schedule of a race yet, and takes files.
-fn look_in(rt: &HostRuntime, folder: &str) -> Result<Option<u64>, FolderFault> {
-    let race = race_there(rt, folder)?;
-    if race.is_none() {
+/// Looks whether the folder has no schedule of a hunt yet, and takes files.
+fn look_in(rt: &HostRuntime, folder: &str) -> Result<Option<Saved>, FolderFault> {
+    let there = schedule_there(rt, folder)?;
+    if there.is_none() {
         try_folder(rt, folder)?;
     }
-    Ok(race)
+    Ok(there)
 }
 
 impl Folder for ScheduleFolder<'_> {
@@ -176,35 +227,26 @@ impl Folder for ScheduleFolder<'_> {
     ghost has_failed = { λ folder. folder.failed };
 
     fn look(&mut self) -> Result<(), FolderFault> {
-        let (fault, race) = match look_in(self.rt, self.path) {
+        let (fault, there) = match look_in(self.rt, self.path) {
             Ok(None) => return Ok(()),
-            Ok(Some(race)) => (FolderFault::Write, Some(race)),
+            Ok(Some(file)) => (FolderFault::Write, Some(file)),
             Err(fault) => (fault, None),
         };
-        self.stands = race.is_some();
-        self.note(fault, race);
+        self.stands = there.is_some();
+        self.note(fault, there);
         Err(fault)
     }
 
     fn make(&mut self, number: u64, bytes: &[u8]) -> Result<(), FolderFault> {
-        self.is_used = true;
-        match make_schedule(self.rt, self.path, RACE, number, bytes) {
-            Ok(()) => Ok(()),
-            Err(fault) => {
-                self.note(fault, Some(number));
-                Err(fault)
-            }
-        }
+        let kind = Kind::Race;
+        self.put(Saved { kind, number }, bytes)
     }
 
-    fn make_stuck(&mut self, number: u64, bytes: &[u8]) -> Result<(), FolderFault> {
-        self.is_used = true;
-        match make_schedule(self.rt, self.path, STUCK, number, bytes) {
-            Ok(()) => Ok(()),
-            Err(fault) => {
-                self.note(fault, None);
-                Err(fault)
-            }
-        }
+    fn make_beside(&mut self, kind: Beside, number: u64, bytes: &[u8]) -> Result<(), FolderFault> {
+        let kind = match kind {
+            Beside::StuckEnd => Kind::StuckEnd,
+            Beside::Ended => Kind::Ended,
+        };
+        self.put(Saved { kind, number }, bytes)
     }
 }

@@ -1,7 +1,7 @@
 //! The lines of a hunt's faults, each with the file that is at fault.
 use crate::failure::Failure;
 use crate::file_line::{FileLine, FilePlace};
-use crate::folder::ScheduleFolder;
+use crate::folder::{Saved, ScheduleFolder};
 use crate::paths::{expect_path, folder_path, ignore_path, page_path};
 use rv_command::arguments::ImagePath;
 use rv_command::command::hunt::HuntLine;
@@ -21,10 +21,10 @@ pub const WRITE_FAULT: HuntFault<'static> = HuntFault::Command(CommandFault::Pla
 pub enum AtFault {
     Nothing,
     Folder,
-    /// The file of the race of that number.
-    Schedule(u64),
+    /// A schedule.
+    Schedule(Saved),
     /// The same, which was there before the hunt.
-    Standing(u64),
+    Standing(Saved),
 }
 
 /// Which of a hunt's files have failed. The others' faults name their file.
@@ -45,9 +45,9 @@ impl Failed {
 /// What is at fault in a folder, where one is given.
 pub fn at_fault_in(folder: &Option<ScheduleFolder<'_>>) -> AtFault {
     match folder {
-        Some(folder) if folder.has_failed() => match folder.race() {
-            Some(race) if folder.stands() => AtFault::Standing(race),
-            Some(race) => AtFault::Schedule(race),
+        Some(folder) if folder.has_failed() => match folder.at_fault() {
+            Some(file) if folder.stands() => AtFault::Standing(file),
+            Some(file) => AtFault::Schedule(file),
             None => AtFault::Folder,
         },
         _ => AtFault::Nothing,
@@ -57,7 +57,7 @@ pub fn at_fault_in(folder: &Option<ScheduleFolder<'_>>) -> AtFault {
 /// The line of a fault of a file.
 fn of_file<'a>(path: Option<&'a str>, fault: FileFault) -> Failure<'a> {
     let file = match path {
-        Some(path) => Some(FilePlace { path, race: None }),
+        Some(path) => Some(FilePlace { path, schedule: None }),
         None => None,
     };
     Failure::OfFile(FileLine {
@@ -67,12 +67,12 @@ fn of_file<'a>(path: Option<&'a str>, fault: FileFault) -> Failure<'a> {
     })
 }
 
-/// The line of the schedule of a race in a folder, which was there before the hunt or can't be written.
-fn of_schedule<'a>(folder: Option<&'a str>, race: u64, stands: bool) -> Failure<'a> {
+/// The line of a schedule in a folder, which was there before the hunt or can't be written.
+fn of_schedule<'a>(folder: Option<&'a str>, schedule: Saved, stands: bool) -> Failure<'a> {
     let file = match folder {
         Some(path) => Some(FilePlace {
             path,
-            race: Some(race),
+            schedule: Some(schedule),
         }),
         None => None,
     };
@@ -105,8 +105,8 @@ fn of_command<'a>(
 ) -> Failure<'a> {
     match failed.folder {
         AtFault::Folder => of_file(folder_path(line.save_to), WRITE),
-        AtFault::Schedule(race) => of_schedule(folder_path(line.save_to), race, false),
-        AtFault::Standing(race) => of_schedule(folder_path(line.save_to), race, true),
+        AtFault::Schedule(file) => of_schedule(folder_path(line.save_to), file, false),
+        AtFault::Standing(file) => of_schedule(folder_path(line.save_to), file, true),
         AtFault::Nothing if failed.page => of_file(page_path(line.page), WRITE),
         AtFault::Nothing => of_image(image, failed.image, fault),
     }

@@ -129,6 +129,7 @@ fn options_of<'a, 'b>(
         named: line.named,
         skip: line.skip,
         idle: line.idle,
+        right: line.right,
         aim: sides_of(line),
         shows: shown_by(line),
         blocks: line.blocks,
@@ -163,7 +164,7 @@ fn shown_by(line: &HuntLine) -> Shows {
 fn is_asked(line: &HuntLine, found: Found) -> bool {
     let has_bug = (line.checks || line.checks_all) && 0 < found.bugs;
     let has_benign = line.checks_all && 0 < found.benign;
-    let has_end = line.check_ends && 0 < found.stuck;
+    let has_end = line.check_ends && (0 < found.stuck || found.has_wrong_end);
     has_bug || has_benign || has_end || found.is_unexpected
 }
 

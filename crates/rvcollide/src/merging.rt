@@ -32,7 +32,10 @@ fn place_of<'a>(
     number: Option<usize>,
 ) -> Option<FilePlace<'a>> {
     let path = path_of(tables, expected, number)?;
-    Some(FilePlace { path, race: None })
+    Some(FilePlace {
+        path,
+        schedule: None,
+    })
 }
 
 /// The file of what is expected, where one is given.

@@ -266,7 +266,12 @@ pub const COMMANDS: [Subcommand; 12] = [
             },
             Argument::Flag {
                 name: "check-ends",
-                help: "Exit with status 5 if a stuck end is reported",
+                help: "Exit with status 5 if harts wait for ever, a trap stopped one, or one exited with a wrong code",
+            },
+            Argument::Optional {
+                name: "right",
+                value: "CODES",
+                help: "Exit codes that are right, separated by commas [default: 0]",
             },
             Argument::Optional {
                 name: "expect",

@@ -1,6 +1,7 @@
 ghost use Rattle.rv_command.specs.Notice as notice;
 
 use crate::command::exhibit::MOST_ENDING;
+use crate::command::hunt::MOST_CODE;
 use rv_collide::plan::{MOST_ARMS, MOST_PAUSE, MOST_STEPS};
 use rv_engines::shown::Shown;
 use std::fmt;
@@ -31,6 +32,10 @@ pub enum Complaint<'a> {
     },
     /// `--aim` and `--sampled` are both given.
     SampledAim,
+    /// The value of `--right` is not a list of exit codes.
+    Right {
+        value: &'a str,
+    },
     /// The tables of `merge` do not stand together.
     Tables,
     /// The run whose schedule is saved is not among the runs.
@@ -74,6 +79,12 @@ impl<'a> fmt::Display for Complaint<'a> {
             ),
             Complaint::SampledAim => f.write_str(
                 "error: '--aim' cannot be used with '--sampled': sampled runs make no probes\n",
+            ),
+            Complaint::Right { value } => write!(
+                f,
+                "error: invalid value '{}' for '--right': it is a list of decimal numbers from 0 to {} with commas between them\n",
+                Shown(*value),
+                MOST_CODE
             ),
             Complaint::Keep { value, runs } => write!(
                 f,

@@ -31,6 +31,9 @@ pub const DEFAULT_BLOCKS: u32 = 50;
 /// The most races that are shown in full.
 pub const MOST_BLOCKS: u32 = 10_000;
 
+/// The greatest exit code.
+pub const MOST_CODE: u32 = 4_294_967_295;
+
 pub const BLOCKS: NumberOption = NumberOption {
     name: "blocks",
     least: 0,
@@ -88,8 +91,10 @@ pub struct HuntLine<'a> {
     pub checks: bool,
     /// So does one that is likely benign.
     pub checks_all: bool,
-    /// So does a stuck end that is reported.
+    /// So does a stuck end that is reported, a trap that stopped a hart, and an exit with a wrong code.
     pub check_ends: bool,
+    /// The exit codes that are right, with a comma between two, where 0 alone isn't.
+    pub right: Option<&'a str>,
     /// The table of the races that are expected: another one that may be a bug gives the status 5 too.
     pub expect: Option<TablePath<'a>>,
     /// No progress is told.
@@ -122,6 +127,7 @@ fn line_of<'a>(given: &ArgMatches<'a>) -> Result<HuntLine<'a>, Complaint<'a>>
     let slots = number_if(given, SLOTS)?;
     let aim = aim_of(given)?;
     let blocks = number_or(given, BLOCKS, u64::from(DEFAULT_BLOCKS))?;
+    let right = right_of(given)?;
     Ok(HuntLine {
         harts: harts.map(|n| n as u8),
         seed: seed as u32,
@@ -143,6 +149,7 @@ fn line_of<'a>(given: &ArgMatches<'a>) -> Result<HuntLine<'a>, Complaint<'a>>
         checks: flag_of(given, "check"),
         checks_all: flag_of(given, "check-all"),
         check_ends: flag_of(given, "check-ends"),
+        right,
         expect: expect_of(given),
         is_quiet: flag_of(given, "quiet"),
     })
@@ -271,4 +278,32 @@ fn aim_in<'a>(text: &'a str) -> Option<Aim<'a>>
         return None;
     }
     Some(Aim { one, other })
+}
+
+/// The exit codes that are right, where they are given.
+fn right_of<'a>(given: &ArgMatches<'a>) -> Result<Option<&'a str>, Complaint<'a>>
+    ensures { MatchResult result (λ right. line.right_at (rows_of (found_of given.now)) ≡ Some (option_map (λ text. text.now) right))
+        (λ _. line.right_at (rows_of (found_of given.now)) ≡ None) }
+{
+    let Some(value) = text_of(given, "right") else {
+        return Ok(None);
+    };
+    if are_codes(value) {
+        Ok(Some(value))
+    } else {
+        Err(Complaint::Right { value })
+    }
+}
+
+/// Whether a text is a list of exit codes, as `0,255`.
+fn are_codes(text: &str) -> bool
+    ensures { result ≡ line.are_codes text.now }
+{
+    let mut pieces = Pieces::of(text.as_bytes(), b',');
+    while let Some(piece) = pieces.next_piece() {
+        if number_between(piece, 0, u64::from(MOST_CODE)).is_none() {
+            return false;
+        }
+    }
+    true
 }

@@ -27,6 +27,7 @@ const PLAIN: HuntLine = HuntLine {
     checks: false,
     checks_all: false,
     check_ends: false,
+    right: None,
     expect: None,
     is_quiet: false,
 };
@@ -76,6 +77,7 @@ const ALL: HuntLine = HuntLine {
     checks: true,
     checks_all: true,
     check_ends: true,
+    right: Some("0,255"),
     expect: Some(TablePath("t.txt")),
     is_quiet: true,
 };
@@ -95,6 +97,18 @@ const AIMED: HuntLine = HuntLine {
     ..PLAIN
 };
 
+/// What a line asks for that gives the exit code that alone is right without it.
+const RIGHT: HuntLine = HuntLine {
+    right: Some("0"),
+    ..PLAIN
+};
+
+/// What a line asks for that gives the greatest exit code.
+const MOST_RIGHT: HuntLine = HuntLine {
+    right: Some("4294967295"),
+    ..PLAIN
+};
+
 fn job<'a>(line: HuntLine<'a>) -> Option<Job<'a>> {
     Some(Job::Hunt {
         image: ImagePath("a.elf"),
@@ -102,17 +116,19 @@ fn job<'a>(line: HuntLine<'a>) -> Option<Job<'a>> {
     })
 }
 
-/// Lines that give no option, two that give the most runs and steps, one of sampled runs, one with an aim, and one that gives each
-/// option but `--sampled`.
+/// Lines that give no option, two that give the most runs and steps, one of sampled runs, one with an aim, two with an exit code, and
+/// one that gives each option but `--sampled`.
 const LINES: &[(&str, HuntLine)] = &[
     ("rvcollide hunt a.elf", PLAIN),
     ("rvcollide hunt -- a.elf", PLAIN),
     ("rvcollide hunt a.elf --runs 4294967296", MOST_RUNS),
     ("rvcollide hunt --sampled a.elf", SAMPLED),
     ("rvcollide hunt a.elf --aim f,f", AIMED),
+    ("rvcollide hunt a.elf --right 0", RIGHT),
+    ("rvcollide hunt a.elf --right=4294967295", MOST_RIGHT),
     ("rvcollide hunt a.elf --budget 1000000000000000", MOST_STEPS),
     (
-        "rvcollide hunt --quiet --expect=t.txt --check-ends --check-all --check --table \
+        "rvcollide hunt --quiet --expect=t.txt --right=0,255 --check-ends --check-all --check --table \
 --blocks=7 --page=p.html --save-to=d --ignore=i.txt --idle=sleep, --skip=00010000,x --named=a,,b --aim=f,00010000 --slots=8 --plan=02000,064,100 --workers=6 --runs=3 \
 --first=12 --seed=7 --harts=2 -- a.elf",
         ALL,
@@ -123,7 +139,7 @@ const LINES: &[(&str, HuntLine)] = &[
 const GIVEN: &str =
     "rvcollide hunt a.elf --harts 2 --seed 7 --first 12 --runs 3 --budget 5 --workers 6 \
 --plan 2000,64,100 --slots 8 --aim f,00010000 --named a,,b --skip 00010000,x --idle sleep, --ignore i.txt --save-to d \
---page p.html --blocks 7 --table --check --check-all --check-ends --expect t.txt --quiet";
+--page p.html --blocks 7 --table --check --check-all --check-ends --right 0,255 --expect t.txt --quiet";
 
 /// All options left out, all given, in any order, with and without `=`.
 #[test]
@@ -158,6 +174,40 @@ const OTHER_AIMS: &[(&str, &str)] = &[
 #[test]
 fn refuses_other_aims(rt: HostRuntime) {
     for (line, part) in OTHER_AIMS {
+        assert_refused(&rt, rt.alloc(), line, part);
+    }
+}
+
+/// Values of `--right` that are not lists of exit codes, one given twice, and what is told of each.
+const OTHER_CODES: &[(&str, &str)] = &[
+    (
+        "rvcollide hunt a.elf --right ",
+        "invalid value '' for '--right': it is a list of decimal numbers from 0 to 4294967295 with commas between them\n",
+    ),
+    ("rvcollide hunt a.elf --right=", "'' for '--right'"),
+    ("rvcollide hunt a.elf --right 1,", "'1,' for '--right'"),
+    ("rvcollide hunt a.elf --right ,1", "',1' for '--right'"),
+    (
+        "rvcollide hunt a.elf --right -1",
+        "unexpected argument '-1' found",
+    ),
+    ("rvcollide hunt a.elf --right=-1", "'-1' for '--right'"),
+    ("rvcollide hunt a.elf --right +1", "'+1' for '--right'"),
+    (
+        "rvcollide hunt a.elf --right 4294967296",
+        "'4294967296' for '--right'",
+    ),
+    ("rvcollide hunt a.elf --right a", "'a' for '--right'"),
+    ("rvcollide hunt a.elf --right 1,,2", "'1,,2' for '--right'"),
+    (
+        "rvcollide hunt a.elf --right 0 --right 0",
+        "'--right <CODES>' cannot be used multiple times",
+    ),
+];
+
+#[test]
+fn refuses_other_codes(rt: HostRuntime) {
+    for (line, part) in OTHER_CODES {
         assert_refused(&rt, rt.alloc(), line, part);
     }
 }

@@ -1,5 +1,5 @@
 //! The folder of a hunt that saves no schedule. One that gets full is tried in `tests/hunts`.
-use rv_hunt::engine::folder::{Folder, FolderFault};
+use rv_hunt::engine::folder::{Beside, Folder, FolderFault};
 
 /// A folder that takes nothing. No hunt of these tests has one.
 #[derive(Drop)]
@@ -22,7 +22,7 @@ impl Folder for NoFolder {
         Err(FolderFault::Write)
     }
 
-    fn make_stuck(&mut self, _: u64, _: &[u8]) -> Result<(), FolderFault> {
+    fn make_beside(&mut self, _: Beside, _: u64, _: &[u8]) -> Result<(), FolderFault> {
         Err(FolderFault::Write)
     }
 }

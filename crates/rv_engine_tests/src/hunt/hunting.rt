@@ -58,6 +58,7 @@ fn options(rt: &impl Abort) -> HuntOptions<'static, 'static> {
         skip: None,
         idle: None,
         aim: None,
+        right: None,
         shows: Shows::Text,
         blocks: 50,
         line: LineParts {

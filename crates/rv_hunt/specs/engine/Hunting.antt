@@ -121,17 +121,18 @@ full_of Text files blocks = blocks
 full_of Table files blocks = if files then blocks else 0
 
 -- how many races may be a bug, how many are likely benign, whether one that may be a bug is not expected, and how many stuck ends are
--- shown
-abbrev pub found_in : Option (List (Key × RaceRow)) → List (Key × RaceRow) → ℕ → Found
-found_in expected rows stuck = record {
+-- shown; and whether a hart ended as it should not
+abbrev pub found_in : Option (List (Key × RaceRow)) → List (Key × RaceRow) → ℕ → Bool → Found
+found_in expected rows stuck wrong = record {
   bugs = bugs rows;
   benign = benign rows;
   is_unexpected = is_unexpected expected rows;
   stuck = stuck;
+  has_wrong_end = wrong;
 }
 
-abbrev pub found_of : Hunting → Hunted → ℕ → Found
-found_of hunting saw stuck = found_in hunting.expected (told_in hunting saw) stuck
+abbrev pub found_of : Hunting → Hunted → ℕ → Bool → Found
+found_of hunting saw stuck wrong = found_in hunting.expected (told_in hunting saw) stuck wrong
 
 -- what the standard output gets, and how many races are shown in full
 pub record Showing : Type 0 where
@@ -159,7 +160,7 @@ pub record IsMade (way : Showing) (hunting : Hunting) (Saves : ℕ → List ℕ 
   pub paged : Pages (page_facts (outcome hunting saw) told (length shown))
   pub stuck : List ShownStuck
   pub are_stuck : AreStuckShown hunting.hunt stuck
-  pub found_is : found ≡ found_of hunting saw (length stuck)
+  pub found_is : found ≡ found_of hunting saw (length stuck) found.has_wrong_end
 
 -- The runs of the hunt are made; what they saw is shown and counted, the runs of the races that are shown in full are saved,
 -- and the page is made.

@@ -10,7 +10,17 @@ pub enum FolderFault {
     Write,
 }
 
-/// A folder that is there, in which a hunt makes a file for each race and each stuck end that it shows in full.
+/// What a schedule is of that lies in a folder beside those of races.
+#[derive(Clone, Copy)]
+pub enum Beside {
+    /// A stuck end.
+    StuckEnd,
+    /// The first run in which a hart ended in some way.
+    Ended,
+}
+
+/// A folder that is there, in which a hunt makes a file for each race and each stuck end that it shows in full, and for ways in which
+/// harts ended.
 pub trait Folder {
     ghost use Rattle.std.specs.Prelude.{Bool, List, ℕ};
 
@@ -23,7 +33,7 @@ pub trait Folder {
     /// Whether looking, making or writing has failed.
     ghost has_failed: { Self → Bool };
 
-    /// Looks whether the folder is there and has no file that a race or a stuck end could have. Nothing is made.
+    /// Looks whether the folder is there and has no file that a hunt could make in it. Nothing is made.
     fn look(&mut self) -> Result<(), FolderFault>
         ensures used { is_used self.new ≡ is_used self.old }
         ensures failed { has_failed self.new ≡ (has_failed self.old || fails_by_write result) };
@@ -34,7 +44,7 @@ pub trait Folder {
         ensures kept { (n : ℕ) (text : List ℕ) → n ≢ number → Holds self.old n text → Holds self.new n text }
         ensures failed { has_failed self.new ≡ (has_failed self.old || fails_by_write result) };
 
-    /// Makes the file of the stuck end of that number, with these bytes. Those of races stay.
-    fn make_stuck(&mut self, number: u64, bytes: &[u8]) -> Result<(), FolderFault>
+    /// Makes the file of that kind and number, with these bytes. Those of races stay.
+    fn make_beside(&mut self, kind: Beside, number: u64, bytes: &[u8]) -> Result<(), FolderFault>
         ensures failed { has_failed self.new ≡ (has_failed self.old || fails_by_write result) };
 }

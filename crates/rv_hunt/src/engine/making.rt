@@ -12,6 +12,8 @@ ghost use Rattle.rv_hunt.specs.PageFacts.{page_facts};
 
 use crate::aim::Aim;
 use crate::code_seen::code_seen;
+use crate::end_runs::RightCodes;
+use crate::engine::beside::save_ends;
 use crate::engine::fault::MakeFault;
 use crate::engine::folder::{Folder, FolderFault};
 use crate::engine::found::Found;
@@ -92,15 +94,21 @@ fn parted_rows(
     part_rows(alloc, symbols, &lists.ignored, &rows)
 }
 
-/// What was found, by the rows of the races that are told and the stuck ends that are shown.
-fn found_in(lists: &Lists, rows: &[(Key, RaceRow)], stuck: &[ShownStuck]) -> Found
-    ensures { result ≡ spec.found_in lists.now.expected rows.now (length stuck.now) }
+/// What was found, by the rows of the races that are told, the stuck ends that are shown, and how harts ended.
+fn found_in(
+    lists: &Lists,
+    rows: &[(Key, RaceRow)],
+    stuck: &[ShownStuck],
+    has_wrong_end: bool,
+) -> Found
+    ensures { result ≡ spec.found_in lists.now.expected rows.now (length stuck.now) result.has_wrong_end }
 {
     Found {
         bugs: bugs(rows),
         benign: benign(rows),
         is_unexpected: is_unexpected(&lists.expected, rows),
         stuck: stuck.len() as u64,
+        has_wrong_end,
     }
 }
 
@@ -143,8 +151,8 @@ fn make_page<F: NewFile>(
     Ok(())
 }
 
-/// What a hunt shows of all that its runs saw. The schedules of stuck ends are saved first, those of the races in full while these are
-/// made again, and the page is made last: what wants memory comes before it. Where a file can't be made that is noted, and the others
+/// What a hunt shows of all that its runs saw. The schedules of stuck ends and of how harts ended are saved first, those of the races in full
+/// while these are made again, and the page is made last: what wants memory comes before it. Where a file can't be made that is noted, and the others
 /// are.
 fn made_of<R: Threads + Wait, D: Folder, F: NewFile, P: Watch>(
     rt: &R,
@@ -169,6 +177,7 @@ fn made_of<R: Threads + Wait, D: Folder, F: NewFile, P: Watch>(
 {
     let code = code_seen(alloc, symbols, hunt.code, &noted.words)?;
     let stuck = stuck_ends(alloc, hunt, symbols, &noted.stuck, folder)?;
+    save_ends(alloc, hunt, saw.tally.ended(), &noted.ends, folder)?;
     let parted = parted_rows(alloc, hunt, symbols, lists, saw)?;
     let told = told_rows(alloc, symbols, &parted.told)?;
     let outcome = Outcome {
@@ -176,6 +185,7 @@ fn made_of<R: Threads + Wait, D: Folder, F: NewFile, P: Watch>(
         mix: hunt.plans.mix(),
         saw,
         code: &code,
+        ends: &noted.ends,
         stuck: &stuck,
         rows: &parted.told,
         ignored: &parted.ignored,
@@ -203,7 +213,7 @@ fn made_of<R: Threads + Wait, D: Folder, F: NewFile, P: Watch>(
     )?;
     make_page(alloc, &options.line, symbols, &outcome, &told, &shown, page)?;
     Ok(Made {
-        found: found_in(lists, &parted.told, &stuck.shown),
+        found: found_in(lists, &parted.told, &stuck.shown, noted.ends.is_wrong()),
         text,
         notes,
     })
@@ -261,7 +271,8 @@ pub(crate) fn make_hunt<T: Threads + Wait + Sync, P: Watch, D: Folder, F: NewFil
     let code = Code::of(alloc, &opened.image)?;
     let symbols = SymbolTable::new(alloc, &opened.image)?;
     let aim = Aim::of(alloc, options.aim, &symbols, &code)?;
-    let mut noted = Noted::none(alloc, code.len())?;
+    let right = RightCodes::of(alloc, options.right)?;
+    let mut noted = Noted::none(alloc, code.len(), right)?;
     let hunt = Hunt {
         image: &opened.image,
         seed: options.seed,

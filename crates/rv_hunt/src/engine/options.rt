@@ -58,6 +58,8 @@ pub struct HuntOptions<'a, 'b> {
     pub skip: Option<&'a str>,
     /// Names of functions, with a comma between two: harts may wait there for ever.
     pub idle: Option<&'a str>,
+    /// The exit codes that are right, in decimal, with a comma between two, where 0 alone isn't.
+    pub right: Option<&'a str>,
     /// Near pairs of these sides alone are probed.
     pub aim: Option<Sides<'a>>,
     /// What is written to the standard output.

@@ -6,13 +6,11 @@ ghost use Rattle.rv_hunt.specs.engine.StuckShown.{AreStuckShown, IsStuckBlock};
 ghost use Rattle.rv_hunt.specs.internal.RunWalk.{AreProbesOf, IsBegin, IsRunWalk};
 ghost use Rattle.rv_walk.specs.declared.course.TheConstants.{MOST_WALKED};
 
-use crate::engine::folder::{Folder, FolderFault};
-use crate::engine::shown::written;
+use crate::engine::beside::{Schedule, of_walk, save};
+use crate::engine::folder::{Beside, Folder};
 use crate::hunt::Hunt;
 use crate::run_walk::{Repeats, RunWalk, begin_of, drawn_pairs, probes_of, walk_of};
 use crate::stuck::{StuckRow, StuckTable};
-use rv_collide::entry::Entry;
-use rv_collide::plan::Plan;
 use rv_collide::schedule::laws::legal_is_writable;
 use rv_explain::stuck::{StuckBlock, stuck_block};
 use rv_explain::symbol_table::SymbolTable;
@@ -21,8 +19,7 @@ use rv_memory::paged::Paged;
 use rv_memory::store::NoMemory;
 use rv_walk::code::Marks;
 use rv_walk::near_pair::NearPair;
-use rv_walk::probes::{Probes, steps_of};
-use rv_walk::walk_laws::steps_are_a_prefix;
+use rv_walk::probes::Probes;
 use std::alloc::Global;
 
 /// A stuck end that is shown in full: how often and where it was met, whether each walk of the most harts ended so, how many entries
@@ -40,40 +37,6 @@ pub struct ShownStuck {
 pub struct StuckEnds {
     pub count: usize,
     pub shown: Vec<ShownStuck>,
-}
-
-/// A plan and a schedule under it.
-#[derive(Drop)]
-struct Schedule {
-    plan: Plan,
-    entries: Vec<Entry>,
-}
-
-/// The schedule of a walk, which began as this machine is: its steps alone.
-fn of_walk(
-    alloc: Global,
-    hunt: &Hunt<'_>,
-    run: u32,
-    walk: &RunWalk,
-    begin: &Machine<Paged>,
-) -> Result<Schedule, NoMemory>
-    requires walk { IsRunWalk hunt.now run walk.now }
-    requires begin { IsBegin hunt.now run begin.now }
-    ensures { IfOk result (λ made. IsWritable (numbers made.plan) made.entries.items) }
-{
-    legal_is_writable();
-    steps_are_a_prefix();
-    let harts = begin.harts();
-    // A walk has far fewer steps than 2^32.
-    let Ok(steps) = u32::try_from(walk.left.harts.len()) else {
-        return Err(NoMemory);
-    };
-    let slots = hunt.plans.plan(run).slots;
-    let Some(plan) = Plan::new(harts, steps.max(1), 0, 1, slots) else {
-        return Err(NoMemory);
-    };
-    let entries = steps_of(alloc, &walk.left.harts)?;
-    Ok(Schedule { plan, entries })
 }
 
 /// The schedule of the probe of a pair, from the walk's begin on.
@@ -145,26 +108,6 @@ fn schedule_of(alloc: Global, hunt: &Hunt<'_>, row: &StuckRow) -> Result<Option<
     }
 }
 
-/// Makes the file of the stuck end of that number, where a folder is given. Where it can't be made the folder has that noted.
-fn save<D: Folder>(
-    alloc: Global,
-    folder: &mut Option<D>,
-    number: u64,
-    schedule: &Schedule,
-) -> Result<(), NoMemory>
-    requires { IsWritable (numbers schedule.now.plan) schedule.now.entries.items }
-    ensures { is_some folder.new ≡ is_some folder.old }
-{
-    let Some(made) = folder else {
-        return Ok(());
-    };
-    let text = written(alloc, &schedule.plan, &schedule.entries)?;
-    match made.make_stuck(number, &text) {
-        Ok(()) | Err(FolderFault::Write) => Ok(()),
-        Err(FolderFault::NoMemory) => Err(NoMemory),
-    }
-}
-
 /// What is shown of a stuck end, whose schedule is saved under that number, and how many entries that has.
 fn shown_of<D: Folder>(
     alloc: Global,
@@ -181,7 +124,7 @@ fn shown_of<D: Folder>(
     let Some(schedule) = schedule_of(alloc, hunt, row)? else {
         return Ok(None);
     };
-    save(alloc, folder, number, &schedule)?;
+    save(alloc, folder, Beside::StuckEnd, number, &schedule)?;
     match stuck_block(alloc, symbols, schedule.plan.harts, &schedule.entries)? {
         Some(block) => Ok(Some((schedule.entries.len(), block))),
         None => Ok(None),

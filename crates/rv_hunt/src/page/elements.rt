@@ -38,6 +38,13 @@ pub(crate) fn number_cell(page: Markup, number: u64) -> Result<Markup, NoMemory>
     page.begin(TD, &[class(b"number")])?.number(number)?.end()
 }
 
+/// The words of a number in a cell, where there is one.
+pub(crate) fn number_words_cell(page: Markup, words: &[u8]) -> Result<Markup, NoMemory>
+    ensures { IfOk result (λ more. more ≡ page) }
+{
+    page.begin(TD, &[class(b"number")])?.text(words)?.end()
+}
+
 /// The name of a column of texts.
 pub(crate) fn column(page: Markup, name: &[u8]) -> Result<Markup, NoMemory>
     ensures { IfOk result (λ more. more ≡ page) }

@@ -1,5 +1,6 @@
 //! What the page is made of.
 use crate::code_seen::CodeSeen;
+use crate::end_runs::EndRuns;
 use crate::engine::stuck_ends::StuckEnds;
 use crate::hunted::Hunted;
 use crate::row::RaceRow;
@@ -7,14 +8,15 @@ use rv_report::key::Key;
 use rv_tally::plans::Mix;
 use std::marker::Model;
 
-/// What a hunt came to: how many sites there are, what its runs are, what they saw, how much of the code they executed, the stuck
-/// ends, the rows of its races, and those that are ignored.
+/// What a hunt came to: how many sites there are, what its runs are, what they saw, how much of the code they executed, in which
+/// runs harts first ended in each way, the stuck ends, the rows of its races, and those that are ignored.
 #[derive(Drop)]
 pub struct Outcome<'a> {
     pub sites: u64,
     pub mix: Mix,
     pub saw: &'a Hunted,
     pub code: &'a CodeSeen,
+    pub ends: &'a EndRuns,
     pub stuck: &'a StuckEnds,
     pub rows: &'a [(Key, RaceRow)],
     pub ignored: &'a [(Key, RaceRow)],

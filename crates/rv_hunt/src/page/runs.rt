@@ -5,11 +5,12 @@ ghost use Rattle.rv_hunt.specs.PageFacts as spec;
 ghost use Rattle.rv_markup.specs.declared.markup.Fact.TheVariants as fact;
 
 use crate::code_seen::CodeSeen;
+use crate::end_runs::EndRuns;
 use crate::hunted::Hunted;
 use crate::page::code::code_table;
 use crate::page::elements::{
     begin_part, begin_row, begin_rows, begin_table, cell, column, end_line, end_table, number_cell,
-    number_column,
+    number_column, number_words_cell,
 };
 use crate::page::near::near_table;
 use crate::page::parts::Outcome;
@@ -94,11 +95,25 @@ pub(crate) fn aside_part(page: Markup, alloc: Global, outcome: &Outcome) -> Resu
     end_line(end_table(page)?)
 }
 
+/// The run in which harts first ended so, where it is named.
+fn first_run_cell(page: Markup, alloc: Global, run: Option<u32>) -> Result<Markup, NoMemory>
+    ensures { IfOk result (λ more. more ≡ page) }
+{
+    match run {
+        Some(run) => {
+            let words = format!(in alloc; "{run}")?;
+            number_words_cell(page, words.as_bytes())
+        }
+        None => number_words_cell(page, b""),
+    }
+}
+
 /// A row of each way in which harts ended.
 fn ended_rows_of(
     page: Markup,
     alloc: Global,
     symbols: &SymbolTable,
+    ends: &EndRuns,
     rows: &[EndedRow],
 ) -> Result<Markup, NoMemory>
     ensures { IfOk result (λ more. more ≡ record page { facts = spec.ended_row_facts rows.now page.facts }) }
@@ -107,26 +122,28 @@ fn ended_rows_of(
     for row in rows {
         let words = ways_words(alloc, symbols, row.ways)?;
         page = cell(begin_row(page)?, words.as_bytes())?;
-        page = end_line(number_cell(page, row.harts)?)?;
+        page = number_cell(page, row.harts)?;
+        page = end_line(first_run_cell(page, alloc, ends.run_of(row.ways))?)?;
     }
     Ok(page)
 }
 
-/// How harts ended.
+/// How harts ended, and in which run first.
 pub(crate) fn ended_part(
     page: Markup,
     alloc: Global,
     symbols: &SymbolTable,
-    saw: &Tally,
+    outcome: &Outcome,
 ) -> Result<Markup, NoMemory>
-    ensures { IfOk result (λ more. more ≡ record page { facts = spec.ended_facts saw.now.ended page.facts }) }
+    ensures { IfOk result (λ more. more ≡ record page { facts = spec.ended_facts outcome.now.saw.tally.ended page.facts }) }
 {
-    let rows = ended_rows(alloc, saw.ended())?;
+    let rows = ended_rows(alloc, outcome.saw.tally.ended())?;
     let page = begin_part(page, Place::Ended, b"How harts ended")?;
     let page = column(begin_row(begin_table(page)?)?, b"")?;
     let page = number_column(page, b"harts")?;
+    let page = number_column(page, b"first in run")?;
     let page = begin_rows(end_line(page)?)?;
-    let page = ended_rows_of(page, alloc, symbols, &rows)?;
+    let page = ended_rows_of(page, alloc, symbols, outcome.ends, &rows)?;
     end_line(end_table(page)?)
 }
 

@@ -223,17 +223,20 @@ fn push_seen(alloc: Global, text: &mut Vec<u8>, outcome: &Outcome) -> Result<(),
     Ok(())
 }
 
-/// Adds how the harts of all runs ended.
+/// Adds how the harts of all runs ended, and in which run first.
 fn push_ended(
     alloc: Global,
     text: &mut Vec<u8>,
     symbols: &SymbolTable,
-    saw: &Tally,
+    outcome: &Outcome,
 ) -> Result<(), NoMemory> {
-    for row in &ended_rows(alloc, saw.ended())? {
+    for row in &ended_rows(alloc, outcome.saw.tally.ended())? {
         let words = ways_words(alloc, symbols, row.ways)?;
         let harts = row.harts;
-        let line = format!(in alloc; "ended {words}: {harts}\n")?;
+        let line = match outcome.ends.run_of(row.ways) {
+            Some(run) => format!(in alloc; "ended {words}: {harts}, first in run {run}\n")?,
+            None => format!(in alloc; "ended {words}: {harts}\n")?,
+        };
         text.extend_from_slice(line.as_bytes())?;
     }
     Ok(())
@@ -266,7 +269,7 @@ pub(crate) fn push_behind(
     let named = of_class(alloc, outcome.rows, RaceClass::Named)?;
     push_apart(alloc, text, "named", &named)?;
     push_apart(alloc, text, "ignored", outcome.ignored)?;
-    push_ended(alloc, text, symbols, &outcome.saw.tally)?;
+    push_ended(alloc, text, symbols, outcome)?;
     push_seen(alloc, text, outcome)?;
     push_code(alloc, text, outcome.code)
 }

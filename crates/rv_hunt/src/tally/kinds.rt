@@ -9,7 +9,7 @@ use std::alloc::Global;
 use std::marker::Model;
 
 /// How many kinds have a count of their own.
-const MOST_TOLD: usize = 8;
+pub(crate) const MOST_TOLD: usize = 8;
 
 /// How many harts ended in one way.
 #[derive(Clone, Copy)]
@@ -61,7 +61,7 @@ fn marked(end: End) -> Mark
 }
 
 /// Whether two harts ended in one way.
-fn is_same(end: End, other: End) -> bool
+pub(crate) fn is_same(end: End, other: End) -> bool
     ensures { result ≡ spec.same_end end other }
 {
     let one = marked(end);

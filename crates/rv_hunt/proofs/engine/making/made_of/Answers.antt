@@ -13,7 +13,7 @@ returns-clause-made g c =
     let came = outcome_is hunting c.args.saw.now c.len.result c.mix.result c.deref-2.result.now c.deref-3.result.now sites (c.mix.ensures ∙ ap (λ (h : Hunt). h.given.mix) c.hunt.view_is) rows ignored in
     made_is _ hunting c.args.saw.now _ _ c.in_ok-parted.parted.told.items c.in_ok-told.told.items c.first_of.result.now _ c.in_ok-shown.shown.items c.in_ok-stuck.stuck.shown.items _ _ c.requires.hunted c.in_ok-parted.ensures.told
     (rw (c.deref.ensures.value, c.requires.symbols) at c.in_ok-told.ensures)
-    (rw (c.full_of-most.ensures, c.is_some.ensures, c.is_some-2.ensures, c.stuck_ends.ensures.wanted, c.deref-4.ensures.value) at c.first_of.ensures)
+    (rw (c.full_of-most.ensures, c.is_some.ensures, c.is_some-2.ensures, c.save_ends.ensures, c.stuck_ends.ensures.wanted, c.deref-4.ensures.value) at c.first_of.ensures)
     came c.in_ok-shown.ensures.shown c.in_ok-text.ensures
     (rw (c.deref-7.ensures.value, c.deref-8.ensures.value) at c.in_ok-make_page.ensures.paged)
     c.in_ok-stuck.ensures.shown

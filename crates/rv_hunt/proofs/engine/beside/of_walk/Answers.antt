@@ -5,7 +5,7 @@ use Rattle.rv_collide.specs.Plan.{Numbers}
 use Rattle.rv_collide.specs.declared.entry.Entry.{Entry}
 use Rattle.rv_hart.specs.State.{State}
 use Rattle.rv_walk.specs.Walked.{entries_of}
-use Rattle.rv_hunt.proofs.engine.stuck_ends.of_walk.Goals as goal
+use Rattle.rv_hunt.proofs.engine.beside.of_walk.Goals as goal
 
 pub returns : goal.returns
 returns c =
