@@ -64,6 +64,7 @@ race 1: 00010004 and 00010004, 1 report, kept
   hart 1 stored 4 bytes at 00020000, entry 4
     00010004: sw x10, 0(x6)
   bytes 00000000 at entry 3, the pause; 00000001 at entry 5, its end; data breakpoint 0
+  order: 8 trials end alike, memory differs at 00020000 in 8
 
     entry  hart  event      bytes     instruction
         3     0  paused 0             00010004: sw x10, 0(x6)

@@ -1,3 +1,4 @@
 pub mod BlockLemmas
+pub mod OrderLemmas
 pub mod Ranges
 pub mod StuckLemmas

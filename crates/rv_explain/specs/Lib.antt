@@ -5,6 +5,7 @@ pub mod Explained
 pub mod Frame
 pub mod Meeting
 pub mod Names
+pub mod Order
 pub mod Pieces
 pub mod Stuck
 pub mod Told

@@ -152,13 +152,14 @@ fn values_line(alloc: Global, block: &Block) -> Result<String, NoMemory> {
     }
 }
 
-/// The lines above those of the entries.
+/// The lines above those of the entries. The rows about the order stand below the line of the bytes.
 fn head_lines(
     alloc: Global,
     names: &Names,
     run_words: &[u8],
     race: u64,
     block: &Block,
+    order: &[Vec<u8>],
 ) -> Result<Vec<Vec<u8>>, NoMemory> {
     let mut lines = Vec::new(alloc);
     lines.push(first_line(alloc, names, run_words, race, block)?)?;
@@ -170,21 +171,25 @@ fn head_lines(
     lines.push(other_line(alloc, names, block)?.into_bytes())?;
     add_side(alloc, &mut lines, names, &block.other)?;
     lines.push(values_line(alloc, block)?.into_bytes())?;
+    for row in order {
+        lines.push(Vec::from_slice(alloc, row)?)?;
+    }
     lines.push(Vec::new(alloc))?;
     lines.push(Vec::from_slice(alloc, COLUMNS)?)?;
     Ok(lines)
 }
 
 /// The lines of the block of race K, without LFs. Of a symbol's name at most so many bytes are shown. `run_words` stands at
-/// the end of the first line: what the command says of the run.
+/// the end of the first line: what the command says of the run. `order` has the rows about the order, where there are any.
 pub(crate) fn block_lines(
     alloc: Global,
     names: &Names,
     run_words: &[u8],
     race: u64,
     block: &Block,
+    order: &[Vec<u8>],
 ) -> Result<Vec<Vec<u8>>, NoMemory> {
-    let mut lines = head_lines(alloc, names, run_words, race, block)?;
+    let mut lines = head_lines(alloc, names, run_words, race, block, order)?;
     for shown in &block.lines {
         lines.push(shown_line(alloc, names, block, shown)?.into_bytes())?;
     }
@@ -200,8 +205,21 @@ pub fn block_text(
     race: u64,
     block: &Block,
 ) -> Result<Vec<u8>, NoMemory> {
+    ordered_text(alloc, symbols, run_words, race, block, &[])
+}
+
+/// The same with the rows of `order_rows` below the line of the bytes.
+pub fn ordered_text(
+    alloc: Global,
+    symbols: &SymbolTable,
+    run_words: &[u8],
+    race: u64,
+    block: &Block,
+    order: &[Vec<u8>],
+) -> Result<Vec<u8>, NoMemory> {
     let most = TEXT_NAME;
-    let lines = block_lines(alloc, &Names { symbols, most }, run_words, race, block)?;
+    let names = Names { symbols, most };
+    let lines = block_lines(alloc, &names, run_words, race, block, order)?;
     let mut text = Vec::new(alloc);
     for line in &lines {
         text.extend_from_slice(line)?;

@@ -2,8 +2,9 @@
 //!
 //! To the layer above, `race_block` makes the `Block` of a race of a run and `blocks_asked` those of a run, which are the
 //! values of `specs/BlockOf.antt`; `row_here` is what is told of an entry; `stuck_block` makes that of a schedule's end where it is
-//! stuck, by `specs/Stuck.antt`. `block_text`, `stuck_text` and `picture` write a block for people, which knows no file:
-//! `tests/explain` and `tests/program` compare their bytes, and a picture is proved to be well-formed markup.
+//! stuck, by `specs/Stuck.antt`; `order_of` tries both orders of a race's accesses, by `specs/Order.antt`. `block_text`,
+//! `ordered_text`, `stuck_text` and `picture` write a block for people, which knows no file: `tests/explain` and `tests/program`
+//! compare their bytes, and a picture is proved to be well-formed markup.
 #![tactic(auto)]
 
 pub use rv_races::classes;
@@ -17,6 +18,7 @@ mod frame;
 mod lines;
 mod meeting;
 pub mod names;
+pub mod order;
 pub mod picture;
 pub mod pieces;
 pub mod race_block;

@@ -168,7 +168,7 @@ pub fn draw_picture(
     ensures { IfOk result (λ more. more ≡ page) }
 {
     let most = PICTURE_NAME;
-    let lines = block_lines(alloc, &Names { symbols, most }, b"", race, block)?;
+    let lines = block_lines(alloc, &Names { symbols, most }, b"", race, block, &[])?;
     let frame = frame_of(&lines, block)?;
     draw_framed(page, alloc, &frame, &lines, block)
 }

@@ -18,7 +18,7 @@ use rv_stuck::{Doing, RoundStep, StuckEnd, acts_of, stuck_end};
 use rv_symbols::symbol_table::SymbolTable;
 use std::alloc::Global;
 
-mod after;
+pub(crate) mod after;
 mod reads;
 mod text;
 

@@ -21,8 +21,9 @@ use crate::new_file::NewFile;
 use crate::run::fault::CommandFault;
 use rv_debug::session::Session;
 use rv_explain::block::Block;
-use rv_explain::blocks::{block_text, totals_text};
+use rv_explain::blocks::{ordered_text, totals_text};
 use rv_explain::explain::blocks_asked;
+use rv_explain::order::{order_of, order_rows};
 use rv_explain::picture::picture_text;
 use rv_explain::races::RunRaces;
 use rv_explain::stuck::{stuck_block, stuck_text};
@@ -77,6 +78,24 @@ fn first_number(options: &ExplainOptions) -> u64 {
     options.race.unwrap_or(1)
 }
 
+/// Adds the block of a race, with what difference the order of its two accesses makes.
+fn add_block(
+    alloc: Global,
+    text: &mut Vec<u8>,
+    symbols: &SymbolTable,
+    session: &Session,
+    number: u64,
+    block: &Block,
+) -> Result<(), NoMemory> {
+    let harts = session.machine().harts();
+    let order = order_of(alloc, symbols, harts, session.entries(), block)?;
+    let rows = order_rows(alloc, symbols, block, order.as_ref())?;
+    let block = ordered_text(alloc, symbols, b"", number, block, &rows)?;
+    text.push(b'\n')?;
+    text.extend_from_slice(&block)?;
+    Ok(())
+}
+
 /// Adds what is told of a schedule that ends where harts wait for ever for what they read.
 fn add_stuck(
     alloc: Global,
@@ -113,9 +132,7 @@ fn text_of(
     let mut text = totals_text(alloc, races, found.reports, found.endings)?;
     for (n, block) in blocks.iter().enumerate() {
         let number = first_number(options).saturating_add(n as u64);
-        let block = block_text(alloc, symbols, b"", number, block)?;
-        text.push(b'\n')?;
-        text.extend_from_slice(&block)?;
+        add_block(alloc, &mut text, symbols, session, number, block)?;
     }
     if options.race.is_none() {
         add_stuck(alloc, &mut text, symbols, session)?;
