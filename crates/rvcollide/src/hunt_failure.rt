@@ -57,7 +57,10 @@ pub fn at_fault_in(folder: &Option<ScheduleFolder<'_>>) -> AtFault {
 /// The line of a fault of a file.
 fn of_file<'a>(path: Option<&'a str>, fault: FileFault) -> Failure<'a> {
     let file = match path {
-        Some(path) => Some(FilePlace { path, schedule: None }),
+        Some(path) => Some(FilePlace {
+            path,
+            schedule: None,
+        }),
         None => None,
     };
     Failure::OfFile(FileLine {

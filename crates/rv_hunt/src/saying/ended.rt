@@ -5,8 +5,8 @@ ghost use Rattle.rv_hunt.specs.EndedRows as spec;
 use crate::tally::ended::Ended;
 use crate::tally::kinds::Kinds;
 use rv_explain::names::address_text;
+use rv_explain::order::cause_words;
 use rv_explain::symbol_table::SymbolTable;
-use rv_hart::hart::Cause;
 use rv_memory::store::NoMemory;
 use rv_tally::end::End;
 use std::alloc::Global;
@@ -62,21 +62,6 @@ pub(crate) fn ended_rows(alloc: Global, ended: &Ended) -> Result<Vec<EndedRow>, 
     push_kinds(&mut rows, ended.waits(), Ways::OtherWaits)?;
     push_if(&mut rows, Ways::One(End::OutOfSteps), ended.out_of_steps())?;
     Ok(rows)
-}
-
-/// A cause in the words of the privileged architecture's table of exceptions.
-fn cause_words(cause: Cause) -> &'static str {
-    match cause {
-        Cause::TargetMisaligned => "instruction address misaligned",
-        Cause::FetchFault => "instruction access fault",
-        Cause::Illegal => "illegal instruction",
-        Cause::Breakpoint => "breakpoint",
-        Cause::LoadMisaligned => "load address misaligned",
-        Cause::LoadFault => "load access fault",
-        Cause::StoreMisaligned => "store address misaligned",
-        Cause::StoreFault => "store access fault",
-        Cause::UnknownCall => "environment call",
-    }
 }
 
 /// In which way harts ended.
