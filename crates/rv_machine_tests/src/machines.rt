@@ -5,6 +5,7 @@ ghost use Rattle.rv_memory.specs.Extent.{IsExtent};
 use rv_hart::machine::{MOST_HARTS, Machine};
 use rv_memory::flat::Flat;
 use rv_memory::region::Region;
+use rv_memory::store::ByteStore;
 use std::alloc::Global;
 use std::process::Abort;
 
@@ -54,7 +55,21 @@ pub fn regions(rt: &impl Abort, alloc: Global, words: &[u32], data: &[u32]) -> V
     two(rt, alloc, text, data)
 }
 
-/// A machine that runs words from 00010000 on, with 4,096 bytes from 00020000 on that begin with data.
+/// A machine over any store, which runs words from 00010000 on, with 4,096 bytes from 00020000 on that begin with data. It may print
+/// 8 bytes.
+pub fn machine_over<S: ByteStore>(
+    rt: &impl Abort,
+    alloc: Global,
+    words: &[u32],
+    data: &[u32],
+    harts: u8,
+) -> Machine<S> {
+    assert!(rt; 1 <= harts && harts <= MOST_HARTS);
+    let regions = regions(rt, alloc, words, data);
+    Machine::new(alloc, &regions, 0x10000, harts, 8).expect(rt, "a machine")
+}
+
+/// The same over flat memory.
 pub fn machine(
     rt: &impl Abort,
     alloc: Global,
@@ -62,9 +77,7 @@ pub fn machine(
     data: &[u32],
     harts: u8,
 ) -> Machine<Flat> {
-    assert!(rt; 1 <= harts && harts <= MOST_HARTS);
-    let regions = regions(rt, alloc, words, data);
-    Machine::new(alloc, &regions, 0x10000, harts, 8).expect(rt, "a machine")
+    machine_over(rt, alloc, words, data, harts)
 }
 
 /// Both regions.
@@ -85,5 +98,12 @@ pub fn run(rt: &impl Abort, machine: &mut Machine<Flat>, steps: &[u8])
 {
     for h in steps {
         assert!(rt; machine.step(*h).is_ok(), "step of hart {h}");
+    }
+}
+
+/// So many steps of one hart, each of which is made.
+pub fn run_alone<S: ByteStore>(rt: &impl Abort, machine: &mut Machine<S>, h: u8, count: u32) {
+    for _ in 0..count {
+        assert!(rt; machine.step(h).is_ok(), "a step of hart {h}");
     }
 }

@@ -1,5 +1,7 @@
 //! Trials of programs, whose ends were found by hand.
-use crate::machines::{assert_is, machine, run, tried};
+use super::{machine, tried};
+use crate::assertion::assert_is;
+use crate::machines::run_alone;
 use rv_hart::hart::Cause;
 use rv_hart::machine::Machine;
 use rv_memory::paged::Paged;
@@ -201,8 +203,8 @@ fn assert_trial(
 fn lost_count(rt: HostRuntime) {
     let alloc = rt.alloc();
     let mut machine = machine(&rt, alloc, &ADDS, 2);
-    run(&rt, &mut machine, 0, 1);
-    run(&rt, &mut machine, 1, 3);
+    run_alone(&rt, &mut machine, 0, 1);
+    run_alone(&rt, &mut machine, 1, 3);
     let lost = [HartEnd::Exited(1), HartEnd::Exited(1)];
     let counted = [HartEnd::Exited(2), HartEnd::Exited(1)];
     let wanted = [zero_first(&lost), one_first(&counted)];
@@ -214,8 +216,8 @@ fn lost_count(rt: HostRuntime) {
 fn prints_in_either_order(rt: HostRuntime) {
     let alloc = rt.alloc();
     let mut machine = machine(&rt, alloc, &PRINTS, 2);
-    run(&rt, &mut machine, 0, 2);
-    run(&rt, &mut machine, 1, 2);
+    run_alone(&rt, &mut machine, 0, 2);
+    run_alone(&rt, &mut machine, 1, 2);
     let wanted = [zero_first(&BOTH_EXIT), one_first(&BOTH_EXIT)];
     assert_trial(&rt, alloc, &mut machine, wanted, Difference::Prints);
 }
@@ -225,8 +227,8 @@ fn prints_in_either_order(rt: HostRuntime) {
 fn last_store_stays(rt: HostRuntime) {
     let alloc = rt.alloc();
     let mut machine = machine(&rt, alloc, &LAST, 2);
-    run(&rt, &mut machine, 0, 1);
-    run(&rt, &mut machine, 1, 1);
+    run_alone(&rt, &mut machine, 0, 1);
+    run_alone(&rt, &mut machine, 1, 1);
     let wanted = [zero_first(&BOTH_EXIT), one_first(&BOTH_EXIT)];
     assert_trial(
         &rt,
@@ -242,8 +244,8 @@ fn last_store_stays(rt: HostRuntime) {
 fn stacks_are_passed_over(rt: HostRuntime) {
     let alloc = rt.alloc();
     let mut machine = machine(&rt, alloc, &STACK, 2);
-    run(&rt, &mut machine, 0, 2);
-    run(&rt, &mut machine, 1, 2);
+    run_alone(&rt, &mut machine, 0, 2);
+    run_alone(&rt, &mut machine, 1, 2);
     let wanted = [zero_first(&BOTH_EXIT), one_first(&BOTH_EXIT)];
     assert_trial(&rt, alloc, &mut machine, wanted, Difference::None);
 }
@@ -253,8 +255,8 @@ fn stacks_are_passed_over(rt: HostRuntime) {
 fn lock_in_either_order(rt: HostRuntime) {
     let alloc = rt.alloc();
     let mut machine = machine(&rt, alloc, &LOCK, 2);
-    run(&rt, &mut machine, 0, 2);
-    run(&rt, &mut machine, 1, 2);
+    run_alone(&rt, &mut machine, 0, 2);
+    run_alone(&rt, &mut machine, 1, 2);
     let wanted = [zero_first(&BOTH_EXIT), one_first(&BOTH_EXIT)];
     assert_trial(&rt, alloc, &mut machine, wanted, Difference::None);
 }
@@ -264,9 +266,9 @@ fn lock_in_either_order(rt: HostRuntime) {
 fn each_way_to_go_on(rt: HostRuntime) {
     let alloc = rt.alloc();
     let mut machine = machine(&rt, alloc, &POLLS, 3);
-    run(&rt, &mut machine, 0, 4);
-    run(&rt, &mut machine, 1, 3);
-    run(&rt, &mut machine, 2, 4);
+    run_alone(&rt, &mut machine, 0, 4);
+    run_alone(&rt, &mut machine, 1, 3);
+    run_alone(&rt, &mut machine, 2, 4);
     let ends = [HartEnd::Exited(0), HartEnd::Polls(0x10014), HartEnd::Parked];
     let wanted = [zero_first(&ends), one_first(&ends)];
     assert_trial(&rt, alloc, &mut machine, wanted, Difference::None);
@@ -277,8 +279,8 @@ fn each_way_to_go_on(rt: HostRuntime) {
 fn conditional_fails(rt: HostRuntime) {
     let alloc = rt.alloc();
     let mut machine = machine(&rt, alloc, &CONDITIONAL, 2);
-    run(&rt, &mut machine, 0, 3);
-    run(&rt, &mut machine, 1, 2);
+    run_alone(&rt, &mut machine, 0, 3);
+    run_alone(&rt, &mut machine, 1, 2);
     let stored = [HartEnd::Exited(0), HartEnd::Exited(1)];
     let failed = [HartEnd::Exited(1), HartEnd::Exited(1)];
     let wanted = [zero_first(&stored), one_first(&failed)];
@@ -290,8 +292,8 @@ fn conditional_fails(rt: HostRuntime) {
 fn stops_or_exits(rt: HostRuntime) {
     let alloc = rt.alloc();
     let mut machine = machine(&rt, alloc, &STOPS, 2);
-    run(&rt, &mut machine, 0, 2);
-    run(&rt, &mut machine, 1, 2);
+    run_alone(&rt, &mut machine, 0, 2);
+    run_alone(&rt, &mut machine, 1, 2);
     let breakpoint = HartEnd::Stopped {
         cause: Cause::Breakpoint,
         pc: 0x10010,
@@ -306,8 +308,8 @@ fn stops_or_exits(rt: HostRuntime) {
 fn cut_off(rt: HostRuntime) {
     let alloc = rt.alloc();
     let mut machine = machine(&rt, alloc, &COUNTS, 2);
-    run(&rt, &mut machine, 0, 2);
-    run(&rt, &mut machine, 1, 2);
+    run_alone(&rt, &mut machine, 0, 2);
+    run_alone(&rt, &mut machine, 1, 2);
     let found = tried(&rt, alloc, &mut machine, [0, 1], 7, 100).expect(&rt, "a trial");
     assert_copy(&rt, &found.first, cut_off_copy([0, 1]), "the first copy");
     assert_copy(&rt, &found.second, cut_off_copy([1, 0]), "the second copy");
@@ -321,8 +323,8 @@ fn cut_off(rt: HostRuntime) {
 fn words_by_number(rt: HostRuntime) {
     let alloc = rt.alloc();
     let mut machine = machine(&rt, alloc, &COUNTS, 2);
-    run(&rt, &mut machine, 0, 2);
-    run(&rt, &mut machine, 1, 2);
+    run_alone(&rt, &mut machine, 0, 2);
+    run_alone(&rt, &mut machine, 1, 2);
     let found = tried(&rt, alloc, &mut machine, [0, 1], 7, 100).expect(&rt, "a trial");
     let other = tried(&rt, alloc, &mut machine, [0, 1], 8, 100).expect(&rt, "a trial");
     assert!(rt;
@@ -345,8 +347,8 @@ fn behind_two(tried: &Tried) -> &[u8] {
 fn runs_on(rt: HostRuntime) {
     let alloc = rt.alloc();
     let mut machine = machine(&rt, alloc, &RUNS_ON, 2);
-    run(&rt, &mut machine, 0, 2);
-    run(&rt, &mut machine, 1, 2);
+    run_alone(&rt, &mut machine, 0, 2);
+    run_alone(&rt, &mut machine, 1, 2);
     let second = Wanted {
         first: [1, 0],
         is_over: false,
@@ -361,8 +363,8 @@ fn runs_on(rt: HostRuntime) {
 fn prints_on(rt: HostRuntime) {
     let alloc = rt.alloc();
     let mut machine = machine(&rt, alloc, &PRINTS_ON, 2);
-    run(&rt, &mut machine, 0, 2);
-    run(&rt, &mut machine, 1, 2);
+    run_alone(&rt, &mut machine, 0, 2);
+    run_alone(&rt, &mut machine, 1, 2);
     let wanted = [cut_off_copy([0, 1]), cut_off_copy([1, 0])];
     assert_trial(&rt, alloc, &mut machine, wanted, Difference::Prints);
 }

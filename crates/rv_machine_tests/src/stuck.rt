@@ -1,5 +1,6 @@
 //! Machines that are stuck, and some that aren't.
-use crate::machines::{assert_is, machine, run};
+use crate::assertion::assert_is;
+use crate::machines::{machine_over, run_alone};
 use rv_hart::access::Access;
 use rv_hart::machine::Machine;
 use rv_memory::flat::Flat;
@@ -98,26 +99,26 @@ const ONE: [u32; 6] = [3, 0x10018, 4, 0x20000, 4, 2];
 #[test]
 fn two_locks_in_both_orders(rt: HostRuntime) {
     let alloc = rt.alloc();
-    let mut both = machine(&rt, alloc, &LOCKS, 2);
+    let mut both = machine_over(&rt, alloc, &LOCKS, &[0], 2);
     assert_both(&rt, alloc, &mut both);
-    let mut one = machine(&rt, alloc, &LOCKS, 2);
+    let mut one = machine_over(&rt, alloc, &LOCKS, &[0], 2);
     assert_one(&rt, alloc, &mut one);
 }
 
 fn assert_both(rt: &impl Abort, alloc: Global, machine: &mut Machine<Paged>) {
-    run(rt, machine, 0, 8);
-    run(rt, machine, 1, 8);
-    run(rt, machine, 0, 2);
+    run_alone(rt, machine, 0, 8);
+    run_alone(rt, machine, 1, 8);
+    run_alone(rt, machine, 0, 2);
     assert_none(rt, alloc, machine, "hart 1 has not gone round");
-    run(rt, machine, 1, 2);
+    run_alone(rt, machine, 1, 2);
     assert_key(rt, alloc, machine, &BOTH, "both wait");
-    run(rt, machine, 0, 1);
+    run_alone(rt, machine, 0, 1);
     assert_key(rt, alloc, machine, &BOTH, "hart 0 in its round");
 }
 
 fn assert_one(rt: &impl Abort, alloc: Global, machine: &mut Machine<Paged>) {
-    run(rt, machine, 1, 10);
-    run(rt, machine, 0, 8);
+    run_alone(rt, machine, 1, 10);
+    run_alone(rt, machine, 0, 8);
     assert_key(rt, alloc, machine, &ONE, "hart 1 has both");
 }
 
@@ -125,17 +126,17 @@ fn assert_one(rt: &impl Abort, alloc: Global, machine: &mut Machine<Paged>) {
 #[test]
 fn each_way_to_end(rt: HostRuntime) {
     let alloc = rt.alloc();
-    let mut machine = machine(&rt, alloc, &MIXED, 4);
+    let mut machine = machine_over(&rt, alloc, &MIXED, &[0], 4);
     assert_mixed(&rt, alloc, &mut machine);
 }
 
 fn assert_mixed(rt: &impl Abort, alloc: Global, machine: &mut Machine<Flat>) {
-    run(rt, machine, 0, 2);
-    run(rt, machine, 1, 4);
-    run(rt, machine, 2, 7);
-    run(rt, machine, 3, 7);
+    run_alone(rt, machine, 0, 2);
+    run_alone(rt, machine, 1, 4);
+    run_alone(rt, machine, 2, 7);
+    run_alone(rt, machine, 3, 7);
     assert_none(rt, alloc, machine, "hart 3 is to exit");
-    run(rt, machine, 3, 1);
+    run_alone(rt, machine, 3, 1);
     let wanted = [2, 3, 0x10014, 4, 0x20000, 4, 1, 0];
     assert_key(rt, alloc, machine, &wanted, "each way");
     assert_rounds(rt, alloc, machine);
@@ -190,7 +191,7 @@ fn assert_round(
 #[test]
 fn counts(rt: HostRuntime) {
     let alloc = rt.alloc();
-    let mut machine: Machine<Flat> = machine(&rt, alloc, &COUNTS, 1);
+    let mut machine: Machine<Flat> = machine_over(&rt, alloc, &COUNTS, &[0], 1);
     assert_none(&rt, alloc, &mut machine, "a hart that counts");
 }
 
@@ -198,8 +199,8 @@ fn counts(rt: HostRuntime) {
 #[test]
 fn none_runs(rt: HostRuntime) {
     let alloc = rt.alloc();
-    let mut machine: Machine<Flat> = machine(&rt, alloc, &EXITS, 1);
-    run(&rt, &mut machine, 0, 2);
+    let mut machine: Machine<Flat> = machine_over(&rt, alloc, &EXITS, &[0], 1);
+    run_alone(&rt, &mut machine, 0, 2);
     assert_none(&rt, alloc, &mut machine, "no hart runs");
 }
 
@@ -207,8 +208,8 @@ fn none_runs(rt: HostRuntime) {
 #[test]
 fn reads_ascend(rt: HostRuntime) {
     let alloc = rt.alloc();
-    let mut machine: Machine<Flat> = machine(&rt, alloc, &READS, 1);
-    run(&rt, &mut machine, 0, 3);
+    let mut machine: Machine<Flat> = machine_over(&rt, alloc, &READS, &[0], 1);
+    run_alone(&rt, &mut machine, 0, 3);
     let wanted = [3, 0x10004, 4, 0x20000, 2, 4, 0x20000, 4, 4, 0x20004, 4];
     assert_key(&rt, alloc, &mut machine, &wanted, "three ranges");
 }

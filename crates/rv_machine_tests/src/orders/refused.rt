@@ -1,5 +1,6 @@
 //! Steps of which no trial is made.
-use crate::machines::{machine, run, tried};
+use super::{machine, tried};
+use crate::machines::run_alone;
 use rv_hart::hart::Cause;
 use rv_orders::HartEnd;
 
@@ -21,7 +22,7 @@ const EXITS: [u32; 2] = [0x05d0_0893, 0x0000_0073];
 fn exited(rt: HostRuntime) {
     let alloc = rt.alloc();
     let mut machine = machine(&rt, alloc, &EXITS, 2);
-    run(&rt, &mut machine, 1, 2);
+    run_alone(&rt, &mut machine, 1, 2);
     let found = tried(&rt, alloc, &mut machine, [0, 1], 0, 100);
     assert!(rt; found.is_none(), "a hart that exited");
 }
@@ -42,11 +43,11 @@ fn two_harts(rt: HostRuntime) {
 fn writes_over(rt: HostRuntime) {
     let alloc = rt.alloc();
     let mut machine = machine(&rt, alloc, &WRITES, 2);
-    run(&rt, &mut machine, 0, 2);
-    run(&rt, &mut machine, 1, 2);
+    run_alone(&rt, &mut machine, 0, 2);
+    run_alone(&rt, &mut machine, 1, 2);
     let found = tried(&rt, alloc, &mut machine, [0, 1], 0, 100);
     assert!(rt; found.is_none(), "a store over the other's instruction");
-    run(&rt, &mut machine, 1, 1);
+    run_alone(&rt, &mut machine, 1, 1);
     let found = tried(&rt, alloc, &mut machine, [0, 1], 0, 100).expect(&rt, "a trial");
     let illegal = HartEnd::Stopped {
         cause: Cause::Illegal,
