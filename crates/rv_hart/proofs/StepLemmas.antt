@@ -1,8 +1,9 @@
 use Rattle.std.proofs.Common.{◌≡◌, ℕ, ◌+◌, ◌<◌, ◌≤◌, Bool, IsTrue, true, false, cond, List, ◌++◌, Option, Some, None, length, map, set, take, drop, refl, sym, ap, subst, ◌∙◌, arith, length-append, length-drop}
-use Rattle.std.specs.Prelude.{slice_get, IsSomeAnd, Result, Ok, Err, is_err, OnErr, OnOk}
+use Rattle.std.specs.Prelude.{slice_get, is_some, IsSomeAnd, Result, Ok, Err, is_err, OnErr, OnOk}
 use Rattle.std.proofs.Math.ListN.{length-set}
 use Rattle.std.proofs.lemmas.Grind.{common_steps}
 use Rattle.std.proofs.lemmas.List.{length-map, append-nil, length-take}
+use Rattle.rv_hart.specs.NextAccess.{accessed, access_of_step, is_write, next_access}
 use Rattle.rv_hart.specs.Refusals.{is_print}
 use Rattle.rv_hart.specs.internal.Able.{IsAble, IsAbleWrite, AreBytes}
 use Rattle.rv_hart.specs.internal.Harts.{HartsAfter}
@@ -128,3 +129,25 @@ on_ok (Err fault) fine p = cc
 pub on_err : {T E P : Type 0} (r : Result T E) → is_err r ≡ true → OnErr r P → P
 on_err (Ok value) failed p = cc
 on_err (Err fault) failed p = p
+
+-- what an action writes, its access writes
+writes_if : (b : Bool) (hart : Hart) (address value : ℕ) → is_some {T = Write} (cond b (Some (record { address = address; size = 4; value = value })) None) ≡ true → is_write (accessed (Moved (cond b (Some (record { pc = hart.pc; first = address; size = 4; read = false; write = true })) None))) ≡ true
+writes_if true hart address value h = refl
+writes_if false hart address value h = h
+
+writes_accessed : (loaded : ℕ) (hart : Hart) (action : Action) → is_some (written_by loaded hart action) ≡ true → is_write (accessed (event_of hart action)) ≡ true
+writes_accessed loaded hart (Store address size value) h = refl
+writes_accessed loaded hart (Replace rd address combine value) h = refl
+writes_accessed loaded hart (Conditional rd address value) h = writes_if (reserves hart.reservation address) hart address value h
+writes_accessed loaded hart (Load rd address size signed) h = h
+writes_accessed loaded hart (Reserve rd address) h = h
+writes_accessed loaded hart (Trap cause) h = h
+writes_accessed loaded hart (Set rd value next) h = h
+writes_accessed loaded hart (Print byte) h = h
+writes_accessed loaded hart (Exit code) h = h
+
+pub writes_next : (s : State) (h loaded : ℕ) (hart : Hart) (action : Action) (w : Option Write) → slice_get s.harts h ≡ Some hart → Takes s h action → w ≡ written_by loaded hart action → is_some w ≡ true → is_write (next_access s h) ≡ true
+unfolding next_access
+writes_next s h loaded hart action w found takes w_is some =
+    let made : access_of_step (step_of s h) ≡ accessed (event_of hart action) = ap access_of_step (step_parts s h hart action found (runs_at s h hart action found takes)) in
+    ap is_write made ∙ writes_accessed loaded hart action (ap (λ (x : Option Write). is_some x) (sym w_is) ∙ some)

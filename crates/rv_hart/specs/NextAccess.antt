@@ -23,6 +23,11 @@ abbrev pub access_of_step : Option (Event × State) → Option Access
 access_of_step None = None
 access_of_step (Some (e, t)) = accessed e
 
+-- there is an access, and it writes
+abbrev pub is_write : Option Access → Bool
+is_write None = false
+is_write (Some access) = access.write
+
 -- the access that a step of hart h would make now, or none
 unfoldable pub next_access : State → ℕ → Option Access
 next_access s h = access_of_step (step_of s h)

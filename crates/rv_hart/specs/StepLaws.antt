@@ -1,5 +1,5 @@
 -- What a step of each class of instructions changes, and what stays.
-use Rattle.std.specs.Prelude.{◌≡◌, ◌≢◌, ℕ, ℤ, pos, ◌+ℤ◌, ◌*ℤ◌, ◌+◌, ◌-◌, ◌*◌, ◌^◌, ◌<◌, ◌≤◌, ◌<ℤ◌, ◌↔◌, Bool, true, false, ◌&&◌, nat_le, nat_lt, IsTrue, Option, Some, None, List, [], ◌∷◌, ◌++◌, length, map, slice_get, slice_set}
+use Rattle.std.specs.Prelude.{◌≡◌, ◌≢◌, ℕ, ℤ, pos, ◌+ℤ◌, ◌*ℤ◌, ◌+◌, ◌-◌, ◌*◌, ◌^◌, ◌<◌, ◌≤◌, ◌<ℤ◌, ◌≤ℤ◌, ◌↔◌, Bool, true, false, ◌&&◌, nat_le, nat_lt, IsTrue, Option, Some, None, List, [], ◌∷◌, ◌++◌, length, map, slice_get, slice_set, unsigned_abs}
 use Rattle.std.specs.Int.{int_shr, w32, w64}
 use Rattle.std.specs.Int.RustNames.{FitsSigned, int_div}
 use Rattle.rv_hart.specs.Act.{following}
@@ -147,8 +147,14 @@ pub record ArithmeticLaw : Type 0 where
   pub right : (a amount : ℕ) → (lost : ℕ) × (lost < 2 ^ amount) × (a ≡ shift_right a amount * 2 ^ amount + lost)
   pub right_signed : (a amount : ℕ) → a < 2 ^ 32 → integer (shift_right_signed a amount) ≡ int_shr (integer a) amount
 
+-- a number is 0 or has the sign of another
+pub record HasSignOf (whole rest : ℤ) : Type 0 where
+  pub not_negative : pos 0 ≤ℤ whole → pos 0 ≤ℤ rest
+  pub not_positive : whole ≤ℤ pos 0 → rest ≤ℤ pos 0
+
 -- The halves of a product are the product, and the low one is the same however the factors are read. Quotient and
--- remainder make up the dividend, where the quotient is a word's number; the rest is the manual's table of special
+-- remainder make up the dividend, where the quotient is a word's number. A signed remainder is nearer to zero than the
+-- divisor and has the dividend's sign: so the quotient is rounded towards zero. The rest is the manual's table of special
 -- cases. (RISC-V Unprivileged ISA, "Multiplication Operations", "Division Operations".)
 pub record ProductLaw : Type 0 where
   pub whole : (a b : ℕ) → a < 2 ^ 32 → b < 2 ^ 32 → high_half (pos a *ℤ pos b) * 2 ^ 32 + low_half (pos a *ℤ pos b) ≡ a * b
@@ -156,5 +162,7 @@ pub record ProductLaw : Type 0 where
   pub same_low : (a b : ℕ) → a < 2 ^ 32 → b < 2 ^ 32 → low_half (integer a *ℤ integer b) ≡ low_half (pos a *ℤ pos b)
   pub made_up : (a b : ℕ) → 0 < b → (quotient a b * b + remainder a b ≡ a) × (remainder a b < b)
   pub made_up_signed : (a b : ℕ) → 0 < b → FitsSigned w32 (int_div (integer a) (integer b)) → a < 2 ^ 32 → b < 2 ^ 32 → integer (quotient_signed a b) *ℤ integer b +ℤ integer (remainder_signed a b) ≡ integer a
+  pub smaller : (a b : ℕ) → 0 < b → a < 2 ^ 32 → b < 2 ^ 32 → unsigned_abs (integer (remainder_signed a b)) < unsigned_abs (integer b)
+  pub towards_zero : (a b : ℕ) → 0 < b → a < 2 ^ 32 → b < 2 ^ 32 → HasSignOf (integer a) (integer (remainder_signed a b))
   pub by_zero : (a : ℕ) → (quotient a 0 ≡ 2 ^ 32 - 1) × (quotient_signed a 0 ≡ 2 ^ 32 - 1) × (remainder a 0 ≡ a) × (remainder_signed a 0 ≡ a)
   pub overflow : (quotient_signed (2 ^ 31) (2 ^ 32 - 1) ≡ 2 ^ 31) × (remainder_signed (2 ^ 31) (2 ^ 32 - 1) ≡ 0)

@@ -1,5 +1,5 @@
 //! What an action does, one function a component of `specs/Step.antt`.
-ghost use Rattle.std.specs.Prelude.{◌≡◌, ◌==◌, ◌%◌, ◌<◌, ◌+◌, ◌++◌, true, false, vec_len, vec_capacity, Some, IsTrue, OnOk, OnErr, length, map};
+ghost use Rattle.std.specs.Prelude.{◌≡◌, ◌==◌, ◌%◌, ◌<◌, ◌+◌, ◌++◌, true, false, vec_len, vec_capacity, Some, IsTrue, is_some, OnOk, OnErr, length, map};
 ghost use Rattle.rv_hart.specs.internal.Able.{HasSize, IsAble, IsAbleWrite, IsReady, Fits};
 ghost use Rattle.rv_hart.specs.internal.AccessKind.{access_of_kind};
 ghost use Rattle.rv_hart.specs.internal.Harts.{HartsAfter, Sees, any_holds, write_of_access};
@@ -307,6 +307,7 @@ pub fn ready<S: ByteStore>(store: &mut S, write: Option<Write>) -> Result<(), No
     ensures same { S.memory store.new ≡ S.memory store.old }
     ensures ready { OnOk result (IsReady S.is_ready store.new write) }
     ensures refused { OnErr result (IsTrue S.can_refuse) }
+    ensures writes { OnErr result (IsTrue (is_some write)) }
 {
     match write {
         None => Ok(()),

@@ -70,7 +70,7 @@ pub fn steps_are_local()
 {}
 
 /// Register x0 is read as 0; compares, shifts, products and quotients agree with the numbers that the words stand
-/// for.
+/// for, and signed quotients are rounded towards zero.
 pub fn registers_and_arithmetic()
     ensures registers { law.RegistersLaw }
     ensures arithmetic { law.ArithmeticLaw }

@@ -403,6 +403,7 @@ impl<S: ByteStore> Machine<S> {
         ensures limit { self.new.limit ≡ self.old.limit }
         ensures err { IfErr result (λ fault. fault ≡ StepFault.NoMemory) }
         ensures no_memory { OnErr result (IsTrue S.can_refuse) }
+        ensures writes { OnErr result (IsTrue (next.is_write (next.next_access self.old.state h))) }
         ensures refused { OnErr result (self.new ≡ self.old) }
     {
         memory_is_sound();

@@ -1,5 +1,6 @@
 //! The store that keeps its regions in pages, which stores share until one writes.
 ghost use Rattle.std.specs.Prelude.{◌≡◌, ℕ, false, OnOk, ◌+◌, ◌++◌, ◌-◌, ◌^◌, ◌<◌, ◌≤◌, true, None, is_some, IsTrue, IfOk, IfSome, All, HoldsAt, length, map};
+ghost use Rattle.std.specs.Result.{IsOk};
 ghost use Rattle.rv_memory.specs.Extent.{IsExtent, IsFull};
 ghost use Rattle.rv_memory.specs.Memory as spec;
 ghost use Rattle.rv_memory.specs.Pages.{bytes_of, extent, is_own, memory_in, place_of, AreOwn, IsReady};
@@ -188,6 +189,7 @@ impl Table {
         ensures bytes { bytes_of self.new.pages ≡ bytes_of self.old.pages }
         ensures keeps { (page : ℕ) → IsTrue (is_own self.old.pages page) → IsTrue (is_own self.new.pages page) }
         ensures ready { OnOk result (AreOwn self.new.pages (place_of self.old address) size) }
+        ensures granted { AreOwn self.old.pages (place_of self.old address) size → IsOk result }
     {
         let at = place(self, address);
         self.pages.ready(alloc, at, size)?;
@@ -218,6 +220,7 @@ impl Table {
             → bytes_of self.new.pages ≡ put_at (bytes_of self.old.pages) (place_of self.old address) size value }
         ensures same { (result ≡ false) → bytes_of self.new.pages ≡ bytes_of self.old.pages }
         ensures keeps { (page : ℕ) → IsTrue (is_own self.old.pages page) → IsTrue (is_own self.new.pages page) }
+        ensures granted { AreOwn self.old.pages (place_of self.old address) size → IsTrue result }
     {
         let at = place(self, address);
         self.pages.put_or_copy(alloc, at, size, value)

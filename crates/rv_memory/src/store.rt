@@ -1,4 +1,5 @@
 ghost use Rattle.std.specs.Prelude.{◌≡◌, ℕ, ◌^◌, ◌<◌, ◌++◌, Bool, false, IsTrue, IfSome, IfOk, IfErr, OnOk, OnErr, None, Some, codes, unwrap_or, All};
+ghost use Rattle.std.specs.Result.{IsOk};
 ghost use Rattle.rv_memory.specs.Extent.{IsExtent};
 ghost use Rattle.rv_memory.specs.Memory as spec;
 ghost use Rattle.rv_memory.specs.declared.store.MemFault.TheVariants.{NoMemory as OutOfMemory};
@@ -139,11 +140,12 @@ pub trait ByteStore: Drop {
         self.load_permitted(address, 4, Need::Execute)
     }
 
-    /// Makes the bytes ready to be stored to. The contents stay either way.
+    /// Makes the bytes ready to be stored to. Those that are ready are never refused. The contents stay either way.
     fn ready(&mut self, address: u32, size: u8) -> Result<(), NoMemory>
         ensures same { memory self.new ≡ memory self.old }
         ensures ready { OnOk result (is_ready self.new address size) }
         ensures keeps { (a n : ℕ) → is_ready self.old a n → is_ready self.new a n }
+        ensures granted { is_ready self.old address size → IsOk result }
         ensures refused { OnErr result (IsTrue can_refuse) };
 
     /// Stores the low bytes of the number, the least significant first.
@@ -163,6 +165,9 @@ pub trait ByteStore: Drop {
         ensures permitted { IsTrue result → IsTrue (spec.permits (memory self.old) address size need) }
         ensures stored { IsTrue result → memory self.new ≡ spec.store (memory self.old) address size value }
         ensures same { (result ≡ false) → memory self.new ≡ memory self.old }
+        ensures granted { is_ready self.old address size
+            → IsTrue (spec.permits (memory self.old) address size need)
+            → IsTrue result }
         ensures refused { (result ≡ false) → IsTrue (spec.permits (memory self.old) address size need) → IsTrue can_refuse }
         ensures keeps { (a n : ℕ) → is_ready self.old a n → is_ready self.new a n }
     {

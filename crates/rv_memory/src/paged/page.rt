@@ -1,5 +1,6 @@
 //! One page of a store: 4,096 bytes that are the store's own, or that it shares with others.
 ghost use Rattle.std.specs.Prelude.{◌≡◌, ◌+◌, ◌^◌, ◌<◌, ◌≤◌, true, false, IsTrue, IfOk, OnOk};
+ghost use Rattle.std.specs.Result.{IsOk};
 ghost use Rattle.rv_memory.specs.Memory as spec;
 ghost use Rattle.rv_memory.specs.internal.Flat.{number_at as spec_number_at, put_at as spec_put_at};
 ghost use Rattle.rv_memory.specs.internal.Paged.{IsPage};
@@ -93,6 +94,7 @@ impl Page {
         ensures bytes { self.new.bytes ≡ self.old.bytes }
         ensures own { OnOk result (self.new.own ≡ true) }
         ensures keeps { IsTrue self.old.own → IsTrue self.new.own }
+        ensures granted { IsTrue self.old.own → IsOk result }
     {
         if let Kept::Shared(bytes) = &self.kept {
             let own = Box::new(alloc, **bytes)?;

@@ -1,5 +1,6 @@
 //! The pages of one region, one after another.
 ghost use Rattle.std.specs.Prelude.{◌≡◌, ℕ, ◌+◌, ◌*◌, ◌/◌, ◌%◌, ◌^◌, ◌<◌, ◌≤◌, false, All, IsTrue, IfOk, OnOk, length, map, take, drop, slice_index, slice_set};
+ghost use Rattle.std.specs.Result.{IsOk};
 ghost use Rattle.rv_memory.specs.Memory as spec;
 ghost use Rattle.rv_memory.specs.Pages.{bytes_of, is_own, AreOwn};
 ghost use Rattle.rv_memory.specs.internal.Flat.{number_at, put_at};
@@ -170,6 +171,7 @@ impl Pages {
         ensures bytes { bytes_of self.new ≡ bytes_of self.old }
         ensures keeps { (place : ℕ) → IsTrue (is_own self.old place) → IsTrue (is_own self.new place) }
         ensures ready { OnOk result (AreOwn self.new at size) }
+        ensures granted { AreOwn self.old at size → IsOk result }
     {
         if size > 0 {
             self.make_own(alloc, at as usize)?;
@@ -184,6 +186,7 @@ impl Pages {
         ensures bytes { bytes_of self.new ≡ bytes_of self.old }
         ensures keeps { (place : ℕ) → IsTrue (is_own self.old place) → IsTrue (is_own self.new place) }
         ensures own { OnOk result (IsTrue (is_own self.new (at / PAGE_SIZE))) }
+        ensures granted { IsTrue (is_own self.old (at / PAGE_SIZE)) → IsOk result }
     {
         let page = &mut self.pages[at / PAGE_SIZE];
         page.make_own(alloc)?;
@@ -199,6 +202,7 @@ impl Pages {
         ensures put { IsTrue result → bytes_of self.new ≡ put_at (bytes_of self.old) at size value }
         ensures same { (result ≡ false) → bytes_of self.new ≡ bytes_of self.old }
         ensures keeps { (place : ℕ) → IsTrue (is_own self.old place) → IsTrue (is_own self.new place) }
+        ensures granted { AreOwn self.old at size → IsTrue result }
     {
         if self.put(at as usize, size, value) {
             return true;
@@ -213,6 +217,7 @@ impl Pages {
         ensures put { IsTrue result → bytes_of self.new ≡ put_at (bytes_of self.old) at size value }
         ensures same { (result ≡ false) → bytes_of self.new ≡ bytes_of self.old }
         ensures keeps { (place : ℕ) → IsTrue (is_own self.old place) → IsTrue (is_own self.new place) }
+        ensures granted { AreOwn self.old at size → IsTrue result }
     {
         if self.ready(alloc, at, size).is_err() {
             return false;

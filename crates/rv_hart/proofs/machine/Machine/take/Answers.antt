@@ -2,7 +2,7 @@ use Rattle.std.proofs.Common.{◌≡◌, ◌∙◌, refl, sym, Some, length, ap,
 use Rattle.std.specs.Prelude.{slice_get}
 use Rattle.std.proofs.lemmas.Option.{slice_get_read}
 use Rattle.rv_hart.specs.Step.{memory_after}
-use Rattle.rv_hart.proofs.StepLemmas.{able_write, step_made, harts_back, length_back, on_err, on_ok, prints_within, sound_after}
+use Rattle.rv_hart.proofs.StepLemmas.{able_write, step_made, harts_back, length_back, on_err, on_ok, prints_within, sound_after, writes_next}
 use Rattle.rv_hart.specs.internal.Harts.{any_holds}
 use Rattle.rv_hart.specs.State.{Guest}
 use Rattle.rv_hart.proofs.machine.Machine.take.Goals as goal
@@ -53,3 +53,11 @@ returns-then-is_err-clause-no_memory g c = on_err c.ready.result (sym c.is_err.e
 
 pub returns-then-is_err-clause-harts : goal.returns-then-is_err-clause-harts
 returns-then-is_err-clause-harts g c = ap (λ (guest : Guest). length guest.state.harts) c.self.view_is
+
+pub returns-then-is_err-clause-writes : goal.returns-then-is_err-clause-writes
+returns-then-is_err-clause-writes g c =
+    let takes = rw (← c.self.view_is) at c.requires.takes in
+    let within = rw (← c.self.view_is) at c.requires.hart in
+    let found : slice_get c.self.inside.harts.items c.args.h ≡ Some c.index-hart.result.now = slice_get_read c.self.inside.harts.items (length c.self.inside.harts.items) c.args.h c.index-hart.result.now refl within c.index-hart.ensures in
+    rw (← c.self.view_is) (writes_next _ c.args.h c.loaded_by-loaded.result c.index-hart.result.now c.args.action c.written_by-write.result found takes c.written_by-write.ensures.value
+    (on_err c.ready.result (sym c.is_err.ensures.value ∙ c.if-is_err.true) c.ready.ensures.writes))

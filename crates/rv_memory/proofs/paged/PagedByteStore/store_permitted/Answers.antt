@@ -2,7 +2,7 @@ use Rattle.std.proofs.Common.{◌∙◌, sym, subst, inl, inr}
 use Rattle.std.proofs.lemmas.Bool.{cases_Bool}
 use Rattle.rv_memory.specs.Pages.{memory_in}
 use Rattle.rv_memory.specs.internal.Flat.{IsFlat}
-use Rattle.rv_memory.proofs.Lie.{permits_is, skips_in, held_at, lie_in, new_stored, new_same, flat_store}
+use Rattle.rv_memory.proofs.Lie.{permits_is, skips_in, found_own, held_at, lie_in, new_stored, new_same, flat_store}
 use Rattle.rv_memory.proofs.paged.PagedByteStore.store_permitted.Goals as goal
 
 pub find_permitted-requires : goal.find_permitted-requires
@@ -45,3 +45,7 @@ returns-in-Some-clause-same c h =
     let tables = c.self.inside.tables.items in
     let below = rw c.deref-3.ensures.value at c.in-Some.ensures.within in
     rw (← c.self.view_is) (new_same tables c.in-Some.found c.index_mut-table.result.now c.put_or_copy.new.self below c.index_mut-table.ensures.value c.put_or_copy.ensures.rest (c.put_or_copy.ensures.same h))
+
+pub returns-in-None-clause-granted : goal.returns-in-None-clause-granted
+returns-in-None-clause-granted c =
+    rw (← c.self.view_is) (λ ready permitted. (rw c.deref-3.ensures.value at c.in-None.ensures.permitted) ∙ sym (permits_is c.self.inside.tables.items c.args.address c.args.size c.args.need) ∙ permitted)
