@@ -1,4 +1,5 @@
 pub mod Choices
 pub mod Chosen
 pub mod Merging
+pub mod NameLemmas
 pub mod Tables

@@ -1,2 +1,3 @@
+pub mod SymbolLaws
 pub mod Symbols
 pub mod internal
