@@ -137,5 +137,6 @@ fn take_out(addresses: &mut Vec<u32>, place: usize)
 fn no_counts(alloc: Global) -> Result<Vec<u8>, NoMemory>
     ensures { IfOk result (λ v. v.items ≡ replicate BUCKETS 0) }
 {
-    Ok(vec![in alloc; 0; BUCKETS as usize]?)
+    let counts = [0; BUCKETS as usize];
+    Ok(Vec::from_slice(alloc, &counts)?)
 }
