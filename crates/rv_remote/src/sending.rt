@@ -1,5 +1,5 @@
 //! What is handed to the other side at once.
-ghost use Rattle.std.specs.Prelude.{◌≡◌, ◌||◌, is_err, OnOk, codes, if◌then◌else◌};
+ghost use Rattle.std.specs.Prelude.{◌≡◌, ◌||◌, [], is_err, OnOk, codes, if◌then◌else◌};
 ghost use Rattle.std.specs.Io.KnownBytes.{Appends, Keeps};
 ghost use Rattle.rv_memory.specs.Buffered as buffer;
 
@@ -11,6 +11,8 @@ use std::io::Write;
 /// Writes whether a packet is taken, and flushes it before the answer is looked for.
 pub fn acknowledge<W: Write>(writer: &mut Buffered<W>, right: bool) -> Result<(), WriteFault>
     ensures ok { OnOk result (Appends (buffer.written W.contents writer.old) (buffer.written W.contents writer.new) (if right then codes "+" else codes "-")) }
+    ensures sent { OnOk result (Appends (buffer.written W.contents writer.old) (buffer.sent W.contents writer.new) (if right then codes "+" else codes "-")) }
+    ensures pending { OnOk result (buffer.pending writer.new ≡ []) }
     ensures failed { buffer.has_failed writer.new ≡ (buffer.has_failed writer.old || is_err result) }
 {
     writer.put(if right { b"+" } else { b"-" })?;
