@@ -1,6 +1,6 @@
 -- What harts came to.
 use Rattle.std.proofs.Common.{◌≡◌, ◌<◌, ◌≤◌, ℕ, zero, suc, Bool, true, false, Option, Some, None, List, [], ◌∷◌, ◌++◌, length, get_or, refl, sym, ap, subst, ◌∙◌, arith}
-use Rattle.std.specs.Prelude.{IsSomeAnd, IsTrue, slice_get}
+use Rattle.std.specs.Prelude.{IsSomeAnd, IsTrue, option_and_then, slice_get}
 use Rattle.rv_hart.specs.Refusals.{is_running_hart}
 use Rattle.rv_hart.specs.Run.{run}
 use Rattle.rv_hart.specs.State.{State, is_running}
@@ -8,12 +8,14 @@ use Rattle.rv_hart.specs.declared.hart.Hart.{Hart}
 use Rattle.rv_hart.specs.declared.hart.Status.TheVariants as status
 use Rattle.rv_waits.specs.Round.{Waits}
 use Rattle.rv_waits.specs.Stuck.{Runs}
-use Rattle.rv_orders.proofs.RunnerLemmas.{runs_within}
-use Rattle.rv_orders.specs.Trial.{AllMayRest, AreEnds, EndsDiffer, GoesAsFar, IsEnd, LeadsTo}
+use Rattle.rv_orders.proofs.RunnerLemmas.{run_append, runs_within}
+use Rattle.rv_waits.specs.Turn.{AllMayRest}
+use Rattle.rv_orders.specs.Driven.{AreDriven}
+use Rattle.rv_orders.specs.Trial.{AreEnds, EndsDiffer, GoesAsFar, IsEnd, LeadsTo, words_of}
 use Rattle.rv_orders.specs.declared.end.HartEnd.{HartEnd}
 use Rattle.rv_orders.specs.declared.end.HartEnd.TheVariants.{Exited, Stopped, Polls, Parked, Running}
 use Rattle.rv_orders.specs.declared.tried.Tried.{Tried}
-use Rattle.rv_orders.specs.internal.Gone.{Gone, GoesOn, IsFar, IsOneMore}
+use Rattle.rv_orders.specs.internal.Gone.{Gone, IsDriven, IsFar, IsOneMore}
 
 -- ---- lists
 
@@ -64,15 +66,15 @@ rest true s ends are over h runs =
 -- ---- a copy that has gone as far as it goes
 
 -- the runner has the start and the most steps that it began with
-same_begin : (s : State) (most : ℕ) (first second third last : Gone) (one other : ℕ) → first ≡ record { start = s; harts = []; state = s; most = most } → IsOneMore first second one → IsOneMore second third other → GoesOn third last → (last.start ≡ s) × (last.most ≡ most)
-same_begin s most first second third last one other begun step next on = (
+same_begin : (s : State) (most number : ℕ) (first second third last : Gone) (one other : ℕ) → first ≡ record { start = s; harts = []; state = s; most = most } → IsOneMore first second one → IsOneMore second third other → IsDriven third last number → (last.start ≡ s) × (last.most ≡ most)
+same_begin s most number first second third last one other begun step next on = (
   on.start ∙ next.start ∙ step.start ∙ ap (λ (g : Gone). g.start) begun,
   on.most ∙ next.most ∙ step.most ∙ ap (λ (g : Gone). g.most) begun,
 )
 
-pub led : (s : State) (most : ℕ) (first second third last : Gone) (one other : ℕ) (tried : Tried) (end : State) → first ≡ record { start = s; harts = []; state = s; most = most } → IsOneMore first second one → IsOneMore second third other → GoesOn third last → run last.start last.harts ≡ Some last.state → tried.harts.items ≡ last.harts → end ≡ last.state → AreEnds tried.is_over end tried.ends.items → LeadsTo s one other tried end
-led s most first second third last one other tried end begun step next on reached harts at ends =
-    let start : last.start ≡ s = (same_begin s most first second third last one other begun step next on).0 in
+pub led : (s : State) (most number : ℕ) (first second third last : Gone) (one other : ℕ) (tried : Tried) (end : State) → first ≡ record { start = s; harts = []; state = s; most = most } → IsOneMore first second one → IsOneMore second third other → IsDriven third last number → run last.start last.harts ≡ Some last.state → tried.harts.items ≡ last.harts → end ≡ last.state → AreEnds tried.is_over end tried.ends.items → LeadsTo s one other number tried end
+led s most number first second third last one other tried end begun step next on reached harts at ends =
+    let start : last.start ≡ s = (same_begin s most number first second third last one other begun step next on).0 in
     let none : first.harts ≡ [] = ap (λ (g : Gone). g.harts) begun in
     let stepped : second.harts ≡ one ∷ [] = step.harts ∙ ap (λ (hs : List ℕ). hs ++ one ∷ []) none in
     let both : third.harts ≡ one ∷ other ∷ [] = next.harts ∙ ap (λ (hs : List ℕ). hs ++ other ∷ []) stepped in
@@ -80,6 +82,12 @@ led s most first second third last one other tried end begun step next on reache
     record {
       tail = on.tail;
       begins = harts ∙ all;
+      driven = λ t at.
+          let here : run s (one ∷ other ∷ []) ≡ Some third.state =
+          run_append s (one ∷ []) (other ∷ []) ∙ ap (option_and_then (λ (u : State). run u (other ∷ []))) (ap (λ (u : State). run u (one ∷ [])) (sym (ap (λ (g : Gone). g.state) begun)) ∙ step.moved) ∙ next.moved in
+          let both : Some third.state ≡ Some t = sym here ∙ at in
+          let same : third.state ≡ t = cc in
+          subst (λ (u : State). AreDriven (words_of number) u on.tail) same on.driven;
       leads = ap (run s) harts ∙ ap (λ (t : State). run t last.harts) (sym start) ∙ reached ∙ ap Some (sym at);
       ends = ends;
       rests = rest tried.is_over end tried.ends.items ends;
@@ -89,9 +97,9 @@ fewer : (rests : Bool) (last : Gone) (t : State) → IsFar last rests → last.s
 fewer true last t far at less = subst AllMayRest at far
 fewer false last t far at less = absurd (omega arith)
 
-pub gone_far : (s : State) (most : ℕ) (first second third last : Gone) (one other : ℕ) (tried : Tried) → first ≡ record { start = s; harts = []; state = s; most = most } → IsOneMore first second one → IsOneMore second third other → GoesOn third last → (rests : Bool) → IsFar last rests → length last.harts ≤ last.most → run last.start last.harts ≡ Some last.state → tried.harts.items ≡ last.harts → GoesAsFar s most tried
-gone_far s most first second third last one other tried begun step next on rests far few reached harts =
-    let begin = same_begin s most first second third last one other begun step next on in
+pub gone_far : (s : State) (most number : ℕ) (first second third last : Gone) (one other : ℕ) (tried : Tried) → first ≡ record { start = s; harts = []; state = s; most = most } → IsOneMore first second one → IsOneMore second third other → IsDriven third last number → (rests : Bool) → IsFar last rests → length last.harts ≤ last.most → run last.start last.harts ≡ Some last.state → tried.harts.items ≡ last.harts → GoesAsFar s most tried
+gone_far s most number first second third last one other tried begun step next on rests far few reached harts =
+    let begin = same_begin s most number first second third last one other begun step next on in
     let count : length tried.harts.items ≡ length last.harts = ap length harts in
     let same : last.most ≡ most = begin.1 in
     record {

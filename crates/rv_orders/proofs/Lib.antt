@@ -2,3 +2,4 @@ pub mod ActLemmas
 pub mod EndLemmas
 pub mod RunnerLemmas
 pub mod StackLemmas
+pub mod DrivenLemmas

@@ -1,5 +1,5 @@
 -- How a runner goes on.
-use Rattle.std.proofs.Common.{◌≡◌, ◌≢◌, ℕ, zero, suc, ◌+◌, ◌≤◌, ◌<◌, Bool, true, false, List, [], ◌∷◌, ◌++◌, length, Option, Some, None, refl, sym, ap, subst, ◌∙◌, append_assoc, append-nil, arith}
+use Rattle.std.proofs.Common.{◌≡◌, ◌≢◌, ℕ, zero, suc, ◌+◌, ◌≤◌, ◌<◌, Bool, true, false, List, [], ◌∷◌, ◌++◌, length, Option, Some, None, refl, sym, ap, subst, ◌∙◌, arith}
 use Rattle.std.specs.Prelude.{Err, IsSomeAnd, Ok, OnOk, Result, not, option_and_then, slice_get}
 use Rattle.std.proofs.lemmas.Bool.{leb-true}
 use Rattle.std.proofs.lemmas.List.{length-append}
@@ -16,7 +16,7 @@ use Rattle.rv_hart.specs.declared.machine.StepFault.TheVariants.{NoHart, NotRunn
 use Rattle.rv_waits.specs.Stuck.{Runs}
 use Rattle.rv_waits.specs.Watch.{IsWatchOf}
 use Rattle.rv_waits.specs.declared.watch.Anchor.{Anchor}
-use Rattle.rv_orders.specs.internal.Gone.{Gone, GoesOn, IsGone, IsOneMore}
+use Rattle.rv_orders.specs.internal.Gone.{Gone, IsGone, IsOneMore}
 
 -- ---- one step
 
@@ -37,7 +37,7 @@ only_memory can old new h OutputFull is runs room =
     let e : old.limit ≤ length old.state.output = leb-true old.limit (length old.state.output) (is.output_full.0 refl).full in absurd (omega arith)
 only_memory can old new h NoMemory is runs room = refl
 
-run_append : (s : State) (hs ks : List ℕ) → run s (hs ++ ks) ≡ option_and_then (λ t. run t ks) (run s hs)
+pub run_append : (s : State) (hs ks : List ℕ) → run s (hs ++ ks) ≡ option_and_then (λ t. run t ks) (run s hs)
 run_append s [] ks = refl
 run_append s (h ∷ hs) ks =
     elim (step_of s h) as (λ (o : Option (Event × State)). option_and_then (λ step. run step.1 (hs ++ ks)) o ≡ option_and_then (λ t. run t ks) (option_and_then (λ step. run step.1 hs) o)) [
@@ -95,24 +95,6 @@ one_more (Ok a) stay own old harts t h event view longer step =
       start = refl;
       harts = longer;
       most = refl;
+      moved = ap (option_and_then (λ (made : Event × State). run made.1 [])) step;
       others = λ other apart runs. others_run stay own.state t h event step other apart runs;
     })
-
--- ---- some steps
-
-pub on_none : (gone : Gone) → GoesOn gone gone
-on_none gone = record { start = refl; tail = []; harts = sym (append-nil gone.harts); most = refl }
-
-pub on_one : (gone next : Gone) (h : ℕ) → IsOneMore gone next h → GoesOn gone next
-on_one gone next h is = record { start = is.start; tail = h ∷ []; harts = is.harts; most = is.most }
-
-pub on_both : (gone next last : Gone) → GoesOn gone next → GoesOn next last → GoesOn gone last
-on_both gone next last a b = record {
-  start = b.start ∙ a.start;
-  tail = a.tail ++ b.tail;
-  harts = b.harts ∙ ap (λ (hs : List ℕ). hs ++ b.tail) a.harts ∙ append_assoc gone.harts a.tail b.tail;
-  most = b.most ∙ a.most;
-}
-
-pub longer_by_one : (gone next : Gone) (h : ℕ) → IsOneMore gone next h → length next.harts ≡ length gone.harts + 1
-longer_by_one gone next h is = ap length is.harts ∙ length-append gone.harts (h ∷ [])

@@ -1,5 +1,5 @@
 -- Two orders of two steps: what comes of either, and how that differs.
-use Rattle.std.specs.Prelude.{◌≡◌, ◌≢◌, ℕ, Bool, true, false, ◌&&◌, ◌||◌, ◌==◌, not, nat_eq, ◌<◌, ◌≤◌, Option, Some, None, List, ◌∷◌, length, slice_get}
+use Rattle.std.specs.Prelude.{◌≡◌, ◌≢◌, ℕ, Bool, true, false, ◌&&◌, ◌||◌, ◌==◌, not, nat_eq, ◌<◌, ◌≤◌, Option, Some, None, List, [], ◌∷◌, length, slice_get}
 use Rattle.std.specs.List.{list_any, starts_with}
 use Rattle.std.specs.Str.{bytes_eq}
 use Rattle.rv_hart.specs.NextAccess.{next_access}
@@ -15,8 +15,10 @@ use Rattle.rv_memory.specs.Memory.{byte, covers}
 use Rattle.rv_stuck.specs.Acts.{least_pc, polls}
 use Rattle.rv_stuck.specs.StuckEnd.{IsRoundOf}
 use Rattle.rv_stuck.specs.declared.stuck.RoundStep.{RoundStep}
-use Rattle.rv_waits.specs.Round.{Waits}
+use Rattle.rv_sample.specs.Generator.{word_at}
 use Rattle.rv_waits.specs.Stuck.{Runs}
+use Rattle.rv_waits.specs.Turn.{AllMayRest}
+use Rattle.rv_orders.specs.Driven.{AreDriven}
 use Rattle.rv_orders.specs.declared.difference.Difference.{Difference}
 use Rattle.rv_orders.specs.declared.difference.Difference.TheVariants as difference
 use Rattle.rv_orders.specs.declared.end.HartEnd.{HartEnd}
@@ -72,27 +74,24 @@ pub record AreEnds (is_over : Bool) (s : State) (ends : List HartEnd) : Type 0 w
 
 -- ---- one order
 
--- the hart doesn't run, or it waits
-abbrev pub MayRest : State → ℕ → Type 0
-MayRest s h = Runs s h → Waits s h
+-- the words of the trial of that number
+abbrev pub words_of : ℕ → ℕ → ℕ
+words_of number index = word_at 0 number index
 
--- each hart may rest: then nothing ever changes
-abbrev pub AllMayRest : State → Type 0
-AllMayRest s = (h : ℕ) → MayRest s h
-
--- The copy begins with a step of one hart and a step of the other, its steps lead from s to the end, and this is what each hart came
--- to there. Where it is over each may rest.
-pub record LeadsTo (s : State) (one other : ℕ) (tried : Tried) (end : State) : Type 0 where
+-- The copy begins with a step of one hart and a step of the other, and from there on the words of that number drive it. Its steps lead
+-- from s to the end, and this is what each hart came to there. Where it is over each may rest.
+pub record LeadsTo (s : State) (one other number : ℕ) (tried : Tried) (end : State) : Type 0 where
   pub tail : List ℕ
   pub begins : tried.harts.items ≡ one ∷ other ∷ tail
+  pub driven : (t : State) → run s (one ∷ other ∷ []) ≡ Some t → AreDriven (words_of number) t tail
   pub leads : run s tried.harts.items ≡ Some end
   pub ends : AreEnds tried.is_over end tried.ends.items
   pub rests : tried.is_over ≡ true → AllMayRest end
 
 -- it leads to some end
-pub record IsTried (s : State) (one other : ℕ) (tried : Tried) : Type 0 where
+pub record IsTried (s : State) (one other number : ℕ) (tried : Tried) : Type 0 where
   pub end : State
-  pub is : LeadsTo s one other tried end
+  pub is : LeadsTo s one other number tried end
 
 -- ---- how two copies differ
 
@@ -145,10 +144,11 @@ IsDifference one other s t difference.None = EndAlike one other s t
 
 -- ---- both
 
--- one hart steps before the other in the first copy, and after it in the second
-pub record IsTrial (s : State) (one other : ℕ) (trial : Trial) : Type 0 where
-  pub first : IsTried s one other trial.first
-  pub second : IsTried s other one trial.second
+-- One hart steps before the other in the first copy, and after it in the second; from there on the same words drive both, those of the
+-- trial's number.
+pub record IsTrial (s : State) (one other number : ℕ) (trial : Trial) : Type 0 where
+  pub first : IsTried s one other number trial.first
+  pub second : IsTried s other one number trial.second
   pub difference : IsDifference trial.first trial.second first.end second.end trial.difference
 
 -- a copy has no more than so many steps, and fewer only where each hart may rest

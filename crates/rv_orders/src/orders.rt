@@ -9,7 +9,6 @@ use crate::runner::Runner;
 use crate::tried::{Ended, Trial, Tried};
 use rv_hart::machine::{Machine, OUTPUT_LIMIT};
 use rv_memory::store::{ByteStore, Fork, NoMemory};
-use rv_sample::Generator;
 use std::alloc::Global;
 
 /// Tries both orders of the next steps of two harts, by two copies of a machine: in the first copy `first` steps before `second`, and in
@@ -28,7 +27,7 @@ pub fn trial<S: Fork>(
     requires room { length machine.old.state.output + most ≤ OUTPUT_LIMIT }
     ensures same { machine.new ≡ machine.old }
     ensures tried { IfOk result (λ it. is_some it ≡ spec.may_try machine.old.state first second) }
-    ensures trial { IfOk result (λ it. IfSome it (spec.IsTrial machine.old.state first second)) }
+    ensures trial { IfOk result (λ it. IfSome it (spec.IsTrial machine.old.state first second number)) }
     ensures far { IfOk result (λ it. IfSome it (spec.GoAsFar machine.old.state most)) }
 {
     if !may_try(machine, first, second) {
@@ -86,7 +85,7 @@ fn copy_at_end<S: Fork>(
     requires two_steps { 2 ≤ most }
     requires room { length machine.old.state.output + most ≤ OUTPUT_LIMIT }
     ensures same { machine.new ≡ machine.old }
-    ensures tried { IfOk result (λ it. spec.LeadsTo machine.old.state one other it.tried it.machine.state) }
+    ensures tried { IfOk result (λ it. spec.LeadsTo machine.old.state one other number it.tried it.machine.state) }
     ensures far { IfOk result (λ it. spec.GoesAsFar machine.old.state most it.tried) }
 {
     let printed = machine.output().len() as u32;
@@ -94,7 +93,7 @@ fn copy_at_end<S: Fork>(
     let mut runner = Runner::begin(alloc, copy, most)?;
     runner.step(one)?;
     runner.step(other)?;
-    let rests = runner.go(&mut Generator::new(0, u64::from(number)))?;
+    let rests = runner.go(number)?;
     let mut left = runner.finish();
     let ends = ends_of(alloc, &mut left.machine, rests)?;
     Ok(Ended {

@@ -1,15 +1,16 @@
 //! A copy of a machine that goes on by itself.
-ghost use Rattle.std.specs.Prelude.{◌≡◌, ◌+◌, ◌<◌, ◌≤◌, ◌-◌, ◌^◌, ℕ, [], true, false, IfOk, IfNone, IfSome, OnOk, length};
+ghost use Rattle.std.specs.Prelude.{◌≡◌, ◌+◌, ◌<◌, ◌≤◌, ◌-◌, ◌^◌, [], true, IfOk, IfNone, IfSome, OnOk, length};
 ghost use Rattle.rv_hart.specs.Run.{run};
 ghost use Rattle.rv_waits.specs.Stuck.{Runs};
-ghost use Rattle.rv_orders.specs.Trial.{AllMayRest, MayRest};
-ghost use Rattle.rv_orders.specs.internal.Gone.{GoesOn, IsFar, IsOneMore};
+ghost use Rattle.rv_waits.specs.Turn.{AllMayRest, IsNextFrom};
+ghost use Rattle.rv_orders.specs.internal.Gone.{IsBurst, IsDriven, IsFar, IsOneMore};
 
 use rv_hart::access::Event;
 use rv_hart::laws::what_no_step_does;
 use rv_hart::machine::{Machine, StepFault};
 use rv_memory::store::{ByteStore, NoMemory};
 use rv_sample::Generator;
+use rv_waits::turn;
 use rv_waits::watch::Watch;
 use std::alloc::Global;
 use std::marker::Model;
@@ -89,45 +90,26 @@ impl<S: ByteStore> Runner<S> {
     /// Whether a hart runs and isn't seen to wait.
     #[inline(always)]
     fn goes(&self, h: u8) -> bool
-        ensures runs { result ≡ true → Runs self.now.state h }
-        ensures rests { result ≡ false → MayRest self.now.state h }
+        ensures { result ≡ true → Runs self.now.state h }
     {
-        self.machine.runs(h) && self.watch.round(&self.machine, h).is_none()
+        turn::goes(&self.machine, &self.watch, h)
     }
 
     /// The first hart from a number on, in a circle, that runs and isn't seen to wait.
     fn next_from(&self, from: u32) -> Option<u8>
-        ensures runs { IfSome result (Runs self.now.state) }
+        ensures next { IfSome result (IsNextFrom self.now.state from) }
         ensures none { IfNone result (AllMayRest self.now.state) }
     {
-        let harts = self.machine.harts();
-        let first = (from % u32::from(harts)) as u8;
-        match self.next_among(first, harts) {
-            Some(h) => Some(h),
-            None => self.next_among(0, first),
-        }
+        turn::next_from(&self.machine, &self.watch, from)
     }
 
-    /// The first of the harts from one number up to below another that runs and isn't seen to wait.
-    fn next_among(&self, from: u8, end: u8) -> Option<u8>
-        ensures runs { IfSome result (Runs self.now.state) }
-        ensures none { IfNone result ((h : ℕ) → from ≤ h → h < end → MayRest self.now.state h) }
-    {
-        for h in from..end {
-            if self.goes(h) {
-                return Some(h);
-            }
-        }
-        None
-    }
-
-    /// Goes on until no hart may, or its steps are made. Whether no hart may. A word picks the hart from whose number on the next is
-    /// looked for, and the next word how many turns its burst has.
-    pub(crate) fn go(&mut self, words: &mut Generator) -> Result<bool, NoMemory>
-        requires { words.old.taken + 2 ^ 34 < 2 ^ 64 }
-        ensures further { OnOk result (GoesOn self.old self.new) }
+    /// Goes on by the words of the trial of that number, until no hart may go, or its steps are made. Whether no hart may. A word picks the
+    /// hart from whose number on the next is looked for, and the next word how many turns its burst has.
+    pub(crate) fn go(&mut self, number: u32) -> Result<bool, NoMemory>
+        ensures driven { OnOk result (IsDriven self.old self.new number) }
         ensures far { IfOk result (IsFar self.new) }
     {
+        let mut words = Generator::new(0, u64::from(number));
         'bursts: loop {
             let left = self.left();
             let Some(h) = self.next_from(words.next()) else {
@@ -146,8 +128,7 @@ impl<S: ByteStore> Runner<S> {
         requires runs { Runs self.old.state h }
         requires left { length self.old.harts < self.old.most }
         requires some { 1 ≤ turns }
-        ensures further { OnOk result (GoesOn self.old self.new) }
-        ensures longer { OnOk result (length self.old.harts < length self.new.harts) }
+        ensures { OnOk result (IsBurst self.old self.new h turns) }
     {
         for _ in 0..turns {
             self.step(h)?;

@@ -10,3 +10,5 @@ pub mod QuietLemmas
 pub mod BeforeLemmas
 pub mod RoundLemmas
 pub mod StuckLemmas
+pub mod CircleLemmas
+pub mod TurnLemmas

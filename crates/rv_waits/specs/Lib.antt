@@ -1,4 +1,5 @@
 pub mod Before
+pub mod CircleLaw
 pub mod Round
 pub mod Stuck
 pub mod StuckLaw
@@ -6,5 +7,6 @@ pub mod Touched
 pub mod TouchedLaw
 pub mod Touches
 pub mod Tried
+pub mod Turn
 pub mod internal
 pub mod Watch

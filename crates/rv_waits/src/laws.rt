@@ -1,4 +1,5 @@
 //! Laws of waiting. Each function's contract is the law.
+ghost use Rattle.rv_waits.specs.CircleLaw.{CircleLaw};
 ghost use Rattle.rv_waits.specs.StuckLaw.{StuckForEver};
 ghost use Rattle.rv_waits.specs.TouchedLaw.{WaitsUntilTouched, WaitsAfterItsSteps};
 
@@ -15,6 +16,11 @@ pub fn stuck_for_ever()
     reservations_and_accesses();
     store_keeps_the_rest();
 }
+
+/// In a circle of n numbers each is reached from any number on, before the circle is closed.
+pub fn numbers_in_a_circle()
+    ensures { CircleLaw }
+{}
 
 /// A hart that waits goes on waiting: after a step of another hart that changes no byte of its round's instructions and
 /// accesses, and after its own steps.

@@ -9,4 +9,5 @@ pub mod laws;
 mod quiet;
 pub mod round;
 pub mod touched;
+pub mod turn;
 pub mod watch;

@@ -1,5 +1,4 @@
 pub mod BurstLemmas
-pub mod CircleLemmas
 pub mod ClosestLemmas
 pub mod EntriesLemmas
 pub mod GoingLemmas
@@ -7,7 +6,6 @@ pub mod KeptLemmas
 pub mod LegalLemmas
 pub mod ListedLemmas
 pub mod LongerLemmas
-pub mod NextLemmas
 pub mod PartLemmas
 pub mod ProbeLemmas
 pub mod ProbingLemmas

@@ -1,5 +1,6 @@
 -- What a probe keeps, through each of its calls.
 use Rattle.std.proofs.Common.{◌≡◌, ◌≢◌, inl, inr, ℕ, ◌+◌, ◌-◌, ◌%◌, ◌≤◌, ◌<◌, true, false, Option, Some, None, List, length, refl, sym, ap, subst, ◌∙◌, arith}
+use Rattle.std.proofs.Math.Nat.{mod-add-mod}
 use Rattle.std.specs.Prelude.{IfOk, IfSome, OnErr, Ok, Err, Result, not, option_map, ◌==◌}
 use Rattle.std.proofs.lemmas.Bool.Decides.{eqb_tells}
 use Rattle.rv_collide.specs.Begun.{Begun, added}
@@ -21,7 +22,7 @@ use Rattle.rv_walk.specs.Burst.{MayRest}
 use Rattle.rv_walk.specs.Probe.{IsAimedAt, MayEnd}
 use Rattle.rv_walk.specs.declared.probe.Held.{Held}
 use Rattle.rv_walk.specs.internal.Probing.{IsHeld, IsNow, IsProbing, IsReady, MayLetGo, Probing, holds}
-use Rattle.rv_walk.proofs.CircleLemmas.{mod_once, reaches}
+use Rattle.rv_waits.specs.CircleLaw.{CircleLaw}
 use Rattle.rv_walk.proofs.StandsLemmas.{runs_within}
 use Rattle.rv_walk.proofs.ProbeLemmas.{accepted_free, grown, held_from, held_less, held_on, now_same, now_step}
 
@@ -122,8 +123,8 @@ ended p anchors new hart is may adds =
 -- ---- no hart may go
 
 -- all harts were looked at, in a circle: each that isn't held may rest
-pub all_looked : (s : State) (from n : ℕ) (held : Option Held) → length s.harts ≡ n → ((k : ℕ) → k < n → holds held ((from + k) % n) ≡ false → MayRest s ((from + k) % n)) → (other : ℕ) → holds held other ≡ false → MayRest s other
-all_looked s from n held count rest other free runs =
+pub all_looked : CircleLaw → (s : State) (from n : ℕ) (held : Option Held) → length s.harts ≡ n → ((k : ℕ) → k < n → holds held ((from + k) % n) ≡ false → MayRest s ((from + k) % n)) → (other : ℕ) → holds held other ≡ false → MayRest s other
+all_looked reaches s from n held count rest other free runs =
     let below : other < length s.harts = runs_within s.harts other runs in
     let r = reaches n from other (omega arith) in
     subst (Waits s) r.2 (rest r.0 r.1 (subst (λ (h : ℕ). holds held h ≡ false) (sym r.2) free) (subst (Runs s) (sym r.2) runs))
@@ -144,5 +145,5 @@ none_goes p rest =
 -- one more hart was looked at
 pub one_looked : (s : State) (from passed k n : ℕ) (held : Option Held) → k ≡ passed → (holds held ((from % n + passed) % n) ≡ false → MayRest s ((from % n + passed) % n)) → holds held ((from + k) % n) ≡ false → MayRest s ((from + k) % n)
 one_looked s from passed k n held is rests free =
-    let e : (from % n + passed) % n ≡ (from + k) % n = mod_once from passed n ∙ ap (λ m. (from + m) % n) (sym is) in
+    let e : (from % n + passed) % n ≡ (from + k) % n = mod-add-mod from n passed ∙ ap (λ m. (from + m) % n) (sym is) in
     subst (MayRest s) e (rests (subst (λ (h : ℕ). holds held h ≡ false) (sym e) free))

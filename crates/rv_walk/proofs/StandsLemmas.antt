@@ -1,6 +1,6 @@
 -- Where a walk stands.
 use Rattle.std.proofs.Common.{◌≡◌, ℕ, zero, suc, ◌<◌, Bool, true, false, List, [], ◌∷◌, length, Option, Some, None, sym, subst, ap, ◌∙◌, arith}
-use Rattle.std.specs.Prelude.{IfOk, IfSome, IsTrue, ◌↔◌, Err, Ok, Result, is_some, not, slice_get}
+use Rattle.std.specs.Prelude.{IfNone, IfOk, IfSome, IsTrue, ◌↔◌, Err, Ok, Result, is_some, not, slice_get}
 use Rattle.rv_memory.specs.declared.store.NoMemory.{NoMemory}
 use Rattle.rv_stuck.specs.StuckEnd.{IsStuckEnd}
 use Rattle.rv_stuck.specs.declared.stuck.StuckEnd.{StuckEnd}
@@ -11,6 +11,7 @@ use Rattle.rv_hart.specs.Run.{run}
 use Rattle.rv_hart.specs.declared.hart.Hart.{Hart}
 use Rattle.rv_hart.specs.State.{State}
 use Rattle.rv_waits.specs.Round.{IsRound, Waits}
+use Rattle.rv_waits.specs.Turn.{AllMayRest, IsNextFrom}
 use Rattle.rv_waits.specs.declared.round.Round.{Round}
 use Rattle.rv_walk.proofs.EntriesLemmas.{state_now}
 use Rattle.rv_walk.specs.Walked.{Walked, IsAt}
@@ -56,3 +57,12 @@ pub stuck_there : (told : Result (Option StuckEnd) NoMemory) (state : State) (At
 stuck_there (Err fault) state At same is = tt
 stuck_there (Ok None) state At same is = tt
 stuck_there (Ok (Some it)) state At same is = λ s at. subst (λ (u : State). IsStuckEnd u it) (same s at) is
+
+-- so does whose turn is next
+pub next_there : (told : Option ℕ) (state : State) (from : ℕ) (At : State → Type 0) → ((s : State) → At s → state ≡ s) → IfSome told (IsNextFrom state from) → IfSome told (λ h. (s : State) → At s → IsNextFrom s from h)
+next_there None state from At same is = tt
+next_there (Some h) state from At same is = λ s at. subst (λ (u : State). IsNextFrom u from h) (same s at) is
+
+pub none_there : (told : Option ℕ) (state : State) (At : State → Type 0) → ((s : State) → At s → state ≡ s) → IfNone told (AllMayRest state) → IfNone told ((s : State) → At s → AllMayRest s)
+none_there None state At same is = λ s at. subst AllMayRest (same s at) is
+none_there (Some h) state At same is = tt

@@ -1,23 +1,26 @@
 //! The accesses that a walk keeps, and the near pairs that it has seen by them.
 //!
 //! Speed: of each aligned word the last accesses are a list, the newest first, in which an access takes the place of the one before it of
-//! its hart and instruction. Where that one was of the same bytes, what stands behind it was seen by it, at a lesser distance.
+//! its hart and instruction. Where that one was of the same bytes, what stands behind it was seen by it, at a lesser distance. Behind
+//! the first that is too far away for a near pair all are.
 ghost use Rattle.std.specs.Prelude.{◌≡◌, [], IfOk, slice_get};
 ghost use Rattle.std.specs.List.{All};
 ghost use Rattle.rv_walk.specs.NearPair.{IsNearPair, WasMade};
 ghost use Rattle.rv_walk.specs.Walked.{Walked};
 ghost use Rattle.rv_walk.specs.internal.Inside.{AreMade, AreOf};
 
-use crate::near_pair::{MOST_KEPT, NearPair, are_near};
+use crate::near_pair::{FAR, MOST_KEPT, NearPair, are_near};
 use crate::sites::Sites;
 use rv_break::claim::Seen;
 use rv_memory::store::NoMemory;
 use std::alloc::Global;
 
 pub(crate) mod closest;
+mod settled;
 mod words;
 
 use closest::Closest;
+use settled::Settled;
 use words::{NOTHING, Words};
 
 /// An access, and the place of the one of its word that is kept before it, or `NOTHING`.
@@ -39,6 +42,7 @@ pub struct Spot {
 pub struct Accesses {
     pub kept: Vec<Kept>,
     newest: Words,
+    settled: Settled,
     pub closest: Closest,
 }
 
@@ -51,6 +55,7 @@ impl Accesses {
         Ok(Accesses {
             kept: Vec::new(alloc),
             newest: Words::new(alloc)?,
+            settled: Settled::new(alloc)?,
             closest: Closest::new(alloc),
         })
     }
@@ -80,7 +85,7 @@ impl Accesses {
     }
 
     /// Goes over what is kept of a word, the newest first, and notes near pairs. The one that gives way, where one does: that of the same
-    /// hart and instruction, or else the last of the most.
+    /// hart and instruction, or else the first that is too far away or the last of the most.
     #[inline(always)]
     fn look(&mut self, newest: u32, seen: Seen, sites: &Sites) -> Result<Option<Spot>, NoMemory>
         ensures { (walk : Walked) → walk.sites ≡ sites.now → WasMade walk seen → AreOf walk self.old → AreOf walk self.new }
@@ -95,6 +100,9 @@ impl Accesses {
             let Some(kept) = kept_at(&self.kept, spot.place) else {
                 return Ok(own);
             };
+            if seen.place.wrapping_sub(kept.seen.place) > FAR {
+                return Ok(own.or(Some(spot)));
+            }
             if kept.seen.hart != seen.hart {
                 self.pair(kept.seen, seen, sites)?;
             } else if kept.seen.access.pc == seen.access.pc {
@@ -112,16 +120,35 @@ impl Accesses {
         Ok(own.or(last))
     }
 
-    /// Notes two accesses where they are near.
+    /// Notes two accesses where they are near, and that isn't settled.
     #[inline(always)]
     fn pair(&mut self, first: Seen, second: Seen, sites: &Sites) -> Result<(), NoMemory>
         ensures closest { (walk : Walked) → walk.sites ≡ sites.now → WasMade walk first → WasMade walk second
             → All (IsNearPair walk) self.old.closest → All (IsNearPair walk) self.new.closest }
         ensures kept { self.new.kept ≡ self.old.kept }
     {
-        if are_near(&first, &second, sites) {
-            self.closest.note(NearPair { first, second })?;
+        let pair = NearPair { first, second };
+        if !first.access.conflicts(&second.access) || self.settled.has(&pair) {
+            return Ok(());
         }
+        self.pair_anew(pair, sites)
+    }
+
+    /// Notes two accesses that conflict where they are near, and settles what that says of their instructions.
+    #[cold]
+    #[inline(never)]
+    fn pair_anew(&mut self, pair: NearPair, sites: &Sites) -> Result<(), NoMemory>
+        ensures closest { (walk : Walked) → walk.sites ≡ sites.now → WasMade walk pair.first → WasMade walk pair.second
+            → All (IsNearPair walk) self.old.closest → All (IsNearPair walk) self.new.closest }
+        ensures kept { self.new.kept ≡ self.old.kept }
+    {
+        if are_near(&pair.first, &pair.second, sites) {
+            self.closest.note(pair)?;
+        }
+        let is_at_site = sites.contains(pair.first.access.pc)
+            || sites.contains(pair.second.access.pc);
+        let distance = if is_at_site { pair.distance() } else { 0 };
+        self.settled.add(&pair, distance);
         Ok(())
     }
 }

@@ -85,12 +85,9 @@ impl<'a, S: Fork> Again<'a, S> {
         Detector::begin(alloc, machine, plan)
     }
 
-    /// What each hart does behind such entries from where the walk has been gone over to, where all that run are seen to wait then.
-    pub fn stuck_behind(
-        &mut self,
-        alloc: Global,
-        entries: &[Entry],
-    ) -> Result<Option<StuckEnd>, NoMemory>
+    /// The machine behind such entries from where the walk has been gone over to, with room to print a byte at each; none where that is more
+    /// than a machine may print.
+    pub fn machine_behind(&mut self, entries: &[Entry]) -> Result<Option<Machine<S>>, NoMemory>
         ensures { self.new ≡ self.old }
     {
         let printed = self.machine.output().len();
@@ -103,7 +100,21 @@ impl<'a, S: Fork> Again<'a, S> {
         }
         let mut machine = self.machine.share(limit as u32)?;
         make_steps(&mut machine, entries)?;
-        stuck_end(alloc, &mut machine)
+        Ok(Some(machine))
+    }
+
+    /// What each hart does behind such entries from where the walk has been gone over to, where all that run are seen to wait then.
+    pub fn stuck_behind(
+        &mut self,
+        alloc: Global,
+        entries: &[Entry],
+    ) -> Result<Option<StuckEnd>, NoMemory>
+        ensures { self.new ≡ self.old }
+    {
+        match self.machine_behind(entries)? {
+            Some(mut machine) => stuck_end(alloc, &mut machine),
+            None => Ok(None),
+        }
     }
 
     /// Makes the steps before a place.

@@ -20,6 +20,7 @@ use rv_collide::list_laws::longer_lists;
 use rv_drive::driver_laws::open_pauses;
 use rv_memory::store::{ByteStore, NoMemory};
 use rv_sample::Generator;
+use rv_waits::laws::numbers_in_a_circle;
 use rv_waits::watch::Watch;
 use std::alloc::Global;
 use std::marker::Model;
@@ -194,6 +195,7 @@ impl<'a, S: ByteStore> Prober<'a, S> {
         ensures ready { IfSome result (IsReady self.now) }
         ensures none { IfNone result (MayLetGo self.now) }
     {
+        numbers_in_a_circle();
         if self.is_due() {
             return None;
         }

@@ -120,6 +120,15 @@ impl<'a, S: Fork> Probes<'a, S> {
 }
 
 impl<'a, S: Fork> Probes<'a, S> {
+    /// The machine as it stood before an entry of the last part that was made, with room to print a byte at each entry before that.
+    pub fn before(&mut self, part: &Part, entry: u32) -> Result<Option<Machine<S>>, NoMemory>
+        ensures { self.new ≡ self.old }
+    {
+        let entries = &part.probed.finished.entries;
+        let count = (entry as usize).min(entries.len());
+        self.again.machine_behind(&entries[..count])
+    }
+
     /// What each hart does at the end of a probe that forked where the walk has been gone over to, where all that run wait.
     fn stuck_behind(&mut self, alloc: Global, probed: &Probed) -> Result<Option<StuckEnd>, NoMemory>
         ensures { self.new ≡ self.old }

@@ -21,6 +21,7 @@ use rv_hart::machine::{Machine, StepFault};
 use rv_memory::store::{ByteStore, Fork, NoMemory};
 use rv_stuck::{StuckEnd, stuck_end};
 use rv_waits::round::Round;
+use rv_waits::turn;
 use rv_waits::watch::Watch;
 use std::alloc::Global;
 use std::marker::Model;
@@ -131,7 +132,7 @@ impl<'a, S: ByteStore> Walk<'a, S> {
         ensures runs { result ≡ true → (s : State) → IsAt self.now s → Runs s h }
         ensures rests { result ≡ false → (s : State) → IsAt self.now s → MayRest s h }
     {
-        self.machine.runs(h) && self.watch.round(&self.machine, h).is_none()
+        turn::goes(&self.machine, &self.watch, h)
     }
 
     /// The round of a hart that runs and is seen to wait.
@@ -150,14 +151,7 @@ impl<'a, S: ByteStore> Walk<'a, S> {
         ensures next { IfSome result (λ h. (s : State) → IsAt self.now s → IsNextFrom s from h) }
         ensures none { IfNone result ((s : State) → IsAt self.now s → AllMayRest s) }
     {
-        let harts = u32::from(self.machine.harts());
-        for passed in 0..harts {
-            let h = ((from % harts + passed) % harts) as u8;
-            if self.goes(h) {
-                return Some(h);
-            }
-        }
-        None
+        turn::next_from(&self.machine, &self.watch, from)
     }
 
     /// Turns of a hart that runs, one at least: so many, fewer where it ends or is seen to wait. How many it made. Where memory is

@@ -23,7 +23,7 @@ use rv_debug::session::Session;
 use rv_explain::block::Block;
 use rv_explain::blocks::{ordered_text, totals_text};
 use rv_explain::explain::blocks_asked;
-use rv_explain::order::{order_of, order_rows};
+use rv_explain::order::{EIGHT_TRIALS, order_of, order_rows};
 use rv_explain::picture::picture_text;
 use rv_explain::races::RunRaces;
 use rv_explain::stuck::{stuck_block, stuck_text};
@@ -88,7 +88,14 @@ fn add_block(
     block: &Block,
 ) -> Result<(), NoMemory> {
     let harts = session.machine().harts();
-    let order = order_of(alloc, symbols, harts, session.entries(), block)?;
+    let order = order_of(
+        alloc,
+        symbols,
+        harts,
+        session.entries(),
+        block,
+        EIGHT_TRIALS,
+    )?;
     let rows = order_rows(alloc, symbols, block, order.as_ref())?;
     let block = ordered_text(alloc, symbols, b"", number, block, &rows)?;
     text.push(b'\n')?;

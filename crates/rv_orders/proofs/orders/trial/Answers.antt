@@ -11,7 +11,7 @@ returns-clause-trial g c =
       first = record { end = one.machine.state; is = c.in_ok-one.ensures.tried };
       second = record {
         end = other.machine.state;
-        is = subst (λ (m : Guest). LeadsTo m.state c.args.second c.args.first other.tried other.machine.state) c.in_ok-one.ensures.same c.in_ok-other.ensures.tried;
+        is = subst (λ (m : Guest). LeadsTo m.state c.args.second c.args.first c.args.number other.tried other.machine.state) c.in_ok-one.ensures.same c.in_ok-other.ensures.tried;
       };
       difference = c.in_ok-difference.ensures;
     }

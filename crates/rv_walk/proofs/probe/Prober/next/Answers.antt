@@ -20,4 +20,4 @@ returns-clause-none g c =
     let own : IsNow c.self.inside.detector s = subst (λ (b : Begun). IsNow b s) (sym view) at in
     let harts : length s.harts ≡ c.from-harts.result = c.facts.ensures.harts s own ∙ cc in
     let past : c.from-harts.result ≤ c.loop-passed.passed = c.loop-passed-test.false in
-    all_looked s c.args.from c.from-harts.result c.args.self.now.held harts (λ k below. c.loop-passed.invariant s at k (omega arith)))
+    all_looked c.numbers_in_a_circle.ensures s c.args.from c.from-harts.result c.args.self.now.held harts (λ k below. c.loop-passed.invariant s at k (omega arith)))
