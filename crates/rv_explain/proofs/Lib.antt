@@ -1,4 +1,5 @@
 pub mod BlockLemmas
 pub mod OrderLemmas
 pub mod Ranges
+pub mod SecondLemmas
 pub mod StuckLemmas

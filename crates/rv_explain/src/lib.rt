@@ -15,6 +15,8 @@ pub mod blocks;
 mod caller;
 pub mod explain;
 mod frame;
+mod instruction;
+pub mod laws;
 mod lines;
 mod meeting;
 pub mod names;

@@ -3,7 +3,7 @@ ghost use Rattle.std.specs.Prelude.{◌≡◌, ◌++◌, IfOk, OnOk, codes};
 ghost use Rattle.rv_explain.specs.Names as spec;
 ghost use Rattle.rv_text.specs.Hexadecimal.{byte_digits};
 
-use rv_asm::line_of;
+use crate::instruction::instruction_line;
 use rv_memory::store::NoMemory;
 use rv_symbols::symbol_table::SymbolTable;
 use rv_text::hexadecimal::byte_digits;
@@ -113,7 +113,7 @@ impl Names<'_, '_> {
         let Some(word) = word else {
             return Ok(format!(in alloc; "{place}: unreadable")?);
         };
-        let line = line_of(alloc, word, address)?;
+        let line = instruction_line(alloc, word, address)?;
         Ok(format!(in alloc; "{place}: {line}")?)
     }
 }

@@ -1,11 +1,12 @@
 //! What difference the order of a race's two accesses makes, as `specs/Order.antt` has it: from the state before the second access
 //! both orders are tried.
-ghost use Rattle.std.specs.Prelude.{◌≡◌, ◌+◌, ◌≤◌, None, IfOk, IfSome, OnOk, length};
+ghost use Rattle.std.specs.Prelude.{◌≡◌, ℕ, ◌+◌, ◌≤◌, None, IfOk, IfSome, OnOk, length};
 ghost use Rattle.rv_explain.specs.Order as spec;
+ghost use Rattle.rv_explain.specs.declared.order.TrialNumbers.{TrialNumbers};
 ghost use Rattle.rv_hart.specs.State.{State, start as first_state};
 ghost use Rattle.rv_orders.specs.Trial.{IsTrial};
 
-use crate::block::{Block, Side};
+use crate::block::Block;
 use crate::stuck::after::machine_after;
 use rv_collide::entry::Entry;
 use rv_collide::plan::MOST_STEPS;
@@ -19,13 +20,31 @@ use std::alloc::Global;
 
 mod text;
 
-pub use text::{cause_words, order_rows};
+pub use text::{CopyText, cause_words, copies_of, counted_rows, order_rows};
 
-/// How many trials a race has.
-const TRIALS: u32 = 8;
+/// The numbers of trials: so many from one on, of 32 bits.
+#[derive(Clone, Copy)]
+pub struct TrialNumbers {
+    pub first: u32,
+    pub count: u32,
+}
+
+/// The first eight.
+pub const EIGHT_TRIALS: TrialNumbers = TrialNumbers { first: 0, count: 8 };
 
 /// The most steps of a copy.
 const MOST_TRIED: u32 = 20_000;
+
+/// How many trials there were, and by how many what differs, as in `OrderTrials`; and the address by the first of which a byte of memory
+/// differed.
+#[derive(Clone, Copy)]
+pub struct OrderCounts {
+    pub trials: u64,
+    pub ends: u64,
+    pub prints: u64,
+    pub memory: u64,
+    pub memory_at: Option<u32>,
+}
 
 /// What came of the trials of both orders of a race's two accesses: how many there were; by how many some hart ended otherwise, by
 /// how many of the others the harts printed otherwise, and by how many of the rest a byte of memory differed; the first of the
@@ -33,10 +52,10 @@ const MOST_TRIED: u32 = 20_000;
 /// first copy of each; hart `second` was paused. `sc_fails` says that the one is at an SC, which fails once the other has stepped.
 #[derive(Drop)]
 pub struct OrderTrials {
-    pub trials: u32,
-    pub ends: u32,
-    pub prints: u32,
-    pub memory: u32,
+    pub trials: u64,
+    pub ends: u64,
+    pub prints: u64,
+    pub memory: u64,
     pub ends_by: Option<Trial>,
     pub memory_at: Option<u32>,
     pub first: u8,
@@ -75,11 +94,11 @@ impl OrderTrials {
     ) -> Result<bool, NoMemory>
         requires two_steps { 2 ≤ most }
         requires room { length machine.old.state.output + most ≤ OUTPUT_LIMIT }
-        requires kept { spec.AreKept machine.old.state self.old }
         ensures same { machine.new ≡ machine.old }
         ensures first { self.new.first ≡ self.old.first }
         ensures second { self.new.second ≡ self.old.second }
-        ensures kept { OnOk result (spec.AreKept machine.old.state self.new) }
+        ensures kept { OnOk result ((numbers : TrialNumbers) → spec.IsAmong numbers number
+            → spec.AreKept machine.old.state numbers self.old → spec.AreKept machine.old.state numbers self.new) }
     {
         match trial(alloc, machine, self.first, self.second, number, most)? {
             None => Ok(false),
@@ -94,8 +113,8 @@ impl OrderTrials {
     fn note(&mut self, trial: Trial)
         ensures first { self.new.first ≡ self.old.first }
         ensures second { self.new.second ≡ self.old.second }
-        ensures kept { (s : State) → spec.AreKept s self.old → IsTrial s self.old.first self.old.second trial
-            → spec.AreKept s self.new }
+        ensures kept { (s : State) (numbers : TrialNumbers) (number : ℕ) → spec.IsAmong numbers number
+            → IsTrial s self.old.first self.old.second number trial → spec.AreKept s numbers self.old → spec.AreKept s numbers self.new }
     {
         self.trials = self.trials.saturating_add(1);
         match trial.difference {
@@ -117,7 +136,20 @@ impl OrderTrials {
     }
 }
 
-/// The trials of both orders of the two accesses of a block's report: of hart h, which was paused, and of hart g, which made the
+impl OrderTrials {
+    /// Their counts.
+    pub fn counts(&self) -> OrderCounts {
+        OrderCounts {
+            trials: self.trials,
+            ends: self.ends,
+            prints: self.prints,
+            memory: self.memory,
+            memory_at: self.memory_at,
+        }
+    }
+}
+
+/// The trials of these numbers of both orders of the two accesses of a block's report: of hart h, which was paused, and of hart g, which made the
 /// second access. They are from the state before that, which the schedule's steps lead to. None says that there are none: the report
 /// has no second access, the instruction at which hart h was paused was written over since, a copy has no room for two steps, or
 /// one of the two would write over the other's instruction.
@@ -127,12 +159,13 @@ pub fn order_of(
     harts: u8,
     entries: &[Entry],
     block: &Block,
+    numbers: TrialNumbers,
 ) -> Result<Option<OrderTrials>, NoMemory>
     requires some { 1 ≤ harts }
     requires within { harts ≤ MOST_HARTS }
     ensures { IfOk result (λ found. IfSome found (spec.IsOrder
-        (first_state symbols.now.segments symbols.now.entry harts) entries.now
-        block.now.second block.now.other.hart block.now.paused.hart)) }
+        (first_state symbols.now.segments symbols.now.entry harts) entries.now block.now.second
+        numbers block.now.other.hart block.now.paused.hart)) }
 {
     let place = block.second as usize;
     if place > entries.len() {
@@ -142,7 +175,7 @@ pub fn order_of(
     let Some(mut machine) = machine_after(alloc, image, harts, &entries[..place])? else {
         return Ok(None);
     };
-    match order_at(alloc, &mut machine, block)? {
+    match order_at(alloc, &mut machine, block, numbers)? {
         None => Ok(None),
         Some(order) => Ok(Some(order)),
     }
@@ -153,17 +186,20 @@ fn order_at(
     alloc: Global,
     machine: &mut Machine<Paged>,
     block: &Block,
+    numbers: TrialNumbers,
 ) -> Result<Option<OrderTrials>, NoMemory>
     ensures first { IfOk result (λ found. IfSome found (λ order. order.first ≡ block.now.other.hart)) }
     ensures second { IfOk result (λ found. IfSome found (λ order. order.second ≡ block.now.paused.hart)) }
-    ensures kept { IfOk result (λ found. IfSome found (spec.AreKept machine.old.state)) }
+    ensures kept { IfOk result (λ found. IfSome found (spec.AreKept machine.old.state numbers)) }
 {
     let most = most_steps(machine, block.second);
-    if most < 2 || !is_as_paused(machine, &block.paused) {
+    let paused = &block.paused;
+    if most < 2 || !is_as_paused(machine, paused.access.pc, paused.word) {
         return Ok(None);
     }
     let mut order = OrderTrials::begin(block.other.hart, block.paused.hart);
-    for number in 0..TRIALS {
+    for n in 0..numbers.count {
+        let number = numbers.first.wrapping_add(n);
         if !order.try_more(alloc, machine, number, most)? {
             return Ok(None);
         }
@@ -174,7 +210,7 @@ fn order_at(
 
 /// How many steps a copy may make at a place of a schedule: no more than a schedule may have in all, and than there is room to print
 /// a byte at each.
-fn most_steps(machine: &Machine<Paged>, place: u32) -> u32
+pub fn most_steps(machine: &Machine<Paged>, place: u32) -> u32
     ensures { 2 ≤ result → length machine.now.state.output + result ≤ OUTPUT_LIMIT }
 {
     let room = (OUTPUT_LIMIT as usize).saturating_sub(machine.output().len());
@@ -183,8 +219,8 @@ fn most_steps(machine: &Machine<Paged>, place: u32) -> u32
 }
 
 /// Whether memory has the word at the paused hart's instruction that it had at the pause.
-fn is_as_paused(machine: &Machine<Paged>, paused: &Side) -> bool {
-    word_at(machine, paused.access.pc) == paused.word
+pub fn is_as_paused(machine: &Machine<Paged>, pc: u32, word: Option<u32>) -> bool {
+    word_at(machine, pc) == word
 }
 
 /// Whether a hart is at an SC that fails once another hart has stepped.

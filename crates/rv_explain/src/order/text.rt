@@ -1,11 +1,11 @@
 //! The rows that say what difference the order makes.
-use super::OrderTrials;
-use crate::block::Block;
+use super::{OrderCounts, OrderTrials};
+use crate::block::{Block, Side};
 use crate::names::{Names, TEXT_NAME};
 use rv_hart::access::Access;
 use rv_hart::hart::Cause;
 use rv_memory::store::NoMemory;
-use rv_orders::{HartEnd, Trial, Tried};
+use rv_orders::{HartEnd, Tried};
 use rv_symbols::symbol_table::SymbolTable;
 use std::alloc::Global;
 
@@ -50,23 +50,28 @@ fn differ(one: HartEnd, other: HartEnd) -> bool {
     one != other && one != HartEnd::Running && other != HartEnd::Running
 }
 
+/// A copy of a trial by which harts end otherwise: which hart is first, and what those harts came to, in words.
+#[derive(Drop)]
+pub struct CopyText {
+    pub title: Vec<u8>,
+    pub ends: Vec<Vec<u8>>,
+}
+
 /// What those harts came to in a copy that came to something else in the other: the first few.
-fn add_ends(
+fn ends_of(
     alloc: Global,
-    row: &mut Vec<u8>,
     names: &Names,
     copy: &Tried,
     other: &Tried,
-) -> Result<(), NoMemory> {
-    let ends = copy.ends.iter().zip(other.ends.iter()).enumerate();
-    let otherwise = ends.filter(|(_, (one, other))| differ(**one, **other));
-    for (n, (h, (end, _))) in otherwise.take(MOST_SHOWN_ENDS).enumerate() {
-        let comma = if n == 0 { "" } else { ", " };
+) -> Result<Vec<Vec<u8>>, NoMemory> {
+    let mut ends = Vec::new(alloc);
+    let both = copy.ends.iter().zip(other.ends.iter()).enumerate();
+    let otherwise = both.filter(|(_, (one, other))| differ(**one, **other));
+    for (h, (end, _)) in otherwise.take(MOST_SHOWN_ENDS) {
         let words = end_text(alloc, names, *end)?;
-        let text = format!(in alloc; "{comma}hart {h} {words}")?;
-        row.extend_from_slice(text.as_bytes())?;
+        ends.push(format!(in alloc; "hart {h} {words}")?.into_bytes())?;
     }
-    Ok(())
+    Ok(ends)
 }
 
 /// What a hart does that is first.
@@ -78,30 +83,71 @@ fn verb(access: &Access) -> &'static str {
     }
 }
 
-/// The two rows of the first trial by which harts end otherwise: one a copy.
-fn add_copies(
+/// The copy in which the hart of a side is first.
+fn copy_text(
     alloc: Global,
-    rows: &mut Vec<Vec<u8>>,
+    names: &Names,
+    side: &Side,
+    sc_fails: bool,
+    copy: &Tried,
+    other: &Tried,
+) -> Result<CopyText, NoMemory> {
+    let hart = side.hart;
+    let does = verb(&side.access);
+    let fails = if sc_fails { ", the SC fails" } else { "" };
+    Ok(CopyText {
+        title: format!(in alloc; "hart {hart} {does} first{fails}")?.into_bytes(),
+        ends: ends_of(alloc, names, copy, other)?,
+    })
+}
+
+/// The two copies of the first trial by which harts end otherwise, where there is one.
+fn both_copies(
+    alloc: Global,
     names: &Names,
     block: &Block,
     order: &OrderTrials,
-    trial: &Trial,
-) -> Result<(), NoMemory> {
-    let (hart, does) = (block.other.hart, verb(&block.other.access));
-    let mut row = format!(in alloc; "    hart {hart} {does} first: ")?.into_bytes();
-    add_ends(alloc, &mut row, names, &trial.first, &trial.second)?;
-    rows.push(row)?;
-    let (hart, does) = (block.paused.hart, verb(&block.paused.access));
-    let fails = if order.sc_fails { ", the SC fails" } else { "" };
-    let mut row = format!(in alloc; "    hart {hart} {does} first{fails}: ")?.into_bytes();
-    add_ends(alloc, &mut row, names, &trial.second, &trial.first)?;
-    rows.push(row)?;
-    Ok(())
+) -> Result<Vec<CopyText>, NoMemory> {
+    let mut copies = Vec::new(alloc);
+    if let Some(trial) = &order.ends_by {
+        let (one, other) = (&trial.first, &trial.second);
+        copies.push(copy_text(alloc, names, &block.other, false, one, other)?)?;
+        let fails = order.sc_fails;
+        copies.push(copy_text(alloc, names, &block.paused, fails, other, one)?)?;
+    }
+    Ok(copies)
+}
+
+/// The same, with the names of symbols as texts show them.
+pub fn copies_of(
+    alloc: Global,
+    symbols: &SymbolTable,
+    block: &Block,
+    order: &OrderTrials,
+) -> Result<Vec<CopyText>, NoMemory> {
+    let most = TEXT_NAME;
+    both_copies(alloc, &Names { symbols, most }, block, order)
+}
+
+/// The row of a copy.
+fn copy_row(alloc: Global, copy: &CopyText) -> Result<Vec<u8>, NoMemory> {
+    let mut row = Vec::from_slice(alloc, b"    ")?;
+    row.extend_from_slice(&copy.title)?;
+    for (n, end) in copy.ends.iter().enumerate() {
+        row.extend_from_slice(if n == 0 { b": " } else { b", " })?;
+        row.extend_from_slice(end)?;
+    }
+    Ok(row)
 }
 
 /// The row that says by how many trials what differs.
-fn first_row(alloc: Global, names: &Names, order: &OrderTrials) -> Result<String, NoMemory> {
+fn first_row(alloc: Global, names: &Names, order: &OrderCounts) -> Result<String, NoMemory> {
     let trials = order.trials;
+    let (all, all_end) = if trials == 1 {
+        ("trial", "ends")
+    } else {
+        ("trials", "end")
+    };
     if order.ends > 0 {
         let count = order.ends;
         let end = if count == 1 { "ends" } else { "end" };
@@ -112,9 +158,9 @@ fn first_row(alloc: Global, names: &Names, order: &OrderTrials) -> Result<String
     if order.prints > 0 {
         let count = order.prints;
         let print = if count == 1 { "prints" } else { "print" };
-        return Ok(format!(in alloc; "  order: {trials} trials, {count} {print} otherwise")?);
+        return Ok(format!(in alloc; "  order: {trials} {all}, {count} {print} otherwise")?);
     }
-    let alike = format!(in alloc; "  order: {trials} trials end alike")?;
+    let alike = format!(in alloc; "  order: {trials} {all} {all_end} alike")?;
     let Some(address) = order.memory_at else {
         return Ok(alike);
     };
@@ -130,16 +176,38 @@ pub fn order_rows(
     block: &Block,
     order: Option<&OrderTrials>,
 ) -> Result<Vec<Vec<u8>>, NoMemory> {
+    match order {
+        None => untried_rows(alloc),
+        Some(order) => {
+            let copies = copies_of(alloc, symbols, block, order)?;
+            counted_rows(alloc, symbols, Some(&order.counts()), &copies)
+        }
+    }
+}
+
+/// The same by the counts of the trials, where there are any, and the copies of the first by which harts end otherwise.
+pub fn counted_rows(
+    alloc: Global,
+    symbols: &SymbolTable,
+    counts: Option<&OrderCounts>,
+    copies: &[CopyText],
+) -> Result<Vec<Vec<u8>>, NoMemory> {
+    let Some(counts) = counts else {
+        return untried_rows(alloc);
+    };
     let most = TEXT_NAME;
     let names = Names { symbols, most };
     let mut rows = Vec::new(alloc);
-    let Some(order) = order else {
-        rows.push(format!(in alloc; "  order: not tried")?.into_bytes())?;
-        return Ok(rows);
-    };
-    rows.push(first_row(alloc, &names, order)?.into_bytes())?;
-    if let Some(trial) = &order.ends_by {
-        add_copies(alloc, &mut rows, &names, block, order, trial)?;
+    rows.push(first_row(alloc, &names, counts)?.into_bytes())?;
+    for copy in copies {
+        rows.push(copy_row(alloc, copy)?)?;
     }
+    Ok(rows)
+}
+
+/// The row of a block whose order wasn't tried.
+fn untried_rows(alloc: Global) -> Result<Vec<Vec<u8>>, NoMemory> {
+    let mut rows = Vec::new(alloc);
+    rows.push(format!(in alloc; "  order: not tried")?.into_bytes())?;
     Ok(rows)
 }
