@@ -12,11 +12,13 @@ pub mod MergedFileLemmas
 pub mod NumberLemmas
 pub mod OpenLemmas
 pub mod OrderLemmas
+pub mod OrderRowLemmas
 pub mod PartedLemmas
 pub mod ReadLemmas
 pub mod RemadeLemmas
 pub mod ReportLemmas
 pub mod ResultLemmas
+pub mod RightLemmas
 pub mod Rows
 pub mod ShowingLemmas
 pub mod ShownLemmas

@@ -10,9 +10,11 @@ pub mod KeptRun
 pub mod Keyed
 pub mod Kinds
 pub mod Near
+pub mod Orders
 pub mod Outcome
 pub mod PageFacts
 pub mod Remade
+pub mod RightEnds
 pub mod Rows
 pub mod ShownOnce
 pub mod Summary

@@ -6,8 +6,10 @@ pub mod Lookup
 pub mod Lots
 pub mod MakeFault
 pub mod Opened
+pub mod OrderShowing
 pub mod RunWalk
 pub mod Shaped
 pub mod Showing
 pub mod Sought
+pub mod Tried
 pub mod Words

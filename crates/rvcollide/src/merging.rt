@@ -3,6 +3,8 @@
 use crate::failure::Failure;
 use crate::file_line::{FileLine, FilePlace};
 use crate::files::InputFile;
+use crate::hunting::said_of;
+use crate::system::Stream;
 use rv_command::arguments::{TablePath, TablePaths};
 use rv_engines::fault::Fault;
 use rv_engines::run::fault::CommandFault;
@@ -62,14 +64,25 @@ pub fn merge_files<'a>(
         }
     }
     let mut known = expected_file(rt, expected);
-    let mut writer = Buffered::new(alloc, rt.stdout());
+    let mut writer = Buffered::new(alloc, Stream::new(rt.stdout()));
     match run_merge(alloc, &mut files, &mut known, &mut writer) {
         Ok(false) => Ok(()),
         Ok(true) => Err(Failure::Found),
-        Err(fault) => Err(Failure::OfFile(FileLine {
-            file: place_of(tables, expected, fault.file),
-            stands: false,
-            fault: fault.fault,
-        })),
+        Err(fault) => {
+            let said = match fault.file {
+                Some(number) if number < files.len() => files
+                    .swap_remove(number)
+                    .into_inner()
+                    .said(),
+                Some(_) => said_of(known),
+                None => writer.into_inner().said(),
+            };
+            Err(Failure::OfFile(FileLine {
+                file: place_of(tables, expected, fault.file),
+                stands: false,
+                said,
+                fault: fault.fault,
+            }))
+        }
     }
 }
