@@ -1,7 +1,7 @@
 //! The engines of `hunt` and `merge`, on devices that fail; what of hunts and tables the built program can't show. What it can
 //! is in `tests/hunts`.
 use crate::assertion::assert_is;
-use rv_explain::block::RaceClass::{self, Counter, Flag, Kept, Named, Ordered};
+use rv_explain::block::RaceClass::{self, Atomic, Counter, Flag, Kept, Named, Ordered, Unwatched};
 use rv_hunt::expected::{is_likely_benign, may_be_bug};
 use rv_hunt::reading::read_either;
 use rv_hunt::table::{HuntTable, write_table};
@@ -56,8 +56,10 @@ fn a_table_of_run_is_taken(rt: HostRuntime) {
 const CLASSES: &[(RaceClass, bool, bool)] = &[
     (Kept, true, false),
     (Counter, true, false),
+    (Unwatched, false, false),
     (Flag, false, true),
     (Ordered, false, true),
+    (Atomic, false, true),
     (Named, false, false),
 ];
 

@@ -1,5 +1,7 @@
 //! What the probes of a walk come to, added up while they are made.
-ghost use Rattle.std.specs.Prelude.{◌≡◌, ℕ, ◌∷◌, ◌++◌, [], List, OnOk, IfOk, map};
+ghost use Rattle.std.specs.Prelude.{◌≡◌, ◌∷◌, ◌++◌, [], List, OnOk, IfOk, map};
+ghost use Rattle.rv_explain.specs.Judged.{judged};
+ghost use Rattle.rv_hart.specs.State.{State};
 ghost use Rattle.rv_hunt.specs.Hunt.{Hunt as Asked};
 ghost use Rattle.rv_hunt.specs.KeptRun as spec;
 ghost use Rattle.rv_hunt.specs.Near as near;
@@ -14,6 +16,7 @@ use crate::run_walk::RunWalk;
 use crate::stuck::{StuckSeen, is_reported};
 use crate::summary::counts_of;
 use crate::tally::counts::{Counts, sum};
+use rv_explain::races::Judged;
 use rv_memory::store::NoMemory;
 use rv_stuck::acts_of;
 use rv_walk::near_pair::{Addresses, NearPair};
@@ -73,7 +76,8 @@ impl Gathered {
     /// Of a walk before its first probe.
     pub(crate) fn of(alloc: Global, walk: &RunWalk) -> Result<Gathered, NoMemory>
         ensures { IfOk result (λ gathered. (hunt : Asked) →
-            internal.IsGathered hunt walk.now.left.harts.items walk.now.left.pairs.items [] gathered) }
+            (start : State) → internal.IsGathered hunt (record { start = start; harts = walk.now.left.harts.items })
+            walk.now.left.pairs.items [] gathered) }
     {
         let near = seen_pairs(alloc, &walk.left.pairs)?;
         let counts = Counts {
@@ -89,23 +93,25 @@ impl Gathered {
         })
     }
 
-    /// Adds what the next part comes to.
+    /// Adds what the next part comes to, whose endings come with what they are judged by.
     pub(crate) fn add(
         &mut self,
         alloc: Global,
         hunt: &Hunt<'_>,
         part: &Part,
+        judged: &[Judged],
     ) -> Result<(), NoMemory>
-        ensures { OnOk result ((harts : List ℕ) (pairs : List Pair) (parts : List Made) →
-            internal.IsGathered hunt.now harts pairs parts self.old
-            → internal.IsGathered hunt.now harts pairs (parts ++ part.now ∷ []) self.new) }
+        ensures { OnOk result ((gone : spec.Gone) (pairs : List Pair) (parts : List Made) →
+            judged.now ≡ map (judged (spec.run_of_part hunt.now gone part.now)) part.now.probed.finished.endings.items
+            → internal.IsGathered hunt.now gone pairs parts self.old
+            → internal.IsGathered hunt.now gone pairs (parts ++ part.now ∷ []) self.new) }
     {
         // A walk has far fewer probes than 2^32.
         let Some(number) = self.parts.checked_add(1) else {
             return Err(NoMemory);
         };
         let finished = &part.probed.finished;
-        let reports = reports_in_part(alloc, hunt, number, part.place, &finished.endings)?;
+        let reports = reports_in_part(alloc, hunt, number, part.place, judged)?;
         append_reports(&mut self.reports, reports)?;
         self.near.push(probed_pair(part))?;
         self.parts = number;
