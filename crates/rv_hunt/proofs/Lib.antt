@@ -12,6 +12,7 @@ pub mod MergedFileLemmas
 pub mod NumberLemmas
 pub mod OpenLemmas
 pub mod OrderLemmas
+pub mod OriginLemmas
 pub mod PartedLemmas
 pub mod ReadLemmas
 pub mod RemadeLemmas

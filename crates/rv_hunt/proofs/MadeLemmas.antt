@@ -12,7 +12,7 @@ use Rattle.rv_hunt.specs.declared.engine.found.Found.{Found}
 use Rattle.rv_hunt.specs.declared.engine.shown.ShownRace.{ShownRace}
 use Rattle.rv_hunt.specs.declared.hunted.Hunted.{Hunted}
 use Rattle.rv_hunt.specs.declared.row.RaceRow.{RaceRow}
-use Rattle.rv_hunt.specs.engine.Hunting.{Hunting, IsMade, IsTable, Showing, Texts, found_in, ignored_by, outcome, told_in}
+use Rattle.rv_hunt.specs.engine.Hunting.{Hunting, IsMade, IsTable, Showing, Texts, found_in, ignored_by, origin_of, outcome, told_in}
 use Rattle.rv_hunt.specs.engine.Shown.{AreShown}
 use Rattle.rv_hunt.specs.engine.StuckShown.{AreStuckShown}
 use Rattle.rv_hunt.specs.declared.engine.stuck_ends.ShownStuck.{ShownStuck}
@@ -29,7 +29,7 @@ outcome_is hunting saw n mix rows ignored a b c d = rw (a, b, c, d)
 
 pub made_is : (way : Showing) (hunting : Hunting) (saw : Hunted) (Saves : ℕ → List ℕ → Type 0) (Pages : List Fact → Type 0) (rows told full : List Row) (o : Outcome) (shown : List ShownRace) (stuck : List ShownStuck) (found : Found) (texts : Texts) → IsHunted hunting.hunt saw
     → rows ≡ told_in hunting saw → AreInOrder hunting.hunt.source.image rows told → full ≡ take way.full told → o ≡ outcome hunting saw → AreShown hunting.hunt Saves full shown
-    → IsTable way.shows o.rows texts.text → Pages (page_facts o told (length shown)) → AreStuckShown hunting.hunt stuck → found ≡ found_in hunting.expected rows (length stuck) found.has_wrong_end
+    → IsTable way.shows o.rows (origin_of way hunting saw) texts.text → Pages (page_facts o told (length shown)) → AreStuckShown hunting.hunt stuck → found ≡ found_in hunting.expected rows (length stuck) found.has_wrong_end
     → IsMade way hunting Saves Pages found texts
 made_is way hunting saw Saves Pages rows told full o shown stuck found texts hunted are order first came are_shown table paged are_stuck found_is = record {
   saw = saw;
@@ -38,7 +38,7 @@ made_is way hunting saw Saves Pages rows told full o shown stuck found texts hun
   order = subst (λ (rs : List Row). AreInOrder hunting.hunt.source.image rs told) are order;
   shown = shown;
   are_shown = subst (λ (rs : List Row). AreShown hunting.hunt Saves rs shown) first are_shown;
-  is_table = subst (λ (x : Outcome). IsTable way.shows x.rows texts.text) came table;
+  is_table = subst (λ (x : Outcome). IsTable way.shows x.rows (origin_of way hunting saw) texts.text) came table;
   paged = subst (λ (x : Outcome). Pages (page_facts x told (length shown))) came paged;
   stuck = stuck;
   are_stuck = are_stuck;

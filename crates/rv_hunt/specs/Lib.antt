@@ -10,6 +10,8 @@ pub mod KeptRun
 pub mod Keyed
 pub mod Kinds
 pub mod Near
+pub mod Origin
+pub mod OriginRead
 pub mod Outcome
 pub mod PageFacts
 pub mod Remade

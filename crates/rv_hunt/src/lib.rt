@@ -27,6 +27,8 @@ pub mod merge;
 pub mod near;
 pub mod noted;
 mod number;
+pub mod origin;
+pub mod origin_line;
 pub mod page;
 pub mod reading;
 pub mod row;

@@ -1,5 +1,5 @@
 -- What `hunt` has before it makes a run, and before it writes.
-use Rattle.std.specs.Prelude.{Result, Ok}
+use Rattle.std.specs.Prelude.{ℕ, List, Result, Ok}
 use Rattle.rv_elf.specs.Contents.{Contents}
 use Rattle.rv_engines.specs.Campaigns.{elements, listed, skipped}
 use Rattle.rv_engines.specs.CommandFault.{Refusal}
@@ -37,8 +37,8 @@ abbrev pub hunt_in : Asked → Opened → Hunt
 hunt_in asked opened = hunt_by asked opened.image opened.lists
 
 -- the same with the lists of files
-abbrev pub hunting_with : Hunt → Lists → Hunting
-hunting_with hunt lists = record { hunt = hunt; ignored = lists.ignored; expected = lists.expected; aim = lists.aim }
+abbrev pub hunting_with : Hunt → List ℕ → Lists → Hunting
+hunting_with hunt digits lists = record { hunt = hunt; digits = digits; ignored = lists.ignored; expected = lists.expected; aim = lists.aim }
 
 abbrev pub texts_in : Made → Texts
 texts_in made = record { text = made.text.items; notes = made.notes.items }

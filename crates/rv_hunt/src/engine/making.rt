@@ -1,5 +1,5 @@
 //! The runs of a hunt, and the texts and the files of what they saw.
-ghost use Rattle.std.specs.Prelude.{◌≡◌, ◌≤◌, ◌||◌, IfOk, OnOk, is_err, is_some, length, take, true};
+ghost use Rattle.std.specs.Prelude.{◌≡◌, ◌≤◌, ◌∷◌, ◌||◌, [], IfOk, OnOk, is_err, is_some, length, take, true};
 ghost use Rattle.rv_engines.specs.Campaigns.{passes};
 ghost use Rattle.rv_hunt.specs.Hunted.{IsHunted};
 ghost use Rattle.rv_hunt.specs.engine.Asked.{AreLegal, asked};
@@ -28,6 +28,7 @@ use crate::hunt::{Hunt, Watch};
 use crate::hunted::Hunted;
 use crate::merge::parted::{Parted, part_rows};
 use crate::noted::Noted;
+use crate::origin::{Heading, Stretch, stretch_on};
 use crate::page::page_text;
 use crate::page::parts::Outcome;
 use crate::row::RaceRow;
@@ -61,10 +62,13 @@ fn texts_of(
     line: &LineParts<'_>,
     symbols: &SymbolTable,
     outcome: &Outcome,
+    heading: &Heading<'_>,
+    stretch: Stretch,
     told: &[(Key, RaceRow)],
     shown: &[ShownRace],
 ) -> Result<(Vec<u8>, Vec<u8>), NoMemory>
-    ensures { IfOk result (λ texts. spec.IsTable shows outcome.now.rows texts.0.items) }
+    ensures { IfOk result (λ texts. spec.IsTable shows outcome.now.rows (record { image = heading.image.now; version = heading.version.now;
+        seed = heading.seed; stretches = stretch ∷ []; given = heading.given.now }) texts.0.items) }
 {
     match shows {
         Shows::Text => {
@@ -72,7 +76,7 @@ fn texts_of(
             Ok((text, warnings_text(alloc, symbols, outcome)?))
         }
         Shows::Table => {
-            let text = table_of(alloc, outcome.rows)?;
+            let text = table_of(alloc, outcome.rows, heading, stretch)?;
             Ok((text, table_notes(alloc, line, symbols, outcome)?))
         }
     }
@@ -87,8 +91,8 @@ fn parted_rows(
     saw: &Hunted,
 ) -> Result<Parted, NoMemory>
     requires { symbols.now ≡ hunt.now.source.image }
-    ensures told { IfOk result (λ parted. parted.told.items ≡ spec.told_in (hunting_with hunt.now lists.now) saw.now) }
-    ensures ignored { IfOk result (λ parted. parted.ignored.items ≡ spec.ignored_by (hunting_with hunt.now lists.now) saw.now) }
+    ensures told { IfOk result (λ parted. parted.told.items ≡ spec.told_in (hunting_with hunt.now [] lists.now) saw.now) }
+    ensures ignored { IfOk result (λ parted. parted.ignored.items ≡ spec.ignored_by (hunting_with hunt.now [] lists.now) saw.now) }
 {
     let rows = saw.table.rows(alloc)?;
     part_rows(alloc, symbols, &lists.ignored, &rows)
@@ -160,6 +164,7 @@ fn made_of<R: Threads + Wait, D: Folder, F: NewFile, P: Watch>(
     hunt: &Hunt,
     options: &HuntOptions<'_, '_>,
     lists: &Lists,
+    digits: &[u8],
     symbols: &SymbolTable,
     saw: &Hunted,
     noted: &Noted,
@@ -171,7 +176,7 @@ fn made_of<R: Threads + Wait, D: Folder, F: NewFile, P: Watch>(
     requires symbols { symbols.now ≡ hunt.now.source.image }
     requires hunted { IsHunted hunt.now saw.now }
     ensures made { IfOk result (λ made. spec.IsMade
-        (spec.showing_of options.now (is_some folder.old) (is_some page.old)) (hunting_with hunt.now lists.now)
+        (spec.showing_of options.now (is_some folder.old) (is_some page.old)) (hunting_with hunt.now digits.now lists.now)
         (IfSaved D.has_failed D.Holds folder.new) (IfPaged F.has_failed F.Holds page.new) made.found (texts_in made)) }
     ensures wanted { (is_some folder.new ≡ is_some folder.old) × (is_some page.new ≡ is_some page.old) }
 {
@@ -202,12 +207,21 @@ fn made_of<R: Threads + Wait, D: Folder, F: NewFile, P: Watch>(
         rows: first_of(&told, most),
     };
     let shown = full.show(rt, alloc, options.workers, folder, watch)?;
+    let heading = Heading {
+        image: digits,
+        version: options.line.version.as_bytes(),
+        seed: u64::from(hunt.seed),
+        given: options.line.given.as_bytes(),
+    };
+    let stretch = stretch_on(u64::from(hunt.first), saw.tally.runs());
     let (text, notes) = texts_of(
         alloc,
         options.shows,
         &options.line,
         symbols,
         &outcome,
+        &heading,
+        stretch,
         &told,
         &shown,
     )?;
@@ -258,7 +272,7 @@ pub(crate) fn make_hunt<T: Threads + Wait + Sync, P: Watch, D: Folder, F: NewFil
     requires { AreLegal options.now }
     ensures made { IfOk result (λ made. spec.IsMade
         (spec.showing_of options.now (is_some folder.old) (is_some page.old))
-        (hunting_with (hunt_in (asked options.now) opened.now) lists.now)
+        (hunting_with (hunt_in (asked options.now) opened.now) opened.now.digits.items lists.now)
         (IfSaved D.has_failed D.Holds folder.new) (IfPaged F.has_failed F.Holds page.new) made.found (texts_in made)) }
     ensures wanted { (is_some folder.new ≡ is_some folder.old) × (is_some page.new ≡ is_some page.old) }
     ensures failed { fails_by_write result ≡ true
@@ -288,7 +302,18 @@ pub(crate) fn make_hunt<T: Threads + Wait + Sync, P: Watch, D: Folder, F: NewFil
     };
     let saw = hunt.hunted(rt, alloc, options.workers, &mut noted, watch)?;
     let made = made_of(
-        rt, alloc, &hunt, options, lists, &symbols, &saw, &noted, folder, page, watch,
+        rt,
+        alloc,
+        &hunt,
+        options,
+        lists,
+        &opened.digits,
+        &symbols,
+        &saw,
+        &noted,
+        folder,
+        page,
+        watch,
     );
     // It has many parts, which are let go by one call.
     drop(saw);

@@ -2,16 +2,20 @@
 ghost use Rattle.std.specs.Prelude.{◌≡◌, ◌||◌, false, Ok, IfOk, IfErr, IfSome};
 ghost use Rattle.rv_memory.specs.Flagged as flag;
 ghost use Rattle.rv_engines.specs.CommandFault.{IsTold, refusal, fails_by, is_read, is_thread, is_write};
+ghost use Rattle.rv_engines.specs.Fault as plain;
+ghost use Rattle.rv_engines.specs.Images.{image_of};
+ghost use Rattle.rv_hunt.specs.Origin.{image_digits};
 ghost use Rattle.rv_hunt.specs.engine.Asked.{asked};
 ghost use Rattle.rv_hunt.specs.engine.Hunting.{hunt_of};
 ghost use Rattle.rv_hunt.specs.internal.Opened.{hunt_by, hunt_in, hunt_with};
 
 use crate::engine::options::HuntOptions;
-use rv_elf::Image;
-use rv_engines::image::read_image;
+use crate::origin::image_digits;
+use rv_elf::{Image, load};
+use rv_engines::fault::Fault;
 use rv_engines::run::fault::CommandFault;
 use rv_engines::run::lists::{read_named, read_skipped};
-use rv_memory::flagged::Flagged;
+use rv_memory::flagged::{Flagged, INPUT_LIMIT, read_whole};
 use rv_prune::named_bytes::NamedBytes;
 use std::alloc::Global;
 use std::io::Read;
@@ -24,10 +28,11 @@ pub struct Listed {
     pub idle: NamedBytes,
 }
 
-/// An image, and the lists of the line.
+/// An image, the digits of its file, and the lists of the line.
 #[derive(Drop)]
 pub struct Opened {
     pub image: Image,
+    pub digits: Vec<u8>,
     pub lists: Listed,
 }
 
@@ -61,6 +66,29 @@ fn read_lists<'a>(
     }
 }
 
+/// Reads an image, and the digits of its file.
+#[tactic(auto, unfolding(rv_engines::specs::Images::image_of))]
+fn read_bytes<R: Read>(
+    alloc: Global,
+    reader: &mut Flagged<R>,
+) -> Result<(Image, Vec<u8>), Fault>
+    ensures image { IfOk result (λ read. IfSome (R.remaining (flag.device reader.old)) (λ bytes.
+        image_of bytes ≡ Ok read.0)) }
+    ensures digits { IfOk result (λ read. IfSome (R.remaining (flag.device reader.old)) (λ bytes.
+        read.1.items ≡ image_digits bytes)) }
+    ensures err { IfErr result (λ fault. IfSome (R.remaining (flag.device reader.old)) (λ bytes.
+        plain.IsToldFault (image_of bytes) fault)) }
+    ensures reader { flag.has_failed reader.new ≡ (flag.has_failed reader.old || plain.fails_by plain.is_read result) }
+    ensures writer { plain.fails_by plain.is_write result ≡ false }
+{
+    let bytes = read_whole(alloc, reader, INPUT_LIMIT)?;
+    let digits = image_digits(alloc, &bytes)?;
+    match load(alloc, &bytes) {
+        Ok(image) => Ok((image, digits)),
+        Err(fault) => Err(Fault::from(fault)),
+    }
+}
+
 /// Reads an image, and then the lists.
 pub fn open<'a, R: Read>(
     alloc: Global,
@@ -69,18 +97,24 @@ pub fn open<'a, R: Read>(
 ) -> Result<Opened, CommandFault<'a>>
     ensures ok { IfOk result (λ opened. IfSome (R.remaining (flag.device image.old)) (λ bytes.
         hunt_of (asked options.now) bytes ≡ Ok (hunt_in (asked options.now) opened))) }
+    ensures digits { IfOk result (λ opened. IfSome (R.remaining (flag.device image.old)) (λ bytes.
+        opened.digits.items ≡ image_digits bytes)) }
     ensures err { IfErr result (λ fault. IfSome (R.remaining (flag.device image.old)) (λ bytes.
         IsTold (hunt_of (asked options.now) bytes) (refusal fault))) }
     ensures reader { flag.has_failed image.new ≡ (flag.has_failed image.old || fails_by is_read result) }
     ensures writer { fails_by is_write result ≡ false }
     ensures thread { fails_by is_thread result ≡ false }
 {
-    let image = match read_image(alloc, image) {
-        Ok(image) => image,
+    let (image, digits) = match read_bytes(alloc, image) {
+        Ok(read) => read,
         Err(fault) => return Err(CommandFault::Plain(fault)),
     };
     match read_lists(alloc, options, &image) {
-        Ok(lists) => Ok(Opened { image, lists }),
+        Ok(lists) => Ok(Opened {
+            image,
+            digits,
+            lists,
+        }),
         Err(fault) => Err(fault),
     }
 }
