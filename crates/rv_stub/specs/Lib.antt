@@ -1,4 +1,5 @@
 pub mod Answers
+pub mod GdbFault
 pub mod Heard
 pub mod Met
 pub mod Paused

@@ -1,7 +1,9 @@
 //! Files of the system, by their paths.
-ghost use Rattle.std.specs.Prelude.{◌≡◌, true, false, is_err, is_some, OnOk, option_and_then};
+ghost use Rattle.std.specs.Prelude.{◌≡◌, true, false, is_err, is_some, OnOk, option_and_then, option_map};
 ghost use Rattle.std.specs.Io.KnownBytes.{ReadConsumes};
 ghost use Rattle.std.specs.Io.{ReadsAtMost};
+ghost use Rattle.rv_memory.specs.Flagged as flag;
+ghost use Rattle.rvcollide.specs.Files.{failed_path, path_if};
 
 use rv_engines::new_file::NewFile;
 use rv_memory::flagged::{Flagged, WriteFault, flush, write_whole};
@@ -19,12 +21,25 @@ pub struct InputFile<'a, R: Files> {
 }
 
 impl<'a, R: Files> InputFile<'a, R> {
-    pub fn new(rt: &'a R, path: &'a str) -> InputFile<'a, R> {
+    pub fn new(rt: &'a R, path: &'a str) -> InputFile<'a, R>
+        ensures { result.path ≡ path }
+    {
         InputFile {
             rt,
             path,
             file: None,
         }
+    }
+}
+
+/// The path of a file whose reader failed: the one that was opened.
+pub fn failed_input<'a, R: Files>(file: Flagged<InputFile<'a, R>>) -> Option<&'a str>
+    ensures { option_map (λ path. path.now) result ≡ path_if (flag.has_failed file) (flag.device file).path.now }
+{
+    if file.failed() {
+        Some(file.into_inner().path)
+    } else {
+        None
     }
 }
 
@@ -59,7 +74,9 @@ pub struct OutputFile<'a, R: Files> {
 }
 
 impl<'a, R: Files> OutputFile<'a, R> {
-    pub fn new(rt: &'a R, path: &'a str) -> OutputFile<'a, R> {
+    pub fn new(rt: &'a R, path: &'a str) -> OutputFile<'a, R>
+        ensures { result.path ≡ path }
+    {
         OutputFile {
             rt,
             path,
@@ -73,6 +90,16 @@ impl<'a, R: Files> OutputFile<'a, R> {
         ensures { result ≡ self.now.failed }
     {
         self.failed
+    }
+}
+
+/// The path of a file that was to be made, where that failed.
+pub fn failed_output<'a, R: Files>(file: Option<OutputFile<'a, R>>) -> Option<&'a str>
+    ensures { option_map (λ path. path.now) result ≡ failed_path file }
+{
+    match file {
+        Some(file) if file.failed => Some(file.path),
+        _ => None,
     }
 }
 

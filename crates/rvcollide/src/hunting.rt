@@ -1,6 +1,7 @@
 //! The engine of `hunt` on the files of a line, and what is told while it works.
-ghost use Rattle.std.specs.Prelude.{IfSome};
+ghost use Rattle.std.specs.Prelude.{◌≡◌, IfSome};
 ghost use Rattle.rv_hunt.specs.engine.Asked.{AreLegal};
+ghost use Rattle.rvcollide.specs.Hunt as spec;
 
 use crate::failure::Failure;
 use crate::files::{InputFile, OutputFile};
@@ -152,7 +153,9 @@ fn sides_of<'a>(line: &HuntLine<'a>) -> Option<Sides<'a>> {
 }
 
 /// What the line asks to be shown.
-fn shown_by(line: &HuntLine) -> Shows {
+fn shown_by(line: &HuntLine) -> Shows
+    ensures { result ≡ spec.shown_by line.now }
+{
     if line.shows_table {
         Shows::Table
     } else {
@@ -161,7 +164,9 @@ fn shown_by(line: &HuntLine) -> Shows {
 }
 
 /// Whether what was found is what the line asks to be told by the exit status.
-fn is_asked(line: &HuntLine, found: Found) -> bool {
+fn is_asked(line: &HuntLine, found: Found) -> bool
+    ensures { result ≡ spec.is_asked line.now found }
+{
     let has_bug = (line.checks || line.checks_all) && 0 < found.bugs;
     let has_benign = line.checks_all && 0 < found.benign;
     let has_end = line.check_ends && (0 < found.stuck || found.has_wrong_end);

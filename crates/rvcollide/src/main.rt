@@ -17,7 +17,7 @@ mod paths;
 mod shown_line;
 
 use crate::failure::Failure;
-use crate::files::{InputFile, OutputFile};
+use crate::files::{InputFile, OutputFile, failed_input, failed_output};
 use crate::hunting::hunt_file;
 use crate::merging::merge_files;
 use rv_collide::plan::Plan;
@@ -259,19 +259,11 @@ fn explain_files<'a>(
     let Err(fault) = told else {
         return Ok(());
     };
-    let failed = if image_file.failed() {
-        Some(image.0)
-    } else if schedule_file.failed() {
-        Some(schedule.0)
-    } else if made.is_some_and(|file| file.has_failed()) {
-        picture.map(|path| path.0)
-    } else {
-        None
-    };
+    let failed = failed_input(image_file).or(failed_input(schedule_file));
     let paths = Paths {
         image: image.0,
         schedule: Some(schedule.0),
-        failed,
+        failed: failed.or(failed_output(made)),
     };
     Err(FaultLine {
         file: paths.at_fault(fault),
@@ -300,23 +292,12 @@ fn gdb_files<'a>(
     let Err(fault) = told else {
         return Ok(());
     };
-    let failed = if image_file.failed() {
-        Some(image.0)
-    } else if schedule_file.failed() {
-        Some(schedule.0)
-    } else {
-        None
-    };
     let paths = Paths {
         image: image.0,
         schedule: Some(schedule.0),
-        failed,
+        failed: failed_input(image_file).or(failed_input(schedule_file)),
     };
-    let fault = CommandFault::from(fault);
-    Err(FaultLine {
-        file: paths.at_fault(fault),
-        fault,
-    })
+    Err(fault.line(paths))
 }
 
 /// The file that is made of a picture, where one is wanted.

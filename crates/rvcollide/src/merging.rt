@@ -1,4 +1,7 @@
 //! The engine of `merge` on the files of a line.
+ghost use Rattle.std.specs.Prelude.{◌≡◌, map, option_and_then, option_map};
+ghost use Rattle.rv_command.specs.declared.arguments.TablePath.{TablePath};
+ghost use Rattle.rvcollide.specs.Files.{path_of};
 
 use crate::failure::Failure;
 use crate::file_line::{FileLine, FilePlace};
@@ -16,7 +19,10 @@ fn path_of<'a>(
     tables: TablePaths<'a>,
     expected: Option<TablePath<'a>>,
     number: Option<usize>,
-) -> Option<&'a str> {
+) -> Option<&'a str>
+    ensures { option_map (λ path. path.now) result ≡ option_and_then (path_of
+        (map (λ path. path.now) tables.0.now) (option_map (λ (path : TablePath). path.0.now) expected)) number }
+{
     let number = number?;
     if let Some(path) = tables.0.get(number) {
         return Some(*path);

@@ -472,7 +472,7 @@ numbers that replay prints and exhibit takes. IMAGE is as rvcollide list --help 
 rvcollide replay --help says.
 
 A fault is told with its file and what is wrong:
-  rvcollide: run.txt: explain NoRace: there is no race with this number
+  rvcollide: run.txt: explain NoRace of 2: there is no race with this number
 
 Example:
   rvcollide explain guest.elf run.txt --picture race.svg";

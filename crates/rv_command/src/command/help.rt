@@ -105,7 +105,7 @@ exhibit NAME:
   NotReport: the ending is quiet: nothing touched the watched bytes during the pause
   TextChanged: the paused instruction was overwritten before the second access
 
-explain NoRace: there is no race with this number
+explain NoRace of N: there is no race with this number
 
 skip TEXT: an address is eight hexadecimal digits
 
