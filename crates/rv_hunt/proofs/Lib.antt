@@ -25,3 +25,4 @@ pub mod SummaryLemmas
 pub mod WordLemmas
 pub mod WalkLemmas
 pub mod Written
+pub mod ReadBack

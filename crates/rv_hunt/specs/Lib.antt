@@ -3,6 +3,7 @@ pub mod Expected
 pub mod Hunt
 pub mod HuntLaws
 pub mod HuntRead
+pub mod HuntReadLaws
 pub mod HuntText
 pub mod Hunted
 pub mod HuntedLaws

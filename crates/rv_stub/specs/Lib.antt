@@ -1,6 +1,7 @@
 pub mod Answers
 pub mod Heard
 pub mod Met
+pub mod MetLaws
 pub mod Paused
 pub mod Reply
 pub mod Resumed

@@ -5,6 +5,7 @@
 #![tactic(auto)]
 
 pub mod engine;
+pub mod laws;
 pub mod no_room;
 pub mod reply;
 pub mod resume;
