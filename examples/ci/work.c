@@ -1,5 +1,6 @@
 /* The guest that the check hunts in: half of the harts put jobs into a queue, the others take them out and add them up. Hart 0 exits with 1 if the sum isn't that of all jobs, so
-   that each schedule is a test. LONGEST adds a figure that harts keep without a lock: a race that the team knows of. */
+   that each schedule is a test. KNOWN adds a figure that harts keep without a lock: a race that the team knows of. NEW adds another one, of which it doesn't. */
+#include "../c/guest.h"
 #include "queue.h"
 
 #define EACH 6
@@ -7,16 +8,29 @@
 static struct queue queue = EMPTY_QUEUE;
 static atomic_uint arrived, putting, taking, sum;
 
-#ifdef LONGEST
+#ifdef KNOWN
 static unsigned longest;
+#endif
+#ifdef NEW
+static unsigned started;
+
+static __attribute__((noinline)) unsigned note(void)
+{
+    return ++started;
+}
 #endif
 
 static __attribute__((noinline)) void work(unsigned job)
 {
     atomic_fetch_add(&sum, job);
-#ifdef LONGEST
+#ifdef KNOWN
     if (job > longest) {
         longest = job;
+    }
+#endif
+#ifdef NEW
+    if (note() > 1000) {
+        leave(2);
     }
 #endif
 }
