@@ -38,13 +38,13 @@ impl Model for Page {
 }
 
 impl Page {
-    /// A page of these bytes, the store's own.
-    pub(crate) fn own(alloc: Global, bytes: [u8; PAGE_SIZE]) -> Result<Page, NoMemory>
-        ensures bytes { IfOk result (λ page. page ≡ record { bytes = bytes; own = true }) }
+    /// A page of these bytes that is ready to be shared: forks then need no copy of pages that nobody writes, as most are.
+    pub(crate) fn shared(alloc: Global, bytes: [u8; PAGE_SIZE]) -> Result<Page, NoMemory>
+        ensures bytes { IfOk result (λ page. page ≡ record { bytes = bytes; own = false }) }
         ensures whole { IfOk result IsPage }
     {
         Ok(Page {
-            kept: Kept::Own(Box::new(alloc, bytes)?),
+            kept: Kept::Shared(Rc::new(alloc, bytes)?),
         })
     }
 

@@ -29,7 +29,7 @@ impl Model for Pages {
 }
 
 impl Pages {
-    /// Own pages of these bytes.
+    /// Pages of these bytes. A store into one makes it own.
     pub(crate) fn make(alloc: Global, bytes: &[u8]) -> Result<Pages, NoMemory>
         requires { length bytes.now % PAGE_SIZE ≡ 0 }
         ensures { IfOk result (λ pages. bytes_of pages ≡ bytes.now) }
@@ -37,7 +37,7 @@ impl Pages {
         let count = bytes.len() / PAGE_SIZE;
         let mut pages = Vec::with_capacity(alloc, count)?;
         for place in 0..count {
-            pages.push(Page::own(alloc, page_at(bytes, place))?)?;
+            pages.push(Page::shared(alloc, page_at(bytes, place))?)?;
         }
         Ok(Pages { pages })
     }

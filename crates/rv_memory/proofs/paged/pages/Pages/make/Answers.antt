@@ -7,8 +7,8 @@ use Rattle.rv_memory.proofs.paged.pages.Pages.make.Goals as goal
 pub loop-place-preserved : goal.loop-place-preserved
 loop-place-preserved c =
     let pages = c.loop-place.pages.items in
-    let page = c.in_ok-own.field-0 in
+    let page = c.in_ok-shared.field-0 in
     rw c.in_ok-push.ensures.items (record {
-      whole = All-push IsPage pages page c.loop-place.invariant.whole c.in_ok-own.ensures.whole;
-      bytes = more_bytes pages page c.args.bytes.now c.loop-place.place c.loop-place.invariant.bytes (ap (λ p. p.bytes) c.in_ok-own.ensures.bytes ∙ c.page_at.ensures);
+      whole = All-push IsPage pages page c.loop-place.invariant.whole c.in_ok-shared.ensures.whole;
+      bytes = more_bytes pages page c.args.bytes.now c.loop-place.place c.loop-place.invariant.bytes (ap (λ p. p.bytes) c.in_ok-shared.ensures.bytes ∙ c.page_at.ensures);
     })
