@@ -9,8 +9,9 @@ TOP = pathlib.Path(__file__).resolve().parent.parent
 BUILT = TOP / "crates/rvcollide/out/rvcollide"
 
 # What is told of a file that cannot be read, and of one that cannot be written.
-READ = "read: cannot read the input: does it exist, and is it a file?"
-WRITE = "write: cannot write the output: is there space, and does the folder exist?"
+# What the system says of a file or a stream that fails.
+MISSING, FOLDER, NO_FOLDER, FULL = "there is no such file or folder", "it is a folder, and no file", "a part of the path is no folder", "there is no space left"
+DENIED, CLOSED, TOO_LARGE = "there is no permission", "what reads the output has ended", "the system takes no larger file"
 
 # The table of a hunt that saw no race, and the sentences of a table's faults.
 NO_RACES = "races 0\n"
@@ -56,7 +57,7 @@ class Tries:
 
     def run(self, *words):
         """Runs the program: its exit status and both of its outputs."""
-        done = subprocess.run([self.program, *words], cwd=self.folder, stdin=subprocess.DEVNULL, capture_output=True, timeout=60)
+        done = subprocess.run([self.program, *words], cwd=self.folder, stdin=subprocess.DEVNULL, capture_output=True, timeout=300)
         return done.returncode, done.stdout, done.stderr
 
     def holds(self, what, is_so, found=""):

@@ -43,6 +43,7 @@ pub record Hunting : Type 0 where
   pub right : Option Text
   pub expect : Option Text
   pub is_quiet : Bool
+  pub no_orders : Bool
 
 -- the sides as texts
 abbrev pub sides : Aim → Text × Text
@@ -74,6 +75,7 @@ hunting line = record {
   right = option_map (λ text. text.now) line.right;
   expect = option_map (λ path. path.0.now) line.expect;
   is_quiet = line.is_quiet;
+  no_orders = line.no_orders;
 }
 
 -- ---- what the values mean
@@ -168,6 +170,7 @@ hunting_at rows =
       right = right;
       expect = first_of (codes "expect") rows;
       is_quiet = flag_at (codes "quiet") rows;
+      no_orders = flag_at (codes "no-orders") rows;
     })
     (right_at rows))
     (number_or DEFAULT_BLOCKS (codes "blocks") 0 MOST_BLOCKS rows))

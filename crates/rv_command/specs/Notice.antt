@@ -25,10 +25,10 @@ is_request kind.DisplayHelp = true
 is_request kind.DisplayVersion = true
 is_request _ = false
 
--- the line is `help faults`, which is no command of `clap`'s
-abbrev pub asks_faults : List Text → Bool
-asks_faults (name ∷ command ∷ topic ∷ []) = bytes_eq command (codes "help") && bytes_eq topic (codes "faults")
-asks_faults _ = false
+-- the line is `help faults` or `help words`, which are answered before `clap` sees them
+abbrev pub asks_topic : List Text → Bool
+asks_topic (name ∷ command ∷ topic ∷ []) = bytes_eq command (codes "help") && (bytes_eq topic (codes "faults") || bytes_eq topic (codes "words"))
+asks_topic _ = false
 
 -- among what `clap` may answer to the words is the help or the version
 abbrev pub asks_clap : List Text → Bool
@@ -40,10 +40,10 @@ only_asks_clap words = not (is_accepted words) && list_all is_request (fault_of 
 
 -- the words may ask for a text; and they ask for nothing else
 abbrev pub asks : List Text → Bool
-asks words = asks_faults words || asks_clap words
+asks words = asks_topic words || asks_clap words
 
 abbrev pub only_asks : List Text → Bool
-only_asks words = asks_faults words || only_asks_clap words
+only_asks words = asks_topic words || only_asks_clap words
 
 abbrev pub text_of : Notice → Text
 text_of (Answer text) = string_bytes text

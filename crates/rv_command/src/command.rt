@@ -35,7 +35,7 @@ use crate::command::commands::COMMANDS;
 use crate::command::complaint::Complaint;
 use crate::command::exhibit::exhibit_of;
 use crate::command::explain::explain_of;
-use crate::command::help::{FAULTS, OVERVIEW};
+use crate::command::help::{FAULTS, OVERVIEW, Words};
 use crate::command::hunt::{HuntLine, hunt_of};
 use crate::command::merge::merge_of;
 use crate::command::paths::{asm_of, debug_of, gdb_of, list_of, replay_of};
@@ -169,22 +169,32 @@ fn job_by_clap<'a>(alloc: Global, words: &'a [&'a str], command: &str) -> Result
 pub fn notice_of<'a>(alloc: Global, words: &'a [&'a str]) -> Result<Notice, LineFault>
     ensures answer { IfOk result (λ n. notice.is_answer n ≡ true → notice.asks (spec.texts words.entry.now) ≡ true) }
     ensures refusal { IfOk result (λ n. notice.is_answer n ≡ false → notice.only_asks (spec.texts words.entry.now) ≡ false) }
-    ensures faults { IfOk result (λ n. notice.asks_faults (spec.texts words.entry.now) ≡ true → notice.is_answer n ≡ true) }
+    ensures topic { IfOk result (λ n. notice.asks_topic (spec.texts words.entry.now) ≡ true → notice.is_answer n ≡ true) }
     ensures memory { IfErr result (λ e. e ≡ LineFault.NoMemory) }
 {
-    if asks_for_faults(words) {
-        return Ok(Notice::Answer(text(alloc, &FAULTS)?));
+    if asks_for_topic(words) {
+        return Ok(Notice::Answer(topic_text(alloc, words)?));
     }
     notice_by_clap(alloc, words)
 }
 
-/// Whether the line is `help faults`.
-fn asks_for_faults(words: &[&str]) -> bool
-    ensures { result ≡ notice.asks_faults (spec.texts words.now) }
+/// Whether the line is `help faults` or `help words`.
+fn asks_for_topic(words: &[&str]) -> bool
+    ensures { result ≡ notice.asks_topic (spec.texts words.now) }
 {
     match words {
-        [_, command, topic] => *command == "help" && *topic == "faults",
+        [_, command, topic] => *command == "help" && (*topic == "faults" || *topic == "words"),
         _ => false,
+    }
+}
+
+/// What is said of the topic of such a line.
+fn topic_text(alloc: Global, words: &[&str]) -> Result<String, LineFault>
+    ensures { IfErr result (λ e. e ≡ LineFault.NoMemory) }
+{
+    match words {
+        [_, _, topic] if *topic == "words" => text(alloc, &Words),
+        _ => text(alloc, &FAULTS),
     }
 }
 

@@ -17,6 +17,8 @@ pub enum Status {
     Memory,
     /// There is a race, a stuck end, a trap or a wrong exit code that the command line asks for.
     Found,
+    /// There is no race, and a warning says that this means nothing.
+    Void,
 }
 
 impl Status {
@@ -31,6 +33,7 @@ impl Status {
             Status::Stream => 3,
             Status::Memory => 4,
             Status::Found => 5,
+            Status::Void => 6,
         }
     }
 
@@ -42,6 +45,7 @@ impl Status {
             Status::Stream => "a file or stream cannot be read or written",
             Status::Memory => "there is not enough memory",
             Status::Found => "there is a finding that",
+            Status::Void => "there is no race, but a warning says that this means nothing",
         }
     }
 }
@@ -52,11 +56,18 @@ impl fmt::Display for Status {
     }
 }
 
+/// The options that ask for `Found`, and the one that asks for `Void`, where there is one.
+#[derive(Clone, Copy)]
+pub struct Asks {
+    pub found: &'static str,
+    pub void: Option<&'static str>,
+}
+
 /// The statuses of a command, as its help says them.
 #[derive(Clone, Copy)]
 pub struct Statuses {
-    /// The options that ask for `Found`, where there are some.
-    pub found_by: Option<&'static str>,
+    /// What asks for those of what was found, where something does.
+    pub asks: Option<Asks>,
 }
 
 impl fmt::Display for Statuses {
@@ -70,9 +81,12 @@ impl fmt::Display for Statuses {
             Status::Stream,
             Status::Memory
         )?;
-        match self.found_by {
-            Some(options) => write!(f, "; {}\n{options} asks for.", Status::Found),
-            None => f.write_str("."),
+        if let Some(asks) = self.asks {
+            write!(f, "; {}\n{} asks for", Status::Found, asks.found)?;
+            if let Some(option) = asks.void {
+                write!(f, ";\n{} ({option})", Status::Void)?;
+            }
         }
+        f.write_str(".")
     }
 }

@@ -155,12 +155,12 @@ const FAULTS: &[(ExplainOptions<'static>, &[u8], &str)] = &[
     (
         SECOND,
         HIT,
-        "s.txt: explain NoRace: there is no race with this number",
+        "s.txt: explain NoRace of 1: there is no race with this number",
     ),
     (
         PLAIN,
         QUIET,
-        "s.txt: explain NoRace: there is no race with this number",
+        "s.txt: explain NoRace of 0: there is no race with this number",
     ),
 ];
 

@@ -3,6 +3,7 @@
 use crate::assertion::assert_is;
 use rv_explain::block::RaceClass::{self, Counter, Flag, Kept, Named, Ordered};
 use rv_hunt::expected::{is_likely_benign, may_be_bug};
+use rv_hunt::fault::ReadFault;
 use rv_hunt::reading::read_either;
 use rv_hunt::table::{HuntTable, write_table};
 use rv_markup::escaped::escaped;
@@ -50,6 +51,51 @@ fn assert_reads(rt: &impl Abort, alloc: Global, said: &[u8], wanted: &[u8]) {
 fn a_table_of_run_is_taken(rt: HostRuntime) {
     assert_reads(&rt, rt.alloc(), OF_RUN, AS_KEPT);
     assert_reads(&rt, rt.alloc(), OF_HUNT, OF_HUNT);
+}
+
+/// Damaged tables, and the line that is told: of a table of `run` its own, and not the first that is none of `hunt`.
+const DAMAGED: &[(&[u8], u64)] = &[
+    (
+        b"races 2\n\
+        00010054 00010074 count 16 run 1 entry 9 hit old 00000000 new 00000009\n\
+        0001000c - count x run 0 entry 64 changed old 00000000 new 00000040\n\
+        pruned named 0 flag 2 counter 7\n",
+        3,
+    ),
+    (
+        b"races 1\n\
+        00010054 00010074 count 16 run 1 entry 9 hit old 00000000 new 00000009\n\
+        pruned named 0 flag 2 counter\n",
+        3,
+    ),
+    (
+        b"races 2\n\
+        00010054 00010074 count 16 run 1 entry 9 hit old 00000000 new 00000009\n\
+        pruned named 0 flag 2 counter 7\n",
+        3,
+    ),
+    (
+        b"races 2\n\
+        0001000c - count 1 run 0 entry 64 changed old 00000000 new 00000040 flag\n\
+        00010054 00010078 count 1 run 4 entry 6 hit old 00000000 new 00000006\n",
+        3,
+    ),
+    (b"races 1\n0001000c - count 1\n", 2),
+    (b"race 1\n", 1),
+];
+
+fn assert_tells_line(rt: &impl Abort, alloc: Global, said: &[u8], wanted: u64) {
+    match read_either(alloc, said).err().expect(rt, "a fault") {
+        ReadFault::Malformed(fault) => assert_is(rt, fault.line, wanted, "the line"),
+        ReadFault::NoMemory => assert_is(rt, 0, wanted, "memory"),
+    }
+}
+
+#[test]
+fn a_damaged_table_tells_its_line(rt: HostRuntime) {
+    for (said, wanted) in DAMAGED {
+        assert_tells_line(&rt, rt.alloc(), said, *wanted);
+    }
 }
 
 /// Classes, whether a race of it may be a bug, and whether it is likely benign.

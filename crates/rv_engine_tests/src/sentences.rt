@@ -21,8 +21,8 @@ const LINES: &[(Option<&str>, CommandFault, &str)] = &[
     ),
     (
         None,
-        CommandFault::NoRace,
-        "explain NoRace: there is no race with this number",
+        CommandFault::NoRace(2),
+        "explain NoRace of 2: there is no race with this number",
     ),
 ];
 

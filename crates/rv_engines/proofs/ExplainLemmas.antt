@@ -114,11 +114,11 @@ whole draws wanted i s opened is image found_in =
 no_plain : (draws : Bool) (wanted : Asking) (run : Run) (f : Found) (fault : Fault) → shown_in_run draws wanted run f ≡ Err (Plain fault) → ⊥
 no_plain draws wanted run f fault h = go (blocks_asked run wanted.around f.races wanted.race) h
   where
-    undrawn : (none : Bool) (blocks : List RaceShown) → (if none then Err NoRace else Ok blocks) ≡ Err (Plain fault) → ⊥
+    undrawn : (none : Bool) (blocks : List RaceShown) → (if none then Err (NoRace 0) else Ok blocks) ≡ Err (Plain fault) → ⊥
     undrawn true blocks h = cc
     undrawn false blocks h = cc
 
-    go : (blocks : Option (List RaceShown)) → (unless_none blocks >>= if_drawn draws) ≡ Err (Plain fault) → ⊥
+    go : (blocks : Option (List RaceShown)) → (unless_none (length f.races) blocks >>= if_drawn draws) ≡ Err (Plain fault) → ⊥
     go None h = cc
     go (Some blocks) h = undrawn (draws && length blocks == 0) blocks h
 

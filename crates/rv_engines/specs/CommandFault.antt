@@ -1,6 +1,7 @@
 -- Why `run` is refused. A text that a refusal tells is its bytes.
 use Rattle.std.specs.Prelude.{◌≡◌, ⊤, ℕ, Bool, true, false, Option, Some, List, ◌++◌, codes, Result, Ok, Err}
 use Rattle.std.specs.Result.{IsOk}
+use Rattle.std.specs.Fmt.{decimal}
 use Rattle.rv_campaign.specs.declared.runs.CampaignFault.{CampaignFault}
 use Rattle.rv_campaign.specs.declared.runs.CampaignFault.TheVariants as campaign
 use Rattle.rv_campaign.specs.declared.runs.NumberFault.{NumberFault}
@@ -15,14 +16,14 @@ use Rattle.rv_engines.specs.declared.run.fault.CommandFault.TheVariants as run
 
 -- a fault that any command may tell; an element of the list of addresses that is none; a name that no symbol has;
 -- why the numbers of a campaign are refused; that a worker's thread could not be started; and that there is no race of
--- the number that was asked for
+-- the number that was asked for, among as many as there are
 pub data Refusal : Type 0 where
   Plain : Fault → Refusal
   Skip : (element : List ℕ) → Refusal
   Name : (name : List ℕ) → Refusal
   Campaign : NumberFault → Refusal
   NoThread : Refusal
-  NoRace : Refusal
+  NoRace : (races : ℕ) → Refusal
 
 abbrev pub refusal : CommandFault → Refusal
 refusal (run.Plain fault) = Plain fault
@@ -30,7 +31,7 @@ refusal (run.Skip element) = Skip element.now
 refusal (run.Name name) = Name name.now
 refusal (run.Campaign fault) = Campaign fault
 refusal run.NoThread = NoThread
-refusal run.NoRace = NoRace
+refusal (run.NoRace races) = NoRace races
 
 -- a gate that always lets in gives no value to refuse with
 abbrev pub refusal_of_campaign : CampaignFault Infallible → Refusal
@@ -65,7 +66,7 @@ IsTold told (Skip element) = told ≡ Err (Skip element)
 IsTold told (Name name) = told ≡ Err (Name name)
 IsTold told (Campaign fault) = told ≡ Err (Campaign fault)
 IsTold told NoThread = IsOk told
-IsTold told NoRace = told ≡ Err NoRace
+IsTold told (NoRace races) = told ≡ Err (NoRace races)
 
 -- the refusal is that the reader failed
 abbrev pub is_read : Refusal → Bool
@@ -74,7 +75,7 @@ is_read (Skip element) = false
 is_read (Name name) = false
 is_read (Campaign fault) = false
 is_read NoThread = false
-is_read NoRace = false
+is_read (NoRace races) = false
 
 -- the refusal is that a writer failed
 abbrev pub is_write : Refusal → Bool
@@ -83,7 +84,7 @@ is_write (Skip element) = false
 is_write (Name name) = false
 is_write (Campaign fault) = false
 is_write NoThread = false
-is_write NoRace = false
+is_write (NoRace races) = false
 
 -- the refusal is that a thread could not be started
 abbrev pub is_thread : Refusal → Bool
@@ -92,7 +93,7 @@ is_thread (Skip element) = false
 is_thread (Name name) = false
 is_thread (Campaign fault) = false
 is_thread NoThread = true
-is_thread NoRace = false
+is_thread (NoRace races) = false
 
 -- something was refused, and the refusal passes the test
 abbrev pub fails_by : {A : Type 0} → (Refusal → Bool) → Result A CommandFault → Bool
@@ -113,7 +114,7 @@ refusal_output (run.Skip element) = Some (codes "skip " ++ element.now)
 refusal_output (run.Name name) = Some (codes "name " ++ name.now)
 refusal_output (run.Campaign fault) = Some (codes "campaign " ++ number_fault_name fault)
 refusal_output run.NoThread = Some (codes "campaign NoThread")
-refusal_output run.NoRace = Some (codes "explain NoRace")
+refusal_output (run.NoRace races) = Some (codes "explain NoRace of " ++ decimal races)
 
 -- the exit status
 abbrev pub status : CommandFault → ℕ
@@ -122,4 +123,4 @@ status (run.Skip element) = 1
 status (run.Name name) = 1
 status (run.Campaign fault) = 1
 status run.NoThread = 1
-status run.NoRace = 1
+status (run.NoRace races) = 1

@@ -17,18 +17,18 @@ use Rattle.rv_engines.specs.Replay.{IsReplayRefusal, run_of}
 abbrev pub run_in : Stored → Run
 run_in run = placed_run (placed run.image run.plan run.entries 0)
 
--- what there is not is refused: no race has the number
-abbrev pub unless_none : {A : Type 0} → Option A → Result A Refusal
-unless_none None = Err NoRace
-unless_none (Some thing) = Ok thing
+-- what there is not is refused: none of so many races has the number
+abbrev pub unless_none : {A : Type 0} → ℕ → Option A → Result A Refusal
+unless_none races None = Err (NoRace races)
+unless_none races (Some thing) = Ok thing
 
 -- a picture is of the first block, so where one is wanted there must be a block
 abbrev pub if_drawn : Bool → List RaceShown → Result (List RaceShown) Refusal
-if_drawn draws blocks = if draws && length blocks == 0 then Err NoRace else Ok blocks
+if_drawn draws blocks = if draws && length blocks == 0 then Err (NoRace 0) else Ok blocks
 
 -- the blocks that are shown of the races that are found in a run, or that there is no such race
 abbrev pub shown_in_run : Bool → Asking → Run → Found → Result (List RaceShown) Refusal
-shown_in_run draws wanted run found = unless_none (blocks_asked run wanted.around found.races wanted.race) >>= if_drawn draws
+shown_in_run draws wanted run found = unless_none (length found.races) (blocks_asked run wanted.around found.races wanted.race) >>= if_drawn draws
 
 abbrev pub shown_in : Bool → Asking → Stored → Result (List RaceShown) Refusal
 shown_in draws wanted run = listed run.image (elements wanted.named) >>= λ ranges. shown_in_run draws wanted (run_in run) (found (run_in run) ranges)

@@ -1,4 +1,5 @@
 pub mod Asking
+pub mod Built
 pub mod Campaigns
 pub mod CommandFault
 pub mod Debug

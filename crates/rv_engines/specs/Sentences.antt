@@ -137,7 +137,7 @@ sentence (run.Skip element) = codes "an address is eight hexadecimal digits"
 sentence (run.Name name) = codes "the image has no symbol with this name"
 sentence (run.Campaign fault) = number_sentence fault
 sentence run.NoThread = codes "a thread could not be started: try fewer workers"
-sentence run.NoRace = codes "there is no race with this number"
+sentence (run.NoRace races) = codes "there is no race with this number"
 
 -- ---- which file is at fault
 
@@ -158,7 +158,7 @@ at_fault paths (run.Plain (Exhibit fault)) = optional_path paths
 at_fault paths (run.Plain Read) = failed_path paths
 at_fault paths (run.Plain Write) = failed_path paths
 at_fault paths (run.Name name) = Some paths.image.now
-at_fault paths run.NoRace = optional_path paths
+at_fault paths (run.NoRace races) = optional_path paths
 at_fault paths _ = None
 
 -- ---- the line

@@ -5,6 +5,7 @@
 #![tactic(auto)]
 
 pub mod asm;
+pub mod built;
 pub mod debug;
 pub mod exhibit;
 pub mod explain;
@@ -16,5 +17,6 @@ pub mod replay;
 pub mod run;
 pub mod sentences;
 pub mod shown;
+pub mod terms;
 pub mod threads;
 pub mod words;

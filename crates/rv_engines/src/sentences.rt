@@ -42,7 +42,7 @@ impl<'a> Paths<'a> {
                 self.image,
             ),
             CommandFault::Plain(Fault::Schedule(_) | Fault::Entry { .. } | Fault::Exhibit(_))
-            | CommandFault::NoRace => self.schedule,
+            | CommandFault::NoRace(_) => self.schedule,
             CommandFault::Plain(Fault::Read | Fault::Write) => self.failed,
             _ => None,
         }
@@ -63,7 +63,7 @@ impl fmt::Display for Told<'_> {
             CommandFault::Plain(_)
             | CommandFault::Campaign(_)
             | CommandFault::NoThread
-            | CommandFault::NoRace => write!(f, "{}", self.0),
+            | CommandFault::NoRace(_) => write!(f, "{}", self.0),
         }
     }
 }
@@ -103,7 +103,7 @@ pub fn sentence(fault: CommandFault<'_>) -> &'static str
         CommandFault::Name(_) => "the image has no symbol with this name",
         CommandFault::Campaign(fault) => number_sentence(fault),
         CommandFault::NoThread => "a thread could not be started: try fewer workers",
-        CommandFault::NoRace => "there is no race with this number",
+        CommandFault::NoRace(_) => "there is no race with this number",
     }
 }
 

@@ -3,3 +3,4 @@ pub mod OrderLemmas
 pub mod Ranges
 pub mod SecondLemmas
 pub mod StuckLemmas
+pub mod WriterLemmas

@@ -9,6 +9,7 @@ pub mod Order
 pub mod Pieces
 pub mod SecondLaws
 pub mod Stuck
+pub mod StuckReads
 pub mod Told
 pub mod internal
 pub use Rattle.rv_races.specs.Classes

@@ -1,14 +1,17 @@
 //! What is shown of the end of a schedule that is stuck, as `specs/Stuck.antt` has it: what each hart does, what its round
 //! reads, and who wrote that last.
-ghost use Rattle.std.specs.Prelude.{◌≡◌, ◌≤◌, IfOk, IfSome, length, map};
+ghost use Rattle.std.specs.Prelude.{◌≡◌, ◌≤◌, List, [], IfOk, IfSome, length, map, slice_get};
+ghost use Rattle.std.specs.Option.{unwrap_or};
 ghost use Rattle.rv_collide.specs.Entries.{steps};
 ghost use Rattle.rv_explain.specs.Stuck as spec;
+ghost use Rattle.rv_explain.specs.declared.stuck.ReadBytes.{ReadBytes};
 ghost use Rattle.rv_hart.specs.State.{start as first_state};
+ghost use Rattle.rv_stuck.specs.declared.stuck.Doing.{Doing};
 
-use crate::caller::caller_in;
 use crate::told::stepped;
 use after::machine_after;
-use reads::{find_writers, reads_of};
+use called::caller_of;
+use reads::{RoundReads, find_writers, reads_of};
 use rv_collide::collider::machine_of;
 use rv_collide::entry::Entry;
 use rv_hart::machine::{MOST_HARTS, Machine, OUTPUT_LIMIT};
@@ -19,6 +22,7 @@ use rv_symbols::symbol_table::SymbolTable;
 use std::alloc::Global;
 
 pub(crate) mod after;
+mod called;
 mod reads;
 mod text;
 
@@ -95,7 +99,7 @@ pub fn stuck_block(
     requires some { 1 ≤ harts }
     requires within { harts ≤ MOST_HARTS }
     ensures stuck { IfOk result (λ block. IfSome block (λ it.
-        spec.IsShownEnd (first_state symbols.now.segments symbols.now.entry harts) entries.now it)) }
+        spec.IsShownEnd symbols.now (first_state symbols.now.segments symbols.now.entry harts) entries.now it)) }
     ensures steps { IfOk result (λ block. IfSome block (λ it. it.steps ≡ spec.step_count entries.now)) }
 {
     let image = symbols.image();
@@ -105,22 +109,28 @@ pub fn stuck_block(
     let Some(end) = stuck_end(alloc, &mut machine)? else {
         return Ok(None);
     };
-    Ok(Some(block_of(alloc, symbols, &mut machine, &end, entries)?))
+    Ok(Some(block_of(alloc, symbols, harts, &mut machine, &end, entries)?))
 }
 
 /// What is shown of a stuck end, by a machine that stands there after a schedule.
 fn block_of(
     alloc: Global,
     symbols: &SymbolTable,
+    harts: u8,
     machine: &mut Machine<Paged>,
     end: &StuckEnd,
     entries: &[Entry],
 ) -> Result<StuckBlock, NoMemory>
-    ensures harts { IfOk result (λ block. map spec.shown_as block.harts.items ≡ map spec.does end.now.harts.items) }
+    requires some { 1 ≤ harts }
+    requires within { harts ≤ MOST_HARTS }
+    requires count { length end.now.harts.items ≡ length machine.old.state.harts }
+    ensures called { IfOk result (λ block. spec.AreCalled symbols.now machine.old.state block.harts.items) }
+    ensures harts { IfOk result (λ block. map spec.shown_as block.harts.items
+        ≡ map (spec.does_after (first_state symbols.now.segments symbols.now.entry harts) entries.now machine.old.state.memory) end.now.harts.items) }
     ensures steps { IfOk result (λ block. block.steps ≡ spec.step_count entries.now) }
 {
     let mut reads = reads_of(alloc, machine, &acts_of(alloc, end)?)?;
-    let mut again = machine_of(alloc, symbols.image(), machine.harts(), OUTPUT_LIMIT)?;
+    let mut again = machine_of(alloc, symbols.image(), harts, OUTPUT_LIMIT)?;
     find_writers(&mut again, entries, &mut reads)?;
     Ok(StuckBlock {
         harts: harts_of(alloc, symbols, machine, end, &reads)?,
@@ -149,13 +159,17 @@ fn harts_of(
     symbols: &SymbolTable,
     machine: &mut Machine<Paged>,
     end: &StuckEnd,
-    reads: &[Vec<ReadBytes>],
+    reads: &[RoundReads],
 ) -> Result<Vec<StuckHart>, NoMemory>
-    ensures { IfOk result (λ harts. map spec.shown_as harts.items ≡ map spec.does end.now.harts.items) }
+    requires { length end.now.harts.items ≡ length machine.old.state.harts }
+    ensures called { IfOk result (λ harts. spec.AreCalled symbols.now machine.old.state harts.items) }
+    ensures shown { IfOk result (λ harts. (of : Doing → List ReadBytes) → reads.now ≡ map of end.now.harts.items
+        → map spec.shown_as harts.items ≡ map (λ doing. spec.does doing (of doing)) end.now.harts.items) }
 {
     let mut harts = Vec::new(alloc);
-    for h in 0..end.harts.len() {
-        harts.push(hart_of(alloc, symbols, machine, h, &end.harts[h], reads)?)?;
+    for h in 0..machine.harts() {
+        let doing = &end.harts[usize::from(h)];
+        harts.push(hart_of(alloc, symbols, machine, h, doing, reads)?)?;
     }
     Ok(harts)
 }
@@ -165,58 +179,31 @@ fn hart_of(
     alloc: Global,
     symbols: &SymbolTable,
     machine: &mut Machine<Paged>,
-    h: usize,
+    h: u8,
     doing: &Doing,
-    reads: &[Vec<ReadBytes>],
+    reads: &[RoundReads],
 ) -> Result<StuckHart, NoMemory>
-    ensures { IfOk result (λ hart. spec.shown_as hart ≡ spec.does doing.now) }
+    ensures same { machine.new ≡ machine.old }
+    ensures called { IfOk result (spec.IsCalled symbols.now machine.old.state h) }
+    ensures shown { IfOk result (λ hart. spec.shown_as hart ≡ spec.does doing.now (unwrap_or (slice_get reads.now h) [])) }
 {
     match doing {
         Doing::Exited => Ok(StuckHart::Exited),
         Doing::Stopped => Ok(StuckHart::Stopped),
         Doing::Waits(steps) => Ok(StuckHart::Waits(Waiting {
             steps: Vec::from_slice(alloc, steps)?,
-            reads: copy_at(alloc, reads, h)?,
-            // There are at most 16 harts.
-            caller: caller_of(symbols, machine, u8::try_from(h).unwrap_or(u8::MAX), steps)?,
+            reads: copy_at(alloc, reads, usize::from(h))?,
+            caller: caller_of(symbols, machine, h, steps)?,
         })),
     }
 }
 
 /// What a hart reads.
-fn copy_at(alloc: Global, reads: &[Vec<ReadBytes>], h: usize) -> Result<Vec<ReadBytes>, NoMemory> {
+fn copy_at(alloc: Global, reads: &[RoundReads], h: usize) -> Result<Vec<ReadBytes>, NoMemory>
+    ensures { IfOk result (λ copy. copy.items ≡ unwrap_or (slice_get reads.now h) []) }
+{
     match reads.get(h) {
-        Some(reads) => Ok(Vec::from_slice(alloc, reads)?),
+        Some(reads) => Ok(Vec::from_slice(alloc, reads.bytes())?),
         None => Ok(Vec::new(alloc)),
     }
-}
-
-/// Where the function at the least address of a hart's round returns to. The hart goes on in its round to there, since its
-/// registers may be another function's before.
-fn caller_of(
-    symbols: &SymbolTable,
-    machine: &mut Machine<Paged>,
-    hart: u8,
-    steps: &[RoundStep],
-) -> Result<Option<u32>, NoMemory> {
-    for _made in 0..least_place(steps) {
-        // The round's steps were made once: nothing but memory refuses one.
-        if machine.step(hart).is_err() {
-            return Err(NoMemory);
-        }
-    }
-    Ok(caller_in(symbols, machine, hart, least_pc(steps)))
-}
-
-/// The least address of an instruction of a round.
-fn least_pc(steps: &[RoundStep]) -> u32 {
-    steps
-        .iter()
-        .fold(u32::MAX, |least, step| least.min(step.pc))
-}
-
-/// The place of the first step that is at the least address.
-fn least_place(steps: &[RoundStep]) -> usize {
-    let least = least_pc(steps);
-    steps.iter().position(|step| step.pc == least).unwrap_or(0)
 }

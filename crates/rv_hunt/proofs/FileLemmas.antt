@@ -2,7 +2,9 @@
 use Rattle.std.proofs.Common.{◌≡◌, ℕ, List, Option, Some, None, Result, Ok, sym, subst, true, false}
 use Rattle.std.specs.Prelude.{IfSome, IsOkAnd, option_and_then, option_map}
 use Rattle.std.specs.Result.{IsOk}
+use Rattle.rv_engines.specs.Built.{built_of}
 use Rattle.rv_hunt.specs.Hunt.{Hunt}
+use Rattle.rv_hunt.specs.RightEnds.{right_codes}
 use Rattle.rv_hunt.specs.engine.Asked.{Asked}
 use Rattle.rv_hunt.specs.engine.HuntFault.{IsTold}
 use Rattle.rv_hunt.specs.engine.Hunting.{Files, Hunting, IsHuntingOf, expected_in, hunt_of, ignored_in}
@@ -20,11 +22,12 @@ files_in image ignored expected =
     option_and_then (λ i. option_and_then (λ g. option_map (λ e. record { image = i; ignored = g; expected = e }) expected) ignored) image
 
 pub hunting_known : (image : Option (List ℕ)) (ignored expected : Option (Option (List ℕ))) (asked : Asked) (hunting : Hunting) → IfSome image (λ bytes. hunt_of asked bytes ≡ Ok hunting.hunt)
-    → IfSome ignored (λ bytes. ignored_in hunting.hunt.source.image bytes ≡ Ok hunting.ignored) → IfSome expected (λ bytes. expected_in bytes ≡ Ok hunting.expected) → aimed_in hunting.hunt.source.image asked.aim ≡ Ok hunting.aim → IfSome (files_in image ignored expected) (λ files. IsHuntingOf asked files hunting)
-hunting_known None ignored expected asked hunting h g e a = tt
-hunting_known (Some i) None expected asked hunting h g e a = tt
-hunting_known (Some i) (Some l) None asked hunting h g e a = tt
-hunting_known (Some i) (Some l) (Some t) asked hunting h g e a = record { hunt_is = h; ignored_is = g; expected_is = e; aim_is = a }
+    → IfSome ignored (λ bytes. ignored_in hunting.hunt.source.image bytes ≡ Ok hunting.ignored) → IfSome expected (λ bytes. expected_in bytes ≡ Ok hunting.expected) → aimed_in hunting.hunt.source.image asked.aim ≡ Ok hunting.aim
+    → hunting.right ≡ right_codes asked.right → IfSome image (λ bytes. hunting.built ≡ built_of bytes) → IfSome (files_in image ignored expected) (λ files. IsHuntingOf asked files hunting)
+hunting_known None ignored expected asked hunting h g e a r b = tt
+hunting_known (Some i) None expected asked hunting h g e a r b = tt
+hunting_known (Some i) (Some l) None asked hunting h g e a r b = tt
+hunting_known (Some i) (Some l) (Some t) asked hunting h g e a r b = record { hunt_is = h; ignored_is = g; expected_is = e; aim_is = a; right_is = r; built_is = b }
 
 never : {P : Type 0} → true ≡ false → P
 never h = cc

@@ -1,20 +1,25 @@
 -- The runs of a hunt, one more.
-use Rattle.std.proofs.Common.{◌≡◌, ℕ, zero, suc, ◌+◌, ◌<◌, ◌≤◌, ◌^◌, ◌⊎◌, inl, inr, true, List, [], ◌∷◌, ◌++◌, length, length-append, map, take, None, Some, refl, sym, ap, subst, ◌∙◌, arith, append-nil, append_assoc}
-use Rattle.std.specs.Prelude.{slice_get, nat_lt, nat_le, not, ◌&&◌}
+use Rattle.std.proofs.Common.{◌≡◌, ℕ, zero, suc, ◌+◌, ◌<◌, ◌≤◌, ◌^◌, ◌⊎◌, inl, inr, Bool, true, false, List, [], ◌∷◌, ◌++◌, length, length-append, map, take, None, Some, refl, sym, ap, subst, ◌∙◌, arith, append-nil, append_assoc}
+use Rattle.std.specs.Prelude.{slice_get, nat_lt, nat_le, not, ◌&&◌, ◌||◌}
 use Rattle.std.specs.List.{fold}
 use Rattle.std.proofs.lemmas.Bool.{and_parts, cases_eq}
 use Rattle.std.proofs.lemmas.Bool.Decides.{nat_tests}
 use Rattle.std.proofs.lemmas.List.{map-append, take-append-le, take_all, length-map}
 use Rattle.std.proofs.lemmas.List.Concat.{flat_map-append}
+use Rattle.std.proofs.Math.Bool.{or-false}
+use Rattle.std.proofs.lemmas.List.Folds.{list_any-append}
 use Rattle.std.proofs.lemmas.List.Sums.{fold-append}
 use Rattle.rv_hunt.specs.Hunt.{AreNumbers, Hunt, IsHunt}
-use Rattle.rv_hunt.specs.Hunted.{AreRuns, IsSoFar, is_due, near_in, rows_from, rows_of, seen_in, summed}
+use Rattle.rv_hunt.specs.RightEnds.{EndsSeen, ends_wrong, has_wrong_end}
+use Rattle.rv_hunt.specs.Hunted.{AreRuns, IsNoted, IsNotedSoFar, IsSoFar, is_due, near_in, rows_from, rows_of, seen_in, summed, tried_from, tried_of}
 use Rattle.rv_hunt.specs.KeptRun.{IsOfRun}
 use Rattle.rv_hunt.specs.Near as near
+use Rattle.rv_hunt.specs.Orders as orders
 use Rattle.rv_hunt.specs.Rows as rows
 use Rattle.rv_hunt.specs.declared.hunted.Hunted.{Hunted}
 use Rattle.rv_hunt.specs.declared.kept_run.KeptRun.{KeptRun}
 use Rattle.rv_hunt.specs.declared.near.NearRow.{NearRow}
+use Rattle.rv_hunt.specs.declared.orders.OrderRow.{OrderRow}
 use Rattle.rv_hunt.specs.declared.row.RaceRow.{RaceRow}
 use Rattle.rv_hunt.specs.internal.Lots.{with_run}
 use Rattle.rv_report.specs.declared.key.Key.{Key}
@@ -80,15 +85,32 @@ near_next runs kept =
     ∙ fold-append near.added [] (near_in runs) (kept.near.items ++ [])
     ∙ ap (fold near.added (fold near.added [] (near_in runs))) (append-nil kept.near.items)
 
-abbrev pub hunted_of : Tally → List (Key × RaceRow) → List (Addresses × NearRow) → Hunted
-hunted_of tally rs pairs = record { tally = tally; table = rs; near = pairs }
+tried_next : (first : ℕ) (runs : List KeptRun) (kept : KeptRun) → tried_from first (runs ++ kept ∷ []) ≡ tried_from first runs ++ tried_of (first + length runs) kept
+unfolding tried_from
+tried_next first [] kept = append-nil (tried_of first kept) ∙ ap (λ (n : ℕ). tried_of n kept) (omega arith)
+tried_next first (one ∷ runs) kept =
+    ap (λ (rs : List (Key × OrderRow)). tried_of first one ++ rs) (tried_next (first + 1) runs kept)
+    ∙ ap (λ (n : ℕ). tried_of first one ++ (tried_from (first + 1) runs ++ tried_of n kept)) place
+    ∙ sym (append_assoc (tried_of first one) (tried_from (first + 1) runs) (tried_of (first + suc (length runs)) kept))
+  where
+    place : first + 1 + length runs ≡ first + suc (length runs)
+    place = omega arith
 
-pub same_hunted : {t t' : Tally} {rs rs' : List (Key × RaceRow)} {ps ps' : List (Addresses × NearRow)} → t ≡ t' → rs ≡ rs' → ps ≡ ps' → hunted_of t rs ps ≡ hunted_of t' rs' ps'
-same_hunted tallies tables pairs = cc
+orders_next : (first : ℕ) (runs : List KeptRun) (kept : KeptRun) → orders.orders_of (tried_from first (runs ++ kept ∷ [])) ≡ fold orders.added (orders.orders_of (tried_from first runs)) (tried_of (first + length runs) kept)
+unfolding orders.orders_of
+orders_next first runs kept =
+    ap (fold orders.added []) (tried_next first runs kept)
+    ∙ fold-append orders.added [] (tried_from first runs) (tried_of (first + length runs) kept)
+
+abbrev pub hunted_of : Tally → List (Key × RaceRow) → List (Addresses × NearRow) → List (Key × OrderRow) → Hunted
+hunted_of tally rs pairs tried = record { tally = tally; table = rs; near = pairs; orders = tried }
+
+pub same_hunted : {t t' : Tally} {rs rs' : List (Key × RaceRow)} {ps ps' : List (Addresses × NearRow)} {os os' : List (Key × OrderRow)} → t ≡ t' → rs ≡ rs' → ps ≡ ps' → os ≡ os' → hunted_of t rs ps os ≡ hunted_of t' rs' ps' os'
+same_hunted tallies tables pairs tried = cc
 
 pub seen_next : (first : ℕ) (runs : List KeptRun) (kept : KeptRun) → seen_in first (runs ++ kept ∷ []) ≡ with_run (seen_in first runs) (first + length runs) kept
 unfolding seen_in with_run
-seen_next first runs kept = same_hunted (summed_next runs kept) (table_next first runs kept) (near_next runs kept)
+seen_next first runs kept = same_hunted (summed_next runs kept) (table_next first runs kept) (near_next runs kept) (orders_next first runs kept)
 
 -- ---- which runs are made
 
@@ -156,6 +178,28 @@ one_more hunt hunted after run kept legal so_far goes is here with =
           ∙ sym (seen_next hunt.first so_far.runs kept);
     }
 
+-- ---- how harts ended
+
+any_next : (right : List ℕ) (runs : List KeptRun) (kept : KeptRun) → has_wrong_end right (runs ++ kept ∷ []) ≡ (has_wrong_end right runs || ends_wrong right kept)
+unfolding has_wrong_end
+any_next right runs kept = list_any-append (ends_wrong right) runs (kept ∷ []) ∙ ap (λ (b : Bool). has_wrong_end right runs || b) (or-false (ends_wrong right kept))
+
+pub one_more_noted : (hunt : Hunt) (hunted after : Hunted) (ends next : EndsSeen) (run : ℕ) (kept : KeptRun) → IsHunt hunt → IsNotedSoFar hunt hunted ends → is_due hunt hunted.tally ≡ true → run ≡ hunt.first + hunted.tally.runs → IsOfRun hunt run kept → after ≡ with_run hunted run kept
+    → next ≡ record ends { is_wrong = ends.is_wrong || ends_wrong ends.right kept } → IsNotedSoFar hunt after next
+unfolding one_more
+one_more_noted hunt hunted after ends next run kept legal noted goes is here with adds = record {
+  so_far = one_more hunt hunted after run kept legal noted.so_far goes is here with;
+  wrong =
+      ap (λ (e : EndsSeen). e.is_wrong) adds
+      ∙ ap (λ (b : Bool). b || ends_wrong ends.right kept) noted.wrong
+      ∙ sym (any_next ends.right noted.so_far.runs kept)
+      ∙ ap (λ (e : EndsSeen). has_wrong_end e.right (noted.so_far.runs ++ kept ∷ [])) (sym adds);
+}
+
+-- no more is to be made
+pub all_noted : (hunt : Hunt) (hunted : Hunted) (ends : EndsSeen) → IsNotedSoFar hunt hunted ends → is_due hunt hunted.tally ≡ false → IsNoted hunt hunted ends
+all_noted hunt hunted ends noted over = record { hunted_is = record { so_far = noted.so_far; is_over = over }; wrong = noted.wrong }
+
 pub one_more_counted : (hunt : Hunt) (hunted after : Hunted) (run : ℕ) (kept : KeptRun) → IsHunt hunt → is_due hunt hunted.tally ≡ true → after ≡ with_run hunted run kept → after.tally.runs ≡ hunted.tally.runs + 1
 unfolding with_run
 one_more_counted hunt hunted after run kept legal goes with =
@@ -170,8 +214,8 @@ there_is [] n within = absurd (omega (arith, within))
 there_is (x ∷ xs) zero within = (x, refl)
 there_is (x ∷ xs) (suc n) within = there_is xs n (omega (arith, within))
 
-pub none_yet : (hunt : Hunt) (hunted : Hunted) → hunted ≡ record { tally = summed []; table = []; near = near.near_of [] } → IsSoFar hunt hunted
-unfolding seen_in rows_from rows.table_of near.near_of
+none_yet : (hunt : Hunt) (hunted : Hunted) → hunted ≡ record { tally = summed []; table = []; near = near.near_of []; orders = orders.orders_of [] } → IsSoFar hunt hunted
+unfolding seen_in rows_from tried_from rows.table_of near.near_of orders.orders_of
 none_yet hunt hunted is = record {
   runs = [];
   are_runs = record {
@@ -180,3 +224,7 @@ none_yet hunt hunted is = record {
   };
   seen = is;
 }
+
+pub none_noted : (hunt : Hunt) (hunted : Hunted) (ends : EndsSeen) → hunted ≡ record { tally = summed []; table = []; near = near.near_of []; orders = orders.orders_of [] } → ends.is_wrong ≡ false → IsNotedSoFar hunt hunted ends
+unfolding has_wrong_end none_yet
+none_noted hunt hunted ends is none = record { so_far = none_yet hunt hunted is; wrong = none }

@@ -12,11 +12,14 @@ pub mod MergedFileLemmas
 pub mod NumberLemmas
 pub mod OpenLemmas
 pub mod OrderLemmas
+pub mod OrderRowLemmas
+pub mod OrderShowingLemmas
 pub mod PartedLemmas
 pub mod ReadLemmas
 pub mod RemadeLemmas
 pub mod ReportLemmas
 pub mod ResultLemmas
+pub mod RightLemmas
 pub mod Rows
 pub mod ShowingLemmas
 pub mod ShownLemmas
@@ -25,3 +28,4 @@ pub mod SummaryLemmas
 pub mod WordLemmas
 pub mod WalkLemmas
 pub mod Written
+pub mod ReadBack

@@ -1,21 +1,27 @@
 -- What is made of a hunt.
-use Rattle.std.proofs.Common.{◌≡◌, ℕ, List, length, ap, subst, ◌∙◌, take, true, false}
+use Rattle.std.proofs.Common.{◌≡◌, ℕ, Bool, List, length, ap, subst, ◌∙◌, take, true, false}
+use Rattle.std.specs.Map.{keys_of}
 use Rattle.rv_campaign.specs.declared.pool.PoolFault.{PoolFault}
 use Rattle.rv_campaign.specs.declared.pool.PoolFault.TheVariants as pool
 use Rattle.rv_hunt.specs.declared.engine.fault.MakeFault.{MakeFault}
 use Rattle.rv_hunt.specs.internal.MakeFault.{is_write, of_pool}
-use Rattle.rv_hunt.specs.Hunted.{IsHunted}
+use Rattle.rv_hunt.specs.Hunted.{IsNoted}
+use Rattle.rv_hunt.specs.RightEnds.{EndsSeen, has_wrong_end}
+use Rattle.rv_hunt.specs.Warnings.{is_void}
 use Rattle.rv_hunt.specs.Outcome.{Outcome}
 use Rattle.rv_hunt.specs.PageFacts.{page_facts}
 use Rattle.rv_hunt.specs.ToldOrder.{AreInOrder}
 use Rattle.rv_hunt.specs.declared.engine.found.Found.{Found}
+use Rattle.rv_hunt.specs.declared.engine.orders.ShownOrder.{ShownOrder}
 use Rattle.rv_hunt.specs.declared.engine.shown.ShownRace.{ShownRace}
 use Rattle.rv_hunt.specs.declared.hunted.Hunted.{Hunted}
 use Rattle.rv_hunt.specs.declared.row.RaceRow.{RaceRow}
 use Rattle.rv_hunt.specs.engine.Hunting.{Hunting, IsMade, IsTable, Showing, Texts, found_in, ignored_by, outcome, told_in}
+use Rattle.rv_hunt.specs.engine.OrderShown.{AreOrdersShown}
 use Rattle.rv_hunt.specs.engine.Shown.{AreShown}
 use Rattle.rv_hunt.specs.engine.StuckShown.{AreStuckShown}
 use Rattle.rv_hunt.specs.declared.engine.stuck_ends.ShownStuck.{ShownStuck}
+use Rattle.rv_engines.specs.declared.built.Built.{Built}
 use Rattle.rv_markup.specs.declared.markup.Fact.{Fact}
 use Rattle.rv_report.specs.declared.key.Key.{Key}
 use Rattle.rv_tally.specs.declared.plans.Mix.{Mix}
@@ -23,26 +29,32 @@ use Rattle.rv_tally.specs.declared.plans.Mix.{Mix}
 abbrev Row : Type 0
 Row = Key × RaceRow
 
-pub outcome_is : (hunting : Hunting) (saw : Hunted) (n : ℕ) (mix : Mix) (rows ignored : List Row) → n ≡ length hunting.hunt.source.sites → mix ≡ hunting.hunt.given.mix → rows ≡ told_in hunting saw → ignored ≡ ignored_by hunting saw
-    → record { sites = n; mix = mix; saw = saw; rows = rows; ignored = ignored } ≡ outcome hunting saw
-outcome_is hunting saw n mix rows ignored a b c d = rw (a, b, c, d)
+pub outcome_is : (hunting : Hunting) (saw : Hunted) (n : ℕ) (mix : Mix) (rows ignored : List Row) (built : Built) → n ≡ length hunting.hunt.source.sites → mix ≡ hunting.hunt.given.mix → rows ≡ told_in hunting saw → ignored ≡ ignored_by hunting saw → built ≡ hunting.built
+    → record { sites = n; mix = mix; saw = saw; rows = rows; ignored = ignored; built = built } ≡ outcome hunting saw
+outcome_is hunting saw n mix rows ignored built a b c d e = rw (a, b, c, d, e)
 
-pub made_is : (way : Showing) (hunting : Hunting) (saw : Hunted) (Saves : ℕ → List ℕ → Type 0) (Pages : List Fact → Type 0) (rows told full : List Row) (o : Outcome) (shown : List ShownRace) (stuck : List ShownStuck) (found : Found) (texts : Texts) → IsHunted hunting.hunt saw
-    → rows ≡ told_in hunting saw → AreInOrder hunting.hunt.source.image rows told → full ≡ take way.full told → o ≡ outcome hunting saw → AreShown hunting.hunt Saves full shown
-    → IsTable way.shows o.rows texts.text → Pages (page_facts o told (length shown)) → AreStuckShown hunting.hunt stuck → found ≡ found_in hunting.expected rows (length stuck) found.has_wrong_end
+pub made_is : (way : Showing) (hunting : Hunting) (saw : Hunted) (Saves : ℕ → List ℕ → Type 0) (Pages : List Fact → Type 0) (rows told full : List Row) (o : Outcome) (shown : List ShownRace) (orders : List ShownOrder) (stuck : List ShownStuck) (ends : EndsSeen) (wrong : Bool) (found : Found) (texts : Texts) → IsNoted hunting.hunt saw ends → ends.right ≡ hunting.right → wrong ≡ ends.is_wrong
+    → rows ≡ told_in hunting saw → AreInOrder hunting.hunt.source.image saw.orders rows told → full ≡ take way.full told → o ≡ outcome hunting saw → AreShown hunting.hunt Saves full shown → AreOrdersShown hunting.hunt saw.orders (keys_of full) orders
+    → IsTable way.shows o.rows texts.text → Pages (page_facts o told (length shown)) → AreStuckShown hunting.hunt stuck → found ≡ found_in hunting.expected rows (length stuck) wrong (is_void o)
     → IsMade way hunting Saves Pages found texts
-made_is way hunting saw Saves Pages rows told full o shown stuck found texts hunted are order first came are_shown table paged are_stuck found_is = record {
+made_is way hunting saw Saves Pages rows told full o shown orders stuck ends wrong found texts noted right is_wrong are order first came are_shown ordered table paged are_stuck found_is = record {
   saw = saw;
-  hunted = hunted;
+  hunted = noted.hunted_is;
   told = told;
-  order = subst (λ (rs : List Row). AreInOrder hunting.hunt.source.image rs told) are order;
+  order = subst (λ (rs : List Row). AreInOrder hunting.hunt.source.image saw.orders rs told) are order;
   shown = shown;
   are_shown = subst (λ (rs : List Row). AreShown hunting.hunt Saves rs shown) first are_shown;
+  orders = orders;
+  are_ordered = subst (λ (rs : List Row). AreOrdersShown hunting.hunt saw.orders (keys_of rs) orders) first ordered;
   is_table = subst (λ (x : Outcome). IsTable way.shows x.rows texts.text) came table;
   paged = subst (λ (x : Outcome). Pages (page_facts x told (length shown))) came paged;
   stuck = stuck;
   are_stuck = are_stuck;
-  found_is = found_is ∙ ap (λ (rs : List Row). found_in hunting.expected rs (length stuck) found.has_wrong_end) are;
+  found_is =
+      found_is ∙ ap (λ (rs : List Row). found_in hunting.expected rs (length stuck) wrong (is_void o)) are
+      ∙ ap (λ (x : Outcome). found_in hunting.expected (told_in hunting saw) (length stuck) wrong (is_void x)) came
+      ∙ ap (λ (w : Bool). found_in hunting.expected (told_in hunting saw) (length stuck) w (is_void (outcome hunting saw)))
+      (is_wrong ∙ noted.wrong ∙ ap (λ (codes : List ℕ). has_wrong_end codes noted.hunted_is.so_far.runs) right);
 }
 
 never : {P : Type 0} → false ≡ true → P

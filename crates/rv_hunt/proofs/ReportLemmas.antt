@@ -1,6 +1,7 @@
 -- A report among the endings of a run is the ending of its number.
 use Rattle.std.proofs.Common.{◌≡◌, ℕ, Bool, true, false, List, [], ◌∷◌, Option, Some, None, refl, subst, ◌∙◌}
-use Rattle.std.specs.Prelude.{filter_map, find, length, slice_get}
+use Rattle.std.specs.Prelude.{All, Contains, filter_map, find, length, slice_get}
+use Rattle.std.proofs.lemmas.List.Elements.{All-cons, All-get_or, All-nil}
 use Rattle.std.specs.List.{range_with_len}
 use Rattle.rv_collide.specs.declared.ending.Ending.{Ending}
 use Rattle.rv_elf.specs.Contents.{Contents}
@@ -42,3 +43,17 @@ found_among p image ranges ended (n ∷ ns) r found =
 pub found_is_ending : (p : Report → Bool) (image : Contents) (ranges : List (ℕ × ℕ)) (ended : List Ending) (r : Report) → find p (reports_of image ranges ended (length ended)) ≡ Some r → slice_get ended r.number ≡ Some r.ending
 unfolding reports_of
 found_is_ending p image ranges ended r found = found_among p image ranges ended (range_with_len 0 (length ended)) r found
+
+kept_all : (image : Contents) (ranges : List (ℕ × ℕ)) (ended : List Ending) (n : ℕ) (ns : List ℕ) (o : Option Report) → report_at image ranges ended n ≡ o → All (IsEnding ended) (filter_map (report_at image ranges ended) ns)
+    → All (IsEnding ended) (filter_map (report_at image ranges ended) (n ∷ ns))
+kept_all image ranges ended n ns None is rest = rw is rest
+kept_all image ranges ended n ns (Some r) is rest = rw is (All-cons (IsEnding ended) r (filter_map (report_at image ranges ended) ns) (of_ending image ranges ended n (slice_get ended n) r refl is) rest)
+
+all_endings : (image : Contents) (ranges : List (ℕ × ℕ)) (ended : List Ending) (ns : List ℕ) → All (IsEnding ended) (filter_map (report_at image ranges ended) ns)
+all_endings image ranges ended [] = All-nil (IsEnding ended)
+all_endings image ranges ended (n ∷ ns) = kept_all image ranges ended n ns (report_at image ranges ended n) refl (all_endings image ranges ended ns)
+
+pub report_is_ending : (image : Contents) (ranges : List (ℕ × ℕ)) (ended : List Ending) (r : Report) → Contains (reports_of image ranges ended (length ended)) r → slice_get ended r.number ≡ Some r.ending
+unfolding reports_of
+report_is_ending image ranges ended r (k, below, same) =
+    subst (IsEnding ended) same (All-get_or (IsEnding ended) (reports_of image ranges ended (length ended)) k r below (all_endings image ranges ended (range_with_len 0 (length ended))))

@@ -23,6 +23,7 @@ use Rattle.rv_hunt.specs.Hunted.{AreRuns, IsHunted, is_due, rows_from, rows_of, 
 use Rattle.rv_hunt.specs.HuntedLaws.{OneResult, PiecesAreWhole, piece}
 use Rattle.rv_hunt.specs.KeptRun.{IsOfRun, reports_of_part, reports_of_parts, reports_of_sampled}
 use Rattle.rv_hunt.specs.Near as near
+use Rattle.rv_hunt.specs.Orders as orders
 use Rattle.rv_hunt.specs.Rows as rows
 use Rattle.rv_hunt.specs.declared.hunted.Hunted.{Hunted}
 use Rattle.rv_hunt.specs.declared.kept_run.KeptRun.{KeptRun}
@@ -37,7 +38,7 @@ use Rattle.rv_walk.specs.declared.probes.Part.{Part}
 use Rattle.rv_tally.specs.declared.plans.Mix.{Mix}
 use Rattle.rv_tally.specs.declared.plans.Mix.TheVariants.{Sampled}
 use Rattle.rv_hunt.specs.Summary.{IsSampledSummary, armed_in, counts_of, ends, paused_at}
-use Rattle.rv_hunt.specs.Tally.{Tally, added, all_ended, exits, longest_with, one_if, sum, traps, widest_after, with_addresses}
+use Rattle.rv_hunt.specs.Tally.{Tally, added, all_ended, exits, longest_with, one_if, pauses_in, run_end, sum, traps, widest_after, with_addresses}
 use Rattle.rv_hunt.specs.declared.tally.counts.Counts.{Counts}
 use Rattle.rv_tally.specs.declared.end.End.{End}
 use Rattle.rv_hunt.specs.declared.summary.Summary.{Summary}
@@ -45,8 +46,8 @@ use Rattle.rv_hunt.specs.declared.summary.Summary.{Summary}
 -- ---- what is kept of a sampled run, but for how its lists lie in memory
 
 -- a run added by what is told of it
-added_by : Tally → ℕ → List End → List ℕ → List ℕ → Counts → Counts → ℕ → Option Bool → Tally
-added_by t most ends armed paused counts sampled probes walk = record {
+added_by : Tally → ℕ → List End → List ℕ → List ℕ → Counts → Counts → ℕ → Option Bool → ℕ → Tally
+added_by t most ends armed paused counts sampled probes walk tried = record {
   runs = saturated (t.runs + 1);
   walks = saturated (t.walks + one_if (is_some walk));
   probes = saturated (t.probes + probes);
@@ -55,18 +56,18 @@ added_by t most ends armed paused counts sampled probes walk = record {
   paused = with_addresses t.paused paused;
   counts = sum t.counts counts;
   sampled = sum t.sampled sampled;
-  some_stopped = saturated (t.some_stopped + one_if (nat_le 1 (traps ends)));
   each_stopped = saturated (t.each_stopped + one_if (traps ends == length ends));
-  longest = longest_with t.longest most (exits ends);
+  longest = longest_with t.longest most (run_end (exits ends) (traps ends) (length ends) (saturated (pauses_in counts)));
   widest = widest_after t.widest (length ends) walk;
+  tried = saturated (t.tried + tried);
 }
 
-added_is : (t : Tally) (s : Summary) → added t s ≡ added_by t s.most_steps s.ends.items s.armed.items s.paused.items s.counts s.sampled s.probes s.walk
+added_is : (t : Tally) (s : Summary) → added t s ≡ added_by t s.most_steps s.ends.items s.armed.items s.paused.items s.counts s.sampled s.probes s.walk s.tried
 unfolding added added_by
 added_is t s = refl
 
-same_parts : (t : Tally) {m m' : ℕ} {e e' : List End} {a a' p p' : List ℕ} {c c' d d' : Counts} {n n' : ℕ} {w w' : Option Bool} → m ≡ m' → e ≡ e' → a ≡ a' → p ≡ p' → c ≡ c' → d ≡ d' → n ≡ n' → w ≡ w' → added_by t m e a p c d n w ≡ added_by t m' e' a' p' c' d' n' w'
-same_parts t most ends armed paused counts sampled probes walk = cc
+same_parts : (t : Tally) {m m' : ℕ} {e e' : List End} {a a' p p' : List ℕ} {c c' d d' : Counts} {n n' : ℕ} {w w' : Option Bool} {o o' : ℕ} → m ≡ m' → e ≡ e' → a ≡ a' → p ≡ p' → c ≡ c' → d ≡ d' → n ≡ n' → w ≡ w' → o ≡ o' → added_by t m e a p c d n w o ≡ added_by t m' e' a' p' c' d' n' w' o'
+same_parts t most ends armed paused counts sampled probes walk tried = cc
 
 -- two runs that leave the same
 record Alike (one other : Finished) : Type 0 where
@@ -96,7 +97,7 @@ same_added t start left right one other same a b =
     (a.ends_are ∙ ap (ends start) same.entries ∙ sym b.ends_are)
     (a.armed_are ∙ ap armed_in same.entries ∙ sym b.armed_are)
     (a.paused_are ∙ ap (map paused_at) same.endings ∙ sym b.paused_are)
-    counts (a.sampled_are ∙ counts ∙ sym b.sampled_are) (a.probes_are ∙ sym b.probes_are) (a.walk_is ∙ sym b.walk_is)
+    counts (a.sampled_are ∙ counts ∙ sym b.sampled_are) (a.probes_are ∙ sym b.probes_are) (a.walk_is ∙ sym b.walk_is) (a.tried_is ∙ sym b.tried_is)
     ∙ sym (added_is t other)
 
 same_run : OneRunAtMost → (hunt : Hunt) (hunted : Hunted) (run : ℕ) (one other : KeptRun) → hunt.given.mix ≡ Sampled → IsOfRun hunt run one → IsOfRun hunt run other → with_run hunted run one ≡ with_run hunted run other
@@ -109,6 +110,7 @@ same_run once hunt hunted run one other sampled a b =
     same_hunted (same_added hunted.tally _ x.left y.left one.summary other.summary same x.summary y.summary)
     (ap (λ reports. fold rows.added hunted.table (map (rows.row_of run) reports)) (x.reports_are ∙ ap (reports_of_sampled hunt) same.endings ∙ sym y.reports_are))
     (ap (fold near.added hunted.near) (x.near_are ∙ sym y.near_are))
+    (ap (λ tried. fold orders.added hunted.orders (map (orders.row_of run) tried)) (x.tried_are ∙ sym y.tried_are))
 
 -- ---- two lists of runs of a hunt
 
@@ -244,7 +246,7 @@ moved : (hunt : Hunt) (first : ℕ) (limit : Limit) (run : ℕ) (kept : KeptRun)
 moved hunt first limit run kept is = record {
   sampled = λ yes.
       let s = is.sampled yes in
-      record { left = s.left; is_run = s.is_run; summary = s.summary; reports_are = s.reports_are; near_are = s.near_are };
+      record { left = s.left; is_run = s.is_run; summary = s.summary; reports_are = s.reports_are; near_are = s.near_are; tried_are = s.tried_are };
   walked = λ no.
       let w = is.walked no in
       record {
@@ -257,6 +259,7 @@ moved hunt first limit run kept is = record {
         summary = w.summary;
         reports_are = w.reports_are ∙ sym (same_reports hunt first limit 1 w.parts);
         near_are = w.near_are;
+        tried_are = w.tried_are;
       };
 }
 

@@ -5,7 +5,7 @@ use Rattle.std.specs.Map.{lookup}
 use Rattle.indexmap.specs.IndexMap.{insert_entry}
 use Rattle.rv_hunt.specs.Keyed.{added_by}
 use Rattle.rv_hunt.specs.Rows.{has_race}
-use Rattle.rv_hunt.specs.internal.Lookup.{row_at, with_row}
+use Rattle.rv_hunt.specs.Keyed.{row_at, with_row}
 use Rattle.rv_hunt.specs.declared.row.RaceRow.{RaceRow}
 use Rattle.rv_report.specs.Races.{same_key}
 use Rattle.rv_report.specs.declared.key.Key.{Key}

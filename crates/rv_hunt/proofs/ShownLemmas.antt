@@ -11,6 +11,7 @@ use Rattle.rv_races.specs.declared.classes.RaceClass.{RaceClass}
 use Rattle.rv_races.specs.declared.classes.RaceClass.TheVariants.{Kept, Counter, Flag, Ordered, Named}
 use Rattle.rv_hunt.specs.ShownOnce.{EachIsShownOnce}
 use Rattle.rv_hunt.specs.ToldOrder.{AreAt, group_of, is_of, standing_of, standings, standings_from}
+use Rattle.rv_hunt.specs.declared.orders.OrderRow.{OrderRow}
 use Rattle.rv_hunt.specs.declared.row.RaceRow.{RaceRow}
 use Rattle.rv_hunt.specs.declared.saying.order.Group.{Group}
 use Rattle.rv_hunt.specs.declared.saying.order.Standing.{Standing}
@@ -51,13 +52,13 @@ sum_if true v weight s row stand rows here later =
     omega (arith, here, later, one, other)
 sum_if false v weight s row stand rows here later = later
 
-stood : (image : Contents) (weight : Row → ℕ) (all : List Row) (groups : List Group) (k : ℕ) (rows : List Row) → ((n : ℕ) (row : Row) → slice_get rows n ≡ Some row → slice_get all (k + n) ≡ Some row)
-    → sum_by (at weight all) (standings_from groups k (map (group_of image) rows)) ≡ sum_by weight (filter is_shown rows)
-stood image weight all groups k [] there = refl
-stood image weight all groups k (row ∷ rows) there =
+stood : (image : Contents) (orders : List (Key × OrderRow)) (weight : Row → ℕ) (all : List Row) (groups : List Group) (k : ℕ) (rows : List Row) → ((n : ℕ) (row : Row) → slice_get rows n ≡ Some row → slice_get all (k + n) ≡ Some row)
+    → sum_by (at weight all) (standings_from groups k (map (group_of image orders) rows)) ≡ sum_by weight (filter is_shown rows)
+stood image orders weight all groups k [] there = refl
+stood image orders weight all groups k (row ∷ rows) there =
     let here : slice_get all k ≡ Some row = ap (λ n. slice_get all n) (omega arith) ∙ there 0 row refl in
-    sum_if (is_shown row) (at weight all) weight (standing_of groups k (group_of image row)) row _ (filter is_shown rows) (ap (λ o. option_map_or weight o 0) here)
-    (stood image weight all groups (k + 1) rows (λ n other is. ap (λ m. slice_get all m) (omega arith) ∙ there (suc n) other is))
+    sum_if (is_shown row) (at weight all) weight (standing_of groups k (group_of image orders row)) row _ (filter is_shown rows) (ap (λ o. option_map_or weight o 0) here)
+    (stood image orders weight all groups (k + 1) rows (λ n other is. ap (λ m. slice_get all m) (omega arith) ∙ there (suc n) other is))
 
 by_class : (class : RaceClass) → (rank class == rank Named) ≡ not (nat_lt (rank class) (rank Named))
 by_class Kept = refl
@@ -71,12 +72,12 @@ twice true = refl
 twice false = refl
 
 pub each_is_shown_once : EachIsShownOnce
-each_is_shown_once image lines rows told weight order =
+each_is_shown_once image lines orders rows told weight order =
     let kept = filter (λ (row : Row). is_told image lines row.0) rows in
-    let groups = map (group_of image) kept in
+    let groups = map (group_of image orders) kept in
     let shown = told_sum weight kept told order.stand order.are in
     let moved = sum_by-IsPermutation (at weight kept) (standings groups) order.stand order.all in
-    let all = stood image weight kept groups 0 kept (λ n row there. ap (λ m. slice_get kept m) (omega arith) ∙ there) in
+    let all = stood image orders weight kept groups 0 kept (λ n row there. ap (λ m. slice_get kept m) (omega arith) ∙ there) in
     let named = sum_by-filter_both is_shown (is_of Named) (λ row. by_class row.1.class) weight kept in
     let ignored = sum_by-filter_both (λ (row : Row). is_told image lines row.0) (λ (row : Row). is_ignored image lines row.0) (λ row. twice (is_ignored image lines row.0)) weight rows in
     omega (arith, shown, moved, all, named, ignored)

@@ -1,6 +1,7 @@
 -- Walks of runs, and their parts.
-use Rattle.std.proofs.Common.{◌≡◌, ℕ, suc, ◌+◌, List, [], ◌∷◌, ◌++◌, All, length, map, refl, sym, ap, subst, ◌∙◌, arith, append-nil, append_assoc}
+use Rattle.std.proofs.Common.{◌≡◌, ℕ, zero, suc, ◌+◌, None, Some, get_or, List, [], ◌∷◌, ◌++◌, All, length, map, refl, sym, ap, subst, ◌∙◌, arith, append-nil, append_assoc}
 use Rattle.std.specs.List.{fold}
+use Rattle.std.specs.Prelude.{slice_get}
 use Rattle.std.proofs.lemmas.List.{map-append}
 use Rattle.std.proofs.lemmas.List.Elements.{All-push}
 use Rattle.std.proofs.lemmas.List.Sums.{fold-append}
@@ -11,10 +12,13 @@ use Rattle.rv_collide.specs.declared.entry.Entry.{Entry}
 use Rattle.rv_elf.specs.Contents.{Contents}
 use Rattle.rv_hart.specs.State.{State, start as first_state}
 use Rattle.rv_hunt.specs.Hunt.{Hunt}
-use Rattle.rv_hunt.specs.KeptRun.{probed_pair, reports_of_part, reports_of_parts, seen_pair}
+use Rattle.rv_hunt.specs.KeptRun.{IsOfSome, probed_pair, reports_of_part, reports_of_parts, seen_pair}
 use Rattle.rv_hunt.specs.Sums.{no_counts, sum}
 use Rattle.rv_hunt.specs.Summary.{counts_of_part, counts_of_walk, ends}
+use Rattle.rv_hunt.specs.declared.gathered.Gathered.{Gathered}
 use Rattle.rv_hunt.specs.declared.kept_run.PartReport.{PartReport}
+use Rattle.rv_hunt.specs.declared.orders.TriedOrder.{TriedOrder}
+use Rattle.rv_hunt.specs.internal.Gathered.{IsGathered}
 use Rattle.rv_hunt.specs.declared.near.NearRow.{NearRow}
 use Rattle.rv_hunt.specs.declared.tally.counts.Counts.{Counts}
 use Rattle.rv_walk.specs.Part.{IsPart}
@@ -95,3 +99,34 @@ of_walk probes walk part start harts sites is =
 
 pub all_more : {X : Type 0} (P : X → Type 0) (xs : List X) (x : X) → All P xs → P x → All P (xs ++ x ∷ [])
 all_more P xs x before here = All-push P xs x before here
+
+-- ---- trials of reports
+
+get_front : {X : Type 0} → (xs ys : List X) (k : ℕ) (x : X) → slice_get xs k ≡ Some x → slice_get (xs ++ ys) k ≡ Some x
+get_front [] ys k x there = let no : None ≡ Some x = there in cc
+get_front (y ∷ xs) ys zero x there = there
+get_front (y ∷ xs) ys (suc k) x there = get_front xs ys k x there
+
+-- what is of some report is of one of more reports
+pub of_some_more : (before more after : List PartReport) → after ≡ before ++ more → (tried : TriedOrder) → IsOfSome before tried → IsOfSome after tried
+of_some_more before more after is tried some = record {
+  place = some.place;
+  report = some.report;
+  there = ap (λ (rs : List PartReport). slice_get rs some.place) is ∙ get_front before more some.place some.report some.there;
+  key_is = some.key_is;
+  part_is = some.part_is;
+  entry_is = some.entry_is;
+}
+
+pub all_of_some : (before more after : List PartReport) (tried : List TriedOrder) → after ≡ before ++ more → All (IsOfSome before) tried → All (IsOfSome after) tried
+all_of_some before more after tried is all = λ k d below. of_some_more before more after is (get_or tried k d) (all k d below)
+
+-- trials were added alone
+pub tried_so : (hunt : Hunt) (harts : List ℕ) (pairs : List NearPair) (parts : List Part) (old new : Gathered) → new ≡ record old { trials = new.trials } → (All (IsOfSome old.reports.items) old.trials.tried.items → All (IsOfSome old.reports.items) new.trials.tried.items) → IsGathered hunt harts pairs parts old → IsGathered hunt harts pairs parts new
+tried_so hunt harts pairs parts old new same keeps is = record {
+  counts_are = ap (λ (g : Gathered). g.counts) same ∙ is.counts_are;
+  parts_are = ap (λ (g : Gathered). g.parts) same ∙ is.parts_are;
+  reports_are = ap (λ (g : Gathered). g.reports.items) same ∙ is.reports_are;
+  near_are = ap (λ (g : Gathered). g.near.items) same ∙ is.near_are;
+  tried_are = subst (λ (rs : List PartReport). All (IsOfSome rs) new.trials.tried.items) (sym (ap (λ (g : Gathered). g.reports.items) same)) (keeps is.tried_are);
+}

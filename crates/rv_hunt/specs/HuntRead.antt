@@ -205,12 +205,16 @@ table_in format lines = do
 unfoldable pub read : TableFormat → List ℕ → Result (List (Key × RaceRow)) TableFault
 read format text = table_in format (pieces_of 10 text)
 
+-- the fault at the later line, since the text fits that kind of table up to there; else that of a hunt table
+abbrev pub farther : TableFault → TableFault → TableFault
+farther hunt run = if nat_lt hunt.line run.line then run else hunt
+
 abbrev pub expected_by : Result (List (Key × RaceRow)) TableFault → Result (List (Key × RaceRow)) TableFault → Result (List (Key × RaceRow)) TableFault
 expected_by (Ok rows) other = Ok rows
 expected_by (Err fault) (Ok rows) = Ok rows
-expected_by (Err fault) (Err other) = Err fault
+expected_by (Err fault) (Err other) = Err (farther fault other)
 
--- a hunt table, or else one of `run`; where the text is neither, the fault is that of a hunt table
+-- a hunt table, or else one of `run`; where the text is neither, the fault of the kind that it fits further
 unfoldable pub read_either : List ℕ → Result (List (Key × RaceRow)) TableFault
 read_either text = expected_by (read Hunt text) (read Run text)
 

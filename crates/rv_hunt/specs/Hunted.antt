@@ -4,11 +4,14 @@ use Rattle.std.specs.List.{flat_map}
 use Rattle.rv_hunt.specs.Hunt.{Hunt}
 use Rattle.rv_hunt.specs.KeptRun.{IsOfRun}
 use Rattle.rv_hunt.specs.Near.{near_of}
+use Rattle.rv_hunt.specs.Orders as orders
+use Rattle.rv_hunt.specs.RightEnds.{EndsSeen, has_wrong_end}
 use Rattle.rv_hunt.specs.Rows.{row_of, table_of}
 use Rattle.rv_hunt.specs.Tally.{Tally, reached, tally_of}
 use Rattle.rv_hunt.specs.declared.hunted.Hunted.{Hunted}
 use Rattle.rv_hunt.specs.declared.kept_run.KeptRun.{KeptRun}
 use Rattle.rv_hunt.specs.declared.near.NearRow.{NearRow}
+use Rattle.rv_hunt.specs.declared.orders.OrderRow.{OrderRow}
 use Rattle.rv_hunt.specs.declared.row.RaceRow.{RaceRow}
 use Rattle.rv_report.specs.declared.key.Key.{Key}
 use Rattle.rv_tally.specs.GoesOn.{goes_on}
@@ -32,9 +35,23 @@ rows_from first (kept ∷ later) = rows_of first kept ++ rows_from (first + 1) l
 abbrev pub near_in : List KeptRun → List (Addresses × NearRow)
 near_in runs = flat_map (λ (kept : KeptRun). kept.near.items) runs
 
+-- a row for each trial of the run of that number
+abbrev pub tried_of : ℕ → KeptRun → List (Key × OrderRow)
+tried_of run kept = map (orders.row_of run) kept.tried.items
+
+-- those of runs from that number on
+unfoldable pub tried_from : ℕ → List KeptRun → List (Key × OrderRow)
+tried_from first [] = []
+tried_from first (kept ∷ later) = tried_of first kept ++ tried_from (first + 1) later
+
 -- what the runs from that number on saw
 unfoldable pub seen_in : ℕ → List KeptRun → Hunted
-seen_in first runs = record { tally = summed runs; table = table_of (rows_from first runs); near = near_of (near_in runs) }
+seen_in first runs = record {
+  tally = summed runs;
+  table = table_of (rows_from first runs);
+  near = near_of (near_in runs);
+  orders = orders.orders_of (tried_from first runs);
+}
 
 -- ---- which runs are made
 
@@ -57,3 +74,15 @@ pub record IsSoFar (hunt : Hunt) (hunted : Hunted) : Type 0 where
 pub record IsHunted (hunt : Hunt) (hunted : Hunted) : Type 0 where
   pub so_far : IsSoFar hunt hunted
   pub is_over : is_due hunt hunted.tally ≡ false
+
+-- ---- how harts ended
+
+-- This is what so many runs of a hunt saw, and whether one of their harts ended as it should not.
+pub record IsNotedSoFar (hunt : Hunt) (hunted : Hunted) (ends : EndsSeen) : Type 0 where
+  pub so_far : IsSoFar hunt hunted
+  pub wrong : ends.is_wrong ≡ has_wrong_end ends.right so_far.runs
+
+-- the same of all runs of a hunt
+pub record IsNoted (hunt : Hunt) (hunted : Hunted) (ends : EndsSeen) : Type 0 where
+  pub hunted_is : IsHunted hunt hunted
+  pub wrong : ends.is_wrong ≡ has_wrong_end ends.right hunted_is.so_far.runs

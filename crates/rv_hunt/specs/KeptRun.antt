@@ -1,5 +1,5 @@
 -- What a hunt keeps of a run: what is counted of it, its reports, and the near pairs of its walk.
-use Rattle.std.specs.Prelude.{◌≡◌, ℕ, ◌+◌, true, false, All, Some, None, List, [], ◌∷◌, ◌++◌, length, map}
+use Rattle.std.specs.Prelude.{◌≡◌, ℕ, ◌+◌, true, false, All, Some, None, List, [], ◌∷◌, ◌++◌, length, map, slice_get}
 use Rattle.rv_collide.specs.declared.collider.Finished.{Finished}
 use Rattle.rv_collide.specs.declared.ending.Ending.{Ending}
 use Rattle.rv_explain.specs.Races.{reports_of}
@@ -10,6 +10,8 @@ use Rattle.rv_hunt.specs.Summary.{IsSampledSummary, IsWalkSummary}
 use Rattle.rv_hunt.specs.declared.kept_run.KeptRun.{KeptRun}
 use Rattle.rv_hunt.specs.declared.kept_run.PartReport.{PartReport}
 use Rattle.rv_hunt.specs.declared.near.NearRow.{NearRow}
+use Rattle.rv_hunt.specs.declared.orders.TriedOrder.{TriedOrder}
+use Rattle.rv_hunt.specs.Rows.{saturated_word}
 use Rattle.rv_tally.specs.Plans.{is_sampled, plan_of}
 use Rattle.rv_walk.specs.Part.{IsPart}
 use Rattle.rv_walk.specs.Told.{AreTold, addresses_of}
@@ -46,6 +48,15 @@ seen_pair pair = (addresses_of pair, record { address = pair.first.access.first;
 abbrev pub probed_pair : Part → Addresses × NearRow
 probed_pair part = (addresses_of part.pair, record { address = part.pair.first.access.first; best = Some part.probed.reached; tries = 1 })
 
+-- a trial is of one of these reports: of its race, and of its pause
+pub record IsOfSome (reports : List PartReport) (tried : TriedOrder) : Type 0 where
+  pub place : ℕ
+  pub report : PartReport
+  pub there : slice_get reports place ≡ Some report
+  pub key_is : tried.key ≡ report.report.key
+  pub part_is : tried.part ≡ report.part
+  pub entry_is : tried.entry ≡ saturated_word (report.before + report.report.ending.paused_at)
+
 -- What is kept of the sampled run of that number.
 pub record IsOfSampled (hunt : Hunt) (run : ℕ) (kept : KeptRun) : Type 0 where
   pub left : Finished
@@ -53,6 +64,7 @@ pub record IsOfSampled (hunt : Hunt) (run : ℕ) (kept : KeptRun) : Type 0 where
   pub summary : IsSampledSummary (first_state hunt.source.image.segments hunt.source.image.entry (plan_of hunt.given run).harts) left kept.summary
   pub reports_are : kept.reports.items ≡ reports_of_sampled hunt left.endings.items
   pub near_are : kept.near.items ≡ []
+  pub tried_are : kept.tried.items ≡ []
 
 -- What is kept of a walk of that number, and of its probes: the parts from 1 on.
 pub record IsOfWalk (hunt : Hunt) (run : ℕ) (kept : KeptRun) : Type 0 where
@@ -65,6 +77,7 @@ pub record IsOfWalk (hunt : Hunt) (run : ℕ) (kept : KeptRun) : Type 0 where
   pub summary : IsWalkSummary walk parts kept.summary
   pub reports_are : kept.reports.items ≡ reports_of_parts hunt 1 parts
   pub near_are : kept.near.items ≡ map seen_pair pairs ++ map probed_pair parts
+  pub tried_are : All (IsOfSome kept.reports.items) kept.tried.items
 
 -- what is kept of the run of that number
 pub record IsOfRun (hunt : Hunt) (run : ℕ) (kept : KeptRun) : Type 0 where

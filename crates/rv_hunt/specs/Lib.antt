@@ -3,6 +3,7 @@ pub mod Expected
 pub mod Hunt
 pub mod HuntLaws
 pub mod HuntRead
+pub mod HuntReadLaws
 pub mod HuntText
 pub mod Hunted
 pub mod HuntedLaws
@@ -10,9 +11,11 @@ pub mod KeptRun
 pub mod Keyed
 pub mod Kinds
 pub mod Near
+pub mod Orders
 pub mod Outcome
 pub mod PageFacts
 pub mod Remade
+pub mod RightEnds
 pub mod Rows
 pub mod ShownOnce
 pub mod Summary

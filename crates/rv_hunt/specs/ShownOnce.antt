@@ -5,6 +5,7 @@ use Rattle.rv_elf.specs.Contents.{Contents}
 use Rattle.rv_races.specs.declared.classes.RaceClass.TheVariants.{Named}
 use Rattle.rv_hunt.specs.ToldOrder.{AreInOrder, of_class}
 use Rattle.rv_hunt.specs.declared.merge.ignore.Line.{Line}
+use Rattle.rv_hunt.specs.declared.orders.OrderRow.{OrderRow}
 use Rattle.rv_hunt.specs.declared.row.RaceRow.{RaceRow}
 use Rattle.rv_hunt.specs.merge.Ignore.{is_ignored, is_told}
 use Rattle.rv_report.specs.declared.key.Key.{Key}
@@ -13,7 +14,7 @@ use Rattle.rv_report.specs.declared.key.Key.{Key}
 -- named and those that are ignored have together what all have.
 abbrev pub EachIsShownOnce : Type 0
 EachIsShownOnce =
-    (image : Contents) (lines : List Line) (rows told : List (Key × RaceRow)) (weight : Key × RaceRow → ℕ)
+    (image : Contents) (lines : List Line) (orders : List (Key × OrderRow)) (rows told : List (Key × RaceRow)) (weight : Key × RaceRow → ℕ)
     → let kept = filter (λ (row : Key × RaceRow). is_told image lines row.0) rows in
-    AreInOrder image kept told
+    AreInOrder image orders kept told
     → sum_by weight told + (sum_by weight (of_class Named kept) + sum_by weight (filter (λ (row : Key × RaceRow). is_ignored image lines row.0) rows)) ≡ sum_by weight rows

@@ -101,6 +101,7 @@ pub record IsSampledSummary (start : State) (left : Finished) (s : Summary) : Ty
   pub sampled_are : s.sampled ≡ s.counts
   pub probes_are : s.probes ≡ 0
   pub walk_is : s.walk ≡ None
+  pub tried_is : s.tried ≡ 0
 
 -- the numbers of the probe that made a part
 abbrev pub counts_of_part : Part → Counts

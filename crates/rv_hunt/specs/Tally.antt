@@ -8,6 +8,7 @@ pub use Rattle.rv_hunt.specs.Sums.{no_counts, pauses_in, sum}
 use Rattle.rv_hunt.specs.Kinds.{Kinds, no_kinds, one_more}
 use Rattle.rv_hunt.specs.declared.summary.Summary.{Summary}
 use Rattle.rv_hunt.specs.declared.tally.Longest.{Longest}
+use Rattle.rv_hunt.specs.declared.tally.RunEnd.{RunEnd}
 use Rattle.rv_hunt.specs.declared.tally.Widest.{Widest}
 use Rattle.rv_hunt.specs.declared.tally.counts.Counts.{Counts}
 use Rattle.rv_tally.specs.Ways.{way}
@@ -67,12 +68,27 @@ with_addresses addresses more = fold (insert_key nat_cmp) addresses more
 abbrev pub one_if : Bool → ℕ
 one_if holds = cond holds 1 0
 
--- Of the runs whose plans have the most steps: how many that is, and how many harts exited in them. A run of so many
--- exits and steps is one of them, or the first of longer ones.
-abbrev pub longest_with : Longest → ℕ → ℕ → Longest
-longest_with longest steps exits =
-    if nat_lt longest.steps steps then record { steps = steps; exits = exits }
-    else (if longest.steps == steps then record { steps = longest.steps; exits = saturated (longest.exits + exits) } else longest)
+-- How a run came to its end, of whose harts so many exited and so many were stopped by a trap, with so many pauses: a trap stopped a
+-- hart; a trap stopped each, and none was paused before; none exited.
+abbrev pub run_end : ℕ → ℕ → ℕ → ℕ → RunEnd
+run_end exited trapped harts paused = record {
+  is_trapped = nat_le 1 trapped;
+  is_lost = trapped == harts && paused == 0;
+  is_exitless = exited == 0;
+}
+
+-- Of the runs whose plans have the most steps: how many that is, how many runs there were, and how many of them came to such ends. A
+-- run of so many steps is one of them, or the first of longer ones.
+abbrev pub longest_with : Longest → ℕ → RunEnd → Longest
+longest_with longest steps end =
+    if nat_lt longest.steps steps then record { steps = steps; runs = 1; trapped = one_if end.is_trapped; lost = one_if end.is_lost; exitless = one_if end.is_exitless }
+    else (if longest.steps == steps then record {
+      steps = longest.steps;
+      runs = saturated (longest.runs + 1);
+      trapped = saturated (longest.trapped + one_if end.is_trapped);
+      lost = saturated (longest.lost + one_if end.is_lost);
+      exitless = saturated (longest.exitless + one_if end.is_exitless);
+    } else longest)
 
 -- Of the walks with the most harts: how many these are, how many walks there were, and how many of them made all steps that a walk
 -- may make and saw no near pair. A walk of so many harts is one of them, or the first of more.
@@ -98,11 +114,12 @@ pub record Tally : Type 0 where
   pub counts : Counts
   -- those of the sampled runs alone
   pub sampled : Counts
-  -- in how many runs a hart was stopped by a trap, and in how many each was
-  pub some_stopped : ℕ
+  -- in how many runs each hart was stopped by a trap
   pub each_stopped : ℕ
   pub longest : Longest
   pub widest : Widest
+  -- how many steps the copies of their trials made
+  pub tried : ℕ
 
 abbrev pub nothing : Tally
 nothing = record {
@@ -114,10 +131,10 @@ nothing = record {
   paused = [];
   counts = no_counts;
   sampled = no_counts;
-  some_stopped = 0;
   each_stopped = 0;
-  longest = record { steps = 0; exits = 0 };
+  longest = record { steps = 0; runs = 0; trapped = 0; lost = 0; exitless = 0 };
   widest = record { harts = 0; walks = 0; spent = 0 };
+  tried = 0;
 }
 
 -- one more run
@@ -131,10 +148,10 @@ added t s = record {
   paused = with_addresses t.paused s.paused.items;
   counts = sum t.counts s.counts;
   sampled = sum t.sampled s.sampled;
-  some_stopped = saturated (t.some_stopped + one_if (nat_le 1 (traps s.ends.items)));
   each_stopped = saturated (t.each_stopped + one_if (traps s.ends.items == length s.ends.items));
-  longest = longest_with t.longest s.most_steps (exits s.ends.items);
+  longest = longest_with t.longest s.most_steps (run_end (exits s.ends.items) (traps s.ends.items) (length s.ends.items) (saturated (pauses_in s.counts)));
   widest = widest_after t.widest (length s.ends.items) s.walk;
+  tried = saturated (t.tried + s.tried);
 }
 
 -- what runs saw, in their order
@@ -147,9 +164,10 @@ pauses t = pauses_in t.counts
 
 -- ---- how far the hunt has come
 
--- What the runs so far have cost: the steps that their harts made, 300 more for each run, and 20 for each probe.
+-- What the runs so far have cost: the steps that their harts made, 300 more for each run, 20 for each probe, and the steps of the
+-- copies that were made of them to try orders.
 abbrev pub cost : Tally → ℕ
-cost t = saturated (saturated (t.counts.steps + 300 * t.runs) + 20 * t.probes)
+cost t = saturated (saturated (saturated (t.counts.steps + 300 * t.runs) + 20 * t.probes) + t.tried)
 
 -- The image is built for another machine: in each of the first 48 runs every hart was stopped by a trap, and no pause
 -- was made.

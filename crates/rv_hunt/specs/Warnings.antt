@@ -1,5 +1,6 @@
 -- Where a clean answer of a hunt would mean nothing.
-use Rattle.std.specs.Prelude.{ℕ, ◌*◌, ◌==◌, ◌&&◌, Bool, true, false, nat_le, nat_lt, List, [], ◌∷◌, filter, length}
+use Rattle.std.specs.Prelude.{ℕ, ◌*◌, ◌==◌, ◌&&◌, Bool, true, false, not, nat_le, nat_lt, List, [], ◌∷◌, filter, length}
+use Rattle.std.specs.List.{list_any}
 use Rattle.rv_hunt.specs.Near.{how_many}
 use Rattle.rv_hunt.specs.Outcome.{Outcome}
 use Rattle.rv_hunt.specs.Tally.{Tally, pauses}
@@ -8,7 +9,7 @@ use Rattle.rv_hunt.specs.declared.near.Fate.TheVariants.{Untried}
 use Rattle.rv_tally.specs.declared.plans.Mix.{Mix}
 use Rattle.rv_tally.specs.declared.plans.Mix.TheVariants.{Mixed, Sampled, Walks}
 use Rattle.rv_hunt.specs.declared.saying.warnings.Warning.{Warning}
-use Rattle.rv_hunt.specs.declared.saying.warnings.Warning.TheVariants.{NoSite, NoPause, Trapped, NoOtherStep, FewArmed, NoNear, ManyUntried, WalkedInVain, NoExit}
+use Rattle.rv_hunt.specs.declared.saying.warnings.Warning.TheVariants.{Compressed, Floating, NoSite, NoPause, Lost, Trapped, NoOtherStep, FewArmed, NoNear, ManyUntried, WalkedInVain, NoExit}
 
 -- the image has no site
 abbrev pub has_no_site : ℕ → Bool
@@ -18,9 +19,17 @@ has_no_site sites = sites == 0
 abbrev pub made_no_pause : Tally → Bool
 made_no_pause t = pauses t == 0
 
--- every run ended with a hart stopped by a trap
-abbrev pub each_run_trapped : Tally → Bool
-each_run_trapped t = nat_le 1 t.runs && t.some_stopped == t.runs
+-- more than half of so many
+abbrev pub is_most : ℕ → ℕ → Bool
+is_most some all = nat_lt all (2 * some)
+
+-- in most of the longest runs a trap stopped a hart
+abbrev pub most_trapped : Tally → Bool
+most_trapped t = is_most t.longest.trapped t.longest.runs
+
+-- in most of the longest runs a trap stopped each hart, before one was paused
+abbrev pub most_lost : Tally → Bool
+most_lost t = is_most t.longest.lost t.longest.runs
 
 -- pauses were made, and within none of them another hart made a step
 abbrev pub passed_no_step : Tally → Bool
@@ -44,19 +53,22 @@ saw_no_pair saw = nat_le 1 saw.tally.walks && length saw.near == 0
 abbrev pub tried_few : Hunted → Bool
 tried_few saw = nat_lt (length saw.near) (2 * how_many saw.table saw.near Untried)
 
--- each walk of the most harts made all steps that a walk may make, and saw no near pair
+-- most walks of the most harts made all steps that a walk may make, and saw no near pair
 abbrev pub walked_in_vain : Tally → Bool
-walked_in_vain t = nat_le 1 t.widest.walks && t.widest.spent == t.widest.walks
+walked_in_vain t = is_most t.widest.spent t.widest.walks
 
--- no hart exited in any of the runs whose plan has the most steps
+-- in most of the runs whose plan has the most steps no hart exited
 abbrev pub exited_nowhere : Tally → Bool
-exited_nowhere t = nat_le 1 t.runs && t.longest.exits == 0
+exited_nowhere t = is_most t.longest.exitless t.longest.runs
 
 -- the warning holds of what a hunt came to
 abbrev pub holds : Outcome → Warning → Bool
+holds outcome Compressed = outcome.built.compressed
+holds outcome Floating = outcome.built.floating
 holds outcome NoSite = has_no_site outcome.sites
 holds outcome NoPause = made_no_pause outcome.saw.tally
-holds outcome Trapped = each_run_trapped outcome.saw.tally
+holds outcome Lost = most_lost outcome.saw.tally
+holds outcome Trapped = most_trapped outcome.saw.tally && not (most_lost outcome.saw.tally)
 holds outcome NoOtherStep = passed_no_step outcome.saw.tally
 holds outcome FewArmed = all_sampled outcome.mix && armed_few outcome.sites outcome.saw.tally
 holds outcome NoNear = saw_no_pair outcome.saw
@@ -65,8 +77,35 @@ holds outcome WalkedInVain = walked_in_vain outcome.saw.tally
 holds outcome NoExit = exited_nowhere outcome.saw.tally
 
 abbrev pub all_warnings : List Warning
-all_warnings = NoSite ∷ NoPause ∷ Trapped ∷ NoOtherStep ∷ FewArmed ∷ NoNear ∷ ManyUntried ∷ WalkedInVain ∷ NoExit ∷ []
+all_warnings = Compressed ∷ Floating ∷ NoSite ∷ NoPause ∷ Lost ∷ Trapped ∷ NoOtherStep ∷ FewArmed ∷ NoNear ∷ ManyUntried ∷ WalkedInVain ∷ NoExit ∷ []
 
 -- those that hold
 abbrev pub warnings_of : Outcome → List Warning
 warnings_of outcome = filter (holds outcome) all_warnings
+
+-- ---- that there is no race means nothing
+
+-- the runs are of both kinds, and so walks are not aimed at some pairs alone
+abbrev pub is_mixed : Mix → Bool
+is_mixed Mixed = true
+is_mixed Sampled = false
+is_mixed Walks = false
+
+-- where such a warning holds, and there is no race, that means nothing
+abbrev pub voids : Mix → Warning → Bool
+voids mix Compressed = true
+voids mix Floating = true
+voids mix NoSite = true
+voids mix Lost = true
+voids mix NoNear = is_mixed mix
+voids mix NoPause = false
+voids mix Trapped = false
+voids mix NoOtherStep = false
+voids mix FewArmed = false
+voids mix ManyUntried = false
+voids mix WalkedInVain = false
+voids mix NoExit = false
+
+-- one of these holds of what a hunt came to
+unfoldable pub is_void : Outcome → Bool
+is_void outcome = list_any (λ warning. holds outcome warning && voids outcome.mix warning) all_warnings

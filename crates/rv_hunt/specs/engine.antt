@@ -4,5 +4,6 @@ pub mod FolderFault
 pub mod HuntFault
 pub mod Hunting
 pub mod Late
+pub mod OrderShown
 pub mod Shown
 pub mod StuckShown

@@ -2,12 +2,13 @@
 pub mod Adding
 pub mod Counting
 pub mod Gathered
-pub mod Lookup
 pub mod Lots
 pub mod MakeFault
 pub mod Opened
+pub mod OrderShowing
 pub mod RunWalk
 pub mod Shaped
 pub mod Showing
 pub mod Sought
+pub mod Tried
 pub mod Words

@@ -1,4 +1,10 @@
 //! In which runs harts first ended in each way, and whether one ended as it should not.
+ghost use Rattle.std.specs.Prelude.{◌≡◌, ◌==◌, ◌||◌, false, ◌++◌, IfOk, OnOk, filter_map, option_map};
+ghost use Rattle.std.specs.List.{list_any};
+ghost use Rattle.std.specs.Option.{option_to_list};
+ghost use Rattle.rv_hunt.specs.RightEnds as spec;
+ghost use Rattle.rv_text.specs.Pieces.{pieces_of};
+
 use crate::saying::ended::Ways;
 use crate::tally::kinds::{MOST_TOLD, is_same};
 use rv_memory::store::NoMemory;
@@ -6,11 +12,20 @@ use rv_tally::end::{End, Way};
 use rv_text::numeral::read_number;
 use rv_text::pieces::Pieces;
 use std::alloc::Global;
+use std::marker::Model;
 
 /// The exit codes that are right.
 #[derive(Drop)]
 pub struct RightCodes {
     codes: Vec<u32>,
+}
+
+impl Model for RightCodes {
+    ghost use Rattle.std.specs.Prelude.{ℕ, List};
+
+    ghost Value = { List ℕ };
+
+    ghost view = { λ r. r.codes.items };
 }
 
 /// A way of ending, and the first run in which a hart ended so.
@@ -38,23 +53,61 @@ pub struct EndRuns {
     is_wrong: bool,
 }
 
+impl Model for EndRuns {
+    ghost use Rattle.rv_hunt.specs.RightEnds.{EndsSeen};
+
+    ghost Value = { EndsSeen };
+
+    ghost view = { λ e. record { right = e.right; is_wrong = e.is_wrong } };
+}
+
+/// Adds the code that a piece of a list writes, if it writes one.
+fn push_code(codes: &mut Vec<u32>, piece: &[u8]) -> Result<(), NoMemory>
+    ensures { OnOk result (codes.new.items ≡ codes.old.items ++ option_to_list (spec.code_of piece.now)) }
+{
+    if let Some(code) = read_number(piece, 10, u32::MAX) {
+        codes.push(code)?;
+    }
+    Ok(())
+}
+
+/// The codes of a list.
+fn codes_in(alloc: Global, list: &[u8]) -> Result<Vec<u32>, NoMemory>
+    ensures { IfOk result (λ codes. codes.items ≡ filter_map spec.code_of (pieces_of 44 list.now)) }
+{
+    let mut codes = Vec::new(alloc);
+    let mut pieces = Pieces::of(list, b',');
+    while let Some(piece) = pieces.next_piece() {
+        push_code(&mut codes, piece)?;
+    }
+    Ok(codes)
+}
+
 impl RightCodes {
     /// The codes of a list of decimal numbers with a comma between two; without a list 0 alone.
-    pub fn of(alloc: Global, list: Option<&str>) -> Result<RightCodes, NoMemory> {
-        let mut codes = Vec::new(alloc);
-        let mut pieces = Pieces::of(list.unwrap_or("0").as_bytes(), b',');
-        while let Some(piece) = pieces.next_piece() {
-            if let Some(code) = read_number(piece, 10, u32::MAX) {
-                codes.push(code)?;
-            }
-        }
+    pub fn of(alloc: Global, list: Option<&str>) -> Result<RightCodes, NoMemory>
+        ensures { IfOk result (λ right. right ≡ spec.right_codes (option_map (λ text. text.now) list.entry)) }
+    {
+        let codes = match list {
+            None => vec![in alloc; 0]?,
+            Some(list) => codes_in(alloc, list.as_bytes())?,
+        };
         Ok(RightCodes { codes })
     }
 
+    /// Whether a code is right.
+    fn has(&self, code: u32) -> bool
+        ensures { result ≡ list_any (λ one. one == code) self.now }
+    {
+        self.codes.iter().any(|one| *one == code)
+    }
+
     /// Whether a hart that ended so ended as it should not.
-    fn is_wrong(&self, end: End) -> bool {
+    fn is_wrong(&self, end: End) -> bool
+        ensures { result ≡ spec.is_wrong_end self.now end }
+    {
         match end {
-            End::Exited(code) => !self.codes.contains(&code),
+            End::Exited(code) => !self.has(code),
             End::Stopped(..) => true,
             End::Polls(_) | End::Parked | End::OutOfSteps | End::Idle => false,
         }
@@ -90,7 +143,9 @@ impl FirstRuns {
 
 impl EndRuns {
     /// Of no run.
-    pub fn none(alloc: Global, right: RightCodes) -> EndRuns {
+    pub fn none(alloc: Global, right: RightCodes) -> EndRuns
+        ensures { result ≡ record { right = right; is_wrong = false } }
+    {
         EndRuns {
             right,
             exits: FirstRuns::none(alloc),
@@ -101,7 +156,9 @@ impl EndRuns {
         }
     }
 
-    fn add_one(&mut self, run: u32, end: End) -> Result<(), NoMemory> {
+    fn add_one(&mut self, run: u32, end: End) -> Result<(), NoMemory>
+        ensures { OnOk result (self.new ≡ record self.old { is_wrong = self.old.is_wrong || spec.is_wrong_end self.old.right end }) }
+    {
         self.is_wrong = self.is_wrong || self.right.is_wrong(end);
         match end.way() {
             Way::Exit => self.exits.add(end, run),
@@ -117,7 +174,9 @@ impl EndRuns {
     }
 
     /// Adds how the harts of a run ended.
-    pub(crate) fn add(&mut self, run: u32, ends: &[End]) -> Result<(), NoMemory> {
+    pub(crate) fn add(&mut self, run: u32, ends: &[End]) -> Result<(), NoMemory>
+        ensures { OnOk result (self.new ≡ record self.old { is_wrong = self.old.is_wrong || list_any (spec.is_wrong_end self.old.right) ends.now }) }
+    {
         for end in ends {
             self.add_one(run, *end)?;
         }
@@ -125,7 +184,9 @@ impl EndRuns {
     }
 
     /// Whether a trap stopped a hart, or one exited with a wrong code.
-    pub fn is_wrong(&self) -> bool {
+    pub fn is_wrong(&self) -> bool
+        ensures { result ≡ self.now.is_wrong }
+    {
         self.is_wrong
     }
 

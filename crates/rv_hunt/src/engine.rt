@@ -10,6 +10,7 @@ ghost use Rattle.rv_hunt.specs.engine.Asked.{AreLegal, asked};
 ghost use Rattle.rv_hunt.specs.engine.HuntFault.{IsTold, fails_by, is_of_files, is_read, is_write};
 ghost use Rattle.rv_hunt.specs.engine.Hunting as spec;
 ghost use Rattle.rv_hunt.specs.engine.Late.{IfPaged, IfSaved};
+ghost use Rattle.rv_hunt.specs.RightEnds.{right_codes};
 ghost use Rattle.rv_hunt.specs.internal.Opened.{hunt_in, hunting_with, texts_in};
 
 use crate::engine::fault::HuntFault;
@@ -40,6 +41,7 @@ mod making;
 mod onward;
 mod opening;
 pub mod options;
+pub mod orders;
 mod showing;
 pub mod shown;
 pub mod stuck_ends;
@@ -71,7 +73,7 @@ fn read<'a, R: Read>(
     inputs: &mut Inputs<R>,
 ) -> Result<(Opened, Lists), HuntFault<'a>>
     ensures ok { IfOk result (λ read. IfSome (spec.files_of R.remaining inputs.old) (λ files.
-        spec.IsHuntingOf (asked options.now) files (hunting_with (hunt_in (asked options.now) read.0) read.1))) }
+        spec.IsHuntingOf (asked options.now) files (hunting_with (hunt_in (asked options.now) read.0) (right_codes (asked options.now).right) read.1))) }
     ensures err { IfErr result (λ fault. IfSome (spec.files_of R.remaining inputs.old) (λ files.
         IsTold (asked options.now) files fault)) }
     ensures readers { spec.any_failed inputs.new ≡ (spec.any_failed inputs.old || fails_by is_read result) }
@@ -91,6 +93,7 @@ fn read<'a, R: Read>(
             ignored,
             expected,
             aim,
+            built: opened.built,
         },
         Err(fault) => return Err(HuntFault::Aimed(fault)),
     };

@@ -1,5 +1,5 @@
 //! What the probes of a walk come to, added up while they are made.
-ghost use Rattle.std.specs.Prelude.{◌≡◌, ℕ, ◌∷◌, ◌++◌, [], List, OnOk, IfOk, map};
+ghost use Rattle.std.specs.Prelude.{◌≡◌, ℕ, ◌∷◌, ◌++◌, [], All, List, OnOk, IfOk, map};
 ghost use Rattle.rv_hunt.specs.Hunt.{Hunt as Asked};
 ghost use Rattle.rv_hunt.specs.KeptRun as spec;
 ghost use Rattle.rv_hunt.specs.Near as near;
@@ -14,14 +14,16 @@ use crate::run_walk::RunWalk;
 use crate::stuck::{StuckSeen, is_reported};
 use crate::summary::counts_of;
 use crate::tally::counts::{Counts, sum};
+use crate::trials::Trials;
+use rv_memory::paged::Paged;
 use rv_memory::store::NoMemory;
 use rv_stuck::acts_of;
 use rv_walk::near_pair::{Addresses, NearPair};
-use rv_walk::probes::Part;
+use rv_walk::probes::{Part, Probes};
 use std::alloc::Global;
 
-/// The numbers of a walk and of its parts so far, how many these are, their reports, the near pairs, and the stuck ends that are
-/// reported.
+/// The numbers of a walk and of its parts so far, how many these are, their reports, the near pairs, the stuck ends that are
+/// reported, and the trials of orders.
 #[derive(Drop)]
 pub(crate) struct Gathered {
     pub(crate) counts: Counts,
@@ -29,6 +31,7 @@ pub(crate) struct Gathered {
     pub(crate) reports: Vec<PartReport>,
     pub(crate) near: Vec<(Addresses, NearRow)>,
     pub(crate) stuck: Vec<StuckSeen>,
+    pub(crate) trials: Trials,
 }
 
 /// Adds what stands in a list to another.
@@ -71,7 +74,8 @@ fn push_stuck(
 
 impl Gathered {
     /// Of a walk before its first probe.
-    pub(crate) fn of(alloc: Global, walk: &RunWalk) -> Result<Gathered, NoMemory>
+    pub(crate) fn of(alloc: Global, walk: &RunWalk, trials: Trials) -> Result<Gathered, NoMemory>
+        requires { trials.tried.items ≡ [] }
         ensures { IfOk result (λ gathered. (hunt : Asked) →
             internal.IsGathered hunt walk.now.left.harts.items walk.now.left.pairs.items [] gathered) }
     {
@@ -86,6 +90,7 @@ impl Gathered {
             reports: Vec::new(alloc),
             near,
             stuck: Vec::new(alloc),
+            trials,
         })
     }
 
@@ -111,6 +116,26 @@ impl Gathered {
         self.parts = number;
         push_stuck(alloc, &mut self.stuck, hunt, number, part)?;
         self.counts = sum(self.counts, counts_of(&finished.entries, &finished.endings));
+        Ok(())
+    }
+
+    /// Tries the orders of the reports of the part that was added last: of those from a place on.
+    pub(crate) fn try_from(
+        &mut self,
+        alloc: Global,
+        probes: &mut Probes<'_, Paged>,
+        part: &Part,
+        first: usize,
+    ) -> Result<(), NoMemory>
+        ensures probes { probes.new ≡ probes.old }
+        ensures same { self.new ≡ record self.old { trials = self.new.trials } }
+        ensures tried { OnOk result (All (spec.IsOfSome self.old.reports.items) self.old.trials.tried.items
+            → All (spec.IsOfSome self.old.reports.items) self.new.trials.tried.items) }
+    {
+        for place in first..self.reports.len() {
+            let report = self.reports[place];
+            self.trials.add(alloc, probes, part, &report)?;
+        }
         Ok(())
     }
 }

@@ -1,5 +1,5 @@
 //! Hunts: runs of consecutive numbers, as many as a limit allows.
-ghost use Rattle.std.specs.Prelude.{◌≡◌, ◌<◌, ◌≤◌, ◌+◌, ◌^◌, true, length, IfOk, OnOk};
+ghost use Rattle.std.specs.Prelude.{◌≡◌, ◌<◌, ◌≤◌, ◌+◌, ◌^◌, false, true, length, IfOk, OnOk};
 ghost use Rattle.rv_hunt.specs.Hunt.{IsHunt};
 ghost use Rattle.rv_hunt.specs.Hunted as spec;
 ghost use Rattle.rv_hunt.specs.KeptRun.{IsOfRun};
@@ -46,6 +46,8 @@ pub struct Hunt<'a> {
     pub aim: &'a Option<Aim>,
     pub first: u32,
     pub limit: Limit,
+    /// Whether runs have trials of orders.
+    pub orders: bool,
 }
 
 impl<'a> Model for Hunt<'a> {
@@ -191,21 +193,30 @@ impl Hunt<'_> {
         all_made(rt, alloc, &lot, workers)
     }
 
-    /// Adds what the next run saw.
-    fn add(&self, hunted: &mut Hunted, run: u32, kept: &KeptRun) -> Result<(), NoMemory>
-        requires so_far { spec.IsSoFar self.now hunted.old }
+    /// Adds what the next run saw, and notes what is noted beside.
+    fn add(
+        &self,
+        alloc: Global,
+        hunted: &mut Hunted,
+        noted: &mut Noted,
+        run: u32,
+        kept: &KeptRun,
+    ) -> Result<(), NoMemory>
+        requires so_far { spec.IsNotedSoFar self.now hunted.old noted.old.ends }
         requires goes_on { spec.is_due self.now hunted.old.tally ≡ true }
         requires hunt { IsHunt self.now }
         requires next { run ≡ self.now.first + hunted.old.tally.runs }
         requires kept { IsOfRun self.now run kept.now }
-        ensures so_far { OnOk result (spec.IsSoFar self.now hunted.new) }
+        ensures so_far { OnOk result (spec.IsNotedSoFar self.now hunted.new noted.new.ends) }
+        ensures right { OnOk result (noted.new.ends.right ≡ noted.old.ends.right) }
         ensures runs { OnOk result (hunted.new.tally.runs ≡ hunted.old.tally.runs + 1) }
     {
         hunted.add(run, kept)?;
+        noted.add(alloc, run, kept)?;
         Ok(())
     }
 
-    /// Adds what the next runs saw, as long as the hunt goes on, and notes what is noted beside.
+    /// Adds what the next runs saw, as long as the hunt goes on.
     fn add_lot<W: Watch>(
         &self,
         alloc: Global,
@@ -215,22 +226,22 @@ impl Hunt<'_> {
         lot: &[KeptRun],
         watch: &mut W,
     ) -> Result<(), NoMemory>
-        requires so_far { spec.IsSoFar self.now hunted.old }
+        requires so_far { spec.IsNotedSoFar self.now hunted.old noted.old.ends }
         requires goes_on { spec.is_due self.now hunted.old.tally ≡ true }
         requires hunt { IsHunt self.now }
         requires next { next ≡ self.now.first + hunted.old.tally.runs }
         requires lot { internal.IsLot self.now next lot.now }
         requires some { 1 ≤ length lot.now }
         requires numbers { next + length lot.now ≤ 2 ^ 32 }
-        ensures so_far { OnOk result (spec.IsSoFar self.now hunted.new) }
+        ensures so_far { OnOk result (spec.IsNotedSoFar self.now hunted.new noted.new.ends) }
+        ensures right { OnOk result (noted.new.ends.right ≡ noted.old.ends.right) }
         ensures more { OnOk result (hunted.old.tally.runs < hunted.new.tally.runs) }
     {
         for place in 0..lot.len() {
             if !self.goes_on(hunted) {
                 return Ok(());
             }
-            self.add(hunted, next + place as u32, &lot[place])?;
-            noted.add(alloc, next + place as u32, &lot[place])?;
+            self.add(alloc, hunted, noted, next + place as u32, &lot[place])?;
             watch.saw(hunted);
         }
         Ok(())
@@ -246,10 +257,11 @@ impl Hunt<'_> {
         workers: u8,
         watch: &mut W,
     ) -> Result<(), PoolFault>
-        requires so_far { spec.IsSoFar self.now hunted.old }
+        requires so_far { spec.IsNotedSoFar self.now hunted.old noted.old.ends }
         requires hunt { IsHunt self.now }
         requires workers { workers ≤ 16 }
-        ensures { OnOk result (spec.IsHunted self.now hunted.new) }
+        ensures hunted { OnOk result (spec.IsNoted self.now hunted.new noted.new.ends) }
+        ensures right { OnOk result (noted.new.ends.right ≡ noted.old.ends.right) }
     {
         while self.goes_on(hunted) {
             let next = self.next(hunted);
@@ -261,7 +273,7 @@ impl Hunt<'_> {
 
     /// What the runs of the hunt see: exactly those from the first number on that its limit allows, whatever the number
     /// of workers (1 to 16). Some runs are made together, which are then added up in the order of their numbers; what
-    /// of them is behind the hunt's end is let go.
+    /// of them is behind the hunt's end is let go. What is noted is of no run before.
     pub fn hunted<R: Threads + Wait, W: Watch>(
         &self,
         rt: &R,
@@ -272,7 +284,9 @@ impl Hunt<'_> {
     ) -> Result<Hunted, PoolFault>
         requires hunt { IsHunt self.now }
         requires workers { workers ≤ 16 }
-        ensures { IfOk result (λ hunted. spec.IsHunted self.now hunted) }
+        requires none { noted.old.ends.is_wrong ≡ false }
+        ensures hunted { IfOk result (λ hunted. spec.IsNoted self.now hunted noted.new.ends) }
+        ensures right { OnOk result (noted.new.ends.right ≡ noted.old.ends.right) }
     {
         let mut hunted = Hunted::new(alloc);
         self.go_on(rt, alloc, &mut hunted, noted, workers, watch)

@@ -12,10 +12,12 @@ ghost use Rattle.rv_tally.specs.Plans.{plan_of};
 use crate::gathered::Gathered;
 use crate::hunt::Hunt;
 use crate::near::NearRow;
+use crate::orders::TriedOrder;
 use crate::run_walk::{Repeats, RunWalk, begin_of, drawn_pairs, probes_of, walk_of};
 use crate::stuck::{StuckRun, StuckSeen};
 use crate::summary::{Summary, ends_of, sampled_summary};
 use crate::tally::counts::Counts;
+use crate::trials::Trials;
 use rv_campaign::{core_sampled, left_by};
 use rv_collide::collider::{Collider, Finished, machine_of};
 use rv_collide::ending::Ending;
@@ -41,8 +43,8 @@ pub struct PartReport {
 }
 
 /// What is kept of a run: what is counted of it, its reports, in the order of its parts, the near pairs that its walk saw and that
-/// were probed, the numbers of the words of code that its harts executed beside those that were counted, and its stuck ends. The
-/// run's entries, which are far more, are let go.
+/// were probed, the numbers of the words of code that its harts executed beside those that were counted, its stuck ends, and the
+/// trials of orders. The run's entries, which are far more, are let go.
 #[derive(Drop)]
 pub struct KeptRun {
     pub summary: Summary,
@@ -50,6 +52,7 @@ pub struct KeptRun {
     pub near: Vec<(Addresses, NearRow)>,
     pub words: Vec<u32>,
     pub stuck: StuckRun,
+    pub tried: Vec<TriedOrder>,
 }
 
 /// The reports of a part.
@@ -133,6 +136,7 @@ impl Hunt<'_> {
             near: Vec::new(alloc),
             words,
             stuck: StuckRun::none(alloc),
+            tried: Vec::new(alloc),
         })
     }
 
@@ -156,6 +160,7 @@ impl Hunt<'_> {
             sampled: Counts::none(),
             probes: u64::from(gathered.parts),
             walk: Some(is_spent),
+            tried: gathered.trials.steps,
         };
         Ok(KeptRun {
             summary,
@@ -163,6 +168,7 @@ impl Hunt<'_> {
             near: gathered.near,
             words: walk.left.words,
             stuck,
+            tried: gathered.trials.tried,
         })
     }
 }
@@ -231,12 +237,15 @@ fn gathered<'a>(
     ensures { IfOk result (AreGathered hunt.now number walk.now) }
 {
     let drawn = drawn_pairs(alloc, hunt, number, walk)?;
-    let mut gathered = Gathered::of(alloc, walk)?;
+    let trials = Trials::of(alloc, hunt, number, walk.left.harts.len(), drawn.len());
+    let mut gathered = Gathered::of(alloc, walk, trials)?;
     let mut probes = probes_of(begin, hunt, number, walk);
     let mut repeats = Repeats::none();
     for pair in &drawn {
         let part = probes.probe(alloc, pair, repeats.before(pair))?;
+        let first = gathered.reports.len();
         gathered.add(alloc, hunt, &part)?;
+        gathered.try_from(alloc, &mut probes, &part, first)?;
     }
     Ok(gathered)
 }

@@ -1,9 +1,14 @@
 //! What holds of hunts and their tables. Each law is the contract of a function that does nothing.
 ghost use Rattle.rv_hunt.specs.HuntLaws.{PiecesAreMerged, TableIsKept, TwoAreMerged};
+ghost use Rattle.rv_hunt.specs.HuntReadLaws.{TablesAreReadBack};
 ghost use Rattle.rv_hunt.specs.HuntedLaws.{OneResult, PiecesAreWhole, RowsAreTold};
 ghost use Rattle.rv_hunt.specs.ShownOnce.{EachIsShownOnce};
 
 use rv_drive::driver_laws::seeded_runs;
+use rv_text::laws::{
+    decimal_is_read_back, decimal_lacks_separators, pieces_are_cut, word_is_read_back,
+    word_lacks_separators,
+};
 
 /// Tables of the pieces of a list of rows, merged in the order of the pieces, are the table of the whole list.
 pub fn pieces_are_merged()
@@ -26,3 +31,14 @@ pub fn hunts_have_one_result()
 pub fn each_race_is_shown_once()
     ensures { EachIsShownOnce }
 {}
+
+/// A table that is written is read back: so tables of pieces that are merged from their files are the table of the whole, too.
+pub fn tables_are_read_back()
+    ensures { TablesAreReadBack }
+{
+    decimal_is_read_back();
+    decimal_lacks_separators();
+    word_is_read_back();
+    word_lacks_separators();
+    pieces_are_cut();
+}

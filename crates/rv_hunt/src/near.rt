@@ -3,7 +3,7 @@ ghost use Rattle.std.specs.Prelude.{◌≡◌, ◌==◌, [], OnOk, IfOk, length,
 ghost use Rattle.std.specs.List.{fold};
 ghost use Rattle.rv_hunt.specs.KeptRun.{probed_pair, seen_pair};
 ghost use Rattle.rv_hunt.specs.Near as spec;
-ghost use Rattle.rv_hunt.specs.internal.Lookup as internal;
+ghost use Rattle.rv_hunt.specs.Keyed as keyed;
 
 use crate::table::HuntTable;
 use indexmap::IndexMap;
@@ -121,14 +121,14 @@ impl NearTable {
 
     /// What is known of a pair.
     fn row(&self, addresses: &Addresses) -> Option<NearRow>
-        ensures { result ≡ internal.row_at spec.same_addresses self.now addresses.now }
+        ensures { result ≡ keyed.row_at spec.same_addresses self.now addresses.now }
     {
         self.rows.get(addresses).copied()
     }
 
     /// The same with one sight more.
     fn with_row(&self, addresses: &Addresses, row: &NearRow) -> NearRow
-        ensures { result ≡ internal.with_row spec.joined (internal.row_at spec.same_addresses self.now addresses.now) row.now }
+        ensures { result ≡ keyed.with_row spec.joined (keyed.row_at spec.same_addresses self.now addresses.now) row.now }
     {
         match self.row(addresses) {
             Some(first) => joined(&first, row),

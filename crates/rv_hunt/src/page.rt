@@ -7,6 +7,7 @@ ghost use Rattle.rv_hunt.specs.PageFacts as spec;
 ghost use Rattle.rv_markup.specs.Markup.{IsDocument};
 
 use crate::engine::options::LineParts;
+use crate::engine::orders::ShownOrder;
 use crate::engine::shown::ShownRace;
 use crate::page::elements::{code, end_line};
 use crate::page::parts::Outcome;
@@ -14,6 +15,7 @@ use crate::page::races::{races_part, races_shown};
 use crate::page::runs::{aside_part, ended_part, seen_part, warnings_part};
 use crate::page::stuck::stuck_part;
 use crate::page::style::RULES;
+use crate::page::terms::terms_part;
 use crate::row::RaceRow;
 use crate::saying::lines::summary_line;
 use rv_explain::symbol_table::SymbolTable;
@@ -29,11 +31,13 @@ use std::alloc::Global;
 mod code;
 mod elements;
 mod near;
+mod orders;
 pub mod parts;
 mod races;
 mod runs;
 mod stuck;
 mod style;
+mod terms;
 
 /// What stands before the body.
 fn head(page: Markup, summary: &[u8]) -> Result<Markup, NoMemory>
@@ -94,12 +98,14 @@ fn told_races(
     symbols: &SymbolTable,
     told: &[(Key, RaceRow)],
     shown: &[ShownRace],
+    orders: &[ShownOrder],
 ) -> Result<Markup, NoMemory>
-    requires { length shown.now ≤ length told.now }
+    requires shown { length shown.now ≤ length told.now }
+    requires orders { length orders.now ≡ length shown.now }
     ensures { IfOk result (λ more. more ≡ record page { facts = spec.told_facts told.now (length shown.now) page.facts }) }
 {
     let page = races_part(page, alloc, symbols, shown.len(), told)?;
-    races_shown(page, alloc, line, symbols, told, shown)
+    races_shown(page, alloc, line, symbols, told, shown, orders)
 }
 
 /// What stands below the races.
@@ -124,16 +130,18 @@ pub fn page_text(
     outcome: &Outcome,
     told: &[(Key, RaceRow)],
     shown: &[ShownRace],
+    orders: &[ShownOrder],
 ) -> Result<Vec<u8>, NoMemory>
-    requires { length shown.now ≤ length told.now }
+    requires shown { length shown.now ≤ length told.now }
+    requires orders { length orders.now ≡ length shown.now }
     ensures { IfOk result (λ text. IsDocument text.items
         (spec.page_facts outcome.now told.now (length shown.now))) }
 {
     let summary = summary_line(alloc, outcome)?;
     let page = begin_page(Markup::new(alloc), line, summary.as_bytes())?;
     let page = warnings_part(page, alloc, symbols, outcome)?;
-    let page = told_races(page, alloc, line, symbols, told, shown)?;
+    let page = told_races(page, alloc, line, symbols, told, shown, orders)?;
     let page = stuck_part(page, alloc, line, symbols, outcome)?;
-    let page = below_races(page, alloc, symbols, outcome)?;
+    let page = terms_part(below_races(page, alloc, symbols, outcome)?)?;
     Ok(end_line(end_line(page)?)?.finish())
 }

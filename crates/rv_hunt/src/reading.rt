@@ -5,7 +5,7 @@ ghost use Rattle.rv_hunt.specs.HuntRead as spec;
 ghost use Rattle.rv_hunt.specs.declared.fault.ReadFault.TheVariants as faults;
 ghost use Rattle.rv_hunt.specs.declared.fault.TableKind.TheVariants as kinds;
 
-use crate::fault::{ReadFault, TableKind, at};
+use crate::fault::{ReadFault, TableFault, TableKind, at};
 use crate::format::TableFormat;
 use crate::line::{ends, read_first, read_row};
 use crate::table::HuntTable;
@@ -129,6 +129,13 @@ pub fn read_table(alloc: Global, format: TableFormat, text: &[u8]) -> Result<Hun
     read_into(&mut rows, format, text).and(Ok(rows))
 }
 
+/// The fault that is told of a text that is neither kind of table.
+fn farther(hunt: TableFault, run: TableFault) -> TableFault
+    ensures { result ≡ spec.farther hunt run }
+{
+    if hunt.line < run.line { run } else { hunt }
+}
+
 /// Reads a hunt table, or else one of `run`.
 #[tactic(auto, unfolding(crate::specs::HuntRead::read_either))]
 pub fn read_either(alloc: Global, text: &[u8]) -> Result<HuntTable, ReadFault>
@@ -141,7 +148,7 @@ pub fn read_either(alloc: Global, text: &[u8]) -> Result<HuntTable, ReadFault>
         Err(ReadFault::Malformed(fault)) => match read_table(alloc, TableFormat::Run, text) {
             Ok(rows) => Ok(rows),
             Err(ReadFault::NoMemory) => Err(ReadFault::NoMemory),
-            Err(ReadFault::Malformed(_)) => Err(ReadFault::Malformed(fault)),
+            Err(ReadFault::Malformed(other)) => Err(ReadFault::Malformed(farther(fault, other))),
         },
     }
 }

@@ -3,5 +3,6 @@ pub mod ended;
 pub(crate) mod index;
 pub mod lines;
 pub mod order;
+pub(crate) mod orders;
 pub(crate) mod stuck;
 pub mod warnings;

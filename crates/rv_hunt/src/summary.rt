@@ -20,8 +20,8 @@ use std::alloc::Global;
 
 /// What is counted of a run: how many steps its plan allows, and how its harts ended, in their order; of a sampled run the
 /// addresses that were armed, and those at which its harts were paused, in their order and as often as that was done; its numbers,
-/// with those of its probes, and once more if it is a sampled run; how many probes it made; and of a walk whether it made all steps
-/// that a walk may make and saw no near pair.
+/// with those of its probes, and once more if it is a sampled run; how many probes it made; of a walk whether it made all steps
+/// that a walk may make and saw no near pair; and how many steps the copies of its trials made.
 #[derive(Drop)]
 pub struct Summary {
     pub most_steps: u32,
@@ -32,6 +32,7 @@ pub struct Summary {
     pub sampled: Counts,
     pub probes: u64,
     pub walk: Option<bool>,
+    pub tried: u64,
 }
 
 pub(crate) fn end_with(status: Status, pc: u32) -> End
@@ -197,5 +198,6 @@ pub(crate) fn sampled_summary(
         sampled: counts,
         probes: 0,
         walk: None,
+        tried: 0,
     })
 }

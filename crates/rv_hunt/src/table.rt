@@ -3,7 +3,7 @@ ghost use Rattle.std.specs.Prelude.{◌≡◌, ◌<◌, ◌^◌, ◌∷◌, [], 
 ghost use Rattle.std.specs.Io.KnownBytes.{Appends};
 ghost use Rattle.rv_hunt.specs.HuntText as text;
 ghost use Rattle.rv_hunt.specs.Rows as spec;
-ghost use Rattle.rv_hunt.specs.internal.Lookup as internal;
+ghost use Rattle.rv_hunt.specs.Keyed as keyed;
 ghost use Rattle.rv_report.specs.Races.{same_key};
 
 use crate::row::{RaceRow, joined};
@@ -53,7 +53,7 @@ impl HuntTable {
 
     /// The row of a race, where there is one.
     fn row(&self, key: &Key) -> Option<RaceRow>
-        ensures { result ≡ internal.row_at same_key self.now key.now }
+        ensures { result ≡ keyed.row_at same_key self.now key.now }
     {
         self.rows.get(key).copied()
     }
@@ -67,7 +67,7 @@ impl HuntTable {
 
     /// The row of a race with one row more, which is its first where there is none yet.
     fn with_row(&self, key: &Key, row: &RaceRow) -> RaceRow
-        ensures { result ≡ internal.with_row spec.joined (internal.row_at same_key self.now key.now) row.now }
+        ensures { result ≡ keyed.with_row spec.joined (keyed.row_at same_key self.now key.now) row.now }
     {
         match self.row(key) {
             Some(first) => joined(&first, row),

@@ -24,11 +24,23 @@ const COST_OF_A_RUN: u64 = 300;
 
 const COST_OF_A_PROBE: u64 = 20;
 
-/// How many steps the plans of the longest runs have, and how many harts exited in those runs.
+/// Of the runs whose plans have the most steps: how many steps these have, how many such runs there were, in how many of them a trap
+/// stopped a hart, in how many a trap stopped each before one was paused, and in how many none exited.
 #[derive(Clone, Copy)]
 pub struct Longest {
     pub steps: u32,
-    pub exits: u64,
+    pub runs: u64,
+    pub trapped: u64,
+    pub lost: u64,
+    pub exitless: u64,
+}
+
+/// How a run came to its end: whether a trap stopped a hart, whether a trap stopped each before one was paused, and whether none exited.
+#[derive(Clone, Copy)]
+pub struct RunEnd {
+    pub is_trapped: bool,
+    pub is_lost: bool,
+    pub is_exitless: bool,
 }
 
 /// Of the walks with the most harts: how many harts these have, how many walks there were, and how many of them made all steps that
@@ -51,10 +63,10 @@ pub struct Tally {
     paused: Addresses,
     counts: Counts,
     sampled: Counts,
-    some_stopped: u64,
     each_stopped: u64,
     longest: Longest,
     widest: Widest,
+    tried: u64,
 }
 
 impl Model for Tally {
@@ -71,10 +83,10 @@ impl Model for Tally {
       paused = t.paused;
       counts = t.counts;
       sampled = t.sampled;
-      some_stopped = t.some_stopped;
       each_stopped = t.each_stopped;
       longest = t.longest;
       widest = t.widest;
+      tried = t.tried;
     } };
 }
 
@@ -83,6 +95,13 @@ impl Model for Tally {
 struct Ends {
     exits: u64,
     traps: u64,
+}
+
+/// Whether it is more than half of so many.
+fn is_most(some: u64, all: u64) -> bool
+    ensures { result ≡ warning.is_most some all }
+{
+    u128::from(all) < 2 * u128::from(some)
 }
 
 /// How the harts of a run ended, counted.
@@ -103,16 +122,36 @@ fn counted(ends: &[End]) -> Ends
     Ends { exits, traps }
 }
 
-/// The longest runs, after one of so many steps and exits.
-fn longest_with(longest: Longest, steps: u32, exits: u64) -> Longest
-    ensures { result ≡ spec.longest_with longest steps exits }
+/// How a run ended whose harts ended so, and whose pauses were so many.
+fn run_end(ends: Ends, harts: u64, pauses: u64) -> RunEnd
+    ensures { result ≡ spec.run_end ends.exits ends.traps harts pauses }
+{
+    RunEnd {
+        is_trapped: 1 <= ends.traps,
+        is_lost: ends.traps == harts && pauses == 0,
+        is_exitless: ends.exits == 0,
+    }
+}
+
+/// The longest runs, after one of so many steps that ended so.
+fn longest_with(longest: Longest, steps: u32, end: RunEnd) -> Longest
+    ensures { result ≡ spec.longest_with longest steps end }
 {
     if longest.steps < steps {
-        Longest { steps, exits }
+        Longest {
+            steps,
+            runs: 1,
+            trapped: u64::from(end.is_trapped),
+            lost: u64::from(end.is_lost),
+            exitless: u64::from(end.is_exitless),
+        }
     } else if longest.steps == steps {
         Longest {
             steps: longest.steps,
-            exits: longest.exits.saturating_add(exits),
+            runs: longest.runs.saturating_add(1),
+            trapped: raised(longest.trapped, end.is_trapped),
+            lost: raised(longest.lost, end.is_lost),
+            exitless: raised(longest.exitless, end.is_exitless),
         }
     } else {
         longest
@@ -164,14 +203,20 @@ impl Tally {
             paused: Addresses::new(alloc),
             counts: Counts::none(),
             sampled: Counts::none(),
-            some_stopped: 0,
             each_stopped: 0,
-            longest: Longest { steps: 0, exits: 0 },
+            longest: Longest {
+                steps: 0,
+                runs: 0,
+                trapped: 0,
+                lost: 0,
+                exitless: 0,
+            },
             widest: Widest {
                 harts: 0,
                 walks: 0,
                 spent: 0,
             },
+            tried: 0,
         }
     }
 
@@ -189,10 +234,12 @@ impl Tally {
         self.counts = sum(self.counts, run.counts);
         self.sampled = sum(self.sampled, run.sampled);
         let ends = counted(&run.ends);
-        self.some_stopped = raised(self.some_stopped, 1 <= ends.traps);
-        self.each_stopped = raised(self.each_stopped, ends.traps == run.ends.len() as u64);
-        self.longest = longest_with(self.longest, run.most_steps, ends.exits);
-        self.widest = widest_after(self.widest, run.ends.len() as u64, run.walk);
+        let harts = run.ends.len() as u64;
+        self.each_stopped = raised(self.each_stopped, ends.traps == harts);
+        let end = run_end(ends, harts, run.counts.pauses());
+        self.longest = longest_with(self.longest, run.most_steps, end);
+        self.widest = widest_after(self.widest, harts, run.walk);
+        self.tried = self.tried.saturating_add(run.tried);
         Ok(())
     }
 
@@ -276,7 +323,8 @@ impl Tally {
                 .counts
                 .steps
                 .saturating_add(self.runs.saturating_mul(COST_OF_A_RUN))
-                .saturating_add(self.probes.saturating_mul(COST_OF_A_PROBE)),
+                .saturating_add(self.probes.saturating_mul(COST_OF_A_PROBE))
+                .saturating_add(self.tried),
             is_hopeless: self.is_hopeless(),
         }
     }
@@ -288,11 +336,18 @@ impl Tally {
         self.pauses() == 0
     }
 
-    /// Whether every run ended with a hart stopped by a trap.
-    pub fn each_run_trapped(&self) -> bool
-        ensures { result ≡ warning.each_run_trapped self.now }
+    /// Whether in most of the longest runs a trap stopped a hart.
+    pub fn most_trapped(&self) -> bool
+        ensures { result ≡ warning.most_trapped self.now }
     {
-        1 <= self.runs && self.some_stopped == self.runs
+        is_most(self.longest.trapped, self.longest.runs)
+    }
+
+    /// Whether in most of the longest runs a trap stopped each hart before one was paused.
+    pub fn most_lost(&self) -> bool
+        ensures { result ≡ warning.most_lost self.now }
+    {
+        is_most(self.longest.lost, self.longest.runs)
     }
 
     /// Whether pauses were made, and within none of them another hart made a step.
@@ -310,17 +365,17 @@ impl Tally {
         self.armed.count() < half
     }
 
-    /// Whether each walk of the most harts made all steps that a walk may make, and saw no near pair.
+    /// Whether most walks of the most harts made all steps that a walk may make, and saw no near pair.
     pub fn walked_in_vain(&self) -> bool
         ensures { result ≡ warning.walked_in_vain self.now }
     {
-        1 <= self.widest.walks && self.widest.spent == self.widest.walks
+        is_most(self.widest.spent, self.widest.walks)
     }
 
-    /// Whether no hart exited in any of the runs whose plan has the most steps.
+    /// Whether in most of the runs whose plan has the most steps no hart exited.
     pub fn exited_nowhere(&self) -> bool
         ensures { result ≡ warning.exited_nowhere self.now }
     {
-        1 <= self.runs && self.longest.exits == 0
+        is_most(self.longest.exitless, self.longest.runs)
     }
 }

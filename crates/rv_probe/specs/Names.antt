@@ -38,6 +38,7 @@ text_of call.Find = codes "Session::find"
 text_of call.RunOne = codes "run_one"
 text_of call.NewWatched = codes "Watched::new"
 text_of call.AddEnding = codes "RaceTable::add"
+text_of call.Exhibit = codes "exhibit"
 text_of call.Campaign = codes "campaign"
 text_of call.RunThreads = codes "run_threads"
 

@@ -70,6 +70,7 @@ fn make_of_schedules<O: Output>(alloc: Global, name: Name, screen: &mut O) -> Re
         Name::RunOne => cores::runs_once(alloc, screen),
         Name::NewWatched => cores::begins_watched(alloc, screen),
         Name::AddEnding => cores::adds_an_ending(alloc, screen),
+        Name::Exhibit => cores::exhibits(alloc, screen),
         Name::NewSession => sessions::begins(alloc, screen),
         Name::Go => sessions::goes(alloc, screen),
         Name::Forward => sessions::goes_forward(alloc, screen),

@@ -36,12 +36,13 @@ pub enum Name {
     RunOne,
     NewWatched,
     AddEnding,
+    Exhibit,
     Campaign,
     RunThreads,
 }
 
 /// All calls.
-pub const NAMES: [Name; 33] = [
+pub const NAMES: [Name; 34] = [
     Name::Load,
     Name::Write,
     Name::Copy,
@@ -73,6 +74,7 @@ pub const NAMES: [Name; 33] = [
     Name::RunOne,
     Name::NewWatched,
     Name::AddEnding,
+    Name::Exhibit,
     Name::Campaign,
     Name::RunThreads,
 ];
@@ -114,6 +116,7 @@ impl Name {
             Name::RunOne => b"run_one",
             Name::NewWatched => b"Watched::new",
             Name::AddEnding => b"RaceTable::add",
+            Name::Exhibit => b"exhibit",
             Name::Campaign => b"campaign",
             Name::RunThreads => b"run_threads",
         }

@@ -10,6 +10,7 @@ use rv_hart::machine::StepFault;
 use rv_locked::threads::RunFault;
 use rv_memory::store::{MemFault, NoMemory};
 use rv_prune::names::NamesFault;
+use rv_report::exhibit::ExhibitFault;
 use std::alloc::{AllocError, AllocFailed};
 use std::convert::Infallible;
 
@@ -112,6 +113,12 @@ impl From<ReplayFault> for Refusal {
             ReplayFault::NoMemory => Refusal::NoMemory,
             ReplayFault::Entry { .. } => Refusal::Other,
         }
+    }
+}
+
+impl From<ExhibitFault> for Refusal {
+    fn from(fault: ExhibitFault) -> Refusal {
+        Refusal::by_memory(matches!(fault, ExhibitFault::NoMemory))
     }
 }
 

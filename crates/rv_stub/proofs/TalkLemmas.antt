@@ -2,7 +2,7 @@
 use Rattle.std.proofs.Common.{◌≡◌, ℕ, ◌+◌, ◌-◌, ◌<◌, ◌≤◌, true, false, List, [], ◌∷◌, ◌++◌, Option, Some, None, length, take, drop, refl, sym, ap, subst, ◌∙◌, arith, append-nil, append_assoc, length-append}
 use Rattle.std.specs.Prelude.{IfSome}
 use Rattle.std.specs.Io.KnownBytes.{Appends, Consumes, IsAtEnd, Keeps, append_known}
-use Rattle.std.proofs.KnownBytes.{Appends-kept, Appends-nil, Appends-trans, Consumes-nil, Consumes-trans}
+use Rattle.std.proofs.KnownBytes.{Appends-kept, Appends-nil, Appends-trans, Consumes-nil, Consumes-trans, Keeps-refl}
 use Rattle.std.proofs.Math.Seq.{take-append_seam}
 use Rattle.std.proofs.lemmas.List.{length-drop, length-take-le, take-append-drop, take-take}
 use Rattle.rv_memory.specs.declared.flagged.TheConstants.{INPUT_LIMIT}
@@ -66,6 +66,10 @@ pub handed : (a sent : Option (List ℕ)) (pending : List ℕ) → Keeps a sent 
 handed None sent pending keeps none = tt
 handed (Some x) None pending keeps none = absurd keeps
 handed (Some x) (Some y) pending keeps none = ap (λ l. y ++ l) none ∙ append-nil y ∙ keeps
+
+-- the same of what is sent of a text
+pub handed_on : (a sent : Option (List ℕ)) (pending text : List ℕ) → Appends a sent text → pending ≡ [] → Appends a (append_known sent pending) text
+handed_on a sent pending text put none = Appends-kept a sent (append_known sent pending) text put (handed sent sent pending (Keeps-refl sent) none)
 
 pub talk_kept : (c end : Conversation) (bytes : List ℕ) (a b sent : Option (List ℕ)) → IsTalk c bytes end (Appends a b) → Keeps b sent → IsTalk c bytes end (Appends a sent)
 talk_kept c end bytes a b sent talk keeps =
@@ -137,6 +141,9 @@ over_talk limit start now next (Some input) (Some rest) (Some after) left bytes 
     so_far.taken ∙ ap (λ l. so_far.read ++ l) (took ∙ ap (λ l. l ++ after) is ∙ append_assoc front back after) ∙ sym (append_assoc so_far.read front (back ++ after)) in
     whole_over start next input (back ++ after) (so_far.read ++ front) (Appends a sent) (talk_kept start next (so_far.read ++ front) a d sent joined kept) parts over
 
+cut_at : (n m : ℕ) (xs : List ℕ) → n ≤ m → take m xs ≡ take n xs ++ drop n (take m xs)
+cut_at n m xs few = sym (take-append-drop n (take m xs)) ∙ ap (λ l. l ++ drop n (take m xs)) (take-take n m xs few)
+
 -- ---- how it stops
 
 take_whole : (xs ys : List ℕ) (n : ℕ) → length xs ≡ n → take n (xs ++ ys) ≡ xs
@@ -180,13 +187,34 @@ broken_talk limit start now (Some input) rest after left a b sent so_far keeps k
       is_read = still (Some input) rest after so_far.read so_far.taken keeps;
       end = now;
       talk = talk_kept start now so_far.read a b sent so_far.talk kept;
-      goes_on = so_far.goes_on;
+      is_heard = rw so_far.goes_on refl;
+    }
+
+-- the talk is over, and the reader fails where an acknowledgment is waited for
+pub over_broken : (limit : ℕ) (start now next : Conversation) (all rest after later : Option (List ℕ)) (left count within : ℕ) (chunk more : List ℕ) (a b c d sent : Option (List ℕ)) → SoFar limit start now all rest left a b
+    → Consumes rest after (take count chunk) → Consumes after later more → within ≤ count → Keeps b c → IsTalk now (take within chunk) next (Appends c d) → next.is_over ≡ true → next.acknowledges ≡ true → Keeps d sent
+    → IfSome all (λ input. IsBroken start input later (Appends a sent))
+over_broken limit start now next None rest after later left count within chunk more a b c d sent so_far took on few keeps talk over waits kept = tt
+over_broken limit start now next (Some input) rest after later left count within chunk more a b c d sent so_far took on few keeps talk over waits kept =
+    let front = take within chunk in
+    let back = drop within (take count chunk) in
+    let joined = talk_kept start next (so_far.read ++ front) a d sent (talk_on start now next so_far.read front a c d (talk_kept start now so_far.read a b c so_far.talk keeps) talk) kept in
+    let all_of = talks_join start (so_far.read ++ front) (back ++ more) joined.text [] next next joined.talks (talks_over next (back ++ more) over) in
+    let parts : (so_far.read ++ take count chunk) ++ more ≡ (so_far.read ++ front) ++ (back ++ more) =
+    ap (λ l. (so_far.read ++ l) ++ more) (cut_at within count chunk few) ∙ append_assoc so_far.read (front ++ back) more ∙ ap (λ l. so_far.read ++ l) (append_assoc front back more) ∙ sym (append_assoc so_far.read front (back ++ more)) in
+    record {
+      read = (so_far.read ++ take count chunk) ++ more;
+      is_read = Consumes-trans (Some input) after later (so_far.read ++ take count chunk) more (Consumes-trans (Some input) rest after so_far.read (take count chunk) so_far.taken took) on;
+      end = next;
+      talk = record {
+        text = joined.text;
+        talks = subst (λ (l : List ℕ). Talks start l joined.text next) (sym parts) (subst (λ (t : List ℕ). Talks start ((so_far.read ++ front) ++ (back ++ more)) t next) (append-nil joined.text) all_of);
+        written = joined.written;
+      };
+      is_heard = rw (over, waits) refl;
     }
 
 -- ---- one read
-
-cut_at : (n m : ℕ) (xs : List ℕ) → n ≤ m → take m xs ≡ take n xs ++ drop n (take m xs)
-cut_at n m xs few = sym (take-append-drop n (take m xs)) ∙ ap (λ l. l ++ drop n (take m xs)) (take-take n m xs few)
 
 pub over_read : (limit : ℕ) (start now next : Conversation) (all rest after : Option (List ℕ)) (left count within : ℕ) (chunk : List ℕ) (a b c d sent : Option (List ℕ)) → SoFar limit start now all rest left a b
     → Consumes rest after (take count chunk) → within ≤ count → Keeps b c → IsTalk now (take within chunk) next (Appends c d) → next.is_over ≡ true → Keeps d sent → IfSome all (λ input. IsWhole start input (Appends a sent))

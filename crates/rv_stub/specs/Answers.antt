@@ -147,7 +147,7 @@ abbrev pub no_ending_text : List ℕ
 no_ending_text = codes "fault 6 NoEnding\n"
 
 abbrev pub not_report_text : List ℕ
-not_report_text = codes "fault 7 NotReport\n"
+not_report_text = codes "fault 7 NotReport: no access met this pause, to which `monitor ending` goes\n"
 
 abbrev pub no_memory_text : List ℕ
 no_memory_text = codes "fault 5 NoMemory\n"

@@ -1,6 +1,8 @@
 pub mod Answers
+pub mod GdbFault
 pub mod Heard
 pub mod Met
+pub mod MetLaws
 pub mod Paused
 pub mod Reply
 pub mod Resumed

@@ -1,5 +1,5 @@
 -- What is written of an input of packets, byte by byte.
-use Rattle.std.specs.Prelude.{◌≡◌, ℕ, ◌<◌, ⊤, false, Option, Some, List, [], ◌∷◌, ◌++◌, length, take}
+use Rattle.std.specs.Prelude.{◌≡◌, ℕ, ◌<◌, ◌&&◌, ⊤, false, not, Option, Some, List, [], ◌∷◌, ◌++◌, length, take}
 use Rattle.std.specs.Io.KnownBytes.{Consumes}
 use Rattle.rv_debug.specs.declared.fault.TalkFault.{TalkFault}
 use Rattle.rv_debug.specs.declared.fault.TalkFault.TheVariants.{TooLong, Read, Write}
@@ -30,13 +30,13 @@ pub record IsCutOff (c : Conversation) (input : List ℕ) (Writes : List ℕ →
   pub talk : IsTalk c (take INPUT_LIMIT input) end Writes
   pub goes_on : end.is_over ≡ false
 
--- The reader fails, and these bytes were read before. None of them ends the talk.
+-- The reader fails, and these bytes were read before. Where one of them ends the talk, its answer is still to be acknowledged.
 pub record IsBroken (c : Conversation) (input : List ℕ) (rest : Option (List ℕ)) (Writes : List ℕ → Type 0) : Type 0 where
   pub read : List ℕ
   pub is_read : Consumes (Some input) rest read
   pub end : Conversation
   pub talk : IsTalk c read end Writes
-  pub goes_on : end.is_over ≡ false
+  pub is_heard : (end.is_over && not end.acknowledges) ≡ false
 
 -- why the talk over an input stops before its end, and what is written then
 abbrev pub IsStopped : Conversation → List ℕ → Option (List ℕ) → (List ℕ → Type 0) → TalkFault → Type 0

@@ -5,6 +5,8 @@
 #![tactic(auto)]
 
 pub mod engine;
+pub mod fault;
+pub mod laws;
 pub mod no_room;
 pub mod reply;
 pub mod resume;

@@ -1,6 +1,6 @@
 //! A talk: bytes in, answers out.
-ghost use Rattle.std.specs.Prelude.{◌≡◌, ◌<◌, ◌≤◌, ◌&&◌, ◌||◌, false, not, is_err, IfErr, IfSome, OnOk};
-ghost use Rattle.std.specs.Io.KnownBytes.{Appends};
+ghost use Rattle.std.specs.Prelude.{◌≡◌, ℕ, ◌<◌, ◌≤◌, ◌&&◌, ◌||◌, true, false, not, is_err, IfErr, IfSome, List, [], OnErr, OnOk};
+ghost use Rattle.std.specs.Io.KnownBytes.{Appends, Consumes};
 ghost use Rattle.rv_debug.specs.Fault.{fails_by, is_read, is_write};
 ghost use Rattle.rv_memory.specs.Buffered as buffer;
 ghost use Rattle.rv_memory.specs.Flagged as flag;
@@ -110,10 +110,15 @@ impl Conversation {
         }
     }
 
-    /// Answers a packet.
-    fn answer_packet<O: Output>(&mut self, alloc: Global, writer: &mut O) -> Result<(), WriteFault>
-        ensures turn { OnOk result (spec.Turns (spec.IsTaken self.old (spec.requested self.old.reading)) self.new (Appends (O.written writer.old) (O.written writer.new))) }
-        ensures failed { O.has_failed writer.new ≡ (O.has_failed writer.old || is_err result) }
+    /// Answers a packet. Its acknowledgment has been sent, since the answer may take long to find.
+    fn answer_packet<W: Write>(
+        &mut self,
+        alloc: Global,
+        writer: &mut Buffered<W>,
+    ) -> Result<(), WriteFault>
+        requires acknowledged { self.old.acknowledges ≡ true → buffer.pending writer.old ≡ [] }
+        ensures turn { OnOk result (spec.Turns (spec.IsTaken self.old (spec.requested self.old.reading)) self.new (Appends (buffer.written W.contents writer.old) (buffer.written W.contents writer.new))) }
+        ensures failed { buffer.has_failed writer.new ≡ (buffer.has_failed writer.old || is_err result) }
     {
         let request = requested(&self.reading);
         if kills(&request) {
@@ -217,6 +222,30 @@ fn within(count: usize, left: usize) -> usize
 }
 
 impl Conversation {
+    /// Reads on until the last packet written is acknowledged, or to the end of the input: GDB sends that once it has the
+    /// packet, and fails where nobody is there to take it.
+    fn await_acknowledgment<C: Read>(&self, commands: &mut Flagged<C>) -> Result<(), TalkFault>
+        ensures fault { IfErr result (λ fault. fault ≡ TalkFault.Read) }
+        ensures waits { OnErr result (self.now.acknowledges ≡ true) }
+        ensures taken { OnErr result ((bytes : List ℕ) × Consumes (C.remaining (flag.device commands.old)) (C.remaining (flag.device commands.new)) bytes) }
+        ensures reader { flag.has_failed commands.new ≡ (flag.has_failed commands.old || is_err result) }
+    {
+        if !self.acknowledges {
+            return Ok(());
+        }
+        let mut chunk = [0; CHUNK];
+        // No more reads than an input may have bytes.
+        for _read in 0..INPUT_LIMIT {
+            let Ok(count) = commands.read(&mut chunk) else {
+                return Err(TalkFault::Read);
+            };
+            if count == 0 || chunk[..count].contains(&b'+') {
+                return Ok(());
+            }
+        }
+        Ok(())
+    }
+
     /// Answers the packets of an input, as below.
     fn hear_input<C: Read, W: Write>(
         &mut self,
@@ -248,6 +277,7 @@ impl Conversation {
             self.hear_all(alloc, &chunk[..within], writer)?;
             if self.is_over {
                 send_last(writer)?;
+                self.await_acknowledgment(commands)?;
                 return Ok(());
             }
             if within < count {

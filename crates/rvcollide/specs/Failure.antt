@@ -1,5 +1,5 @@
 -- The exit status of a failure, and what is printed of it.
-use Rattle.std.specs.Prelude.{ℕ, Bool, true, false, Option, Some, None, option_map, List, [], ◌++◌, codes}
+use Rattle.std.specs.Prelude.{ℕ, Bool, true, false, if◌then◌else◌, Option, Some, None, option_map, List, [], ◌++◌, codes}
 use Rattle.std.specs.declared.io.ErrorKind.{ErrorKind}
 use Rattle.std.specs.declared.io.ErrorKind.TheVariants as kind
 use Rattle.rv_engines.specs.CommandFault.{refusal_output, status}
@@ -8,9 +8,9 @@ use Rattle.rv_command.specs.declared.command.LineFault.TheVariants as fault
 use Rattle.rv_command.specs.Status.{code}
 use Rattle.rv_command.specs.declared.status.Status.TheVariants as exit
 use Rattle.rvcollide.specs.declared.failure.Failure.{Failure}
-use Rattle.rvcollide.specs.declared.failure.Failure.TheVariants.{Line, NotText, Told, Filed, OfFile, Found}
+use Rattle.rvcollide.specs.declared.failure.Failure.TheVariants.{Line, NotText, Told, Filed, OfFile, Found, Void}
 use Rattle.rv_engines.specs.declared.fault.Fault.{Fault}
-use Rattle.rv_engines.specs.declared.fault.Fault.TheVariants.{NoMemory, Write}
+use Rattle.rv_engines.specs.declared.fault.Fault.TheVariants.{NoMemory, Read, Write}
 use Rattle.rv_engines.specs.declared.run.fault.CommandFault.{CommandFault}
 use Rattle.rv_engines.specs.declared.run.fault.CommandFault.TheVariants.{Plain}
 use Rattle.rv_engines.specs.declared.sentences.FaultLine.{FaultLine}
@@ -19,31 +19,50 @@ use Rattle.rv_engines.specs.Shown.{shown}
 use Rattle.std.specs.Fmt.{decimal}
 use Rattle.rv_hunt.specs.merge.FileFaultText as file
 use Rattle.rv_hunt.specs.declared.merge.fault.FileFault.{FileFault}
+use Rattle.rv_hunt.specs.declared.merge.fault.FileFault.TheVariants as files
+use Rattle.rvcollide.specs.System as system
+use Rattle.rvcollide.specs.declared.system.SystemSaid.{SystemSaid}
 use Rattle.rvcollide.specs.declared.file_line.FileLine.{FileLine}
 use Rattle.rvcollide.specs.declared.file_line.FilePlace.{FilePlace}
 use Rattle.rvcollide.specs.declared.folder.Kind.{Kind}
 use Rattle.rvcollide.specs.declared.folder.Kind.TheVariants as saved
 use Rattle.rvcollide.specs.declared.folder.Saved.{Saved}
 
--- what is wrong, or what to do, where the file was to be made and was there already, and else
-abbrev pub sentence_of : Bool → FileFault → List ℕ
-sentence_of true fault = codes "that file is there already: name another folder"
-sentence_of false fault = file.sentence fault
+-- a device has failed
+abbrev pub is_of_device : FileFault → Bool
+is_of_device (files.Plain Read) = true
+is_of_device (files.Plain Write) = true
+is_of_device _ = false
+
+-- what is wrong, or what to do: where the file was to be made and was there already; where the system said why a device failed; and else
+abbrev pub sentence_of : Bool → Option SystemSaid → FileFault → List ℕ
+sentence_of true said fault = codes "that file is there already: name another folder"
+sentence_of false None fault = file.sentence fault
+sentence_of false (Some said) fault = if is_of_device fault then system.sentence said else file.sentence fault
 
 -- `FAULT: SENTENCE`, of a file of a hunt
-abbrev pub file_said_output : Bool → FileFault → Option (List ℕ)
-file_said_output stands fault = option_map (λ words. words ++ (codes ": " ++ sentence_of stands fault)) (file.fault_output fault)
+abbrev pub file_said_output : Bool → Option SystemSaid → FileFault → Option (List ℕ)
+file_said_output stands said fault = option_map (λ words. words ++ (codes ": " ++ sentence_of stands said fault)) (file.fault_output fault)
 
--- `/race-K.schedule`, of a race's file in a folder
 -- what the names of its files begin with
 abbrev pub word_of : Kind → List ℕ
 word_of saved.Race = codes "race"
+word_of saved.First = codes "race"
+word_of saved.Second = codes "race"
 word_of saved.StuckEnd = codes "stuck"
 word_of saved.Ended = codes "end"
 
+-- what stands behind the number in them
+abbrev pub tail_of : Kind → List ℕ
+tail_of saved.Race = []
+tail_of saved.First = codes "-first"
+tail_of saved.Second = codes "-second"
+tail_of saved.StuckEnd = []
+tail_of saved.Ended = []
+
 abbrev pub schedule_file : Option Saved → List ℕ
 schedule_file None = []
-schedule_file (Some file) = codes "/" ++ (word_of file.kind ++ (codes "-" ++ (decimal file.number ++ codes ".schedule")))
+schedule_file (Some file) = codes "/" ++ (word_of file.kind ++ (codes "-" ++ (decimal file.number ++ (tail_of file.kind ++ codes ".schedule"))))
 
 abbrev pub place_output : FilePlace → List ℕ
 place_output place = shown place.path.now ++ schedule_file place.schedule
@@ -54,9 +73,9 @@ after_place (Some place) said = place_output place ++ (codes ": " ++ said)
 
 -- the same after the file, where one is at fault
 abbrev pub file_line_output : FileLine → Option (List ℕ)
-file_line_output line = option_map (after_place line.file) (file_said_output line.stands line.fault)
+file_line_output line = option_map (after_place line.file) (file_said_output line.stands line.said line.fault)
 
--- the exit status: that of a refused command line, that of what a hunt was to look for, and else the fault's
+-- the exit status: that of a refused command line, those of what a hunt was to look for, and else the fault's
 abbrev pub status_of : Failure → ℕ
 status_of Line = code exit.Line
 status_of NotText = code exit.Line
@@ -64,6 +83,7 @@ status_of (Told fault) = status fault
 status_of (Filed line) = status line.fault
 status_of (OfFile line) = file.status line.fault
 status_of Found = code exit.Found
+status_of Void = code exit.Void
 
 -- what is wrong was told already
 abbrev pub is_told : Failure → Bool
@@ -73,6 +93,7 @@ is_told (Told fault) = false
 is_told (Filed line) = false
 is_told (OfFile line) = false
 is_told Found = true
+is_told Void = true
 
 -- what the program still tells of it, after its own name
 abbrev pub failure_output : Failure → Option (List ℕ)
@@ -82,6 +103,7 @@ failure_output (Told fault) = refusal_output fault
 failure_output (Filed line) = line_output line
 failure_output (OfFile line) = file_line_output line
 failure_output Found = Some []
+failure_output Void = Some []
 
 abbrev pub told : CommandFault → Failure
 told fault = Told fault

@@ -26,6 +26,8 @@ pub enum Failure<'a> {
     OfFile(FileLine<'a>),
     /// A hunt found what it was to look for. What it found was told.
     Found,
+    /// A hunt found no race, and that means nothing. Why was told by a warning.
+    Void,
 }
 
 impl Failure<'_> {
@@ -34,7 +36,7 @@ impl Failure<'_> {
         ensures { result ≡ spec.is_told self.entry }
     {
         match self {
-            Failure::Line | Failure::Found => true,
+            Failure::Line | Failure::Found | Failure::Void => true,
             Failure::NotText | Failure::Told(_) | Failure::Filed(_) | Failure::OfFile(_) => false,
         }
     }
@@ -49,6 +51,7 @@ impl Failure<'_> {
             Failure::Filed(line) => line.fault.status(),
             Failure::OfFile(line) => line.fault.status(),
             Failure::Found => Status::Found.code(),
+            Failure::Void => Status::Void.code(),
         }
     }
 }
@@ -59,7 +62,7 @@ impl fmt::Display for Failure<'_> {
 
     fn fmt<W: fmt::Write>(&self, f: &mut fmt::Formatter<W>) -> fmt::Result {
         match self {
-            Failure::Line | Failure::Found => Ok(()),
+            Failure::Line | Failure::Found | Failure::Void => Ok(()),
             Failure::NotText => f.write_str("an argument is not UTF-8"),
             Failure::Told(fault) => write!(f, "{fault}"),
             Failure::Filed(line) => write!(f, "{line}"),

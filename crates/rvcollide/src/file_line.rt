@@ -3,6 +3,8 @@ ghost use Rattle.std.specs.Prelude.{◌≡◌, Some};
 ghost use Rattle.rvcollide.specs.Failure as spec;
 
 use crate::folder::Saved;
+use crate::system::SystemSaid;
+use rv_engines::fault::Fault;
 use rv_engines::shown::Shown;
 use rv_hunt::merge::fault::{FileFault, sentence};
 use std::fmt;
@@ -21,21 +23,23 @@ impl fmt::Display for FilePlace<'_> {
         match self.schedule {
             Some(file) => write!(
                 f,
-                "{}/{}-{}.schedule",
+                "{}/{}-{}{}.schedule",
                 Shown(self.path),
                 file.kind.word(),
-                file.number
+                file.number,
+                file.kind.tail()
             ),
             None => write!(f, "{}", Shown(self.path)),
         }
     }
 }
 
-/// A fault with the file that is at fault, where one is, and whether that was to be made and was there already.
+/// A fault with the file that is at fault, where one is, whether that was to be made and was there already, and what the system said.
 #[derive(Clone, Copy)]
 pub struct FileLine<'a> {
     pub file: Option<FilePlace<'a>>,
     pub stands: bool,
+    pub said: Option<SystemSaid>,
     pub fault: FileFault,
 }
 
@@ -43,30 +47,43 @@ pub struct FileLine<'a> {
 #[derive(Drop)]
 struct Said {
     stands: bool,
+    said: Option<SystemSaid>,
     fault: FileFault,
 }
 
 impl fmt::Display for Said {
-    ghost output = { λ said. spec.file_said_output said.stands said.fault };
+    ghost output = { λ said. spec.file_said_output said.stands said.said said.fault };
 
     fn fmt<W: fmt::Write>(&self, f: &mut fmt::Formatter<W>) -> fmt::Result {
         write!(
             f,
             "{}: {}",
             self.fault,
-            sentence_of(self.stands, self.fault)
+            sentence_of(self.stands, self.said, self.fault)
         )
     }
 }
 
+/// Whether a device has failed.
+fn is_of_device(fault: FileFault) -> bool
+    ensures { result ≡ spec.is_of_device fault }
+{
+    match fault {
+        FileFault::Plain(Fault::Read | Fault::Write) => true,
+        _ => false,
+    }
+}
+
 /// What is wrong, or what to do.
-fn sentence_of(stands: bool, fault: FileFault) -> &'static str
-    ensures { result.now ≡ spec.sentence_of stands fault }
+fn sentence_of(stands: bool, said: Option<SystemSaid>, fault: FileFault) -> &'static str
+    ensures { result.now ≡ spec.sentence_of stands said fault }
 {
     if stands {
-        "that file is there already: name another folder"
-    } else {
-        sentence(fault)
+        return "that file is there already: name another folder";
+    }
+    match said {
+        Some(said) if is_of_device(fault) => said.sentence(),
+        _ => sentence(fault),
     }
 }
 
@@ -77,6 +94,7 @@ impl fmt::Display for FileLine<'_> {
     fn fmt<W: fmt::Write>(&self, f: &mut fmt::Formatter<W>) -> fmt::Result {
         let said = Said {
             stands: self.stands,
+            said: self.said,
             fault: self.fault,
         };
         match self.file {

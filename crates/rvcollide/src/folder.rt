@@ -1,10 +1,11 @@
 //! The folder of a hunt's schedules, on the system.
 ghost use Rattle.std.specs.Prelude.{◌≡◌, ◌||◌};
 ghost use Rattle.rv_hunt.specs.engine.FolderFault.{fails_by_write, is_write};
-ghost use Rattle.rvcollide.specs.Failure.{word_of};
+ghost use Rattle.rvcollide.specs.Failure.{tail_of, word_of};
 
+use crate::files::write_all;
+use crate::system::{SystemFault, SystemSaid};
 use rv_hunt::engine::folder::{Beside, Folder, FolderFault};
-use rv_memory::flagged::{Flagged, flush, write_whole};
 use rv_text::decimal::read_decimal;
 use std::fs::{self, File};
 use std::io;
@@ -13,11 +14,20 @@ use std::io;
 #[derive(Clone, Copy, PartialEq, Eq, PartialOrd, Ord)]
 pub enum Kind {
     Race,
+    /// The copies of the trial that is shown of a race's order.
+    First,
+    Second,
     StuckEnd,
     Ended,
 }
 
-const KINDS: [Kind; 3] = [Kind::Race, Kind::StuckEnd, Kind::Ended];
+const KINDS: [Kind; 5] = [
+    Kind::Race,
+    Kind::First,
+    Kind::Second,
+    Kind::StuckEnd,
+    Kind::Ended,
+];
 
 impl Kind {
     /// What the names of its files begin with.
@@ -25,9 +35,20 @@ impl Kind {
         ensures { result.now ≡ word_of self }
     {
         match self {
-            Kind::Race => "race",
+            Kind::Race | Kind::First | Kind::Second => "race",
             Kind::StuckEnd => "stuck",
             Kind::Ended => "end",
+        }
+    }
+
+    /// What stands behind the number in the names of its files.
+    pub fn tail(self) -> &'static str
+        ensures { result.now ≡ tail_of self }
+    {
+        match self {
+            Kind::First => "-first",
+            Kind::Second => "-second",
+            Kind::Race | Kind::StuckEnd | Kind::Ended => "",
         }
     }
 }
@@ -51,6 +72,32 @@ pub struct ScheduleFolder<'a> {
     failed: bool,
     at: Option<Saved>,
     stands: bool,
+    said: Option<SystemSaid>,
+}
+
+/// Why a folder takes no file, and what the system said.
+#[derive(Clone, Copy)]
+struct Refusal {
+    fault: FolderFault,
+    said: Option<SystemSaid>,
+}
+
+impl Refusal {
+    /// It says why the system did not do what it was asked.
+    fn of(error: &io::Error) -> Refusal {
+        let fault = match error.kind() {
+            io::ErrorKind::OutOfMemory => FolderFault::NoMemory,
+            _ => FolderFault::Write,
+        };
+        Refusal {
+            fault,
+            said: SystemSaid::of(error),
+        }
+    }
+
+    fn plain(fault: FolderFault) -> Refusal {
+        Refusal { fault, said: None }
+    }
 }
 
 impl<'a> ScheduleFolder<'a> {
@@ -62,6 +109,7 @@ impl<'a> ScheduleFolder<'a> {
             failed: false,
             at: None,
             stands: false,
+            said: None,
         }
     }
 
@@ -86,6 +134,11 @@ impl<'a> ScheduleFolder<'a> {
         self.stands
     }
 
+    /// What the system said of the file or the folder.
+    pub fn said(&self) -> Option<SystemSaid> {
+        self.said
+    }
+
     /// Makes a file, and notes where that fails.
     fn put(&mut self, file: Saved, bytes: &[u8]) -> Result<(), FolderFault>
         ensures { self.new.failed ≡ (self.old.failed || fails_by_write result) }
@@ -93,33 +146,35 @@ impl<'a> ScheduleFolder<'a> {
         self.is_used = true;
         match make_schedule(self.rt, self.path, file, bytes) {
             Ok(()) => Ok(()),
-            Err(fault) => {
-                self.note(fault, Some(file));
-                Err(fault)
+            Err(refusal) => {
+                self.note(refusal, Some(file));
+                Err(refusal.fault)
             }
         }
     }
 
     /// Notes why the folder takes no file: the first time, or of the first file by kind and number.
-    fn note(&mut self, fault: FolderFault, file: Option<Saved>)
-        ensures failed { self.new.failed ≡ (self.old.failed || is_write fault) }
+    fn note(&mut self, refusal: Refusal, file: Option<Saved>)
+        ensures failed { self.new.failed ≡ (self.old.failed || is_write refusal.fault) }
         ensures used { self.new.is_used ≡ self.old.is_used }
     {
-        if matches!(fault, FolderFault::Write) {
+        if matches!(refusal.fault, FolderFault::Write) {
             if !self.failed || file < self.at {
                 self.at = file;
+                self.said = refusal.said;
             }
             self.failed = true;
         }
     }
 }
 
-/// The schedule of that kind that a file of that name is: `KIND-K.schedule`.
+/// The schedule of that kind that a file of that name is: `KIND-K.schedule`, of a copy `race-K-first.schedule` and so on.
 fn schedule_of(kind: Kind, name: &str) -> Option<Saved> {
     let digits = name
         .strip_prefix(kind.word())?
         .strip_prefix("-")?
-        .strip_suffix(".schedule")?;
+        .strip_suffix(".schedule")?
+        .strip_suffix(kind.tail())?;
     let number = read_decimal(digits.as_bytes(), u32::MAX)?;
     Some(Saved {
         kind,
@@ -141,19 +196,11 @@ fn first_of(one: Option<Saved>, other: Option<Saved>) -> Option<Saved> {
     }
 }
 
-/// Why the system did not do what it was asked.
-fn fault_of(error: &io::Error) -> FolderFault {
-    match error.kind() {
-        io::ErrorKind::OutOfMemory => FolderFault::NoMemory,
-        _ => FolderFault::Write,
-    }
-}
-
 /// The first schedule of a hunt, by kind and number, that lies in the folder, if there is one.
-fn schedule_there(rt: &HostRuntime, path: &str) -> Result<Option<Saved>, FolderFault> {
+fn schedule_there(rt: &HostRuntime, path: &str) -> Result<Option<Saved>, Refusal> {
     let entries = match fs::read_dir(rt, path) {
         Ok(entries) => entries,
-        Err(error) => return Err(fault_of(&error)),
+        Err(error) => return Err(Refusal::of(&error)),
     };
     let mut first = None;
     for entry in entries {
@@ -161,54 +208,52 @@ fn schedule_there(rt: &HostRuntime, path: &str) -> Result<Option<Saved>, FolderF
             Ok(entry) => first = first_of(first, schedule_in(entry.file_name())),
             // A name that is no text is not that of a schedule.
             Err(error) if error.kind() == io::ErrorKind::InvalidFilename => {}
-            Err(error) => return Err(fault_of(&error)),
+            Err(error) => return Err(Refusal::of(&error)),
         }
     }
     Ok(first)
 }
 
 /// Makes a file that is not there yet, with these bytes.
-fn make_file(rt: &HostRuntime, path: &str, bytes: &[u8]) -> Result<(), FolderFault> {
+fn make_file(rt: &HostRuntime, path: &str, bytes: &[u8]) -> Result<(), Refusal> {
     let file = match File::create_new(rt, path) {
         Ok(file) => file,
-        Err(error) => return Err(fault_of(&error)),
+        Err(error) => return Err(Refusal::of(&error)),
     };
-    let mut writer = Flagged::new(file);
-    if write_whole(&mut writer, bytes).is_err() || flush(&mut writer).is_err() {
-        return Err(FolderFault::Write);
+    match write_all(file, bytes) {
+        Ok(()) => Ok(()),
+        Err(SystemFault { said }) => Err(Refusal {
+            fault: FolderFault::Write,
+            said,
+        }),
     }
-    Ok(())
 }
 
 /// Makes a schedule's file in a folder.
-fn make_schedule(
-    rt: &HostRuntime,
-    folder: &str,
-    file: Saved,
-    bytes: &[u8],
-) -> Result<(), FolderFault> {
+fn make_schedule(rt: &HostRuntime, folder: &str, file: Saved, bytes: &[u8]) -> Result<(), Refusal> {
     let kind = file.kind.word();
     let number = file.number;
-    let Ok(path) = format!(in rt.alloc(); "{folder}/{kind}-{number}.schedule") else {
-        return Err(FolderFault::NoMemory);
+    let tail = file.kind.tail();
+    let Ok(path) = format!(in rt.alloc(); "{folder}/{kind}-{number}{tail}.schedule") else {
+        return Err(Refusal::plain(FolderFault::NoMemory));
     };
     make_file(rt, path.as_str(), bytes)
 }
 
 /// Makes a file of the folder, and takes it away.
-fn try_folder(rt: &HostRuntime, folder: &str) -> Result<(), FolderFault> {
+fn try_folder(rt: &HostRuntime, folder: &str) -> Result<(), Refusal> {
     let Ok(path) = format!(in rt.alloc(); "{folder}/{TRIED}") else {
-        return Err(FolderFault::NoMemory);
+        return Err(Refusal::plain(FolderFault::NoMemory));
     };
     make_file(rt, path.as_str(), &[])?;
     match fs::remove_file(rt, path.as_str()) {
         Ok(()) => Ok(()),
-        Err(error) => Err(fault_of(&error)),
+        Err(error) => Err(Refusal::of(&error)),
     }
 }
 
 /// Looks whether the folder has no schedule of a hunt yet, and takes files.
-fn look_in(rt: &HostRuntime, folder: &str) -> Result<Option<Saved>, FolderFault> {
+fn look_in(rt: &HostRuntime, folder: &str) -> Result<Option<Saved>, Refusal> {
     let there = schedule_there(rt, folder)?;
     if there.is_none() {
         try_folder(rt, folder)?;
@@ -227,14 +272,14 @@ impl Folder for ScheduleFolder<'_> {
     ghost has_failed = { λ folder. folder.failed };
 
     fn look(&mut self) -> Result<(), FolderFault> {
-        let (fault, there) = match look_in(self.rt, self.path) {
+        let (refusal, there) = match look_in(self.rt, self.path) {
             Ok(None) => return Ok(()),
-            Ok(Some(file)) => (FolderFault::Write, Some(file)),
-            Err(fault) => (fault, None),
+            Ok(Some(file)) => (Refusal::plain(FolderFault::Write), Some(file)),
+            Err(refusal) => (refusal, None),
         };
         self.stands = there.is_some();
-        self.note(fault, there);
-        Err(fault)
+        self.note(refusal, there);
+        Err(refusal.fault)
     }
 
     fn make(&mut self, number: u64, bytes: &[u8]) -> Result<(), FolderFault> {
@@ -246,6 +291,8 @@ impl Folder for ScheduleFolder<'_> {
         let kind = match kind {
             Beside::StuckEnd => Kind::StuckEnd,
             Beside::Ended => Kind::Ended,
+            Beside::First => Kind::First,
+            Beside::Second => Kind::Second,
         };
         self.put(Saved { kind, number }, bytes)
     }

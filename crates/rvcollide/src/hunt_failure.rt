@@ -3,6 +3,7 @@ use crate::failure::Failure;
 use crate::file_line::{FileLine, FilePlace};
 use crate::folder::{Saved, ScheduleFolder};
 use crate::paths::{expect_path, folder_path, ignore_path, page_path};
+use crate::system::SystemSaid;
 use rv_command::arguments::ImagePath;
 use rv_command::command::hunt::HuntLine;
 use rv_engines::fault::Fault;
@@ -27,12 +28,24 @@ pub enum AtFault {
     Standing(Saved),
 }
 
-/// Which of a hunt's files have failed. The others' faults name their file.
+/// Which of a hunt's files have failed, and what the system said of each file and of the streams. The others' faults name their file.
 #[derive(Clone, Copy)]
 pub struct Failed {
     pub image: bool,
     pub folder: AtFault,
     pub page: bool,
+    pub said: Said,
+}
+
+/// What the system said of each file of a hunt, and of what it writes its text to.
+#[derive(Clone, Copy)]
+pub struct Said {
+    pub image: Option<SystemSaid>,
+    pub ignored: Option<SystemSaid>,
+    pub expected: Option<SystemSaid>,
+    pub folder: Option<SystemSaid>,
+    pub page: Option<SystemSaid>,
+    pub output: Option<SystemSaid>,
 }
 
 impl Failed {
@@ -55,7 +68,7 @@ pub fn at_fault_in(folder: &Option<ScheduleFolder<'_>>) -> AtFault {
 }
 
 /// The line of a fault of a file.
-fn of_file<'a>(path: Option<&'a str>, fault: FileFault) -> Failure<'a> {
+fn of_file<'a>(path: Option<&'a str>, said: Option<SystemSaid>, fault: FileFault) -> Failure<'a> {
     let file = match path {
         Some(path) => Some(FilePlace {
             path,
@@ -66,12 +79,18 @@ fn of_file<'a>(path: Option<&'a str>, fault: FileFault) -> Failure<'a> {
     Failure::OfFile(FileLine {
         file,
         stands: false,
+        said,
         fault,
     })
 }
 
 /// The line of a schedule in a folder, which was there before the hunt or can't be written.
-fn of_schedule<'a>(folder: Option<&'a str>, schedule: Saved, stands: bool) -> Failure<'a> {
+fn of_schedule<'a>(
+    folder: Option<&'a str>,
+    schedule: Saved,
+    stands: bool,
+    said: Option<SystemSaid>,
+) -> Failure<'a> {
     let file = match folder {
         Some(path) => Some(FilePlace {
             path,
@@ -82,21 +101,43 @@ fn of_schedule<'a>(folder: Option<&'a str>, schedule: Saved, stands: bool) -> Fa
     Failure::OfFile(FileLine {
         file,
         stands,
+        said,
         fault: WRITE,
     })
 }
 
 /// The line of a fault of the image or of the command line.
-fn of_image<'a>(image: ImagePath<'a>, has_failed: bool, fault: CommandFault<'a>) -> Failure<'a> {
+fn of_image<'a>(image: ImagePath<'a>, failed: Failed, fault: CommandFault<'a>) -> Failure<'a> {
     let paths = Paths {
         image: image.0,
         schedule: None,
-        failed: has_failed.then_some(image.0),
+        failed: failed.image.then_some(image.0),
     };
-    Failure::Filed(FaultLine {
-        file: paths.at_fault(fault),
-        fault,
-    })
+    let said = if failed.image {
+        failed.said.image
+    } else {
+        failed.said.output
+    };
+    filed(paths, said, fault)
+}
+
+/// The line of a command's fault, with the file that is at fault, and what the system said of a device that failed.
+pub fn filed<'a>(
+    paths: Paths<'a>,
+    said: Option<SystemSaid>,
+    fault: CommandFault<'a>,
+) -> Failure<'a> {
+    let file = paths.at_fault(fault);
+    filed_line(FaultLine { file, fault }, said)
+}
+
+/// The same of a fault whose file is known.
+pub fn filed_line<'a>(line: FaultLine<'a>, said: Option<SystemSaid>) -> Failure<'a> {
+    match line.fault {
+        CommandFault::Plain(Fault::Read) => of_file(line.file, said, FileFault::Plain(Fault::Read)),
+        CommandFault::Plain(Fault::Write) => of_file(line.file, said, WRITE),
+        _ => Failure::Filed(line),
+    }
 }
 
 /// The line of a fault that is not one of a list's file.
@@ -107,11 +148,13 @@ fn of_command<'a>(
     fault: CommandFault<'a>,
 ) -> Failure<'a> {
     match failed.folder {
-        AtFault::Folder => of_file(folder_path(line.save_to), WRITE),
-        AtFault::Schedule(file) => of_schedule(folder_path(line.save_to), file, false),
-        AtFault::Standing(file) => of_schedule(folder_path(line.save_to), file, true),
-        AtFault::Nothing if failed.page => of_file(page_path(line.page), WRITE),
-        AtFault::Nothing => of_image(image, failed.image, fault),
+        AtFault::Folder => of_file(folder_path(line.save_to), failed.said.folder, WRITE),
+        AtFault::Schedule(file) => {
+            of_schedule(folder_path(line.save_to), file, false, failed.said.folder)
+        }
+        AtFault::Standing(file) => of_schedule(folder_path(line.save_to), file, true, None),
+        AtFault::Nothing if failed.page => of_file(page_path(line.page), failed.said.page, WRITE),
+        AtFault::Nothing => of_image(image, failed, fault),
     }
 }
 
@@ -123,9 +166,13 @@ pub fn failure_of<'a>(
     fault: HuntFault<'a>,
 ) -> Failure<'a> {
     match fault {
-        HuntFault::Ignored(fault) => of_file(ignore_path(line.ignore), fault),
-        HuntFault::Expected(fault) => of_file(expect_path(line.expect), fault),
-        HuntFault::Aimed(fault) => of_file(Some(image.0), fault),
+        HuntFault::Ignored(fault) => of_file(ignore_path(line.ignore), failed.said.ignored, fault),
+        HuntFault::Expected(fault) => of_file(
+            expect_path(line.expect),
+            failed.said.expected,
+            fault,
+        ),
+        HuntFault::Aimed(fault) => of_file(Some(image.0), None, fault),
         HuntFault::Command(fault) => of_command(image, line, failed, fault),
     }
 }

@@ -1,13 +1,16 @@
 //! The engine of `hunt` on the files of a line, and what is told while it works.
-ghost use Rattle.std.specs.Prelude.{IfSome};
+ghost use Rattle.std.specs.Prelude.{◌≡◌, IfSome};
 ghost use Rattle.rv_hunt.specs.engine.Asked.{AreLegal};
+ghost use Rattle.rvcollide.specs.Ending as spec;
+ghost use Rattle.rvcollide.specs.Hunt as asked;
 
 use crate::failure::Failure;
-use crate::files::{InputFile, OutputFile};
+use crate::files::{InputFile, OutputFile, has_failed, said_by};
 use crate::folder::ScheduleFolder;
-use crate::hunt_failure::{Failed, WRITE_FAULT, at_fault_in, failure_of};
+use crate::hunt_failure::{Failed, Said, WRITE_FAULT, at_fault_in, failure_of};
 use crate::paths::{expect_path, ignore_path};
 use crate::shown_line::ShownLine;
+use crate::system::{Stream, SystemSaid};
 use rv_collide::plan::DEFAULT_SLOTS;
 use rv_command::arguments::{FolderPath, ImagePath, PagePath};
 use rv_command::command::hunt::HuntLine;
@@ -134,6 +137,7 @@ fn options_of<'a, 'b>(
         shows: shown_by(line),
         blocks: line.blocks,
         line: parts,
+        orders: !line.no_orders,
     };
     if options.is_legal() {
         Some(options)
@@ -152,7 +156,9 @@ fn sides_of<'a>(line: &HuntLine<'a>) -> Option<Sides<'a>> {
 }
 
 /// What the line asks to be shown.
-fn shown_by(line: &HuntLine) -> Shows {
+fn shown_by(line: &HuntLine) -> Shows
+    ensures { result ≡ asked.shown_by line.now }
+{
     if line.shows_table {
         Shows::Table
     } else {
@@ -161,11 +167,33 @@ fn shown_by(line: &HuntLine) -> Shows {
 }
 
 /// Whether what was found is what the line asks to be told by the exit status.
-fn is_asked(line: &HuntLine, found: Found) -> bool {
+fn is_asked(line: &HuntLine, found: Found) -> bool
+    ensures { result ≡ spec.is_asked line.now found }
+{
     let has_bug = (line.checks || line.checks_all) && 0 < found.bugs;
     let has_benign = line.checks_all && 0 < found.benign;
     let has_end = line.check_ends && (0 < found.stuck || found.has_wrong_end);
     has_bug || has_benign || has_end || found.is_unexpected
+}
+
+/// Whether the line asks for races that may be bugs, there is none, and a warning says that this means nothing.
+fn is_void(line: &HuntLine, found: Found) -> bool
+    ensures { result ≡ spec.is_void line.now found }
+{
+    line.checks && found.bugs == 0 && found.is_void
+}
+
+/// How the program ends where all was written: what was found goes before that nothing could be found.
+fn ending_of<'a>(line: &HuntLine, found: Found) -> Result<(), Failure<'a>>
+    ensures { result ≡ spec.ending_of line.now found }
+{
+    if is_asked(line, found) {
+        Err(Failure::Found)
+    } else if is_void(line, found) {
+        Err(Failure::Void)
+    } else {
+        Ok(())
+    }
 }
 
 /// The file of a path, where one is given. It is opened when it is first read.
@@ -190,6 +218,19 @@ fn page_if<'a>(
 ) -> Option<OutputFile<'a, HostRuntime>> {
     let path = path?;
     Some(OutputFile::new(rt, path.0))
+}
+
+/// What the system said of a file, where one is given.
+pub fn said_of(file: Option<Flagged<InputFile<'_, HostRuntime>>>) -> Option<SystemSaid> {
+    let file = file?;
+    file.into_inner().said()
+}
+
+fn folder_said(folder: &Option<ScheduleFolder<'_>>) -> Option<SystemSaid> {
+    match folder {
+        Some(folder) => folder.said(),
+        None => None,
+    }
 }
 
 /// Runs the engine of `hunt` on the files of a line.
@@ -224,7 +265,7 @@ fn hunt_by<'a>(
     };
     let mut folder = folder_if(rt, line.save_to);
     let mut page = page_if(rt, line.page);
-    let mut writer = Buffered::new(alloc, rt.stdout());
+    let mut writer = Buffered::new(alloc, Stream::new(rt.stdout()));
     let mut notes = Buffered::new(alloc, rt.stderr());
     let mut progress = Progress {
         rt,
@@ -243,16 +284,28 @@ fn hunt_by<'a>(
         &mut notes,
         &mut progress,
     );
+    let Inputs {
+        image: image_file,
+        ignored,
+        expected,
+    } = inputs;
     let failed = Failed {
-        image: inputs.image.failed(),
+        image: image_file.failed(),
         folder: at_fault_in(&folder),
-        page: page.is_some_and(|page| page.has_failed()),
+        page: has_failed(&page),
+        said: Said {
+            image: image_file.into_inner().said(),
+            ignored: said_of(ignored),
+            expected: said_of(expected),
+            folder: folder_said(&folder),
+            page: said_by(&page),
+            output: writer.into_inner().said(),
+        },
     };
     match hunted {
         // What a file's fault left is written by now.
         Ok(_) if failed.has_file() => Err(failure_of(image, line, failed, WRITE_FAULT)),
-        Ok(found) if is_asked(line, found) => Err(Failure::Found),
-        Ok(_) => Ok(()),
+        Ok(found) => ending_of(line, found),
         Err(fault) => Err(failure_of(image, line, failed, fault)),
     }
 }

@@ -15,11 +15,14 @@ mod hunting;
 mod merging;
 mod paths;
 mod shown_line;
+pub mod system;
 
 use crate::failure::Failure;
-use crate::files::{InputFile, OutputFile};
+use crate::files::{InputFile, OutputFile, failed_input, failed_output, path_of, said_of};
+use crate::hunt_failure::{filed, filed_line};
 use crate::hunting::hunt_file;
 use crate::merging::merge_files;
+use crate::system::Stream;
 use rv_collide::plan::Plan;
 use rv_command::arguments::{ImagePath, PicturePath, SavePath, SchedulePath, SourcePath};
 use rv_command::command::{Job, LineFault, Notice, command_of, notice_of};
@@ -34,7 +37,7 @@ use rv_engines::replay::engine::run_replay;
 use rv_engines::run::engine::run_campaign;
 use rv_engines::run::fault::CommandFault;
 use rv_engines::run::options::Options;
-use rv_engines::sentences::{FaultLine, Paths};
+use rv_engines::sentences::Paths;
 use rv_engines::threads::engine::run_by_threads;
 use rv_engines::words::engine::run_words;
 use rv_memory::buffered::Buffered;
@@ -79,7 +82,7 @@ fn tell_failure(rt: &HostRuntime, failure: Failure<'_>) -> ExitCode
 
 /// Runs the command of a line.
 fn run_line<'a>(
-    rt: &HostRuntime,
+    rt: &'a HostRuntime,
     threads: &(impl Threads + Wait + Sync),
     words: &'a [&'a str],
 ) -> Result<(), Failure<'a>> {
@@ -92,7 +95,7 @@ fn run_line<'a>(
 
 /// Runs the engine of a job. Below, in a function for each command, a path becomes a file, and nowhere else.
 fn run_job<'a>(
-    rt: &HostRuntime,
+    rt: &'a HostRuntime,
     threads: &(impl Threads + Wait + Sync),
     words: &[&str],
     job: Job<'a>,
@@ -108,7 +111,7 @@ fn run_job<'a>(
             number,
         } => Ok(exhibit_files(rt, image, schedule, number)?),
         Job::Debug { image, schedule } => Ok(debug_files(rt, image, schedule)?),
-        Job::Gdb { image, schedule } => Ok(gdb_files(rt, image, schedule)?),
+        Job::Gdb { image, schedule } => gdb_files(rt, image, schedule),
         Job::Hunt { image, line } => hunt_file(rt, threads, words, image, &line),
         Job::Merge { tables, expected } => merge_files(rt, tables, expected),
         Job::Run {
@@ -121,7 +124,7 @@ fn run_job<'a>(
             schedule,
             options,
             picture,
-        } => Ok(explain_files(rt, image, schedule, &options, picture)?),
+        } => explain_files(rt, image, schedule, &options, picture),
         Job::Threads {
             image,
             plan,
@@ -237,17 +240,17 @@ fn run_files<'a>(
 
 /// Runs the engine of `explain` on two files, and on one that it makes where that is asked for.
 fn explain_files<'a>(
-    rt: &HostRuntime,
+    rt: &'a HostRuntime,
     image: ImagePath<'a>,
     schedule: SchedulePath<'a>,
     options: &ExplainOptions<'a>,
     picture: Option<PicturePath<'a>>,
-) -> Result<(), FaultLine<'a>> {
+) -> Result<(), Failure<'a>> {
     let alloc = rt.alloc();
     let mut image_file = Flagged::new(InputFile::new(rt, image.0));
     let mut schedule_file = Flagged::new(InputFile::new(rt, schedule.0));
     let mut made = made_file(rt, picture);
-    let mut writer = Buffered::new(alloc, rt.stdout());
+    let mut writer = Buffered::new(alloc, Stream::new(rt.stdout()));
     let told = run_explain(
         alloc,
         options,
@@ -259,37 +262,28 @@ fn explain_files<'a>(
     let Err(fault) = told else {
         return Ok(());
     };
-    let failed = if image_file.failed() {
-        Some(image.0)
-    } else if schedule_file.failed() {
-        Some(schedule.0)
-    } else if made.is_some_and(|file| file.has_failed()) {
-        picture.map(|path| path.0)
-    } else {
-        None
-    };
+    let failed = failed_input(image_file).or(failed_input(schedule_file));
+    let failed = failed.or(failed_output(made));
+    let said = said_of(failed, writer.into_inner().said());
     let paths = Paths {
         image: image.0,
         schedule: Some(schedule.0),
-        failed,
+        failed: path_of(failed),
     };
-    Err(FaultLine {
-        file: paths.at_fault(fault),
-        fault,
-    })
+    Err(filed(paths, said, fault))
 }
 
 /// Runs the engine of `gdb` on two files, with packets from the standard input.
 fn gdb_files<'a>(
-    rt: &HostRuntime,
+    rt: &'a HostRuntime,
     image: ImagePath<'a>,
     schedule: SchedulePath<'a>,
-) -> Result<(), FaultLine<'a>> {
+) -> Result<(), Failure<'a>> {
     let alloc = rt.alloc();
     let mut image_file = Flagged::new(InputFile::new(rt, image.0));
     let mut schedule_file = Flagged::new(InputFile::new(rt, schedule.0));
     let mut packets = Flagged::new(rt.stdin());
-    let mut writer = Buffered::new(alloc, rt.stdout());
+    let mut writer = Buffered::new(alloc, Stream::new(rt.stdout()));
     let told = run_gdb(
         alloc,
         &mut image_file,
@@ -300,23 +294,14 @@ fn gdb_files<'a>(
     let Err(fault) = told else {
         return Ok(());
     };
-    let failed = if image_file.failed() {
-        Some(image.0)
-    } else if schedule_file.failed() {
-        Some(schedule.0)
-    } else {
-        None
-    };
+    let failed = failed_input(image_file).or(failed_input(schedule_file));
+    let said = said_of(failed, writer.into_inner().said());
     let paths = Paths {
         image: image.0,
         schedule: Some(schedule.0),
-        failed,
+        failed: path_of(failed),
     };
-    let fault = CommandFault::from(fault);
-    Err(FaultLine {
-        file: paths.at_fault(fault),
-        fault,
-    })
+    Err(filed_line(fault.line(paths), said))
 }
 
 /// The file that is made of a picture, where one is wanted.

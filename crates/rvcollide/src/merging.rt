@@ -1,8 +1,13 @@
 //! The engine of `merge` on the files of a line.
+ghost use Rattle.std.specs.Prelude.{◌≡◌, map, option_and_then, option_map};
+ghost use Rattle.rv_command.specs.declared.arguments.TablePath.{TablePath};
+ghost use Rattle.rvcollide.specs.Files.{path_of};
 
 use crate::failure::Failure;
 use crate::file_line::{FileLine, FilePlace};
 use crate::files::InputFile;
+use crate::hunting::said_of;
+use crate::system::Stream;
 use rv_command::arguments::{TablePath, TablePaths};
 use rv_engines::fault::Fault;
 use rv_engines::run::fault::CommandFault;
@@ -16,7 +21,10 @@ fn path_of<'a>(
     tables: TablePaths<'a>,
     expected: Option<TablePath<'a>>,
     number: Option<usize>,
-) -> Option<&'a str> {
+) -> Option<&'a str>
+    ensures { option_map (λ path. path.now) result ≡ option_and_then (path_of
+        (map (λ path. path.now) tables.entry.0.now) (option_map (λ (path : TablePath). path.0.now) expected.entry)) number }
+{
     let number = number?;
     if let Some(path) = tables.0.get(number) {
         return Some(*path);
@@ -62,14 +70,25 @@ pub fn merge_files<'a>(
         }
     }
     let mut known = expected_file(rt, expected);
-    let mut writer = Buffered::new(alloc, rt.stdout());
+    let mut writer = Buffered::new(alloc, Stream::new(rt.stdout()));
     match run_merge(alloc, &mut files, &mut known, &mut writer) {
         Ok(false) => Ok(()),
         Ok(true) => Err(Failure::Found),
-        Err(fault) => Err(Failure::OfFile(FileLine {
-            file: place_of(tables, expected, fault.file),
-            stands: false,
-            fault: fault.fault,
-        })),
+        Err(fault) => {
+            let said = match fault.file {
+                Some(number) if number < files.len() => files
+                    .swap_remove(number)
+                    .into_inner()
+                    .said(),
+                Some(_) => said_of(known),
+                None => writer.into_inner().said(),
+            };
+            Err(Failure::OfFile(FileLine {
+                file: place_of(tables, expected, fault.file),
+                stands: false,
+                said,
+                fault: fault.fault,
+            }))
+        }
     }
 }

@@ -172,6 +172,9 @@ fn options_of(alloc: Global, line: &HuntLine<'_>) -> Result<String, AllocError> 
         text.push_str(" --sampled")?;
     }
     push_aim(alloc, &mut text, line.aim)?;
+    if line.no_orders {
+        text.push_str(" --no-orders")?;
+    }
     push_text(alloc, &mut text, "named", line.named)?;
     push_text(alloc, &mut text, "skip", line.skip)?;
     push_text(alloc, &mut text, "idle", line.idle)?;

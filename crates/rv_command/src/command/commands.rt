@@ -1,20 +1,21 @@
 //! The program's commands, each with its arguments and its help. The exit statuses come after each help.
 
 use crate::command::subcommand::{Argument, Subcommand};
+use crate::status::Asks;
 
 pub const COMMANDS: [Subcommand; 12] = [
     Subcommand {
         name: "words",
         about: "Run instruction words from the standard input",
         after: WORDS,
-        found_by: None,
+        asks: None,
         arguments: &[],
     },
     Subcommand {
         name: "asm",
         about: "Assemble a source into an image",
         after: SOURCES,
-        found_by: None,
+        asks: None,
         arguments: &[
             Argument::Word {
                 name: "SOURCE",
@@ -30,28 +31,28 @@ pub const COMMANDS: [Subcommand; 12] = [
         name: "list",
         about: "Disassemble an image",
         after: IMAGES,
-        found_by: None,
+        asks: None,
         arguments: &[IMAGE],
     },
     Subcommand {
         name: "replay",
         about: "Make a saved run again and print how its pauses ended and the final state",
         after: SCHEDULES,
-        found_by: None,
+        asks: None,
         arguments: &[IMAGE, SCHEDULE],
     },
     Subcommand {
         name: "debug",
         about: "Go to any place of a saved run, by commands on the standard input",
         after: DEBUGGER,
-        found_by: None,
+        asks: None,
         arguments: &[IMAGE, SCHEDULE],
     },
     Subcommand {
         name: "run",
         about: "Make many runs from a seed and print the table of the races they found",
         after: CAMPAIGN,
-        found_by: None,
+        asks: None,
         arguments: &[
             IMAGE,
             HARTS,
@@ -94,7 +95,7 @@ pub const COMMANDS: [Subcommand; 12] = [
         name: "threads",
         about: "Make one run with a real thread for each hart and print how its pauses ended",
         after: BY_THREADS,
-        found_by: None,
+        asks: None,
         arguments: &[
             IMAGE,
             HARTS,
@@ -114,7 +115,7 @@ pub const COMMANDS: [Subcommand; 12] = [
         name: "exhibit",
         about: "Turn a report into a list of steps that any emulator can check",
         after: EXHIBIT,
-        found_by: None,
+        asks: None,
         arguments: &[
             IMAGE,
             SCHEDULE,
@@ -128,7 +129,7 @@ pub const COMMANDS: [Subcommand; 12] = [
         name: "explain",
         about: "Report the races of a saved run with names, instructions and values",
         after: EXPLAIN,
-        found_by: None,
+        asks: None,
         arguments: &[
             IMAGE,
             SCHEDULE,
@@ -158,14 +159,17 @@ pub const COMMANDS: [Subcommand; 12] = [
         name: "gdb",
         about: "Serve a saved run to GDB on standard input and output",
         after: GDB,
-        found_by: None,
+        asks: None,
         arguments: &[IMAGE, SCHEDULE],
     },
     Subcommand {
         name: "hunt",
         about: "Find races in an image: nothing but the image is needed",
         after: HUNT,
-        found_by: Some("--check, --check-all, --check-ends or --expect"),
+        asks: Some(Asks {
+            found: "--check, --check-all, --check-ends or --expect",
+            void: Some("--check"),
+        }),
         arguments: &[
             IMAGE,
             Argument::Optional {
@@ -217,6 +221,10 @@ pub const COMMANDS: [Subcommand; 12] = [
                 value: "A,B",
                 help: "Probe only near pairs of these two, again and again: names or addresses",
             },
+            Argument::Flag {
+                name: "no-orders",
+                help: "Don't try what difference the order of a race's two accesses makes",
+            },
             Argument::Optional {
                 name: "named",
                 value: "LIST",
@@ -258,7 +266,7 @@ pub const COMMANDS: [Subcommand; 12] = [
             },
             Argument::Flag {
                 name: "check",
-                help: "Exit with status 5 if there is a race that may be a bug",
+                help: "Exit with status 5 if there is a race that may be a bug, 6 if none means nothing",
             },
             Argument::Flag {
                 name: "check-all",
@@ -288,7 +296,10 @@ pub const COMMANDS: [Subcommand; 12] = [
         name: "merge",
         about: "Add up the tables of a hunt that was made in pieces",
         after: MERGE,
-        found_by: Some("--expect"),
+        asks: Some(Asks {
+            found: "--expect",
+            void: None,
+        }),
         arguments: &[
             Argument::Words {
                 name: "TABLE",
@@ -472,7 +483,7 @@ numbers that replay prints and exhibit takes. IMAGE is as rvcollide list --help 
 rvcollide replay --help says.
 
 A fault is told with its file and what is wrong:
-  rvcollide: run.txt: explain NoRace: there is no race with this number
+  rvcollide: run.txt: explain NoRace of 2: there is no race with this number
 
 Example:
   rvcollide explain guest.elf run.txt --picture race.svg";

@@ -1,4 +1,28 @@
-//! The help of the program as a whole: its commands, by what one wants, and the names of its faults.
+//! The help of the program as a whole: its commands, by what one wants, the words of its reports, and the names of its faults.
+
+use rv_engines::terms::TERMS;
+use std::fmt;
+
+/// What `help words` writes: for each word of the reports what it means.
+#[derive(Clone, Copy)]
+pub struct Words;
+
+impl fmt::Display for Words {
+    fn fmt<W: fmt::Write>(&self, f: &mut fmt::Formatter<W>) -> fmt::Result {
+        f.write_str(
+            "The words of reports and pages. (The command of this name: rvcollide words --help.)\n",
+        )?;
+        for term in &TERMS {
+            write!(f, "\n{}:\n", term.word)?;
+            for line in term.meaning {
+                f.write_str("  ")?;
+                f.write_str(*line)?;
+                f.write_str("\n")?;
+            }
+        }
+        Ok(())
+    }
+}
 
 /// What `--help` writes. Each command of the table stands in it once.
 pub const OVERVIEW: &str = "\
@@ -25,7 +49,7 @@ Make and read programs:
   words    Run instruction words from the standard input
 
 Get help:
-  help     Print this help, that of a command (help run), or what each fault means (help faults)
+  help     Print this help, a command's (help run), what faults mean (help faults) or words (help words)
 
 Options:
   -h, --help     Print help
@@ -35,8 +59,9 @@ To find and read a first race:
   rvcollide hunt guest.elf
 
 The exit status is 0 if all went well, 1 if an input was refused, 2 if the command line was, 3 if a file
-or stream could not be read or written, 4 if there was not enough memory, and 5 if a hunt with --check,
---check-all, --check-ends or --expect, or a merge with --expect, found what these ask for.
+or stream could not be read or written, 4 if there was not enough memory, 5 if a hunt with --check,
+--check-all, --check-ends or --expect, or a merge with --expect, found what these ask for, and 6 if a
+hunt with --check found no race, but a warning says that this means nothing.
 ";
 
 /// What `help faults` writes: for each fault's name the sentence that `sentence` gives.
@@ -105,7 +130,7 @@ exhibit NAME:
   NotReport: the ending is quiet: nothing touched the watched bytes during the pause
   TextChanged: the paused instruction was overwritten before the second access
 
-explain NoRace: there is no race with this number
+explain NoRace of N: there is no race with this number
 
 skip TEXT: an address is eight hexadecimal digits
 

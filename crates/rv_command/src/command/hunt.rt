@@ -99,6 +99,8 @@ pub struct HuntLine<'a> {
     pub expect: Option<TablePath<'a>>,
     /// No progress is told.
     pub is_quiet: bool,
+    /// Orders of races' accesses aren't tried.
+    pub no_orders: bool,
 }
 
 /// `hunt` with its options.
@@ -152,6 +154,7 @@ fn line_of<'a>(given: &ArgMatches<'a>) -> Result<HuntLine<'a>, Complaint<'a>>
         right,
         expect: expect_of(given),
         is_quiet: flag_of(given, "quiet"),
+        no_orders: flag_of(given, "no-orders"),
     })
 }
 

@@ -6,7 +6,7 @@ ghost use Rattle.clap.specs.declared.builder.command.Command.TheViews.{out-Comma
 ghost use Rattle.rv_command.specs.ClapProgram as known;
 ghost use Rattle.rv_command.specs.internal.Commands as commands;
 
-use crate::status::Statuses;
+use crate::status::{Asks, Statuses};
 use clap::{Arg, ArgAction, Command};
 use std::alloc::{AllocError, Global};
 
@@ -42,13 +42,13 @@ pub enum Argument {
 }
 
 /// A command with its arguments, the texts that its help has before and after their list, and the options that ask for the
-/// status of what is found.
+/// statuses of what is found.
 #[derive(Clone, Copy)]
 pub struct Subcommand {
     pub name: &'static str,
     pub about: &'static str,
     pub after: &'static str,
-    pub found_by: Option<&'static str>,
+    pub asks: Option<Asks>,
     pub arguments: &'static [Argument],
 }
 
@@ -103,9 +103,7 @@ fn flag<'a>(alloc: Global, name: &'a str, help: &'a str) -> Arg<'a>
 impl Subcommand {
     /// What the help says after the arguments.
     pub fn after_help(self, alloc: Global) -> Result<String, AllocError> {
-        let statuses = Statuses {
-            found_by: self.found_by,
-        };
+        let statuses = Statuses { asks: self.asks };
         format!(in alloc; "{}\n\n{statuses}", self.after)
     }
 

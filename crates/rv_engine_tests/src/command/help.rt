@@ -314,7 +314,7 @@ fn faults_with_few_names_are_listed(rt: HostRuntime) {
 
 const WITHOUT: [(&str, CommandFault); 8] = [
     ("words line N", CommandFault::Plain(Fault::Line(1))),
-    ("explain NoRace", CommandFault::NoRace),
+    ("explain NoRace of N", CommandFault::NoRace(1)),
     ("skip TEXT", CommandFault::Skip("TEXT")),
     ("name TEXT", CommandFault::Name("TEXT")),
     ("input TooLong", CommandFault::Plain(Fault::TooLong)),

@@ -68,6 +68,7 @@ fn options(rt: &impl Abort) -> HuntOptions<'static, 'static> {
             options: " --seed 0",
             folder: None,
         },
+        orders: true,
     }
 }
 

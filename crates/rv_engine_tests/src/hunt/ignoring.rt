@@ -41,6 +41,13 @@ const FITS: &[Fits] = &[
     ("00010020 inner # known\n", 0x10020, Some(0x10034), true),
     ("00010020 inner\n", 0x10024, Some(0x10034), false),
     ("inner   00010020#", 0x10020, Some(0x10034), true),
+    (
+        "# list\r\n\r\nmain inner\r\n00010100 *\r\n",
+        0x10020,
+        Some(0x10034),
+        true,
+    ),
+    ("main *\r", 0x10020, None, true),
     ("* *\n", 0x10ffc, None, true),
     ("_start *\n", 0x1001c, None, true),
     ("a\\\\\\x20b *\n", 0x10100, None, true),
@@ -61,6 +68,8 @@ const REFUSED: &[(&str, &str)] = &[
     ("* none\nnone *\n", "ignore line 1 Unknown"),
     ("main none * # three\n", "ignore line 1 Shape"),
     ("twin *\n\n# none\ntwin none\n", "ignore line 4 Unknown"),
+    ("main *\rinner *\n", "ignore line 1 Shape"),
+    ("main \r*\n", "ignore line 1 Unknown"),
 ];
 
 fn assert_fits(rt: &impl Abort, alloc: Global, symbols: &SymbolTable, row: &Fits) {

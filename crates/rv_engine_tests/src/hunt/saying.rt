@@ -4,6 +4,7 @@ use crate::images::Named;
 use crate::padded::image;
 use rv_explain::block::RaceClass::{self, Counter, Flag, Kept, Ordered};
 use rv_explain::symbol_table::SymbolTable;
+use rv_hunt::orders::OrderTable;
 use rv_hunt::row::RaceRow;
 use rv_hunt::saying::order::told_rows;
 use rv_report::key::Key;
@@ -58,7 +59,8 @@ fn tells_races_in_their_order(rt: HostRuntime) {
     for (first, class, address) in ROWS {
         rows.push(row(first, class, address)).expect(&rt, "memory");
     }
-    let told = told_rows(alloc, &symbols, &rows).expect(&rt, "memory");
+    let orders = OrderTable::new(alloc);
+    let told = told_rows(alloc, &symbols, &orders, &rows).expect(&rt, "memory");
     assert_is(&rt, told.len(), ORDER.len(), "how many");
     for (row, first) in told.iter().zip(ORDER) {
         assert_is(&rt, row.0.first, first, "the order");

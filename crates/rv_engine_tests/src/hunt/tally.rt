@@ -138,6 +138,7 @@ fn run(rt: &impl Abort, alloc: Global, steps: u64, ends: &[End]) -> Summary {
         sampled: counts(steps, 0),
         probes: 0,
         walk: None,
+        tried: 0,
     }
 }
 

@@ -65,10 +65,10 @@ fn blocks_of<'a>(
 {
     let asked = blocks_asked(alloc, session, symbols, found, options.around, options.race)?;
     let Some(blocks) = asked else {
-        return Err(CommandFault::NoRace);
+        return Err(CommandFault::NoRace(found.races.len() as u64));
     };
     if draws && blocks.is_empty() {
-        return Err(CommandFault::NoRace);
+        return Err(CommandFault::NoRace(0));
     }
     Ok(blocks)
 }

@@ -24,8 +24,8 @@ pub enum CommandFault<'a> {
     Campaign(NumberFault),
     /// A worker's thread could not be started; those that were started have ended.
     NoThread,
-    /// `explain` finds no race of the number that was asked for.
-    NoRace,
+    /// `explain` finds no race of the number that was asked for, among as many as there are.
+    NoRace(u64),
 }
 
 impl CommandFault<'_> {
@@ -39,7 +39,7 @@ impl CommandFault<'_> {
             | CommandFault::Name(_)
             | CommandFault::Campaign(_)
             | CommandFault::NoThread
-            | CommandFault::NoRace => 1,
+            | CommandFault::NoRace(_) => 1,
         }
     }
 }
@@ -101,7 +101,7 @@ impl fmt::Display for CommandFault<'_> {
             CommandFault::Name(name) => write!(f, "name {name}"),
             CommandFault::Campaign(fault) => { write!(f, "campaign {}", number_fault_name(*fault)) }
             CommandFault::NoThread => f.write_str("campaign NoThread"),
-            CommandFault::NoRace => f.write_str("explain NoRace"),
+            CommandFault::NoRace(races) => write!(f, "explain NoRace of {races}"),
         }
     }
 }

@@ -1,6 +1,7 @@
 //! The text of a stuck end: of each hart what it does, and of one that polls its round, what that reads, and where its function
 //! was called from.
-use super::{ReadBytes, StuckBlock, StuckHart, Waiting, least_pc, least_place};
+use super::called::{least_pc, least_place};
+use super::{ReadBytes, StuckBlock, StuckHart, Waiting};
 use crate::names::{Names, TEXT_NAME};
 use rv_memory::store::NoMemory;
 use rv_stuck::RoundStep;

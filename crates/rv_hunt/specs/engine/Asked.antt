@@ -9,7 +9,7 @@ use Rattle.rv_hunt.specs.declared.engine.options.Sides.{Sides}
 use Rattle.rv_hunt.specs.declared.engine.options.TheConstants.{MOST_WORKERS}
 
 -- What is given of the runs' plans, their seed, the number of the first, how far the hunt goes, the names, the addresses and
--- the idle functions that are listed, and the two sides that are aimed at.
+-- the idle functions that are listed, the two sides that are aimed at, and the exit codes that are right.
 pub record Asked : Type 0 where
   pub given : Given
   pub seed : ℕ
@@ -19,6 +19,7 @@ pub record Asked : Type 0 where
   pub skip : Option (List ℕ)
   pub idle : Option (List ℕ)
   pub aim : Option (List ℕ × List ℕ)
+  pub right : Option (List ℕ)
 
 -- what some options ask for, their lists as texts
 abbrev pub asked : HuntOptions → Asked
@@ -31,6 +32,7 @@ asked options = record {
   skip = option_map (λ text. text.now) options.skip;
   idle = option_map (λ text. text.now) options.idle;
   aim = option_map (λ (sides : Sides). (sides.one.now, sides.other.now)) options.aim;
+  right = option_map (λ text. text.now) options.right;
 }
 
 -- There can be such a hunt: by its limit and the numbers of its runs, and by the number of its workers.

@@ -1,5 +1,6 @@
 -- What `hunt` makes of the bytes of an image and its options.
 use Rattle.std.specs.Prelude.{◌≡◌, ⊤, ℕ, Bool, false, ◌||◌, Option, Some, None, option_and_then, option_map, Result, Ok, if◌then◌else◌, List, [], filter, length, take}
+use Rattle.std.specs.Map.{keys_of}
 use Rattle.std.specs.Option.{option_map_or}
 use Rattle.rv_elf.specs.Contents.{Contents}
 use Rattle.rv_hunt.specs.HuntText.{table_text}
@@ -7,19 +8,25 @@ use Rattle.rv_hunt.specs.Hunt.{Hunt}
 use Rattle.rv_hunt.specs.Hunted.{IsHunted}
 use Rattle.rv_hunt.specs.Outcome.{Outcome}
 use Rattle.rv_hunt.specs.PageFacts.{page_facts}
+use Rattle.rv_hunt.specs.RightEnds.{has_wrong_end, right_codes}
 use Rattle.rv_hunt.specs.ToldOrder.{AreInOrder, benign, bugs}
+use Rattle.rv_hunt.specs.Warnings.{is_void}
 use Rattle.rv_hunt.specs.declared.hunted.Hunted.{Hunted}
 use Rattle.rv_hunt.specs.declared.row.RaceRow.{RaceRow}
 use Rattle.rv_memory.specs.Flagged.{device, has_failed}
 use Rattle.rv_memory.specs.Chain.{◌>>=◌}
 use Rattle.rv_sample.specs.Sites.{sites}
+use Rattle.rv_engines.specs.Built.{built_of}
 use Rattle.rv_engines.specs.Campaigns.{elements, listed, skipped}
 use Rattle.rv_engines.specs.CommandFault.{Refusal, plainly}
 use Rattle.rv_engines.specs.Images.{image_of}
+use Rattle.rv_engines.specs.declared.built.Built.{Built}
 use Rattle.rv_hunt.specs.engine.Asked.{Asked}
+use Rattle.rv_hunt.specs.engine.OrderShown.{AreOrdersShown}
 use Rattle.rv_hunt.specs.engine.Shown.{AreShown}
 use Rattle.rv_hunt.specs.engine.StuckShown.{AreStuckShown}
 use Rattle.rv_hunt.specs.declared.engine.stuck_ends.ShownStuck.{ShownStuck}
+use Rattle.rv_hunt.specs.declared.engine.orders.ShownOrder.{ShownOrder}
 use Rattle.rv_hunt.specs.declared.engine.shown.ShownRace.{ShownRace}
 use Rattle.rv_hunt.specs.declared.engine.found.Found.{Found}
 use Rattle.rv_hunt.specs.declared.engine.inputs.Inputs.{Inputs}
@@ -77,12 +84,15 @@ abbrev pub expected_in : Option (List ℕ) → Result (Option (List (Key × Race
 expected_in None = Ok None
 expected_in (Some bytes) = expected_table bytes >>= λ table. Ok (Some table)
 
--- What is hunted, which races are counted and not told, which are expected, and what is aimed at.
+-- What is hunted, which races are counted and not told, which are expected, what is aimed at, which exit codes are right, and what the image
+-- was built with.
 pub record Hunting : Type 0 where
   pub hunt : Hunt
   pub ignored : List Line
   pub expected : Option (List (Key × RaceRow))
   pub aim : List Line
+  pub right : List ℕ
+  pub built : Built
 
 -- the files and the options ask for it
 pub record IsHuntingOf (asked : Asked) (files : Files) (hunting : Hunting) : Type 0 where
@@ -90,6 +100,8 @@ pub record IsHuntingOf (asked : Asked) (files : Files) (hunting : Hunting) : Typ
   pub ignored_is : ignored_in hunting.hunt.source.image files.ignored ≡ Ok hunting.ignored
   pub expected_is : expected_in files.expected ≡ Ok hunting.expected
   pub aim_is : aimed_in hunting.hunt.source.image asked.aim ≡ Ok hunting.aim
+  pub right_is : hunting.right ≡ right_codes asked.right
+  pub built_is : hunting.built ≡ built_of files.image
 
 -- ---- what is told
 
@@ -108,6 +120,7 @@ outcome hunting saw = record {
   saw = saw;
   rows = told_in hunting saw;
   ignored = ignored_by hunting saw;
+  built = hunting.built;
 }
 
 -- The text for the standard output, and the notes for the standard error.
@@ -121,18 +134,19 @@ full_of Text files blocks = blocks
 full_of Table files blocks = if files then blocks else 0
 
 -- how many races may be a bug, how many are likely benign, whether one that may be a bug is not expected, and how many stuck ends are
--- shown; and whether a hart ended as it should not
-abbrev pub found_in : Option (List (Key × RaceRow)) → List (Key × RaceRow) → ℕ → Bool → Found
-found_in expected rows stuck wrong = record {
+-- shown; whether a hart ended as it should not, and whether that there is no race would mean nothing
+abbrev pub found_in : Option (List (Key × RaceRow)) → List (Key × RaceRow) → ℕ → Bool → Bool → Found
+found_in expected rows stuck wrong void = record {
   bugs = bugs rows;
   benign = benign rows;
   is_unexpected = is_unexpected expected rows;
   stuck = stuck;
   has_wrong_end = wrong;
+  is_void = void;
 }
 
 abbrev pub found_of : Hunting → Hunted → ℕ → Bool → Found
-found_of hunting saw stuck wrong = found_in hunting.expected (told_in hunting saw) stuck wrong
+found_of hunting saw stuck wrong = found_in hunting.expected (told_in hunting saw) stuck wrong (is_void (outcome hunting saw))
 
 -- what the standard output gets, and how many races are shown in full
 pub record Showing : Type 0 where
@@ -148,19 +162,21 @@ abbrev pub IsTable : Shows → List (Key × RaceRow) → List ℕ → Type 0
 IsTable Text rows text = ⊤
 IsTable Table rows text = text ≡ table_text rows
 
--- What is made of a hunt: its runs, what they saw, and the races and the stuck ends that are shown in full.
+-- What is made of a hunt: its runs, what they saw, and the races with their orders and the stuck ends that are shown in full.
 pub record IsMade (way : Showing) (hunting : Hunting) (Saves : ℕ → List ℕ → Type 0) (Pages : List Fact → Type 0) (found : Found) (texts : Texts) : Type 0 where
   pub saw : Hunted
   pub hunted : IsHunted hunting.hunt saw
   pub told : List (Key × RaceRow)
-  pub order : AreInOrder hunting.hunt.source.image (told_in hunting saw) told
+  pub order : AreInOrder hunting.hunt.source.image saw.orders (told_in hunting saw) told
   pub shown : List ShownRace
   pub are_shown : AreShown hunting.hunt Saves (take way.full told) shown
+  pub orders : List ShownOrder
+  pub are_ordered : AreOrdersShown hunting.hunt saw.orders (keys_of (take way.full told)) orders
   pub is_table : IsTable way.shows (told_in hunting saw) texts.text
   pub paged : Pages (page_facts (outcome hunting saw) told (length shown))
   pub stuck : List ShownStuck
   pub are_stuck : AreStuckShown hunting.hunt stuck
-  pub found_is : found ≡ found_of hunting saw (length stuck) found.has_wrong_end
+  pub found_is : found ≡ found_of hunting saw (length stuck) (has_wrong_end hunting.right hunted.so_far.runs)
 
 -- The runs of the hunt are made; what they saw is shown and counted, the runs of the races that are shown in full are saved,
 -- and the page is made.

@@ -11,7 +11,7 @@ use Rattle.rv_hunt.specs.declared.engine.stuck_ends.ShownStuck.{ShownStuck}
 pub record IsStuckBlock (hunt : Hunt) (block : StuckBlock) : Type 0 where
   pub harts : ℕ
   pub entries : List Entry
-  pub is_end : IsShownEnd (first_state hunt.source.image.segments hunt.source.image.entry harts) entries block
+  pub is_end : IsShownEnd hunt.source.image (first_state hunt.source.image.segments hunt.source.image.entry harts) entries block
 
 abbrev pub AreStuckShown : Hunt → List ShownStuck → Type 0
 AreStuckShown hunt = All (λ (one : ShownStuck). IsStuckBlock hunt one.block)

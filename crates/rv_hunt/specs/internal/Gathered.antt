@@ -1,7 +1,7 @@
 -- What the probes of a walk have come to so far.
 use Rattle.std.specs.Prelude.{◌≡◌, ℕ, ◌++◌, All, List, length, map}
 use Rattle.rv_hunt.specs.Hunt.{Hunt, IsWalkOf}
-use Rattle.rv_hunt.specs.KeptRun.{probed_pair, reports_of_parts, seen_pair}
+use Rattle.rv_hunt.specs.KeptRun.{IsOfSome, probed_pair, reports_of_parts, seen_pair}
 use Rattle.rv_hunt.specs.Summary.{counts_of_walk}
 use Rattle.rv_hunt.specs.declared.gathered.Gathered.{Gathered}
 use Rattle.rv_hunt.specs.declared.run_walk.RunWalk.{RunWalk}
@@ -15,6 +15,7 @@ pub record IsGathered (hunt : Hunt) (harts : List ℕ) (pairs : List NearPair) (
   pub parts_are : gathered.parts ≡ length parts
   pub reports_are : gathered.reports.items ≡ reports_of_parts hunt 1 parts
   pub near_are : gathered.near.items ≡ map seen_pair pairs ++ map probed_pair parts
+  pub tried_are : All (IsOfSome gathered.reports.items) gathered.trials.tried.items
 
 -- of parts of the walk of the run of that number
 pub record AreGathered (hunt : Hunt) (run : ℕ) (made : RunWalk) (gathered : Gathered) : Type 0 where

@@ -2,9 +2,10 @@
 use Rattle.std.specs.Prelude.{◌≡◌, ℕ, ◌+◌, List, Some, slice_get}
 use Rattle.std.specs.List.{fold}
 use Rattle.rv_hunt.specs.Hunt.{Hunt}
-use Rattle.rv_hunt.specs.Hunted.{rows_of}
+use Rattle.rv_hunt.specs.Hunted.{rows_of, tried_of}
 use Rattle.rv_hunt.specs.KeptRun.{IsOfRun}
 use Rattle.rv_hunt.specs.Near as near
+use Rattle.rv_hunt.specs.Orders as orders
 use Rattle.rv_hunt.specs.Rows.{added}
 use Rattle.rv_hunt.specs.Tally as tally
 use Rattle.rv_hunt.specs.declared.hunted.Hunted.{Hunted}
@@ -26,4 +27,5 @@ with_run hunted run kept = record {
   tally = tally.added hunted.tally kept.summary;
   table = fold added hunted.table (rows_of run kept);
   near = fold near.added hunted.near kept.near.items;
+  orders = fold orders.added hunted.orders (tried_of run kept);
 }

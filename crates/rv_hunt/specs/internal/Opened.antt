@@ -1,5 +1,5 @@
 -- What `hunt` has before it makes a run, and before it writes.
-use Rattle.std.specs.Prelude.{Result, Ok}
+use Rattle.std.specs.Prelude.{ℕ, List, Result, Ok}
 use Rattle.rv_elf.specs.Contents.{Contents}
 use Rattle.rv_engines.specs.Campaigns.{elements, listed, skipped}
 use Rattle.rv_engines.specs.CommandFault.{Refusal}
@@ -36,9 +36,9 @@ hunt_by asked image lists = record {
 abbrev pub hunt_in : Asked → Opened → Hunt
 hunt_in asked opened = hunt_by asked opened.image opened.lists
 
--- the same with the lists of files
-abbrev pub hunting_with : Hunt → Lists → Hunting
-hunting_with hunt lists = record { hunt = hunt; ignored = lists.ignored; expected = lists.expected; aim = lists.aim }
+-- the same with the exit codes that are right, and the lists of files
+abbrev pub hunting_with : Hunt → List ℕ → Lists → Hunting
+hunting_with hunt right lists = record { hunt = hunt; ignored = lists.ignored; expected = lists.expected; aim = lists.aim; right = right; built = lists.built }
 
 abbrev pub texts_in : Made → Texts
 texts_in made = record { text = made.text.items; notes = made.notes.items }

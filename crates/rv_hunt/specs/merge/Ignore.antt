@@ -1,5 +1,5 @@
 -- Races that are to be ignored: what a list of them says, and which races it fits.
-use Rattle.std.specs.Prelude.{ℕ, ◌+◌, Bool, true, false, not, ◌&&◌, ◌||◌, ◌==◌, nat_le, nat_lt, if◌then◌else◌, Option, Some, None, option_map, Result, Ok, Err, List, [], ◌∷◌, ◌++◌, length, codes, filter, slice_get}
+use Rattle.std.specs.Prelude.{ℕ, ◌+◌, ◌-◌, Bool, true, false, not, ◌&&◌, ◌||◌, ◌==◌, nat_le, nat_lt, if◌then◌else◌, Option, Some, None, option_map, Result, Ok, Err, List, [], ◌∷◌, ◌++◌, length, codes, filter, slice_get, take}
 use Rattle.std.specs.List.{list_any}
 use Rattle.std.specs.Option.{option_map_or, unwrap_or}
 use Rattle.std.specs.Str.{bytes_eq}
@@ -46,9 +46,16 @@ uncommented line = unwrap_or (slice_get (pieces_of 35 line) 0) []
 abbrev pub has_bytes : List ℕ → Bool
 has_bytes word = nat_lt 0 (length word)
 
+abbrev pub ends_in_return : List ℕ → Bool
+ends_in_return line = option_map_or (λ byte. byte == 13) (slice_get line (length line - 1)) false
+
+-- a CR (13) right before its LF is no part of a line
+abbrev pub without_return : List ℕ → List ℕ
+without_return line = if ends_in_return line then take (length line - 1) line else line
+
 -- the words of a line; blanks (32) stand between them
 abbrev pub words_of : List ℕ → List (List ℕ)
-words_of line = filter has_bytes (pieces_of 32 (uncommented line))
+words_of line = filter has_bytes (pieces_of 32 (uncommented (without_return line)))
 
 -- what has eight hexadecimal digits is an address
 abbrev pub side_of : List ℕ → Side

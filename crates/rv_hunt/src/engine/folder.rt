@@ -17,6 +17,10 @@ pub enum Beside {
     StuckEnd,
     /// The first run in which a hart ended in some way.
     Ended,
+    /// The first copy of the trial that is shown of a race's order, by the race's number.
+    First,
+    /// The second copy.
+    Second,
 }
 
 /// A folder that is there, in which a hunt makes a file for each race and each stuck end that it shows in full, and for ways in which

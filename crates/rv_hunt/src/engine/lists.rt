@@ -14,16 +14,19 @@ use crate::merge::ignore::{Ignores, aimed, read_ignores};
 use crate::merge::table_file::read_expected;
 use crate::table::HuntTable;
 use rv_elf::Image;
+use rv_engines::built::Built;
 use rv_memory::flagged::Flagged;
 use std::alloc::Global;
 use std::io::Read;
 
-/// The races that are to be ignored, those that are expected, and the line of what is aimed at, if something is.
+/// The races that are to be ignored, those that are expected, the line of what is aimed at, if something is, and what the image was
+/// built with.
 #[derive(Drop)]
 pub(crate) struct Lists {
     pub(crate) ignored: Ignores,
     pub(crate) expected: Option<HuntTable>,
     pub(crate) aim: Ignores,
+    pub(crate) built: Built,
 }
 
 /// Reads the list of races that are to be ignored, where one is given.

@@ -1,11 +1,12 @@
 //! The runs of a hunt, and the texts and the files of what they saw.
-ghost use Rattle.std.specs.Prelude.{◌≡◌, ◌≤◌, ◌||◌, IfOk, OnOk, is_err, is_some, length, take, true};
+ghost use Rattle.std.specs.Prelude.{[], ◌≡◌, ◌≤◌, ◌||◌, IfOk, OnOk, is_err, is_some, length, take, true};
 ghost use Rattle.rv_engines.specs.Campaigns.{passes};
-ghost use Rattle.rv_hunt.specs.Hunted.{IsHunted};
+ghost use Rattle.rv_hunt.specs.Hunted.{IsNoted};
 ghost use Rattle.rv_hunt.specs.engine.Asked.{AreLegal, asked};
 ghost use Rattle.rv_hunt.specs.engine.FolderFault as looking;
 ghost use Rattle.rv_hunt.specs.engine.Hunting as spec;
 ghost use Rattle.rv_hunt.specs.engine.Late.{IfPaged, IfSaved};
+ghost use Rattle.rv_hunt.specs.RightEnds.{right_codes};
 ghost use Rattle.rv_hunt.specs.internal.MakeFault.{fails_by_write};
 ghost use Rattle.rv_hunt.specs.internal.Opened.{hunt_in, hunting_with, texts_in};
 ghost use Rattle.rv_hunt.specs.PageFacts.{page_facts};
@@ -20,6 +21,7 @@ use crate::engine::found::Found;
 use crate::engine::lists::Lists;
 use crate::engine::opening::Opened;
 use crate::engine::options::{HuntOptions, LineParts, Shows};
+use crate::engine::orders::{ShownOrder, shown_orders};
 use crate::engine::shown::{InFull, ShownRace};
 use crate::engine::stuck_ends::{ShownStuck, stuck_ends};
 use crate::engine::texts::{hunt_text, table_notes, table_of};
@@ -32,7 +34,7 @@ use crate::page::page_text;
 use crate::page::parts::Outcome;
 use crate::row::RaceRow;
 use crate::saying::order::{benign, bugs, told_rows};
-use crate::saying::warnings::warnings_text;
+use crate::saying::warnings::{is_void, warnings_text};
 use rv_campaign::PoolFault;
 use rv_engines::new_file::NewFile;
 use rv_explain::symbol_table::SymbolTable;
@@ -63,12 +65,13 @@ fn texts_of(
     outcome: &Outcome,
     told: &[(Key, RaceRow)],
     shown: &[ShownRace],
+    orders: &[ShownOrder],
 ) -> Result<(Vec<u8>, Vec<u8>), NoMemory>
     ensures { IfOk result (λ texts. spec.IsTable shows outcome.now.rows texts.0.items) }
 {
     match shows {
         Shows::Text => {
-            let text = hunt_text(alloc, line, symbols, outcome, told, shown)?;
+            let text = hunt_text(alloc, line, symbols, outcome, told, shown, orders)?;
             Ok((text, warnings_text(alloc, symbols, outcome)?))
         }
         Shows::Table => {
@@ -87,21 +90,22 @@ fn parted_rows(
     saw: &Hunted,
 ) -> Result<Parted, NoMemory>
     requires { symbols.now ≡ hunt.now.source.image }
-    ensures told { IfOk result (λ parted. parted.told.items ≡ spec.told_in (hunting_with hunt.now lists.now) saw.now) }
-    ensures ignored { IfOk result (λ parted. parted.ignored.items ≡ spec.ignored_by (hunting_with hunt.now lists.now) saw.now) }
+    ensures told { IfOk result (λ parted. parted.told.items ≡ spec.told_in (hunting_with hunt.now [] lists.now) saw.now) }
+    ensures ignored { IfOk result (λ parted. parted.ignored.items ≡ spec.ignored_by (hunting_with hunt.now [] lists.now) saw.now) }
 {
     let rows = saw.table.rows(alloc)?;
     part_rows(alloc, symbols, &lists.ignored, &rows)
 }
 
-/// What was found, by the rows of the races that are told, the stuck ends that are shown, and how harts ended.
+/// What was found, by the rows of the races that are told, the stuck ends that are shown, how harts ended, and the warnings.
 fn found_in(
     lists: &Lists,
     rows: &[(Key, RaceRow)],
     stuck: &[ShownStuck],
     has_wrong_end: bool,
+    is_void: bool,
 ) -> Found
-    ensures { result ≡ spec.found_in lists.now.expected rows.now (length stuck.now) result.has_wrong_end }
+    ensures { result ≡ spec.found_in lists.now.expected rows.now (length stuck.now) has_wrong_end is_void }
 {
     Found {
         bugs: bugs(rows),
@@ -109,6 +113,7 @@ fn found_in(
         is_unexpected: is_unexpected(&lists.expected, rows),
         stuck: stuck.len() as u64,
         has_wrong_end,
+        is_void,
     }
 }
 
@@ -137,15 +142,17 @@ fn make_page<F: NewFile>(
     outcome: &Outcome,
     told: &[(Key, RaceRow)],
     shown: &[ShownRace],
+    orders: &[ShownOrder],
     page: &mut Option<F>,
 ) -> Result<(), NoMemory>
-    requires { length shown.now ≤ length told.now }
+    requires shown { length shown.now ≤ length told.now }
+    requires orders { length orders.now ≡ length shown.now }
     ensures paged { OnOk result (IfPaged F.has_failed F.Holds page.new
         (page_facts outcome.now told.now (length shown.now))) }
     ensures wanted { is_some page.new ≡ is_some page.old }
 {
     if let Some(file) = page {
-        let text = page_text(alloc, line, symbols, outcome, told, shown)?;
+        let text = page_text(alloc, line, symbols, outcome, told, shown, orders)?;
         let _ = file.make(&text);
     }
     Ok(())
@@ -169,9 +176,9 @@ fn made_of<R: Threads + Wait, D: Folder, F: NewFile, P: Watch>(
 ) -> Result<Made, PoolFault>
     requires legal { AreLegal options.now }
     requires symbols { symbols.now ≡ hunt.now.source.image }
-    requires hunted { IsHunted hunt.now saw.now }
+    requires noted { IsNoted hunt.now saw.now noted.now.ends }
     ensures made { IfOk result (λ made. spec.IsMade
-        (spec.showing_of options.now (is_some folder.old) (is_some page.old)) (hunting_with hunt.now lists.now)
+        (spec.showing_of options.now (is_some folder.old) (is_some page.old)) (hunting_with hunt.now noted.now.ends.right lists.now)
         (IfSaved D.has_failed D.Holds folder.new) (IfPaged F.has_failed F.Holds page.new) made.found (texts_in made)) }
     ensures wanted { (is_some folder.new ≡ is_some folder.old) × (is_some page.new ≡ is_some page.old) }
 {
@@ -179,7 +186,7 @@ fn made_of<R: Threads + Wait, D: Folder, F: NewFile, P: Watch>(
     let stuck = stuck_ends(alloc, hunt, symbols, &noted.stuck, folder)?;
     save_ends(alloc, hunt, saw.tally.ended(), &noted.ends, folder)?;
     let parted = parted_rows(alloc, hunt, symbols, lists, saw)?;
-    let told = told_rows(alloc, symbols, &parted.told)?;
+    let told = told_rows(alloc, symbols, &saw.orders, &parted.told)?;
     let outcome = Outcome {
         sites: hunt.sampler.len() as u64,
         mix: hunt.plans.mix(),
@@ -189,6 +196,7 @@ fn made_of<R: Threads + Wait, D: Folder, F: NewFile, P: Watch>(
         stuck: &stuck,
         rows: &parted.told,
         ignored: &parted.ignored,
+        built: lists.built,
     };
     let most = full_of(
         options.shows,
@@ -201,6 +209,7 @@ fn made_of<R: Threads + Wait, D: Folder, F: NewFile, P: Watch>(
         symbols,
         rows: first_of(&told, most),
     };
+    let orders = shown_orders(rt, alloc, &full, options.workers, &saw.orders, folder)?;
     let shown = full.show(rt, alloc, options.workers, folder, watch)?;
     let (text, notes) = texts_of(
         alloc,
@@ -210,10 +219,26 @@ fn made_of<R: Threads + Wait, D: Folder, F: NewFile, P: Watch>(
         &outcome,
         &told,
         &shown,
+        &orders,
     )?;
-    make_page(alloc, &options.line, symbols, &outcome, &told, &shown, page)?;
+    make_page(
+        alloc,
+        &options.line,
+        symbols,
+        &outcome,
+        &told,
+        &shown,
+        &orders,
+        page,
+    )?;
     Ok(Made {
-        found: found_in(lists, &parted.told, &stuck.shown, noted.ends.is_wrong()),
+        found: found_in(
+            lists,
+            &parted.told,
+            &stuck.shown,
+            noted.ends.is_wrong(),
+            is_void(&outcome),
+        ),
         text,
         notes,
     })
@@ -258,7 +283,7 @@ pub(crate) fn make_hunt<T: Threads + Wait + Sync, P: Watch, D: Folder, F: NewFil
     requires { AreLegal options.now }
     ensures made { IfOk result (λ made. spec.IsMade
         (spec.showing_of options.now (is_some folder.old) (is_some page.old))
-        (hunting_with (hunt_in (asked options.now) opened.now) lists.now)
+        (hunting_with (hunt_in (asked options.now) opened.now) (right_codes (asked options.now).right) lists.now)
         (IfSaved D.has_failed D.Holds folder.new) (IfPaged F.has_failed F.Holds page.new) made.found (texts_in made)) }
     ensures wanted { (is_some folder.new ≡ is_some folder.old) × (is_some page.new ≡ is_some page.old) }
     ensures failed { fails_by_write result ≡ true
@@ -285,6 +310,7 @@ pub(crate) fn make_hunt<T: Threads + Wait + Sync, P: Watch, D: Folder, F: NewFil
         aim: &aim,
         first: options.first,
         limit: options.limit,
+        orders: options.orders,
     };
     let saw = hunt.hunted(rt, alloc, options.workers, &mut noted, watch)?;
     let made = made_of(

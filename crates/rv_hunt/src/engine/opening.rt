@@ -1,6 +1,7 @@
 //! What `hunt` reads before it makes a run.
 ghost use Rattle.std.specs.Prelude.{◌≡◌, ◌||◌, false, Ok, IfOk, IfErr, IfSome};
 ghost use Rattle.rv_memory.specs.Flagged as flag;
+ghost use Rattle.rv_engines.specs.Built.{built_of};
 ghost use Rattle.rv_engines.specs.CommandFault.{IsTold, refusal, fails_by, is_read, is_thread, is_write};
 ghost use Rattle.rv_hunt.specs.engine.Asked.{asked};
 ghost use Rattle.rv_hunt.specs.engine.Hunting.{hunt_of};
@@ -8,7 +9,8 @@ ghost use Rattle.rv_hunt.specs.internal.Opened.{hunt_by, hunt_in, hunt_with};
 
 use crate::engine::options::HuntOptions;
 use rv_elf::Image;
-use rv_engines::image::read_image;
+use rv_engines::built::Built;
+use rv_engines::image::read_built;
 use rv_engines::run::fault::CommandFault;
 use rv_engines::run::lists::{read_named, read_skipped};
 use rv_memory::flagged::Flagged;
@@ -24,11 +26,12 @@ pub struct Listed {
     pub idle: NamedBytes,
 }
 
-/// An image, and the lists of the line.
+/// An image, the lists of the line, and what the image was built with.
 #[derive(Drop)]
 pub struct Opened {
     pub image: Image,
     pub lists: Listed,
+    pub built: Built,
 }
 
 /// Reads the lists.
@@ -69,18 +72,23 @@ pub fn open<'a, R: Read>(
 ) -> Result<Opened, CommandFault<'a>>
     ensures ok { IfOk result (λ opened. IfSome (R.remaining (flag.device image.old)) (λ bytes.
         hunt_of (asked options.now) bytes ≡ Ok (hunt_in (asked options.now) opened))) }
+    ensures built { IfOk result (λ opened. IfSome (R.remaining (flag.device image.old)) (λ bytes. opened.built ≡ built_of bytes)) }
     ensures err { IfErr result (λ fault. IfSome (R.remaining (flag.device image.old)) (λ bytes.
         IsTold (hunt_of (asked options.now) bytes) (refusal fault))) }
     ensures reader { flag.has_failed image.new ≡ (flag.has_failed image.old || fails_by is_read result) }
     ensures writer { fails_by is_write result ≡ false }
     ensures thread { fails_by is_thread result ≡ false }
 {
-    let image = match read_image(alloc, image) {
-        Ok(image) => image,
+    let (image, built) = match read_built(alloc, image) {
+        Ok(read) => read,
         Err(fault) => return Err(CommandFault::Plain(fault)),
     };
     match read_lists(alloc, options, &image) {
-        Ok(lists) => Ok(Opened { image, lists }),
+        Ok(lists) => Ok(Opened {
+            image,
+            lists,
+            built,
+        }),
         Err(fault) => Err(fault),
     }
 }

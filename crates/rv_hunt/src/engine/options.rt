@@ -68,6 +68,8 @@ pub struct HuntOptions<'a, 'b> {
     pub blocks: u32,
     /// What the text tells of the command line.
     pub line: LineParts<'b>,
+    /// Whether the orders of races' accesses are tried.
+    pub orders: bool,
 }
 
 /// The most workers of a hunt.

@@ -4,17 +4,19 @@ ghost use Rattle.rv_hunt.specs.HuntText as table;
 
 use crate::engine::onward::{push_gdb_line, push_keep_line, push_stuck_gdb_line};
 use crate::engine::options::LineParts;
+use crate::engine::orders::ShownOrder;
 use crate::engine::shown::ShownRace;
 use crate::engine::stuck_ends::ShownStuck;
 use crate::page::parts::Outcome;
 use crate::row::RaceRow;
 use crate::saying::index::push_index;
 use crate::saying::lines::{push_behind, summary_line};
+use crate::saying::orders::shown_rows;
 use crate::saying::stuck::stuck_block_lines;
 use crate::saying::warnings::warnings_text;
 use crate::table::write_table;
 use crate::tally::Tally;
-use rv_explain::blocks::block_text;
+use rv_explain::blocks::ordered_text;
 use rv_explain::symbol_table::SymbolTable;
 use rv_memory::flagged::Flagged;
 use rv_memory::store::NoMemory;
@@ -29,6 +31,7 @@ pub(crate) fn race_text(
     number: u64,
     row: &RaceRow,
     shown: &ShownRace,
+    order: &ShownOrder,
 ) -> Result<Vec<u8>, NoMemory> {
     let run = row.run;
     let harts = shown.harts;
@@ -36,7 +39,15 @@ pub(crate) fn race_text(
         0 => format!(in alloc; ", first in run {run}, {harts} harts")?,
         part => format!(in alloc; ", first in run {run}, probe {part}, {harts} harts")?,
     };
-    let mut text = block_text(alloc, symbols, words.as_bytes(), number, &shown.block)?;
+    let rows = shown_rows(alloc, symbols, order)?;
+    let mut text = ordered_text(
+        alloc,
+        symbols,
+        words.as_bytes(),
+        number,
+        &shown.block,
+        &rows,
+    )?;
     push_gdb_line(alloc, &mut text, line, number, shown.block.number)?;
     Ok(text)
 }
@@ -91,13 +102,16 @@ pub(crate) fn hunt_text(
     outcome: &Outcome,
     told: &[(Key, RaceRow)],
     shown: &[ShownRace],
+    orders: &[ShownOrder],
 ) -> Result<Vec<u8>, NoMemory> {
     let mut text = Vec::new(alloc);
     text.extend_from_slice(summary_line(alloc, outcome)?.as_bytes())?;
-    push_index(alloc, &mut text, symbols, shown.len(), told)?;
-    for (n, ((_, row), race)) in told.iter().zip(shown).enumerate() {
+    let table = &outcome.saw.orders;
+    push_index(alloc, &mut text, symbols, table, shown.len(), told)?;
+    for (n, (((_, row), race), order)) in told.iter().zip(shown).zip(orders).enumerate() {
+        let number = n as u64 + 1;
         text.push(b'\n')?;
-        text.extend_from_slice(&race_text(alloc, line, symbols, n as u64 + 1, row, race)?)?;
+        text.extend_from_slice(&race_text(alloc, line, symbols, number, row, race, order)?)?;
     }
     push_stuck(alloc, &mut text, symbols, outcome, line)?;
     text.push(b'\n')?;

@@ -261,6 +261,17 @@ fn uncommented(line: &[u8]) -> &[u8]
     }
 }
 
+/// The line without the CR of a line end of two bytes.
+fn without_return(line: &[u8]) -> &[u8]
+    ensures { result.now ≡ spec.without_return line.now }
+{
+    let last = line.len().saturating_sub(1);
+    match line.get(last) {
+        Some(byte) if *byte == b'\r' => &line[..last],
+        _ => line,
+    }
+}
+
 /// Takes the next word.
 fn next_word<'a>(pieces: &mut Pieces<'a>) -> Option<&'a [u8]>
     ensures first { option_copied result ≡ slice_get (filter spec.has_bytes pieces.old) 0 }
@@ -285,7 +296,7 @@ fn words_of(line: &[u8]) -> Result<Option<(&[u8], &[u8])>, IgnoreKind>
     ensures ok { IfOk result (λ found. spec.words_in (spec.words_of line.now) ≡ Ok (option_map (λ pair. (pair.0.now, pair.1.now)) found)) }
     ensures err { IfErr result (λ kind. spec.words_in (spec.words_of line.now) ≡ Err kind) }
 {
-    let mut words = Pieces::of(uncommented(line), b' ');
+    let mut words = Pieces::of(uncommented(without_return(line)), b' ');
     let Some(one) = next_word(&mut words) else {
         return Ok(None);
     };

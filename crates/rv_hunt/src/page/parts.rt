@@ -4,12 +4,13 @@ use crate::end_runs::EndRuns;
 use crate::engine::stuck_ends::StuckEnds;
 use crate::hunted::Hunted;
 use crate::row::RaceRow;
+use rv_engines::built::Built;
 use rv_report::key::Key;
 use rv_tally::plans::Mix;
 use std::marker::Model;
 
 /// What a hunt came to: how many sites there are, what its runs are, what they saw, how much of the code they executed, in which
-/// runs harts first ended in each way, the stuck ends, the rows of its races, and those that are ignored.
+/// runs harts first ended in each way, the stuck ends, the rows of its races, those that are ignored, and what the image was built with.
 #[derive(Drop)]
 pub struct Outcome<'a> {
     pub sites: u64,
@@ -20,6 +21,7 @@ pub struct Outcome<'a> {
     pub stuck: &'a StuckEnds,
     pub rows: &'a [(Key, RaceRow)],
     pub ignored: &'a [(Key, RaceRow)],
+    pub built: Built,
 }
 
 impl<'a> Model for Outcome<'a> {
@@ -27,5 +29,5 @@ impl<'a> Model for Outcome<'a> {
 
     ghost Value = { Came };
 
-    ghost view = { λ o. record { sites = o.sites; mix = o.mix; saw = o.saw.now; rows = o.rows.now; ignored = o.ignored.now } };
+    ghost view = { λ o. record { sites = o.sites; mix = o.mix; saw = o.saw.now; rows = o.rows.now; ignored = o.ignored.now; built = o.built } };
 }

@@ -5,6 +5,7 @@ ghost use Rattle.rv_hunt.specs.PageFacts as spec;
 ghost use Rattle.rv_markup.specs.declared.markup.Fact.TheVariants as fact;
 
 use crate::engine::options::LineParts;
+use crate::engine::orders::ShownOrder;
 use crate::engine::shown::ShownRace;
 use crate::engine::texts::race_text;
 use crate::expected::is_likely_benign;
@@ -12,6 +13,7 @@ use crate::page::elements::{
     begin_part, begin_row, begin_rows, begin_table, cell, class, code, column, end_line, end_table,
     number_cell, number_column,
 };
+use crate::page::orders::order_part;
 use crate::row::RaceRow;
 use crate::saying::index::names_of;
 use rv_explain::blocks::class_word;
@@ -126,10 +128,12 @@ fn content_of(
     number: u64,
     row: &RaceRow,
     shown: &ShownRace,
+    order: &ShownOrder,
 ) -> Result<Markup, NoMemory>
     ensures { IfOk result (λ more. more ≡ page) }
 {
-    let block = race_text(alloc, line, symbols, number, row, shown)?;
+    let block = race_text(alloc, line, symbols, number, row, shown, order)?;
+    let page = order_part(page, alloc, symbols, order)?;
     if number > MOST_PICTURES {
         return block_element(page, &block);
     }
@@ -166,6 +170,7 @@ fn race_shown(
     number: u64,
     race: &(Key, RaceRow),
     shown: &ShownRace,
+    order: &ShownOrder,
 ) -> Result<Markup, NoMemory>
     ensures { IfOk result (λ more. more ≡ record page { facts = spec.shown_facts number page.facts }) }
 {
@@ -180,7 +185,7 @@ fn race_shown(
     } else {
         open_title(page.begin_at(SECTION, &[], place)?.text(b"\n")?, number)?
     };
-    end_line(content_of(page, alloc, line, symbols, number, row, shown)?)
+    end_line(content_of(page, alloc, line, symbols, number, row, shown, order)?)
 }
 
 /// The races that are shown in full, one by one: the first of those that are told.
@@ -191,8 +196,10 @@ pub(crate) fn races_shown(
     symbols: &SymbolTable,
     told: &[(Key, RaceRow)],
     shown: &[ShownRace],
+    orders: &[ShownOrder],
 ) -> Result<Markup, NoMemory>
-    requires { length shown.now ≤ length told.now }
+    requires shown { length shown.now ≤ length told.now }
+    requires orders { length orders.now ≡ length shown.now }
     ensures { IfOk result (λ more. more ≡ record page { facts = spec.all_shown_facts (length shown.now) page.facts }) }
 {
     let mut page = page;
@@ -205,6 +212,7 @@ pub(crate) fn races_shown(
             n as u64 + 1,
             &told[n],
             &shown[n],
+            &orders[n],
         )?;
     }
     Ok(page)

@@ -1,6 +1,8 @@
 //! The index of a hunt's races: a line of each.
+use crate::orders::OrderTable;
 use crate::row::RaceRow;
 use crate::saying::lines::counted;
+use crate::saying::orders::order_word;
 use rv_explain::blocks::class_word;
 use rv_explain::names::name_text;
 use rv_explain::pieces::joined;
@@ -46,6 +48,7 @@ fn push_line(
     alloc: Global,
     text: &mut Vec<u8>,
     symbols: &SymbolTable,
+    orders: &OrderTable,
     number: u64,
     race: &(Key, RaceRow),
 ) -> Result<(), NoMemory> {
@@ -59,6 +62,8 @@ fn push_line(
         number.as_bytes(),
         b" ",
         class,
+        b", ",
+        order_word(orders.order_of(key)),
         b", ",
         reports.as_bytes(),
         &data,
@@ -77,6 +82,7 @@ pub(crate) fn push_index(
     alloc: Global,
     text: &mut Vec<u8>,
     symbols: &SymbolTable,
+    orders: &OrderTable,
     full: usize,
     told: &[(Key, RaceRow)],
 ) -> Result<(), NoMemory> {
@@ -85,7 +91,7 @@ pub(crate) fn push_index(
     }
     text.push(b'\n')?;
     for (n, race) in told.iter().enumerate() {
-        push_line(alloc, text, symbols, n as u64 + 1, race)?;
+        push_line(alloc, text, symbols, orders, n as u64 + 1, race)?;
     }
     Ok(())
 }

@@ -14,11 +14,17 @@ use std::alloc::Global;
 /// Why a clean answer would mean nothing.
 #[derive(Clone, Copy)]
 pub enum Warning {
+    /// The image was built with compressed instructions.
+    Compressed,
+    /// It was built with floating-point instructions.
+    Floating,
     /// The image has no site.
     NoSite,
     /// No pause was made.
     NoPause,
-    /// In every run a trap stopped a hart.
+    /// In most of the longest runs a trap stopped each hart before one was paused.
+    Lost,
+    /// In most of them a trap stopped a hart, and they were not lost.
     Trapped,
     /// Pauses were made, and in none of them another hart made a step.
     NoOtherStep,
@@ -28,16 +34,19 @@ pub enum Warning {
     NoNear,
     /// More than half of the near pairs were not probed.
     ManyUntried,
-    /// Each walk of the most harts made all steps that a walk may make, and saw no near pair.
+    /// Most walks of the most harts made all steps that a walk may make, and saw no near pair.
     WalkedInVain,
-    /// In none of the longest runs a hart exited.
+    /// In most of the longest runs no hart exited.
     NoExit,
 }
 
 /// All of them, in the order in which they are told.
-const WARNINGS: [Warning; 9] = [
+const WARNINGS: [Warning; 12] = [
+    Warning::Compressed,
+    Warning::Floating,
     Warning::NoSite,
     Warning::NoPause,
+    Warning::Lost,
     Warning::Trapped,
     Warning::NoOtherStep,
     Warning::FewArmed,
@@ -54,6 +63,16 @@ pub(crate) fn all_sampled(mix: Mix) -> bool
     match mix {
         Mix::Sampled => true,
         Mix::Mixed | Mix::Walks => false,
+    }
+}
+
+/// Whether runs are of both kinds.
+fn is_mixed(mix: Mix) -> bool
+    ensures { result ≡ spec.is_mixed mix }
+{
+    match mix {
+        Mix::Mixed => true,
+        Mix::Sampled | Mix::Walks => false,
     }
 }
 
@@ -78,9 +97,12 @@ fn holds(warning: Warning, outcome: &Outcome) -> bool
 {
     let saw = &outcome.saw.tally;
     match warning {
+        Warning::Compressed => outcome.built.compressed,
+        Warning::Floating => outcome.built.floating,
         Warning::NoSite => outcome.sites == 0,
         Warning::NoPause => saw.made_no_pause(),
-        Warning::Trapped => saw.each_run_trapped(),
+        Warning::Lost => saw.most_lost(),
+        Warning::Trapped => saw.most_trapped() && !saw.most_lost(),
         Warning::NoOtherStep => saw.passed_no_step(),
         Warning::FewArmed => all_sampled(outcome.mix) && saw.armed_few(outcome.sites),
         Warning::NoNear => saw_no_pair(outcome.saw),
@@ -88,6 +110,32 @@ fn holds(warning: Warning, outcome: &Outcome) -> bool
         Warning::WalkedInVain => saw.walked_in_vain(),
         Warning::NoExit => saw.exited_nowhere(),
     }
+}
+
+/// Whether it would mean nothing that there is no race, where the warning holds of such runs. Walks that are aimed at some pairs may
+/// come to none.
+fn voids(mix: Mix, warning: Warning) -> bool
+    ensures { result ≡ spec.voids mix warning }
+{
+    match warning {
+        Warning::Compressed | Warning::Floating | Warning::NoSite | Warning::Lost => true,
+        Warning::NoNear => is_mixed(mix),
+        Warning::NoPause
+        | Warning::Trapped
+        | Warning::NoOtherStep
+        | Warning::FewArmed
+        | Warning::ManyUntried
+        | Warning::WalkedInVain
+        | Warning::NoExit => false,
+    }
+}
+
+/// Whether a warning that holds of what a hunt came to says that it would mean nothing that there is no race.
+#[tactic(auto, unfolding(crate::specs::Warnings::is_void))]
+pub(crate) fn is_void(outcome: &Outcome) -> bool
+    ensures { result ≡ spec.is_void outcome.now }
+{
+    WARNINGS.iter().any(|warning| holds(*warning, outcome) && voids(outcome.mix, *warning))
 }
 
 /// Those of the warnings that hold of what a hunt came to.
@@ -119,16 +167,28 @@ pub(crate) fn warning_words(
     warning: Warning,
 ) -> Result<String, NoMemory> {
     let words = match warning {
+        Warning::Compressed => {
+            "built with compressed instructions (-march=..c): none of it runs here"
+        }
+        Warning::Floating => {
+            "built with floating-point instructions (-march=..f or ..d): none of them runs here"
+        }
         Warning::NoSite => {
             "the image has no load or store to pause at: is it the right file, and what does --skip leave out?"
         }
         Warning::NoPause => {
             "no pause was made, so that no race could be seen: do the harts reach a load or a store?"
         }
+        Warning::Lost => {
+            let first = first_stop(alloc, symbols, saw)?;
+            return Ok(format!(in alloc;
+                "in most of the longest runs no hart came further than a trap{first}: is the program built for RV32IMA without an operating system?"
+            )?);
+        }
         Warning::Trapped => {
             let first = first_stop(alloc, symbols, saw)?;
             return Ok(format!(in alloc;
-                "in every run a trap stopped a hart{first}: is the program built for RV32IMA without an operating system?"
+                "in most of the longest runs a trap stopped a hart{first}: is the program built for RV32IMA without an operating system?"
             )?);
         }
         Warning::NoOtherStep => {
@@ -144,10 +204,10 @@ pub(crate) fn warning_words(
             "more than half of the near pairs were not tried: take a greater --budget"
         }
         Warning::WalkedInVain => {
-            "walks of the most harts came to 900000 steps without a near pair: does the program get to where its harts work together?"
+            "most walks of the most harts came to 900000 steps without a near pair: does the program get to where its harts work together?"
         }
         Warning::NoExit => {
-            "in the longest runs no hart exited: if the program ends, take more steps by --plan"
+            "in most of the longest runs no hart exited: if the program ends, take more steps by --plan"
         }
     };
     Ok(format!(in alloc; "{words}")?)

@@ -16,6 +16,8 @@ use rv_memory::flagged::WriteFault;
 use rv_memory::flat::Flat;
 use rv_memory::output::Output;
 use rv_prune::class::Class;
+use rv_report::exhibit::Exhibit;
+use rv_report::exhibiting::exhibit;
 use rv_report::race_table::RaceTable;
 use std::alloc::Global;
 
@@ -198,6 +200,30 @@ fn overlap(alloc: Global) -> Result<Overlapping, Refusal> {
 /// The calls of a core over plain memory, none of which asks for memory.
 pub(crate) fn takes_no_memory<O: Output>(alloc: Global, screen: &mut O) -> Result<(), Failure> {
     probe(screen, overlap(alloc)?)
+}
+
+/// The report of a replayed hit.
+#[derive(Drop)]
+struct Exhibiting {
+    replaying: Replaying,
+}
+
+impl Probed for Exhibiting {
+    type Answer = Exhibit;
+
+    fn call(&mut self) -> Result<Exhibit, Refusal> {
+        let hit = &self.replaying;
+        Ok(exhibit(hit.alloc, &hit.image, hit.plan, &hit.entries, 0)?)
+    }
+
+    fn write_answer<O: Output>(answer: &Exhibit, screen: &mut O) -> Result<(), WriteFault> {
+        answer.write_exhibit(screen)
+    }
+}
+
+pub(crate) fn exhibits<O: Output>(alloc: Global, screen: &mut O) -> Result<(), Failure> {
+    let replaying = replay_of_a_hit(alloc)?;
+    probe(screen, Exhibiting { replaying })
 }
 
 #[derive(Drop)]

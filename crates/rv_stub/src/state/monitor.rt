@@ -33,6 +33,9 @@ const HELP: &[u8] = b"where      the place in the record, and the entry that is 
     since GDB shows what it knew before, and `thread T` where T is told.\n\
     With `set scheduler-locking step` steps follow one thread.\n";
 
+const NOT_REPORT: &[u8] =
+    b"fault 7 NotReport: no access met this pause, to which `monitor ending` goes\n";
+
 #[tactic(auto, unfolding(crate::specs::Answers::help_text))]
 fn help() -> &'static [u8]
     ensures { result.now ≡ spec.help_text }
@@ -181,7 +184,7 @@ impl Talk {
             return Reply::of_digits(alloc, b"fault 6 NoEnding\n");
         };
         let Some(met) = met_by(&mut self.session, &told)? else {
-            return Reply::of_digits(alloc, b"fault 7 NotReport\n");
+            return Reply::of_digits(alloc, NOT_REPORT);
         };
         let reply = reply_at_met(alloc, &self.session, &met)?;
         self.place_at(met.place, reply)

@@ -1,3 +1,4 @@
+use Rattle.std.proofs.Common.{refl}
 use Rattle.rv_memory.specs.Flagged as flag
 use Rattle.rv_hunt.specs.merge.Merge as merge
 use Rattle.rv_hunt.proofs.BoolLemmas.{none_failed, second_failed, third_failed}
@@ -36,7 +37,7 @@ returns-in-Err-read_aim-clause-readers g c =
 pub returns-clause-ok : goal.returns-clause-ok
 returns-clause-ok g c =
     hunting_known (g.R.Read.remaining (flag.device c.args.inputs.now.image)) (merge.bytes_if g.R.Read.remaining c.args.inputs.now.ignored) (merge.bytes_if g.R.Read.remaining c.args.inputs.now.expected) (asked c.args.options.now)
-    _ c.in_ok-opened.ensures.ok c.in-Ok.ensures.ok c.in-Ok-read_known.ensures.ok c.in-Ok-read_aim.ensures.ok
+    _ c.in_ok-opened.ensures.ok c.in-Ok.ensures.ok c.in-Ok-read_known.ensures.ok c.in-Ok-read_aim.ensures.ok refl c.in_ok-opened.ensures.built
 
 pub returns-clause-readers : goal.returns-clause-readers
 returns-clause-readers g c =

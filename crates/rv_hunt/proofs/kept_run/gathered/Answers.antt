@@ -1,5 +1,5 @@
 use Rattle.std.proofs.Common.{◌∙◌, ◌∷◌, ◌++◌, [], arith, subst, sym}
-use Rattle.rv_hunt.proofs.WalkLemmas.{all_more, of_walk}
+use Rattle.rv_hunt.proofs.WalkLemmas.{all_more, of_walk, tried_so}
 use Rattle.rv_hunt.specs.internal.RunWalk.{AreProbesOf}
 use Rattle.rv_walk.specs.Part.{IsPart}
 use Rattle.rv_hunt.proofs.kept_run.gathered.Goals as goal
@@ -23,7 +23,7 @@ loop-pair-preserved c =
     let g = c.loop-pair.invariant.gathered in
     let part = c.in_ok-part.part in
     record {
-      probes = subst (AreProbesOf c.args.hunt.now c.args.number c.args.walk.now) (sym c.probe.ensures.same) p;
+      probes = subst (AreProbesOf c.args.hunt.now c.args.number c.args.walk.now) (sym (c.try_from.ensures.probes ∙ c.probe.ensures.same)) p;
       gathered = record {
         walk = g.walk;
         is_walk = g.is_walk;
@@ -31,6 +31,6 @@ loop-pair-preserved c =
         parts = g.parts ++ part ∷ [];
         are_parts = all_more (IsPart g.walk) g.parts part g.are_parts
             (of_walk c.loop-pair.probes g.walk part (g.is_walk.start_is ∙ sym p.is_walk.start_is) (g.harts_are ∙ sym p.harts_are) (g.is_walk.sites_are ∙ sym p.is_walk.sites_are) c.in_ok-part.ensures.part);
-        is_gathered = c.in_ok-add.ensures _ _ _ g.is_gathered;
+        is_gathered = tried_so c.args.hunt.now c.args.walk.now.left.harts.items c.args.walk.now.left.pairs.items (g.parts ++ part ∷ []) c.add.new.self c.try_from.new.self c.try_from.ensures.same c.in_ok-try_from.ensures.tried (c.in_ok-add.ensures _ _ _ g.is_gathered);
       };
     }

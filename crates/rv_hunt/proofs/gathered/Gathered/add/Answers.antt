@@ -1,7 +1,7 @@
 use Rattle.std.proofs.Common.{◌∙◌, ◌∷◌, [], List, ap, arith, length, length-append, map}
 use Rattle.rv_collide.specs.declared.ending.Ending.{Ending}
 use Rattle.rv_collide.specs.declared.entry.Entry.{Entry}
-use Rattle.rv_hunt.proofs.WalkLemmas.{counted_so, near_so, reports_so}
+use Rattle.rv_hunt.proofs.WalkLemmas.{all_of_some, counted_so, near_so, reports_so}
 use Rattle.rv_hunt.specs.KeptRun.{in_part, reports_among}
 use Rattle.rv_hunt.specs.Summary.{counts_of}
 use Rattle.rv_hunt.proofs.gathered.Gathered.add.Goals as goal
@@ -21,4 +21,5 @@ returns c = λ harts pairs parts is.
       parts_are = omega (arith, next, count, long);
       reports_are = reports_so hunt parts part number c.args.self.now.reports.items c.in_ok-reports.reports.items c.append_reports.new.reports.items is.reports_are reports (omega (arith, next, count)) c.in_ok-append_reports.ensures;
       near_are = near_so pairs parts part c.probed_pair.result c.args.self.now.near.items c.push.new.self.items is.near_are c.probed_pair.ensures c.in_ok-push.ensures.items;
+      tried_are = all_of_some c.args.self.now.reports.items c.in_ok-reports.reports.items c.append_reports.new.reports.items c.args.self.now.trials.tried.items c.in_ok-append_reports.ensures is.tried_are;
     }

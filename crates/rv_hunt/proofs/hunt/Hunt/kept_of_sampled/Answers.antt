@@ -15,4 +15,5 @@ returns c =
       summary = c.in_ok-summary.ensures _ (c.in_ok-ends.ensures ∙ same_ends hunt.source plan c.args.number c.in_ok-core.core c.left_by-left.result.entries.items c.in_ok-core.ensures left.entries);
       reports_are = c.in_ok-reports.ensures ∙ ap (reports_of_sampled hunt) c.deref.ensures.value;
       near_are = c.new.ensures.items;
+      tried_are = c.new-2.ensures.items;
     }

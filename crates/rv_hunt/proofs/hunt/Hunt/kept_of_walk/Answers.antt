@@ -24,4 +24,5 @@ returns c =
       };
       reports_are = g.is_gathered.reports_are;
       near_are = g.is_gathered.near_are;
+      tried_are = g.is_gathered.tried_are;
     }
