@@ -1,8 +1,49 @@
--- What a line of `hunt` asks to be shown.
-use Rattle.std.specs.Prelude.{if◌then◌else◌}
+-- What a line of `hunt` asks the engine for.
+use Rattle.std.specs.Prelude.{ℕ, ◌≡◌, Bool, not, option_map, unwrap_or, is_some, if◌then◌else◌}
+use Rattle.rv_collide.specs.declared.plan.TheConstants.{DEFAULT_SLOTS}
+use Rattle.rv_command.specs.HuntLine.{sides}
 use Rattle.rv_command.specs.declared.command.hunt.HuntLine.{HuntLine}
+use Rattle.rv_hunt.specs.engine.Asked as engine
+use Rattle.rv_hunt.specs.declared.engine.options.HuntOptions.{HuntOptions}
+use Rattle.rv_hunt.specs.declared.engine.options.LineParts.{LineParts}
 use Rattle.rv_hunt.specs.declared.engine.options.Shows.{Shows}
 use Rattle.rv_hunt.specs.declared.engine.options.Shows.TheVariants.{Table, Text}
+use Rattle.rv_tally.specs.declared.plans.Mix.{Mix}
+use Rattle.rv_tally.specs.declared.plans.Mix.TheVariants.{Mixed, Sampled, Walks}
+use Rattle.rvcollide.specs.declared.hunting.TheConstants.{SLOTS}
 
+-- what is shown
 abbrev pub shown_by : HuntLine → Shows
 shown_by line = if line.shows_table then Table else Text
+
+-- what the runs are: walks alone where the line aims at a pair, as sampled runs make no probes
+abbrev pub mix_of : HuntLine → Mix
+mix_of line = if line.sampled then Sampled else (if is_some line.aim then Walks else Mixed)
+
+-- how many slots each run has, where the line doesn't say
+abbrev pub slots_of : HuntLine → ℕ
+slots_of line = if line.sampled then DEFAULT_SLOTS else SLOTS
+
+-- what is asked of the runs and their reports
+abbrev pub asked : HuntLine → engine.Asked
+asked line = record {
+  given = record { mix = mix_of line; harts = line.harts; slots = unwrap_or line.slots (slots_of line); lengths = line.lengths };
+  seed = line.seed;
+  first = line.first;
+  limit = line.limit;
+  named = option_map (λ text. text.now) line.named;
+  skip = option_map (λ text. text.now) line.skip;
+  idle = option_map (λ text. text.now) line.idle;
+  aim = option_map sides line.aim;
+  right = option_map (λ text. text.now) line.right;
+}
+
+-- The options are those of a line, with so many workers and these parts of the line to be shown.
+pub record AreOptionsOf (line : HuntLine) (workers : ℕ) (parts : LineParts) (options : HuntOptions) : Type 0 where
+  pub legal : engine.AreLegal options
+  pub asked : engine.asked options ≡ asked line
+  pub workers : options.workers ≡ workers
+  pub shows : options.shows ≡ shown_by line
+  pub blocks : options.blocks ≡ line.blocks
+  pub line : options.line ≡ parts
+  pub orders : options.orders ≡ not line.no_orders

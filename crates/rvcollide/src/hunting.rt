@@ -1,6 +1,6 @@
 //! The engine of `hunt` on the files of a line, and what is told while it works.
-ghost use Rattle.std.specs.Prelude.{◌≡◌, IfSome};
-ghost use Rattle.rv_hunt.specs.engine.Asked.{AreLegal};
+ghost use Rattle.std.specs.Prelude.{◌≡◌, IfSome, option_map};
+ghost use Rattle.rv_command.specs.HuntLine.{sides};
 ghost use Rattle.rvcollide.specs.Ending as spec;
 ghost use Rattle.rvcollide.specs.Hunt as asked;
 
@@ -97,7 +97,9 @@ fn workers_of(rt: &impl Threads, line: &HuntLine) -> u8 {
 }
 
 /// What the runs of the line are.
-fn mix_of(line: &HuntLine) -> Mix {
+fn mix_of(line: &HuntLine) -> Mix
+    ensures { result ≡ asked.mix_of line.now }
+{
     if line.sampled {
         Mix::Sampled
     } else if line.aim.is_some() {
@@ -109,7 +111,9 @@ fn mix_of(line: &HuntLine) -> Mix {
 }
 
 /// How many slots there are, where the line doesn't say.
-fn slots_of(line: &HuntLine) -> u8 {
+fn slots_of(line: &HuntLine) -> u8
+    ensures { result ≡ asked.slots_of line.now }
+{
     if line.sampled { DEFAULT_SLOTS } else { SLOTS }
 }
 
@@ -119,7 +123,7 @@ fn options_of<'a, 'b>(
     workers: u8,
     parts: LineParts<'b>,
 ) -> Option<HuntOptions<'a, 'b>>
-    ensures { IfSome result (λ options. AreLegal options) }
+    ensures { IfSome result (λ options. asked.AreOptionsOf line.now workers parts options) }
 {
     let slots = line.slots.unwrap_or(slots_of(line));
     let plans = Plans::new(mix_of(line), line.harts, slots, line.lengths)?;
@@ -147,7 +151,9 @@ fn options_of<'a, 'b>(
 }
 
 /// The two sides that the line aims at, if it does.
-fn sides_of<'a>(line: &HuntLine<'a>) -> Option<Sides<'a>> {
+fn sides_of<'a>(line: &HuntLine<'a>) -> Option<Sides<'a>>
+    ensures { option_map (λ both. (both.one.now, both.other.now)) result ≡ option_map sides line.now.aim }
+{
     let aim = line.aim?;
     Some(Sides {
         one: aim.one,

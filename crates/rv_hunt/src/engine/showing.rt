@@ -1,4 +1,4 @@
-//! The races that are shown in full: each run that their rows name is made again once, by the workers, and its schedule saved.
+//! The races that are shown in full: each run that their rows name is made again by the workers, and its schedule saved.
 ghost use Rattle.std.specs.Prelude.{◌≡◌, ◌≤◌, ◌<◌, ◌≢◌, All, IfOk, List, None, OnOk, Some, is_some, length, replicate, slice_get, slice_set, ℕ};
 ghost use Rattle.rv_hunt.specs.engine.Late.{IfSaved};
 ghost use Rattle.rv_hunt.specs.engine.Shown.{AreShown};
@@ -155,6 +155,11 @@ fn races_in(alloc: Global, mut slots: Slots) -> Result<Vec<ShownRace>, NoMemory>
     Ok(shown)
 }
 
+/// In how many shares each of so many runs is made again, so that each worker has one.
+fn shares_of(runs: usize, workers: u8) -> u32 {
+    (usize::from(workers) / runs.max(1)).max(1) as u32
+}
+
 impl<'a, 'h, 's> InFull<'a, 'h, 's> {
     /// The numbers of the next runs: at most so many, which rows from a place on name whose slots are empty.
     fn next(
@@ -189,6 +194,7 @@ impl<'a, 'h, 's> InFull<'a, 'h, 's> {
         requires image { self.now.symbols.now ≡ self.now.hunt.now.source.image }
         ensures { IfOk result (λ runs. All (spec.AreShown (spec.of_full self.now)) runs.items) }
     {
+        let shares = shares_of(runs.len(), workers);
         // There are far fewer runs than 2^32.
         let Ok(count) = u32::try_from(runs.len()) else {
             return Err(PoolFault::NoMemory);
@@ -196,7 +202,8 @@ impl<'a, 'h, 's> InFull<'a, 'h, 's> {
         let showers = Showers {
             full: *self,
             runs,
-            count,
+            shares,
+            count: count.saturating_mul(shares),
         };
         all_made(rt, alloc, &showers, workers)
     }

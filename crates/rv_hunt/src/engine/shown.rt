@@ -71,12 +71,36 @@ pub(crate) struct InFull<'a, 'h, 's> {
     pub(crate) rows: &'a [(Key, RaceRow)],
 }
 
-/// Runs whose races are shown, as jobs.
+/// Some of the parts of a run: those at whose numbers, divided by `of`, `rest` is left.
+#[derive(Clone, Copy)]
+pub(crate) struct Share {
+    pub(crate) rest: u32,
+    pub(crate) of: u32,
+}
+
+impl Share {
+    /// Whether a part is among them.
+    fn has(&self, part: u32) -> bool {
+        part % self.of.max(1) == self.rest
+    }
+}
+
+/// Runs whose races are shown, as jobs: so many shares of each run. A walk that most rows name is made again by several workers,
+/// each of which shows some of its probes.
 #[derive(Drop)]
 pub(crate) struct Showers<'a, 'h, 's> {
     pub(crate) full: InFull<'a, 'h, 's>,
     pub(crate) runs: &'a [u32],
+    pub(crate) shares: u32,
     pub(crate) count: u32,
+}
+
+impl Showers<'_, '_, '_> {
+    /// The run that a job makes again, if there is such a job.
+    fn run_of(&self, job: u32) -> Option<u32> {
+        let place = job / self.shares.max(1);
+        self.runs.get(place as usize).copied()
+    }
 }
 
 impl<'a, 'h, 's> Jobs for Showers<'a, 'h, 's> {
@@ -92,15 +116,19 @@ impl<'a, 'h, 's> Jobs for Showers<'a, 'h, 's> {
 
     fn size(&self, place: u32) -> u32 {
         let hunt = self.full.hunt;
-        match self.runs.get(place as usize) {
-            Some(run) => hunt.plans.plan(*run).steps,
+        match self.run_of(place) {
+            Some(run) => hunt.plans.plan(run).steps,
             None => 0,
         }
     }
 
     fn make(&self, alloc: Global, place: u32) -> Result<Vec<ShownPart>, NoMemory> {
-        match self.runs.get(place as usize) {
-            Some(run) => self.full.run(alloc, *run),
+        let share = Share {
+            rest: place % self.shares.max(1),
+            of: self.shares,
+        };
+        match self.run_of(place) {
+            Some(run) => self.full.run(alloc, run, share),
             None => Err(NoMemory),
         }
     }
@@ -181,11 +209,13 @@ impl InFull<'_, '_, '_> {
 }
 
 impl InFull<'_, '_, '_> {
-    /// Whether a row is shown by that part of a run.
-    fn names(&self, of: RunPart) -> bool {
-        self.rows
-            .iter()
-            .any(|(_, row)| row.run == of.run && row.part == of.part)
+    /// Whether a row is shown by that part of a run, which is in that share.
+    fn names(&self, of: RunPart, share: Share) -> bool {
+        share.has(of.part)
+            && self
+                .rows
+                .iter()
+                .any(|(_, row)| row.run == of.run && row.part == of.part)
     }
 
     /// What is shown of the races of a part; the first of them comes last.
@@ -239,15 +269,17 @@ impl InFull<'_, '_, '_> {
         Ok(ShownPart { races, schedule })
     }
 
-    /// What is shown of a run.
-    fn run(&self, alloc: Global, run: u32) -> Result<Vec<ShownPart>, NoMemory>
+    /// What is shown of some parts of a run.
+    fn run(&self, alloc: Global, run: u32, share: Share) -> Result<Vec<ShownPart>, NoMemory>
         ensures { IfOk result (λ parts. internal.AreShownIn self.now parts.items) }
     {
         let hunt = self.hunt;
-        if hunt.plans.mix().is_sampled(run) {
+        if !hunt.plans.mix().is_sampled(run) {
+            self.walked(alloc, run, share)
+        } else if share.has(0) {
             self.sampled(alloc, run)
         } else {
-            self.walked(alloc, run)
+            Ok(Vec::new(alloc))
         }
     }
 
@@ -263,8 +295,8 @@ impl InFull<'_, '_, '_> {
         Ok(parts)
     }
 
-    /// What is shown of the probes of a walk.
-    fn walked(&self, alloc: Global, run: u32) -> Result<Vec<ShownPart>, NoMemory>
+    /// What is shown of some probes of a walk.
+    fn walked(&self, alloc: Global, run: u32, share: Share) -> Result<Vec<ShownPart>, NoMemory>
         requires { is_sampled self.now.hunt.now.given.mix run ≡ false }
         ensures { IfOk result (λ parts. internal.AreShownIn self.now parts.items) }
     {
@@ -273,7 +305,7 @@ impl InFull<'_, '_, '_> {
         let mut begin = begin_of(alloc, hunt, run)?;
         let walk = walk_of(alloc, hunt, run, &mut begin, &none)?;
         let drawn = drawn_pairs(alloc, hunt, run, &walk)?;
-        probed_parts(alloc, *self, run, &walk, begin, &drawn)
+        probed_parts(alloc, *self, run, share, &walk, begin, &drawn)
     }
 
     /// What is shown of one probe of a walk.
@@ -299,11 +331,12 @@ impl InFull<'_, '_, '_> {
     }
 }
 
-/// What is shown of the probes of a walk that rows name.
+/// What is shown of those of some probes of a walk that rows name.
 fn probed_parts<'x>(
     alloc: Global,
     full: InFull<'x, 'x, 'x>,
     run: u32,
+    share: Share,
     walk: &'x RunWalk,
     begin: Machine<Paged>,
     drawn: &[NearPair],
@@ -319,7 +352,7 @@ fn probed_parts<'x>(
     for (part, pair) in (1..u32::MAX).zip(drawn) {
         let of = RunPart { run, part };
         let before = repeats.before(pair);
-        if full.names(of) {
+        if full.names(of, share) {
             let shown = full.probed(alloc, &mut probes, walk, of, pair, before)?;
             parts.push(shown)?;
         }
