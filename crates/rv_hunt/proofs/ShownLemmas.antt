@@ -8,7 +8,7 @@ use Rattle.std.proofs.lemmas.List.Sums.{sum_by-cons}
 use Rattle.rv_elf.specs.Contents.{Contents}
 use Rattle.rv_explain.specs.Classes.{rank}
 use Rattle.rv_races.specs.declared.classes.RaceClass.{RaceClass}
-use Rattle.rv_races.specs.declared.classes.RaceClass.TheVariants.{Kept, Counter, Flag, Ordered, Named}
+use Rattle.rv_races.specs.declared.classes.RaceClass.TheVariants.{Kept, Counter, Unwatched, Flag, Ordered, Atomic, Named}
 use Rattle.rv_hunt.specs.ShownOnce.{EachIsShownOnce}
 use Rattle.rv_hunt.specs.ToldOrder.{AreAt, group_of, is_of, standing_of, standings, standings_from}
 use Rattle.rv_hunt.specs.declared.orders.OrderRow.{OrderRow}
@@ -63,8 +63,10 @@ stood image orders weight all groups k (row ∷ rows) there =
 by_class : (class : RaceClass) → (rank class == rank Named) ≡ not (nat_lt (rank class) (rank Named))
 by_class Kept = refl
 by_class Counter = refl
+by_class Unwatched = refl
 by_class Flag = refl
 by_class Ordered = refl
+by_class Atomic = refl
 by_class Named = refl
 
 twice : (b : Bool) → b ≡ not (not b)

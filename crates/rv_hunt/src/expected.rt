@@ -15,18 +15,29 @@ pub fn may_be_bug(class: RaceClass) -> bool
 {
     match class {
         RaceClass::Kept | RaceClass::Counter => true,
-        RaceClass::Flag | RaceClass::Ordered | RaceClass::Named => false,
+        RaceClass::Unwatched
+        | RaceClass::Flag
+        | RaceClass::Ordered
+        | RaceClass::Atomic
+        | RaceClass::Named => false,
     }
 }
 
-/// Whether a race of the class is likely benign: it is a flag, or ordered.
+/// Whether a race of the class is likely benign: it is a flag, ordered, or of an atomic.
 pub fn is_likely_benign(class: RaceClass) -> bool
     ensures { result ≡ spec.is_likely_benign class }
 {
     match class {
-        RaceClass::Flag | RaceClass::Ordered => true,
-        RaceClass::Kept | RaceClass::Counter | RaceClass::Named => false,
+        RaceClass::Flag | RaceClass::Ordered | RaceClass::Atomic => true,
+        RaceClass::Kept | RaceClass::Counter | RaceClass::Unwatched | RaceClass::Named => false,
     }
+}
+
+/// Whether no data breakpoint watched what a race of the class found, which counts as neither.
+pub fn is_unwatched(class: RaceClass) -> bool
+    ensures { result ≡ spec.is_unwatched class }
+{
+    matches!(class, RaceClass::Unwatched)
 }
 
 /// Whether the race of a row may be a bug and has no row among those that are expected.

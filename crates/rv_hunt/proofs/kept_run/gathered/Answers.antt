@@ -1,5 +1,6 @@
 use Rattle.std.proofs.Common.{◌∙◌, ◌∷◌, ◌++◌, [], arith, subst, sym}
-use Rattle.rv_hunt.proofs.WalkLemmas.{all_more, of_walk, tried_so}
+use Rattle.rv_hunt.proofs.WalkLemmas.{all_more, gone_by, of_walk, tried_so}
+use Rattle.rv_hunt.specs.KeptRun.{begin}
 use Rattle.rv_hunt.specs.internal.RunWalk.{AreProbesOf}
 use Rattle.rv_walk.specs.Part.{IsPart}
 use Rattle.rv_hunt.proofs.kept_run.gathered.Goals as goal
@@ -13,7 +14,7 @@ loop-pair-init c = record {
     harts_are = c.probes_of-probes.ensures.harts_are;
     parts = [];
     are_parts = λ k d below. absurd (omega (arith, below));
-    is_gathered = c.in_ok-gathered.ensures c.args.hunt.now;
+    is_gathered = c.in_ok-gathered.ensures c.args.hunt.now (begin c.args.hunt.now c.args.number);
   };
 }
 
@@ -31,6 +32,6 @@ loop-pair-preserved c =
         parts = g.parts ++ part ∷ [];
         are_parts = all_more (IsPart g.walk) g.parts part g.are_parts
             (of_walk c.loop-pair.probes g.walk part (g.is_walk.start_is ∙ sym p.is_walk.start_is) (g.harts_are ∙ sym p.harts_are) (g.is_walk.sites_are ∙ sym p.is_walk.sites_are) c.in_ok-part.ensures.part);
-        is_gathered = tried_so c.args.hunt.now c.args.walk.now.left.harts.items c.args.walk.now.left.pairs.items (g.parts ++ part ∷ []) c.add.new.self c.try_from.new.self c.try_from.ensures.same c.in_ok-try_from.ensures.tried (c.in_ok-add.ensures _ _ _ g.is_gathered);
+        is_gathered = tried_so c.args.hunt.now (gone_by (begin c.args.hunt.now c.args.number) c.args.walk.now.left.harts.items) c.args.walk.now.left.pairs.items (g.parts ++ part ∷ []) c.add.new.self c.try_from.new.self c.try_from.ensures.same c.in_ok-try_from.ensures.tried (c.in_ok-add.ensures _ _ _ c.in_ok-judged.ensures g.is_gathered);
       };
     }
