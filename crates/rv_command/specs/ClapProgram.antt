@@ -73,7 +73,7 @@ commands = command (codes "words") []
     ∷ command (codes "explain") (image ∷ schedule ∷ explain_options)
     ∷ command (codes "gdb") (image ∷ schedule ∷ [])
     ∷ command (codes "hunt") (image ∷ hunt_options)
-    ∷ command (codes "merge") (required_words (codes "TABLE") ∷ option (codes "expect") ∷ [])
+    ∷ command (codes "merge") (required_words (codes "TABLE") ∷ option (codes "expect") ∷ flag (codes "gaps") ∷ [])
     ∷ []
 
 abbrev pub without_commands : App

@@ -14,6 +14,7 @@ pub mod OpenLemmas
 pub mod OrderLemmas
 pub mod OrderRowLemmas
 pub mod OrderShowingLemmas
+pub mod OriginLemmas
 pub mod PartedLemmas
 pub mod ReadLemmas
 pub mod RemadeLemmas

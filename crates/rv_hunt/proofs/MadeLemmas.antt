@@ -16,7 +16,7 @@ use Rattle.rv_hunt.specs.declared.engine.orders.ShownOrder.{ShownOrder}
 use Rattle.rv_hunt.specs.declared.engine.shown.ShownRace.{ShownRace}
 use Rattle.rv_hunt.specs.declared.hunted.Hunted.{Hunted}
 use Rattle.rv_hunt.specs.declared.row.RaceRow.{RaceRow}
-use Rattle.rv_hunt.specs.engine.Hunting.{Hunting, IsMade, IsTable, Showing, Texts, found_in, ignored_by, outcome, told_in}
+use Rattle.rv_hunt.specs.engine.Hunting.{Hunting, IsMade, IsTable, Showing, Texts, found_in, ignored_by, origin_of, outcome, told_in}
 use Rattle.rv_hunt.specs.engine.OrderShown.{AreOrdersShown}
 use Rattle.rv_hunt.specs.engine.Shown.{AreShown}
 use Rattle.rv_hunt.specs.engine.StuckShown.{AreStuckShown}
@@ -35,7 +35,7 @@ outcome_is hunting saw n mix rows ignored built a b c d e = rw (a, b, c, d, e)
 
 pub made_is : (way : Showing) (hunting : Hunting) (saw : Hunted) (Saves : ℕ → List ℕ → Type 0) (Pages : List Fact → Type 0) (rows told full : List Row) (o : Outcome) (shown : List ShownRace) (orders : List ShownOrder) (stuck : List ShownStuck) (ends : EndsSeen) (wrong : Bool) (found : Found) (texts : Texts) → IsNoted hunting.hunt saw ends → ends.right ≡ hunting.right → wrong ≡ ends.is_wrong
     → rows ≡ told_in hunting saw → AreInOrder hunting.hunt.source.image saw.orders rows told → full ≡ take way.full told → o ≡ outcome hunting saw → AreShown hunting.hunt Saves full shown → AreOrdersShown hunting.hunt saw.orders (keys_of full) orders
-    → IsTable way.shows o.rows texts.text → Pages (page_facts o told (length shown)) → AreStuckShown hunting.hunt stuck → found ≡ found_in hunting.expected rows (length stuck) wrong (is_void o)
+    → IsTable way.shows o.rows (origin_of way hunting saw) texts.text → Pages (page_facts o told (length shown)) → AreStuckShown hunting.hunt stuck → found ≡ found_in hunting.expected rows (length stuck) wrong (is_void o)
     → IsMade way hunting Saves Pages found texts
 made_is way hunting saw Saves Pages rows told full o shown orders stuck ends wrong found texts noted right is_wrong are order first came are_shown ordered table paged are_stuck found_is = record {
   saw = saw;
@@ -46,7 +46,7 @@ made_is way hunting saw Saves Pages rows told full o shown orders stuck ends wro
   are_shown = subst (λ (rs : List Row). AreShown hunting.hunt Saves rs shown) first are_shown;
   orders = orders;
   are_ordered = subst (λ (rs : List Row). AreOrdersShown hunting.hunt saw.orders (keys_of rs) orders) first ordered;
-  is_table = subst (λ (x : Outcome). IsTable way.shows x.rows texts.text) came table;
+  is_table = subst (λ (x : Outcome). IsTable way.shows x.rows (origin_of way hunting saw) texts.text) came table;
   paged = subst (λ (x : Outcome). Pages (page_facts x told (length shown))) came paged;
   stuck = stuck;
   are_stuck = are_stuck;

@@ -23,7 +23,7 @@ use Rattle.rv_memory.specs.Chain.{◌>>=◌, want}
 use Rattle.rv_report.specs.declared.key.Key.{Key}
 use Rattle.rv_text.specs.Pieces.{pieces_of}
 
-abbrev option_then : {A B : Type 0} → Option A → (A → Option B) → Option B
+abbrev pub option_then : {A B : Type 0} → Option A → (A → Option B) → Option B
 option_then o next = option_and_then next o
 
 -- a number of a table, or None where it is over 2^64 - 1

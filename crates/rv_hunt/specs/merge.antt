@@ -4,3 +4,4 @@ pub mod FileFaultText
 pub mod Ignore
 pub mod Merge
 pub mod TableFiles
+pub mod Whole

@@ -73,7 +73,7 @@ fn read<'a, R: Read>(
     inputs: &mut Inputs<R>,
 ) -> Result<(Opened, Lists), HuntFault<'a>>
     ensures ok { IfOk result (λ read. IfSome (spec.files_of R.remaining inputs.old) (λ files.
-        spec.IsHuntingOf (asked options.now) files (hunting_with (hunt_in (asked options.now) read.0) (right_codes (asked options.now).right) read.1))) }
+        spec.IsHuntingOf (asked options.now) files (hunting_with (hunt_in (asked options.now) read.0) read.0.digits.items (right_codes (asked options.now).right) read.1))) }
     ensures err { IfErr result (λ fault. IfSome (spec.files_of R.remaining inputs.old) (λ files.
         IsTold (asked options.now) files fault)) }
     ensures readers { spec.any_failed inputs.new ≡ (spec.any_failed inputs.old || fails_by is_read result) }

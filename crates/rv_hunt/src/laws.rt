@@ -1,5 +1,5 @@
 //! What holds of hunts and their tables. Each law is the contract of a function that does nothing.
-ghost use Rattle.rv_hunt.specs.HuntLaws.{PiecesAreMerged, TableIsKept, TwoAreMerged};
+ghost use Rattle.rv_hunt.specs.HuntLaws.{OriginsAreJoined, PiecesAreMerged, TableIsKept, TwoAreMerged};
 ghost use Rattle.rv_hunt.specs.HuntReadLaws.{TablesAreReadBack};
 ghost use Rattle.rv_hunt.specs.HuntedLaws.{OneResult, PiecesAreWhole, RowsAreTold};
 ghost use Rattle.rv_hunt.specs.ShownOnce.{EachIsShownOnce};
@@ -15,6 +15,11 @@ pub fn pieces_are_merged()
     ensures all { PiecesAreMerged }
     ensures two { TwoAreMerged }
     ensures one { TableIsKept }
+{}
+
+/// What the rows of two pieces are of, joined, is what those of the whole are of.
+pub fn origins_are_joined()
+    ensures { OriginsAreJoined }
 {}
 
 /// What is asked of a hunt of sampled runs determines what it sees; the tables of a hunt's pieces make the table of the whole; and each

@@ -15,6 +15,10 @@ use rv_hunt::merge::run_merge;
 use rv_memory::buffered::Buffered;
 use rv_memory::flagged::Flagged;
 
+/// What is told where a table doesn't say what it is of.
+const NOT_OF_ONE: &str =
+    "rvcollide: warning: a table does not say what it is of (it has no last line of ..), so they are added in the order given: nothing tells whether they are of one hunt";
+
 /// The path of the file of a number, where there is one: the tables count from 0, and the table of what is expected comes
 /// behind them.
 fn path_of<'a>(
@@ -60,6 +64,7 @@ pub fn merge_files<'a>(
     rt: &HostRuntime,
     tables: TablePaths<'a>,
     expected: Option<TablePath<'a>>,
+    gaps: bool,
 ) -> Result<(), Failure<'a>> {
     let alloc = rt.alloc();
     let mut files = Vec::new(alloc);
@@ -71,9 +76,18 @@ pub fn merge_files<'a>(
     }
     let mut known = expected_file(rt, expected);
     let mut writer = Buffered::new(alloc, Stream::new(rt.stdout()));
-    match run_merge(alloc, &mut files, &mut known, &mut writer) {
-        Ok(false) => Ok(()),
-        Ok(true) => Err(Failure::Found),
+    match run_merge(alloc, gaps, &mut files, &mut known, &mut writer) {
+        Ok(merged) => {
+            if !merged.is_of_one {
+                // Where the standard error fails there is nothing left to tell it to.
+                let _ = eprintln!(rt; "{NOT_OF_ONE}");
+            }
+            if merged.is_unexpected {
+                Err(Failure::Found)
+            } else {
+                Ok(())
+            }
+        }
         Err(fault) => {
             let said = match fault.file {
                 Some(number) if number < files.len() => files

@@ -303,12 +303,16 @@ pub const COMMANDS: [Subcommand; 12] = [
         arguments: &[
             Argument::Words {
                 name: "TABLE",
-                help: "Files that hunt --table wrote, in the order of their runs",
+                help: "Files that hunt --table wrote",
             },
             Argument::Optional {
                 name: "expect",
                 value: "TABLE",
                 help: "Table of known races: exit with status 5 if one that may be a bug is not in it",
+            },
+            Argument::Flag {
+                name: "gaps",
+                help: "Allow that runs between those of two tables are missing",
             },
         ],
     },
@@ -522,9 +526,10 @@ Example:
 
 /// What the help of `merge` says after its arguments.
 const MERGE: &str = "\
-The pieces are hunts of one image with the same options but for --first and --runs. Their tables, in the
-order of their runs, make the table of the whole hunt, byte for byte. The output is that table. The
-option stands before the tables or behind them.
+The pieces are hunts of one image with the same options but for --first and --runs. Their tables, in whatever
+order, make the table of the whole hunt, byte for byte. The output is that table. A table's last line says what
+it is of: tables of two images, versions or options are refused, and so are runs that two tables have, or that
+are missing between them. --expect stands before the tables or behind them, --gaps before all or behind all.
 
 A fault is told with its file and what is wrong, as in b.table: table line 2 Shape.
 

@@ -67,6 +67,8 @@ fn options(rt: &impl Abort) -> HuntOptions<'static, 'static> {
             nested_image: "a.elf",
             options: " --seed 0",
             folder: None,
+            version: "0.1.0",
+            given: "",
         },
         orders: true,
     }

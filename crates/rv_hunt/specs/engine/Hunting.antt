@@ -1,11 +1,12 @@
 -- What `hunt` makes of the bytes of an image and its options.
-use Rattle.std.specs.Prelude.{◌≡◌, ⊤, ℕ, Bool, false, ◌||◌, Option, Some, None, option_and_then, option_map, Result, Ok, if◌then◌else◌, List, [], filter, length, take}
+use Rattle.std.specs.Prelude.{◌≡◌, ⊤, ℕ, Bool, false, ◌||◌, Option, Some, None, option_and_then, option_map, Result, Ok, if◌then◌else◌, List, [], ◌∷◌, ◌++◌, filter, length, take}
 use Rattle.std.specs.Map.{keys_of}
 use Rattle.std.specs.Option.{option_map_or}
 use Rattle.rv_elf.specs.Contents.{Contents}
 use Rattle.rv_hunt.specs.HuntText.{table_text}
 use Rattle.rv_hunt.specs.Hunt.{Hunt}
 use Rattle.rv_hunt.specs.Hunted.{IsHunted}
+use Rattle.rv_hunt.specs.Origin.{Origin, image_digits, last_line, stretch_on}
 use Rattle.rv_hunt.specs.Outcome.{Outcome}
 use Rattle.rv_hunt.specs.PageFacts.{page_facts}
 use Rattle.rv_hunt.specs.RightEnds.{has_wrong_end, right_codes}
@@ -84,10 +85,11 @@ abbrev pub expected_in : Option (List ℕ) → Result (Option (List (Key × Race
 expected_in None = Ok None
 expected_in (Some bytes) = expected_table bytes >>= λ table. Ok (Some table)
 
--- What is hunted, which races are counted and not told, which are expected, what is aimed at, which exit codes are right, and what the image
--- was built with.
+-- What is hunted, the digits of its image's file, which races are counted and not told, which are expected, what is aimed at, which exit codes are
+-- right, and what the image was built with.
 pub record Hunting : Type 0 where
   pub hunt : Hunt
+  pub digits : List ℕ
   pub ignored : List Line
   pub expected : Option (List (Key × RaceRow))
   pub aim : List Line
@@ -97,6 +99,7 @@ pub record Hunting : Type 0 where
 -- the files and the options ask for it
 pub record IsHuntingOf (asked : Asked) (files : Files) (hunting : Hunting) : Type 0 where
   pub hunt_is : hunt_of asked files.image ≡ Ok hunting.hunt
+  pub digits_are : hunting.digits ≡ image_digits files.image
   pub ignored_is : ignored_in hunting.hunt.source.image files.ignored ≡ Ok hunting.ignored
   pub expected_is : expected_in files.expected ≡ Ok hunting.expected
   pub aim_is : aimed_in hunting.hunt.source.image asked.aim ≡ Ok hunting.aim
@@ -148,19 +151,36 @@ found_in expected rows stuck wrong void = record {
 abbrev pub found_of : Hunting → Hunted → ℕ → Bool → Found
 found_of hunting saw stuck wrong = found_in hunting.expected (told_in hunting saw) stuck wrong (is_void (outcome hunting saw))
 
--- what the standard output gets, and how many races are shown in full
+-- what the standard output gets, how many races are shown in full, the version of the program, and what was given of the runs
 pub record Showing : Type 0 where
   pub shows : Shows
   pub full : ℕ
+  pub version : List ℕ
+  pub given : List ℕ
 
 -- the same by the options, where a folder or a page is given
 abbrev pub showing_of : HuntOptions → Bool → Bool → Showing
-showing_of options folder page = record { shows = options.shows; full = full_of options.shows (folder || page) options.blocks }
+showing_of options folder page = record {
+  shows = options.shows;
+  full = full_of options.shows (folder || page) options.blocks;
+  version = options.line.version.now;
+  given = options.line.given.now;
+}
 
--- of the table the text is the table
-abbrev pub IsTable : Shows → List (Key × RaceRow) → List ℕ → Type 0
-IsTable Text rows text = ⊤
-IsTable Table rows text = text ≡ table_text rows
+-- what the rows of a hunt are of
+abbrev pub origin_of : Showing → Hunting → Hunted → Origin
+origin_of way hunting saw = record {
+  image = hunting.digits;
+  version = way.version;
+  seed = hunting.hunt.source.seed;
+  stretches = stretch_on hunting.hunt.first saw.tally.runs ∷ [];
+  given = way.given;
+}
+
+-- of the table the text is the table, and the line of what it is of
+abbrev pub IsTable : Shows → List (Key × RaceRow) → Origin → List ℕ → Type 0
+IsTable Text rows origin text = ⊤
+IsTable Table rows origin text = text ≡ table_text rows ++ last_line (Some origin)
 
 -- What is made of a hunt: its runs, what they saw, and the races with their orders and the stuck ends that are shown in full.
 pub record IsMade (way : Showing) (hunting : Hunting) (Saves : ℕ → List ℕ → Type 0) (Pages : List Fact → Type 0) (found : Found) (texts : Texts) : Type 0 where
@@ -172,7 +192,7 @@ pub record IsMade (way : Showing) (hunting : Hunting) (Saves : ℕ → List ℕ 
   pub are_shown : AreShown hunting.hunt Saves (take way.full told) shown
   pub orders : List ShownOrder
   pub are_ordered : AreOrdersShown hunting.hunt saw.orders (keys_of (take way.full told)) orders
-  pub is_table : IsTable way.shows (told_in hunting saw) texts.text
+  pub is_table : IsTable way.shows (told_in hunting saw) (origin_of way hunting saw) texts.text
   pub paged : Pages (page_facts (outcome hunting saw) told (length shown))
   pub stuck : List ShownStuck
   pub are_stuck : AreStuckShown hunting.hunt stuck

@@ -1,5 +1,5 @@
 //! The runs of a hunt, and the texts and the files of what they saw.
-ghost use Rattle.std.specs.Prelude.{[], ◌≡◌, ◌≤◌, ◌||◌, IfOk, OnOk, is_err, is_some, length, take, true};
+ghost use Rattle.std.specs.Prelude.{◌≡◌, ◌≤◌, ◌∷◌, ◌||◌, [], IfOk, OnOk, is_err, is_some, length, take, true};
 ghost use Rattle.rv_engines.specs.Campaigns.{passes};
 ghost use Rattle.rv_hunt.specs.Hunted.{IsNoted};
 ghost use Rattle.rv_hunt.specs.engine.Asked.{AreLegal, asked};
@@ -30,6 +30,7 @@ use crate::hunt::{Hunt, Watch};
 use crate::hunted::Hunted;
 use crate::merge::parted::{Parted, part_rows};
 use crate::noted::Noted;
+use crate::origin::{Heading, Stretch, stretch_on};
 use crate::page::page_text;
 use crate::page::parts::Outcome;
 use crate::row::RaceRow;
@@ -63,11 +64,19 @@ fn texts_of(
     line: &LineParts<'_>,
     symbols: &SymbolTable,
     outcome: &Outcome,
+    heading: &Heading<'_>,
+    stretch: Stretch,
     told: &[(Key, RaceRow)],
     shown: &[ShownRace],
     orders: &[ShownOrder],
 ) -> Result<(Vec<u8>, Vec<u8>), NoMemory>
-    ensures { IfOk result (λ texts. spec.IsTable shows outcome.now.rows texts.0.items) }
+    ensures { IfOk result (λ texts. spec.IsTable shows outcome.now.rows (record {
+      image = heading.image.now;
+      version = heading.version.now;
+      seed = heading.seed;
+      stretches = stretch ∷ [];
+      given = heading.given.now;
+    }) texts.0.items) }
 {
     match shows {
         Shows::Text => {
@@ -75,7 +84,7 @@ fn texts_of(
             Ok((text, warnings_text(alloc, symbols, outcome)?))
         }
         Shows::Table => {
-            let text = table_of(alloc, outcome.rows)?;
+            let text = table_of(alloc, outcome.rows, heading, stretch)?;
             Ok((text, table_notes(alloc, line, symbols, outcome)?))
         }
     }
@@ -167,6 +176,7 @@ fn made_of<R: Threads + Wait, D: Folder, F: NewFile, P: Watch>(
     hunt: &Hunt,
     options: &HuntOptions<'_, '_>,
     lists: &Lists,
+    digits: &[u8],
     symbols: &SymbolTable,
     saw: &Hunted,
     noted: &Noted,
@@ -178,7 +188,7 @@ fn made_of<R: Threads + Wait, D: Folder, F: NewFile, P: Watch>(
     requires symbols { symbols.now ≡ hunt.now.source.image }
     requires noted { IsNoted hunt.now saw.now noted.now.ends }
     ensures made { IfOk result (λ made. spec.IsMade
-        (spec.showing_of options.now (is_some folder.old) (is_some page.old)) (hunting_with hunt.now noted.now.ends.right lists.now)
+        (spec.showing_of options.now (is_some folder.old) (is_some page.old)) (hunting_with hunt.now digits.now noted.now.ends.right lists.now)
         (IfSaved D.has_failed D.Holds folder.new) (IfPaged F.has_failed F.Holds page.new) made.found (texts_in made)) }
     ensures wanted { (is_some folder.new ≡ is_some folder.old) × (is_some page.new ≡ is_some page.old) }
 {
@@ -211,12 +221,21 @@ fn made_of<R: Threads + Wait, D: Folder, F: NewFile, P: Watch>(
     };
     let orders = shown_orders(rt, alloc, &full, options.workers, &saw.orders, folder)?;
     let shown = full.show(rt, alloc, options.workers, folder, watch)?;
+    let heading = Heading {
+        image: digits,
+        version: options.line.version.as_bytes(),
+        seed: u64::from(hunt.seed),
+        given: options.line.given.as_bytes(),
+    };
+    let stretch = stretch_on(u64::from(hunt.first), saw.tally.runs());
     let (text, notes) = texts_of(
         alloc,
         options.shows,
         &options.line,
         symbols,
         &outcome,
+        &heading,
+        stretch,
         &told,
         &shown,
         &orders,
@@ -283,7 +302,7 @@ pub(crate) fn make_hunt<T: Threads + Wait + Sync, P: Watch, D: Folder, F: NewFil
     requires { AreLegal options.now }
     ensures made { IfOk result (λ made. spec.IsMade
         (spec.showing_of options.now (is_some folder.old) (is_some page.old))
-        (hunting_with (hunt_in (asked options.now) opened.now) (right_codes (asked options.now).right) lists.now)
+        (hunting_with (hunt_in (asked options.now) opened.now) opened.now.digits.items (right_codes (asked options.now).right) lists.now)
         (IfSaved D.has_failed D.Holds folder.new) (IfPaged F.has_failed F.Holds page.new) made.found (texts_in made)) }
     ensures wanted { (is_some folder.new ≡ is_some folder.old) × (is_some page.new ≡ is_some page.old) }
     ensures failed { fails_by_write result ≡ true
@@ -314,7 +333,18 @@ pub(crate) fn make_hunt<T: Threads + Wait + Sync, P: Watch, D: Folder, F: NewFil
     };
     let saw = hunt.hunted(rt, alloc, options.workers, &mut noted, watch)?;
     let made = made_of(
-        rt, alloc, &hunt, options, lists, &symbols, &saw, &noted, folder, page, watch,
+        rt,
+        alloc,
+        &hunt,
+        options,
+        lists,
+        &opened.digits,
+        &symbols,
+        &saw,
+        &noted,
+        folder,
+        page,
+        watch,
     );
     // It has many parts, which are let go by one call.
     drop(saw);

@@ -1,12 +1,15 @@
 //! The texts of what a hunt came to. All of it is made before a byte is written.
-ghost use Rattle.std.specs.Prelude.{◌≡◌, IfOk};
+ghost use Rattle.std.specs.Prelude.{◌≡◌, ◌∷◌, ◌++◌, ◌||◌, [], Some, is_err, IfOk, OnOk};
+ghost use Rattle.std.specs.Io.KnownBytes.{Appends};
 ghost use Rattle.rv_hunt.specs.HuntText as table;
+ghost use Rattle.rv_hunt.specs.Origin.{last_line};
 
 use crate::engine::onward::{push_gdb_line, push_keep_line, push_stuck_gdb_line};
 use crate::engine::options::LineParts;
 use crate::engine::orders::ShownOrder;
 use crate::engine::shown::ShownRace;
 use crate::engine::stuck_ends::ShownStuck;
+use crate::origin::{Heading, Stretch, write_line};
 use crate::page::parts::Outcome;
 use crate::row::RaceRow;
 use crate::saying::index::push_index;
@@ -18,7 +21,8 @@ use crate::table::write_table;
 use crate::tally::Tally;
 use rv_explain::blocks::ordered_text;
 use rv_explain::symbol_table::SymbolTable;
-use rv_memory::flagged::Flagged;
+use rv_memory::flagged::{Flagged, WriteFault};
+use rv_memory::output::Output;
 use rv_memory::store::NoMemory;
 use rv_report::key::Key;
 use std::alloc::Global;
@@ -134,12 +138,44 @@ pub(crate) fn table_notes(
     Ok(notes)
 }
 
-/// The text of a hunt table of these rows.
-pub(crate) fn table_of(alloc: Global, rows: &[(Key, RaceRow)]) -> Result<Vec<u8>, NoMemory>
-    ensures { IfOk result (λ text. text.items ≡ table.table_text rows.now) }
+/// Writes a hunt table of these rows, and the line of what it is of.
+fn write_all<O: Output>(
+    writer: &mut O,
+    rows: &[(Key, RaceRow)],
+    heading: &Heading<'_>,
+    stretch: Stretch,
+) -> Result<(), WriteFault>
+    ensures ok { OnOk result (Appends (O.written writer.old) (O.written writer.new)
+        (table.table_text rows.now ++ last_line (Some (record {
+          image = heading.image.now;
+          version = heading.version.now;
+          seed = heading.seed;
+          stretches = stretch ∷ [];
+          given = heading.given.now;
+        })))) }
+    ensures failed { O.has_failed writer.new ≡ (O.has_failed writer.old || is_err result) }
+{
+    write_table(writer, rows)?;
+    write_line(writer, heading, &[stretch])
+}
+
+/// The text of a hunt table of these rows, and the line of what it is of.
+pub(crate) fn table_of(
+    alloc: Global,
+    rows: &[(Key, RaceRow)],
+    heading: &Heading<'_>,
+    stretch: Stretch,
+) -> Result<Vec<u8>, NoMemory>
+    ensures { IfOk result (λ text. text.items ≡ table.table_text rows.now ++ last_line (Some (record {
+      image = heading.image.now;
+      version = heading.version.now;
+      seed = heading.seed;
+      stretches = stretch ∷ [];
+      given = heading.given.now;
+    }))) }
 {
     let mut writer = Flagged::new(Vec::new(alloc));
-    match write_table(&mut writer, rows) {
+    match write_all(&mut writer, rows, heading, stretch) {
         Ok(()) => Ok(writer.into_inner()),
         // Only want of memory refuses a byte.
         Err(_) => Err(NoMemory),

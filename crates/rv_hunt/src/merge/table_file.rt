@@ -4,24 +4,23 @@ ghost use Rattle.rv_memory.specs.Flagged as flag;
 ghost use Rattle.rv_hunt.specs.merge.FileFault.{IsTold, fails_by, is_read, is_write};
 ghost use Rattle.rv_hunt.specs.merge.TableFiles as spec;
 
-use crate::format::TableFormat;
 use crate::merge::fault::FileFault;
-use crate::reading::{read_either, read_table};
+use crate::origin_line::{ReadTable, read_hunt, read_rows};
 use crate::table::HuntTable;
 use rv_memory::flagged::{Flagged, INPUT_LIMIT, read_whole};
 use std::alloc::Global;
 use std::io::Read;
 
-/// The hunt table of the bytes of a file, which are not too many.
+/// The hunt table of the bytes of a file, which are not too many, and what it is of.
 #[tactic(auto, unfolding(crate::specs::merge::TableFiles::hunt_table))]
-fn hunt_table_of(alloc: Global, bytes: &[u8]) -> Result<HuntTable, FileFault>
+fn hunt_table_of(alloc: Global, bytes: &[u8]) -> Result<ReadTable, FileFault>
     requires { length bytes.now ≤ INPUT_LIMIT }
-    ensures ok { IfOk result (λ rows. spec.hunt_table bytes.now ≡ Ok rows) }
+    ensures ok { IfOk result (λ table. spec.hunt_table bytes.now ≡ Ok table) }
     ensures err { IfErr result (IsTold (spec.hunt_table bytes.now)) }
     ensures reader { fails_by is_read result ≡ false }
     ensures writer { fails_by is_write result ≡ false }
 {
-    match read_table(alloc, TableFormat::Hunt, bytes) {
+    match read_hunt(alloc, bytes) {
         Ok(table) => Ok(table),
         Err(fault) => Err(FileFault::from(fault)),
     }
@@ -36,20 +35,20 @@ fn expected_table_of(alloc: Global, bytes: &[u8]) -> Result<HuntTable, FileFault
     ensures reader { fails_by is_read result ≡ false }
     ensures writer { fails_by is_write result ≡ false }
 {
-    match read_either(alloc, bytes) {
+    match read_rows(alloc, bytes) {
         Ok(table) => Ok(table),
         Err(fault) => Err(FileFault::from(fault)),
     }
 }
 
-/// Reads a hunt table.
+/// Reads a hunt table, and what it is of.
 #[tactic(auto, unfolding(crate::specs::merge::TableFiles::hunt_table))]
 pub fn read_hunt_table<R: Read>(
     alloc: Global,
     reader: &mut Flagged<R>,
-) -> Result<HuntTable, FileFault>
-    ensures ok { IfOk result (λ rows. IfSome (R.remaining (flag.device reader.old)) (λ bytes.
-        spec.hunt_table bytes ≡ Ok rows)) }
+) -> Result<ReadTable, FileFault>
+    ensures ok { IfOk result (λ table. IfSome (R.remaining (flag.device reader.old)) (λ bytes.
+        spec.hunt_table bytes ≡ Ok table)) }
     ensures err { IfErr result (λ fault. IfSome (R.remaining (flag.device reader.old)) (λ bytes.
         IsTold (spec.hunt_table bytes) fault)) }
     ensures reader { flag.has_failed reader.new ≡ (flag.has_failed reader.old || fails_by is_read result) }

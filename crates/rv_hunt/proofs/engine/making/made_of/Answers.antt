@@ -6,7 +6,7 @@ use Rattle.rv_hunt.proofs.engine.making.made_of.Goals as goal
 
 pub returns-clause-made : goal.returns-clause-made
 returns-clause-made g c =
-    let hunting = hunting_with c.args.hunt.now c.args.noted.now.ends.right c.args.lists.now in
+    let hunting = hunting_with c.args.hunt.now c.args.digits.now c.args.noted.now.ends.right c.args.lists.now in
     let sites = c.len.ensures ∙ ap (λ (h : Hunt). length h.source.sites) c.hunt.view_is in
     let rows = c.deref-2.ensures.value ∙ c.in_ok-parted.ensures.told in
     let ignored = c.deref-3.ensures.value ∙ c.in_ok-parted.ensures.ignored in
