@@ -8,7 +8,7 @@ use Rattle.rv_memory.specs.Flagged.{device, has_failed}
 use Rattle.rv_memory.specs.declared.flagged.Flagged.{Flagged}
 use Rattle.rv_engines.specs.declared.fault.Fault.TheVariants as fault
 use Rattle.rv_hunt.specs.merge.FileFault.{UnlessDevice}
-use Rattle.rv_hunt.specs.merge.Merge.{Files, Merge, IsTold, Table, bytes_of, expected_in, in_file, is_unexpected, merge_of, merged_all, tables_from}
+use Rattle.rv_hunt.specs.merge.Merge.{Files, Merge, IsTold, Table, bytes_of, expected_in, in_file, merge_of, merged_all, tables_from, unexpected_in}
 use Rattle.rv_hunt.specs.merge.TableFiles.{hunt_table}
 use Rattle.rv_hunt.specs.declared.merge.fault.FileFault.{FileFault}
 use Rattle.rv_hunt.specs.declared.merge.fault.FileFault.TheVariants.{Plain}
@@ -176,7 +176,7 @@ behind (y ∷ ys) (suc place) (suc other) x below = behind ys place other x (ome
 
 -- what is merged, where the races that are expected are read last
 abbrev with_expected : Table → Option Table → Result Merge MergeFault
-with_expected table expected = Ok (record { table = table; is_unexpected = is_unexpected expected table })
+with_expected table expected = Ok (record { table = table; unexpected = unexpected_in expected table })
 
 tables_read : (rows : Table) (r : Result (List Table) MergeFault) (last : Result (Option Table) MergeFault) → (r >>= λ tables. Ok (merged_all tables)) ≡ Ok rows → (r >>= λ tables. last >>= with_expected (merged_all tables)) ≡ (last >>= with_expected rows)
 tables_read rows (Ok tables) last is = ap (λ (table : Table). last >>= with_expected table) (ok_same (merged_all tables) rows is)
@@ -221,13 +221,13 @@ expected_refused (Some each) (Some expected) rows count given is many told =
     (λ refused. tables_ok (record { tables = each; expected = expected }) rows is ∙ err_then (expected_in (length each) expected) (with_expected rows) given (ap (λ n. expected_in n expected) (sym many) ∙ refused))
     told
 
-pub all_merged : (tables : Option (List (List ℕ))) (last : Option (Option (List ℕ))) (rows : Table) (count : ℕ) (expected : Option Table) (found : Bool) → IfSome tables (λ each. with_files 0 [] each ≡ Ok rows) → IfSome tables (λ each. count ≡ length each)
-    → IfSome last (λ given. expected_in count given ≡ Ok expected) → found ≡ is_unexpected expected rows → IfSome (known tables last) (λ files. merge_of files ≡ Ok (record { table = rows; is_unexpected = found }))
+pub all_merged : (tables : Option (List (List ℕ))) (last : Option (Option (List ℕ))) (rows : Table) (count : ℕ) (expected : Option Table) (found : Table) → IfSome tables (λ each. with_files 0 [] each ≡ Ok rows) → IfSome tables (λ each. count ≡ length each)
+    → IfSome last (λ given. expected_in count given ≡ Ok expected) → found ≡ unexpected_in expected rows → IfSome (known tables last) (λ files. merge_of files ≡ Ok (record { table = rows; unexpected = found }))
 all_merged None last rows count expected found is many read told = tt
 all_merged (Some each) None rows count expected found is many read told = tt
 all_merged (Some each) (Some given) rows count expected found is many read told =
     tables_ok (record { tables = each; expected = given }) rows is ∙ ap (λ r. r >>= with_expected rows) (ap (λ n. expected_in n given) (sym many) ∙ read)
-    ∙ ap (λ (f : Bool). Ok (record { table = rows; is_unexpected = f })) (sym told)
+    ∙ ap (λ (f : Table). Ok (record { table = rows; unexpected = f })) (sym told)
 
 pub count_known : {R : Type 0} (remaining : R → Option (List ℕ)) (readers : List (Flagged R)) → IfSome (bytes_of remaining readers) (λ each. length readers ≡ length each)
 count_known remaining readers = counted (bytes_of remaining readers) refl

@@ -15,7 +15,7 @@ ghost use Rattle.rv_hunt.specs.merge.FileFault.{is_read, is_write, no_memory, wr
 ghost use Rattle.rv_hunt.specs.merge.Merge as spec;
 ghost use Rattle.rv_hunt.specs.internal.Adding as internal;
 
-use crate::expected::is_unexpected;
+use crate::expected::new_of;
 use crate::merge::fault::FileFault;
 use crate::merge::table_file::{read_expected, read_hunt_table};
 use crate::row::RaceRow;
@@ -29,6 +29,8 @@ use std::io::{Read, Write};
 
 pub mod fault;
 pub mod ignore;
+pub mod known;
+pub mod listing;
 pub mod parted;
 mod sought;
 pub mod table_file;
@@ -142,15 +144,17 @@ fn expected_file<R: Read>(
     }
 }
 
-/// Reads all files: the rows that they are merged to, and whether there is a race among them that may be a bug and is not
-/// expected.
+/// Rows of a table.
+type Rows = Vec<(Key, RaceRow)>;
+
+/// Reads all files: the rows that they are merged to, and those of them whose races may be bugs and are not expected.
 fn merge_files<R: Read>(
     alloc: Global,
     tables: &mut [Flagged<R>],
     expected: &mut Option<Flagged<R>>,
-) -> Result<(Vec<(Key, RaceRow)>, bool), MergeFault>
+) -> Result<(Rows, Rows), MergeFault>
     ensures ok { IfOk result (λ found. IfSome (spec.files_of R.remaining tables.old expected.old) (λ files.
-        spec.merge_of files ≡ Ok (record { table = found.0.items; is_unexpected = found.1 }))) }
+        spec.merge_of files ≡ Ok (record { table = found.0.items; unexpected = found.1.items }))) }
     ensures err { IfErr result (λ fault. IfSome (spec.files_of R.remaining tables.old expected.old) (λ files.
         spec.IsTold (spec.merge_of files) fault)) }
     ensures readers { spec.any_failed tables.new expected.new
@@ -160,8 +164,8 @@ fn merge_files<R: Read>(
     let table = merged_files(alloc, tables)?;
     let rows = table.into_rows(alloc)?;
     let expected = expected_file(alloc, tables.len(), expected)?;
-    let found = is_unexpected(&expected, &rows);
-    Ok((rows, found))
+    let new = new_of(alloc, &expected, &rows)?;
+    Ok((rows, new))
 }
 
 /// Writes the table, to the last byte.
@@ -177,19 +181,19 @@ fn publish<W: Write>(rows: &[(Key, RaceRow)], writer: &mut Buffered<W>) -> Resul
 }
 
 /// Reads hunt tables, and the table of the races that are expected, where there is one; merges the hunt tables in their
-/// order, and writes what they make. It tells whether that has a race that may be a bug and is not expected. Where a file
+/// order, and writes what they make. It gives the rows of that whose races may be bugs and are not expected. Where a file
 /// is refused nothing is written; where the writer fails, what was written before is not said.
 pub fn run_merge<R: Read, W: Write>(
     alloc: Global,
     tables: &mut [Flagged<R>],
     expected: &mut Option<Flagged<R>>,
     writer: &mut Buffered<W>,
-) -> Result<bool, MergeFault>
+) -> Result<Rows, MergeFault>
     ensures text { OnOk result (IfSome (spec.files_of R.remaining tables.old expected.old) (λ files.
         IsOkAnd (spec.merge_of files) (λ merge.
         Appends (buffer.written W.contents writer.old) (buffer.sent W.contents writer.new) (table_text merge.table)))) }
     ensures unexpected { IfOk result (λ found. IfSome (spec.files_of R.remaining tables.old expected.old) (λ files.
-        IsOkAnd (spec.merge_of files) (λ merge. found ≡ merge.is_unexpected))) }
+        IsOkAnd (spec.merge_of files) (λ merge. found.items ≡ merge.unexpected))) }
     ensures refused { IfErr result (λ fault. IfSome (spec.files_of R.remaining tables.old expected.old) (λ files.
         spec.IsTold (spec.merge_of files) fault)) }
     ensures nothing { IfErr result (λ fault. is_write fault.fault ≡ false
@@ -198,7 +202,7 @@ pub fn run_merge<R: Read, W: Write>(
         ≡ (spec.any_failed tables.old expected.old || spec.fails_by is_read result) }
     ensures writer { buffer.has_failed writer.new ≡ (buffer.has_failed writer.old || spec.fails_by is_write result) }
 {
-    let (rows, found) = merge_files(alloc, tables, expected)?;
+    let (rows, new) = merge_files(alloc, tables, expected)?;
     publish(&rows, writer)?;
-    Ok(found)
+    Ok(new)
 }

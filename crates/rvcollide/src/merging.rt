@@ -11,6 +11,7 @@ use crate::system::Stream;
 use rv_command::arguments::{TablePath, TablePaths};
 use rv_engines::fault::Fault;
 use rv_engines::run::fault::CommandFault;
+use rv_hunt::merge::listing::plain_names;
 use rv_hunt::merge::run_merge;
 use rv_memory::buffered::Buffered;
 use rv_memory::flagged::Flagged;
@@ -55,6 +56,14 @@ fn expected_file<'a>(
     Some(Flagged::new(InputFile::new(rt, path.0)))
 }
 
+/// Names races that are not expected. Where the standard error fails there is nothing left to tell it to.
+fn tell(rt: &HostRuntime, names: &[u8]) {
+    // They are ASCII.
+    if let Ok(text) = String::from_utf8_lossy(rt.alloc(), names) {
+        let _ = eprint!(rt; "{text}");
+    }
+}
+
 /// Runs the engine of `merge` on files.
 pub fn merge_files<'a>(
     rt: &HostRuntime,
@@ -72,8 +81,13 @@ pub fn merge_files<'a>(
     let mut known = expected_file(rt, expected);
     let mut writer = Buffered::new(alloc, Stream::new(rt.stdout()));
     match run_merge(alloc, &mut files, &mut known, &mut writer) {
-        Ok(false) => Ok(()),
-        Ok(true) => Err(Failure::Found),
+        Ok(unexpected) if unexpected.is_empty() => Ok(()),
+        Ok(unexpected) => {
+            if let Ok(names) = plain_names(alloc, &unexpected) {
+                tell(rt, &names);
+            }
+            Err(Failure::Found)
+        }
         Err(fault) => {
             let said = match fault.file {
                 Some(number) if number < files.len() => files

@@ -142,8 +142,8 @@ table line N NAME, of a table of hunt or run:
   Twice: the race has a row already: use merge to add tables
   End: there are not as many rows as the first line says: was the file cut off?
 
-ignore line N NAME, of a list of --ignore:
-  Shape: a line is two sides, each an address of eight hexadecimal digits, a symbol's name or *
+ignore line N NAME, of a list of --ignore, or of --expect:
+  Shape: a line is two sides, each an address of eight hexadecimal digits, a symbol's name or *; on NAME may follow
   Unknown: the image has no symbol with this name
 
 ignore aim NAME, of --aim:

@@ -4,8 +4,10 @@ use crate::devices::{Failing, Sink, reader_of};
 use rv_engines::fault::Fault;
 use rv_hunt::merge::fault::FileFault;
 use rv_hunt::merge::{MergeFault, run_merge};
+use rv_hunt::row::RaceRow;
 use rv_memory::buffered::{Buffered, MOST_PENDING};
 use rv_memory::output::Output;
+use rv_report::key::Key;
 use std::alloc::Global;
 use std::process::Abort;
 
@@ -75,7 +77,7 @@ fn failing_reads_are_told(rt: HostRuntime) {
 }
 
 /// The fault of an engine's writer alone.
-fn plain(merged: Result<bool, MergeFault>) -> Result<(), Fault> {
+fn plain(merged: Result<Vec<(Key, RaceRow)>, MergeFault>) -> Result<(), Fault> {
     match merged {
         Ok(_) => Ok(()),
         Err(

@@ -34,7 +34,7 @@ table_sentence table.Twice = codes "the race has a row already: use merge to add
 table_sentence table.End = codes "there are not as many rows as the first line says: was the file cut off?"
 
 abbrev pub ignore_sentence : IgnoreKind → List ℕ
-ignore_sentence ignore.Shape = codes "a line is two sides, each an address of eight hexadecimal digits, a symbol's name or *"
+ignore_sentence ignore.Shape = codes "a line is two sides, each an address of eight hexadecimal digits, a symbol's name or *; on NAME may follow"
 ignore_sentence ignore.Unknown = codes "the image has no symbol with this name"
 
 -- what is wrong, or what to do

@@ -1,8 +1,8 @@
 -- What `merge` makes of the bytes of hunt tables, and of the table of races that are expected.
-use Rattle.std.specs.Prelude.{◌≡◌, ℕ, ◌+◌, Bool, false, ◌||◌, Option, Some, None, option_and_then, option_map, Result, Ok, Err, List, [], ◌∷◌, length}
+use Rattle.std.specs.Prelude.{◌≡◌, ℕ, ◌+◌, Bool, false, ◌||◌, Option, Some, None, option_and_then, option_map, Result, Ok, Err, List, [], ◌∷◌, filter, length}
 use Rattle.std.specs.List.{fold, list_any}
 use Rattle.std.specs.Option.{option_map_or}
-use Rattle.rv_hunt.specs.Expected.{has_unexpected}
+use Rattle.rv_hunt.specs.Expected.{is_unexpected}
 use Rattle.rv_hunt.specs.Rows.{merged}
 use Rattle.rv_hunt.specs.declared.row.RaceRow.{RaceRow}
 use Rattle.rv_memory.specs.Chain.{◌>>=◌}
@@ -22,10 +22,10 @@ pub record Files : Type 0 where
   pub tables : List (List ℕ)
   pub expected : Option (List ℕ)
 
--- the table that is written, and whether it has a race that may be a bug and is not expected
+-- the table that is written, and its rows of races that may be bugs and are not expected
 pub record Merge : Type 0 where
   pub table : Table
-  pub is_unexpected : Bool
+  pub unexpected : Table
 
 -- ---- the definition
 
@@ -51,15 +51,16 @@ expected_in number (Some bytes) = in_file number (expected_table bytes) >>= λ t
 abbrev pub merged_all : List Table → Table
 merged_all tables = fold merged [] tables
 
-abbrev pub is_unexpected : Option Table → Table → Bool
-is_unexpected expected table = option_map_or (λ rows. has_unexpected rows table) expected false
+-- the rows of races that may be bugs and are not expected, where some are
+abbrev pub unexpected_in : Option Table → Table → Table
+unexpected_in expected table = option_map_or (λ rows. filter (is_unexpected rows) table) expected []
 
 -- What the files are merged to, or the first of them that is refused. The one of expected races is the last.
 unfoldable pub merge_of : Files → Result Merge MergeFault
 merge_of files = do
   tables ← tables_from 0 files.tables
   expected ← expected_in (length files.tables) files.expected
-  Ok (record { table = merged_all tables; is_unexpected = is_unexpected expected (merged_all tables) })
+  Ok (record { table = merged_all tables; unexpected = unexpected_in expected (merged_all tables) })
 
 -- ---- the files' bytes
 

@@ -17,6 +17,6 @@ returns-in_err-expected-clause-err g c =
 
 pub returns-clause-ok : goal.returns-clause-ok
 returns-clause-ok g c =
-    let found = rw (c.deref.ensures.value, c.in_ok-rows.ensures) at c.is_unexpected-found.ensures in
-    rw (c.in_ok-rows.ensures) (all_merged (spec.bytes_of g.R.Read.remaining c.args.tables.now) (spec.bytes_if g.R.Read.remaining c.args.expected.now) c.in_ok-table.table (length c.merged_files.new.tables) c.in_ok-expected.expected c.is_unexpected-found.result c.in_ok-table.ensures.ok
+    let found = rw (c.deref.ensures.value, c.in_ok-rows.ensures) at c.in_ok-new.ensures in
+    rw (c.in_ok-rows.ensures) (all_merged (spec.bytes_of g.R.Read.remaining c.args.tables.now) (spec.bytes_if g.R.Read.remaining c.args.expected.now) c.in_ok-table.table (length c.merged_files.new.tables) c.in_ok-expected.expected c.in_ok-new.new.items c.in_ok-table.ensures.ok
     (rw c.in_ok-table.ensures.count (count_known g.R.Read.remaining c.args.tables.now)) c.in_ok-expected.ensures.ok found)
