@@ -14,8 +14,7 @@ use Rattle.rv_hunt.specs.declared.engine.fault.HuntFault.TheVariants.{Ignored, E
 use Rattle.rv_hunt.specs.merge.FileFault as file
 use Rattle.rv_hunt.specs.declared.merge.fault.FileFault.{FileFault}
 use Rattle.rv_hunt.specs.declared.merge.ignore.Line.{Line}
-use Rattle.rv_hunt.specs.declared.row.RaceRow.{RaceRow}
-use Rattle.rv_report.specs.declared.key.Key.{Key}
+use Rattle.rv_hunt.specs.declared.merge.known.Known.{Known}
 
 -- the bytes of the files, where they are known
 abbrev pub files_in : Option (List ℕ) → Option (Option (List ℕ)) → Option (Option (List ℕ)) → Option Files
@@ -55,13 +54,13 @@ expected_told (Some i) (Some l) None asked hunt lines fault h g e = tt
 expected_told (Some i) (Some l) (Some t) asked hunt lines fault h g e =
     (and_ok (hunt_of asked i) hunt (λ (found : Hunt). IsOk (ignored_in found.source.image l)) h (is_ok (ignored_in hunt.source.image l) lines g), e)
 
-pub aim_told : (image : Option (List ℕ)) (ignored expected : Option (Option (List ℕ))) (asked : Asked) (hunt : Hunt) (lines : List Line) (table : Option (List (Key × RaceRow))) (fault : FileFault) → IfSome image (λ bytes. hunt_of asked bytes ≡ Ok hunt)
-    → IfSome ignored (λ bytes. ignored_in hunt.source.image bytes ≡ Ok lines) → IfSome expected (λ bytes. expected_in bytes ≡ Ok table) → file.IsTold (aimed_in hunt.source.image asked.aim) fault → IfSome (files_in image ignored expected) (λ files. IsTold asked files (Aimed fault))
-aim_told None ignored expected asked hunt lines table fault h g e a = tt
-aim_told (Some i) None expected asked hunt lines table fault h g e a = tt
-aim_told (Some i) (Some l) None asked hunt lines table fault h g e a = tt
-aim_told (Some i) (Some l) (Some t) asked hunt lines table fault h g e a = (
+pub aim_told : (image : Option (List ℕ)) (ignored expected : Option (Option (List ℕ))) (asked : Asked) (hunt : Hunt) (lines : List Line) (known : Option Known) (fault : FileFault) → IfSome image (λ bytes. hunt_of asked bytes ≡ Ok hunt)
+    → IfSome ignored (λ bytes. ignored_in hunt.source.image bytes ≡ Ok lines) → IfSome expected (λ bytes. expected_in bytes ≡ Ok known) → file.IsTold (aimed_in hunt.source.image asked.aim) fault → IfSome (files_in image ignored expected) (λ files. IsTold asked files (Aimed fault))
+aim_told None ignored expected asked hunt lines known fault h g e a = tt
+aim_told (Some i) None expected asked hunt lines known fault h g e a = tt
+aim_told (Some i) (Some l) None asked hunt lines known fault h g e a = tt
+aim_told (Some i) (Some l) (Some t) asked hunt lines known fault h g e a = (
   and_ok (hunt_of asked i) hunt (λ (found : Hunt). IsOk (ignored_in found.source.image l)) h (is_ok (ignored_in hunt.source.image l) lines g),
-  is_ok (expected_in t) table e,
+  is_ok (expected_in t) known e,
   and_ok (hunt_of asked i) hunt (λ (found : Hunt). file.IsTold (aimed_in found.source.image asked.aim) fault) h a,
 )

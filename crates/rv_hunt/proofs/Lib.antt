@@ -6,6 +6,7 @@ pub mod FoldLemmas
 pub mod HuntLemmas
 pub mod IgnoreLemmas
 pub mod IgnoredRowLemmas
+pub mod ListBack
 pub mod MadeLemmas
 pub mod MergeLemmas
 pub mod MergedFileLemmas
@@ -21,6 +22,7 @@ pub mod RemadeLemmas
 pub mod ReportLemmas
 pub mod ResultLemmas
 pub mod RightLemmas
+pub mod SaidLemmas
 pub mod Rows
 pub mod ShowingLemmas
 pub mod ShownLemmas

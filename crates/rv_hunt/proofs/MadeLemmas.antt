@@ -16,7 +16,9 @@ use Rattle.rv_hunt.specs.declared.engine.orders.ShownOrder.{ShownOrder}
 use Rattle.rv_hunt.specs.declared.engine.shown.ShownRace.{ShownRace}
 use Rattle.rv_hunt.specs.declared.hunted.Hunted.{Hunted}
 use Rattle.rv_hunt.specs.declared.row.RaceRow.{RaceRow}
-use Rattle.rv_hunt.specs.engine.Hunting.{Hunting, IsMade, IsTable, Showing, Texts, found_in, ignored_by, origin_of, outcome, told_in}
+use Rattle.rv_hunt.specs.engine.Hunting.{Hunting, IsMade, IsTable, Showing, Texts, found_in, ignored_by, new_in, origin_of, outcome, told_in}
+use Rattle.rv_hunt.specs.merge.Known.{has_gone, new_races}
+use Rattle.rv_hunt.specs.merge.Listing.{list_text}
 use Rattle.rv_hunt.specs.engine.OrderShown.{AreOrdersShown}
 use Rattle.rv_hunt.specs.engine.Shown.{AreShown}
 use Rattle.rv_hunt.specs.engine.StuckShown.{AreStuckShown}
@@ -29,15 +31,15 @@ use Rattle.rv_tally.specs.declared.plans.Mix.{Mix}
 abbrev Row : Type 0
 Row = Key × RaceRow
 
-pub outcome_is : (hunting : Hunting) (saw : Hunted) (n : ℕ) (mix : Mix) (rows ignored : List Row) (built : Built) → n ≡ length hunting.hunt.source.sites → mix ≡ hunting.hunt.given.mix → rows ≡ told_in hunting saw → ignored ≡ ignored_by hunting saw → built ≡ hunting.built
-    → record { sites = n; mix = mix; saw = saw; rows = rows; ignored = ignored; built = built } ≡ outcome hunting saw
-outcome_is hunting saw n mix rows ignored built a b c d e = rw (a, b, c, d, e)
+pub outcome_is : (hunting : Hunting) (saw : Hunted) (n : ℕ) (mix : Mix) (rows ignored : List Row) (gone : Bool) (built : Built) → n ≡ length hunting.hunt.source.sites → mix ≡ hunting.hunt.given.mix → rows ≡ told_in hunting saw → ignored ≡ ignored_by hunting saw → gone ≡ has_gone hunting.hunt.source.image hunting.expected → built ≡ hunting.built
+    → record { sites = n; mix = mix; saw = saw; rows = rows; ignored = ignored; gone = gone; built = built } ≡ outcome hunting saw
+outcome_is hunting saw n mix rows ignored gone built a b c d f e = rw (a, b, c, d, f, e)
 
-pub made_is : (way : Showing) (hunting : Hunting) (saw : Hunted) (Saves : ℕ → List ℕ → Type 0) (Pages : List Fact → Type 0) (rows told full : List Row) (o : Outcome) (shown : List ShownRace) (orders : List ShownOrder) (stuck : List ShownStuck) (ends : EndsSeen) (wrong : Bool) (found : Found) (texts : Texts) → IsNoted hunting.hunt saw ends → ends.right ≡ hunting.right → wrong ≡ ends.is_wrong
+pub made_is : (way : Showing) (hunting : Hunting) (saw : Hunted) (Saves : ℕ → List ℕ → Type 0) (Pages : List Fact → Type 0) (Lists : List ℕ → Type 0) (rows told full unexpected : List Row) (o : Outcome) (shown : List ShownRace) (orders : List ShownOrder) (stuck : List ShownStuck) (ends : EndsSeen) (wrong : Bool) (found : Found) (texts : Texts) → IsNoted hunting.hunt saw ends → ends.right ≡ hunting.right → wrong ≡ ends.is_wrong
     → rows ≡ told_in hunting saw → AreInOrder hunting.hunt.source.image saw.orders rows told → full ≡ take way.full told → o ≡ outcome hunting saw → AreShown hunting.hunt Saves full shown → AreOrdersShown hunting.hunt saw.orders (keys_of full) orders
-    → IsTable way.shows o.rows (origin_of way hunting saw) texts.text → Pages (page_facts o told (length shown)) → AreStuckShown hunting.hunt stuck → found ≡ found_in hunting.expected rows (length stuck) wrong (is_void o)
-    → IsMade way hunting Saves Pages found texts
-made_is way hunting saw Saves Pages rows told full o shown orders stuck ends wrong found texts noted right is_wrong are order first came are_shown ordered table paged are_stuck found_is = record {
+    → IsTable way.shows o.rows (origin_of way hunting saw) texts.text → Pages (page_facts o told (length shown)) → AreStuckShown hunting.hunt stuck → Lists (list_text hunting.hunt.source.image rows) → unexpected ≡ new_races hunting.hunt.source.image hunting.expected rows → found ≡ found_in unexpected rows (length stuck) wrong (is_void o)
+    → IsMade way hunting Saves Pages Lists found texts
+made_is way hunting saw Saves Pages Lists rows told full unexpected o shown orders stuck ends wrong found texts noted right is_wrong are order first came are_shown ordered table paged are_stuck listed new_is found_is = record {
   saw = saw;
   hunted = noted.hunted_is;
   told = told;
@@ -48,12 +50,14 @@ made_is way hunting saw Saves Pages rows told full o shown orders stuck ends wro
   are_ordered = subst (λ (rs : List Row). AreOrdersShown hunting.hunt saw.orders (keys_of rs) orders) first ordered;
   is_table = subst (λ (x : Outcome). IsTable way.shows x.rows (origin_of way hunting saw) texts.text) came table;
   paged = subst (λ (x : Outcome). Pages (page_facts x told (length shown))) came paged;
+  listed = subst (λ (rs : List Row). Lists (list_text hunting.hunt.source.image rs)) are listed;
   stuck = stuck;
   are_stuck = are_stuck;
   found_is =
-      found_is ∙ ap (λ (rs : List Row). found_in hunting.expected rs (length stuck) wrong (is_void o)) are
-      ∙ ap (λ (x : Outcome). found_in hunting.expected (told_in hunting saw) (length stuck) wrong (is_void x)) came
-      ∙ ap (λ (w : Bool). found_in hunting.expected (told_in hunting saw) (length stuck) w (is_void (outcome hunting saw)))
+      found_is ∙ ap (λ (rs : List Row). found_in rs rows (length stuck) wrong (is_void o)) new_is
+      ∙ ap (λ (rs : List Row). found_in (new_races hunting.hunt.source.image hunting.expected rs) rs (length stuck) wrong (is_void o)) are
+      ∙ ap (λ (x : Outcome). found_in (new_in hunting saw) (told_in hunting saw) (length stuck) wrong (is_void x)) came
+      ∙ ap (λ (w : Bool). found_in (new_in hunting saw) (told_in hunting saw) (length stuck) w (is_void (outcome hunting saw)))
       (is_wrong ∙ noted.wrong ∙ ap (λ (codes : List ℕ). has_wrong_end codes noted.hunted_is.so_far.runs) right);
 }
 

@@ -8,7 +8,7 @@ use Rattle.rv_memory.specs.Flagged.{device, has_failed}
 use Rattle.rv_memory.specs.declared.flagged.Flagged.{Flagged}
 use Rattle.rv_engines.specs.declared.fault.Fault.TheVariants as fault
 use Rattle.rv_hunt.specs.merge.FileFault.{UnlessDevice}
-use Rattle.rv_hunt.specs.merge.Merge.{Files, Merge, IsTold, Table, bytes_of, expected_in, given_as, in_file, is_unexpected, merge_of, tables_from}
+use Rattle.rv_hunt.specs.merge.Merge.{Files, Merge, IsTold, Table, bytes_of, expected_in, given_as, in_file, merge_of, tables_from, unexpected_in}
 use Rattle.rv_hunt.specs.merge.TableFiles.{hunt_table}
 use Rattle.rv_hunt.specs.declared.merge.fault.FileFault.{FileFault}
 use Rattle.rv_hunt.specs.declared.merge.fault.FileFault.TheVariants.{Plain}
@@ -199,7 +199,7 @@ whole_is (Some each) read gaps whole are is = ap (λ r. r >>= whole_of gaps) are
 
 -- what is merged, where the races that are expected are read last
 abbrev with_expected : Whole → Option Table → Result Merge MergeFault
-with_expected whole expected = Ok (record { whole = whole; is_unexpected = is_unexpected expected whole.rows })
+with_expected whole expected = Ok (record { whole = whole; unexpected = unexpected_in expected whole.rows })
 
 none_before : (r : Result Tables MergeFault) → (r >>= λ tables. Ok ([] ++ tables)) ≡ r
 none_before (Ok tables) = refl
@@ -246,13 +246,13 @@ expected_refused gaps (Some each) (Some expected) whole count given is many told
     (λ refused. tables_ok gaps (record { tables = each; expected = expected }) whole is ∙ err_then (expected_in (length each) expected) (with_expected whole) given (ap (λ n. expected_in n expected) (sym many) ∙ refused))
     told
 
-pub all_merged : (gaps : Bool) (tables : Option (List (List ℕ))) (last : Option (Option (List ℕ))) (whole : Whole) (count : ℕ) (expected : Option Table) (found : Bool) → IfSome tables (λ each. whole_in gaps each ≡ Ok whole) → IfSome tables (λ each. count ≡ length each)
-    → IfSome last (λ given. expected_in count given ≡ Ok expected) → found ≡ is_unexpected expected whole.rows → IfSome (known tables last) (λ files. merge_of gaps files ≡ Ok (record { whole = whole; is_unexpected = found }))
+pub all_merged : (gaps : Bool) (tables : Option (List (List ℕ))) (last : Option (Option (List ℕ))) (whole : Whole) (count : ℕ) (expected : Option Table) (found : Table) → IfSome tables (λ each. whole_in gaps each ≡ Ok whole) → IfSome tables (λ each. count ≡ length each)
+    → IfSome last (λ given. expected_in count given ≡ Ok expected) → found ≡ unexpected_in expected whole.rows → IfSome (known tables last) (λ files. merge_of gaps files ≡ Ok (record { whole = whole; unexpected = found }))
 all_merged gaps None last whole count expected found is many read told = tt
 all_merged gaps (Some each) None whole count expected found is many read told = tt
 all_merged gaps (Some each) (Some given) whole count expected found is many read told =
     tables_ok gaps (record { tables = each; expected = given }) whole is ∙ ap (λ r. r >>= with_expected whole) (ap (λ n. expected_in n given) (sym many) ∙ read)
-    ∙ ap (λ (f : Bool). Ok (record { whole = whole; is_unexpected = f })) (sym told)
+    ∙ ap (λ (f : Table). Ok (record { whole = whole; unexpected = f })) (sym told)
 
 pub count_known : {R : Type 0} (remaining : R → Option (List ℕ)) (readers : List (Flagged R)) → IfSome (bytes_of remaining readers) (λ each. length readers ≡ length each)
 count_known remaining readers = counted (bytes_of remaining readers) refl

@@ -1,6 +1,5 @@
 -- Which races a hunt counts, and which of them were not expected.
 use Rattle.std.specs.Prelude.{Bool, true, false, not, ◌&&◌, List}
-use Rattle.std.specs.List.{list_any}
 use Rattle.rv_races.specs.declared.classes.RaceClass.{RaceClass}
 use Rattle.rv_races.specs.declared.classes.RaceClass.TheVariants.{Kept, Counter, Unwatched, Flag, Ordered, Atomic, Named}
 use Rattle.rv_hunt.specs.Rows.{has_race}
@@ -40,7 +39,3 @@ is_unwatched Named = false
 -- the race may be a bug, and those that were expected have no row of it, of whatever class
 abbrev pub is_unexpected : List (Key × RaceRow) → Key × RaceRow → Bool
 is_unexpected expected row = may_be_bug row.1.class && not (has_race row.0 expected)
-
--- there is such a race
-abbrev pub has_unexpected : List (Key × RaceRow) → List (Key × RaceRow) → Bool
-has_unexpected expected rows = list_any (is_unexpected expected) rows

@@ -2,6 +2,9 @@
 pub mod FileFault
 pub mod FileFaultText
 pub mod Ignore
+pub mod Known
+pub mod ListLaws
+pub mod Listing
 pub mod Merge
 pub mod TableFiles
 pub mod Whole

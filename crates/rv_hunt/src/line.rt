@@ -306,6 +306,13 @@ fn read_races(line: &[u8]) -> Option<Option<u64>>
     read_only(&mut words, b"races")
 }
 
+/// Whether the line is the first of a table.
+pub(crate) fn is_first(line: &[u8]) -> bool
+    ensures { result ≡ is_some (spec.races_in (words_of line.now)) }
+{
+    read_races(line).is_some()
+}
+
 /// How many rows the first line says that there are.
 #[tactic(auto, unfolding(crate::specs::HuntRead::races_of_line))]
 pub(crate) fn read_first(line: &[u8]) -> Result<u64, TableKind>

@@ -16,7 +16,7 @@ ghost use Rattle.rv_hunt.specs.merge.FileFault.{is_read, is_write, no_memory, wr
 ghost use Rattle.rv_hunt.specs.merge.Merge as spec;
 ghost use Rattle.rv_hunt.specs.internal.Adding as internal;
 
-use crate::expected::is_unexpected;
+use crate::expected::new_of;
 use crate::merge::fault::FileFault;
 use crate::merge::table_file::{read_expected, read_hunt_table};
 use crate::merge::whole::{GivenTable, Whole, whole_of};
@@ -33,6 +33,8 @@ use std::io::{Read, Write};
 
 pub mod fault;
 pub mod ignore;
+pub mod known;
+pub mod listing;
 pub mod parted;
 mod sought;
 pub mod table_file;
@@ -174,12 +176,15 @@ fn whole_in<R: Read>(
     whole_of(alloc, gaps, given)
 }
 
-/// What is written, and whether there is a race among its rows that may be a bug and is not expected.
+/// Rows of a table.
+type Rows = Vec<(Key, RaceRow)>;
+
+/// What is written, and those of its rows whose races may be bugs and are not expected.
 #[derive(Drop)]
 struct Merge {
-    rows: Vec<(Key, RaceRow)>,
+    rows: Rows,
     origin: Option<Origin>,
-    is_unexpected: bool,
+    unexpected: Rows,
 }
 
 /// Reads all files.
@@ -192,7 +197,7 @@ fn merge_files<R: Read>(
     ensures ok { IfOk result (λ merge. IfSome (spec.files_of R.remaining tables.old expected.old) (λ files.
         spec.merge_of gaps files ≡ Ok (record {
           whole = record { rows = merge.rows.items; origin = merge.origin };
-          is_unexpected = merge.is_unexpected;
+          unexpected = merge.unexpected.items;
         }))) }
     ensures err { IfErr result (λ fault. IfSome (spec.files_of R.remaining tables.old expected.old) (λ files.
         spec.IsTold (spec.merge_of gaps files) fault)) }
@@ -204,11 +209,11 @@ fn merge_files<R: Read>(
     let expected = expected_file(alloc, tables.len(), expected)?;
     let Whole { rows, origin } = whole;
     let rows = rows.into_rows(alloc)?;
-    let is_unexpected = is_unexpected(&expected, &rows);
+    let unexpected = new_of(alloc, &expected, &rows)?;
     Ok(Merge {
         rows,
         origin,
-        is_unexpected,
+        unexpected,
     })
 }
 
@@ -237,10 +242,10 @@ fn publish<W: Write>(merge: &Merge, writer: &mut Buffered<W>) -> Result<(), Merg
 }
 
 /// What is told of a merge that was written.
-#[derive(Clone, Copy)]
+#[derive(Drop)]
 pub struct Merged {
-    /// It has a race that may be a bug and is not expected.
-    pub is_unexpected: bool,
+    /// Its rows whose races may be bugs and are not expected.
+    pub unexpected: Rows,
     /// Each of the tables says what it is of, and so does theirs.
     pub is_of_one: bool,
 }
@@ -258,8 +263,10 @@ pub fn run_merge<R: Read, W: Write>(
     ensures text { OnOk result (IfSome (spec.files_of R.remaining tables.old expected.old) (λ files.
         IsOkAnd (spec.merge_of gaps files) (λ merge.
         Appends (buffer.written W.contents writer.old) (buffer.sent W.contents writer.new) (spec.merge_text merge)))) }
-    ensures told { IfOk result (λ merged. IfSome (spec.files_of R.remaining tables.old expected.old) (λ files.
-        IsOkAnd (spec.merge_of gaps files) (λ merge. merged ≡ spec.told_of merge))) }
+    ensures unexpected { IfOk result (λ merged. IfSome (spec.files_of R.remaining tables.old expected.old) (λ files.
+        IsOkAnd (spec.merge_of gaps files) (λ merge. merged.unexpected.items ≡ merge.unexpected))) }
+    ensures one { IfOk result (λ merged. IfSome (spec.files_of R.remaining tables.old expected.old) (λ files.
+        IsOkAnd (spec.merge_of gaps files) (λ merge. merged.is_of_one ≡ spec.is_of_one merge))) }
     ensures refused { IfErr result (λ fault. IfSome (spec.files_of R.remaining tables.old expected.old) (λ files.
         spec.IsTold (spec.merge_of gaps files) fault)) }
     ensures nothing { IfErr result (λ fault. is_write fault.fault ≡ false
@@ -271,7 +278,7 @@ pub fn run_merge<R: Read, W: Write>(
     let merge = merge_files(alloc, gaps, tables, expected)?;
     publish(&merge, writer)?;
     Ok(Merged {
-        is_unexpected: merge.is_unexpected,
         is_of_one: merge.origin.is_some(),
+        unexpected: merge.unexpected,
     })
 }

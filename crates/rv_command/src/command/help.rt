@@ -147,8 +147,8 @@ table line N NAME, of a table of hunt or run:
   Overlap: the table has runs that another table has, or that come before the last of another: leave one out
   Gap: runs are missing before those of the table: add their table, or allow it by --gaps
 
-ignore line N NAME, of a list of --ignore:
-  Shape: a line is two sides, each an address of eight hexadecimal digits, a symbol's name or *
+ignore line N NAME, of a list of --ignore, or of --expect:
+  Shape: a line is two sides, each an address of eight hexadecimal digits, a symbol's name or *; on NAME may follow
   Unknown: the image has no symbol with this name
 
 ignore aim NAME, of --aim:

@@ -100,6 +100,7 @@ fn told<R: Read, W: Write, E: Write>(
     }
     let mut folder: Option<NoFolder> = None;
     let mut page: Option<Kept> = None;
+    let mut list: Option<Kept> = None;
     let outcome = run_hunt(
         rt,
         alloc,
@@ -107,11 +108,13 @@ fn told<R: Read, W: Write, E: Write>(
         inputs,
         &mut folder,
         &mut page,
+        &mut list,
         writer,
         notes,
         &mut Unseen,
     );
     drop(page);
+    drop(list);
     match outcome {
         Ok(_) => Ok(()),
         Err(fault) => Err(of_device(fault)),

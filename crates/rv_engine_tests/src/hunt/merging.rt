@@ -6,6 +6,7 @@ use rv_hunt::merge::fault::FileFault;
 use rv_hunt::merge::{MergeFault, Merged, run_merge};
 use rv_memory::buffered::{Buffered, MOST_PENDING};
 use rv_memory::output::Output;
+use rv_report::key::Key;
 use std::alloc::Global;
 use std::process::Abort;
 

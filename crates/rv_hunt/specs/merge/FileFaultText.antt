@@ -44,7 +44,7 @@ table_sentence table.Overlap = codes "the table has runs that another table has,
 table_sentence table.Gap = codes "runs are missing before those of the table: add their table, or allow it by --gaps"
 
 abbrev pub ignore_sentence : IgnoreKind → List ℕ
-ignore_sentence ignore.Shape = codes "a line is two sides, each an address of eight hexadecimal digits, a symbol's name or *"
+ignore_sentence ignore.Shape = codes "a line is two sides, each an address of eight hexadecimal digits, a symbol's name or *; on NAME may follow"
 ignore_sentence ignore.Unknown = codes "the image has no symbol with this name"
 
 -- what is wrong, or what to do

@@ -1,8 +1,8 @@
 -- What `merge` makes of the bytes of hunt tables, and of the table of races that are expected.
-use Rattle.std.specs.Prelude.{◌≡◌, ℕ, ◌+◌, Bool, false, ◌||◌, Option, Some, None, option_and_then, option_map, Result, Ok, Err, List, [], ◌∷◌, ◌++◌, is_some, length}
+use Rattle.std.specs.Prelude.{◌≡◌, ℕ, ◌+◌, Bool, false, ◌||◌, Option, Some, None, option_and_then, option_map, Result, Ok, Err, List, [], ◌∷◌, ◌++◌, filter, is_some, length}
 use Rattle.std.specs.List.{list_any}
 use Rattle.std.specs.Option.{option_map_or}
-use Rattle.rv_hunt.specs.Expected.{has_unexpected}
+use Rattle.rv_hunt.specs.Expected.{is_unexpected}
 use Rattle.rv_hunt.specs.HuntText.{table_text}
 use Rattle.rv_hunt.specs.Origin.{last_line}
 use Rattle.rv_hunt.specs.declared.merge.whole.GivenTable.{GivenTable}
@@ -17,7 +17,6 @@ use Rattle.rv_hunt.specs.merge.TableFiles.{expected_table, hunt_table}
 use Rattle.rv_hunt.specs.merge.Whole.{whole_of}
 use Rattle.rv_hunt.specs.declared.merge.fault.FileFault.{FileFault}
 use Rattle.rv_hunt.specs.declared.merge.MergeFault.{MergeFault}
-use Rattle.rv_hunt.specs.declared.merge.Merged.{Merged}
 use Rattle.rv_report.specs.declared.key.Key.{Key}
 
 abbrev pub Table : Type 0
@@ -28,10 +27,10 @@ pub record Files : Type 0 where
   pub tables : List (List ℕ)
   pub expected : Option (List ℕ)
 
--- What is written, and whether it has a race that may be a bug and is not expected.
+-- What is written, and those of its rows whose races may be bugs and are not expected.
 pub record Merge : Type 0 where
   pub whole : Whole
-  pub is_unexpected : Bool
+  pub unexpected : Table
 
 -- the text: the table, and behind it the line of what it is of
 abbrev pub merge_text : Merge → List ℕ
@@ -61,8 +60,9 @@ abbrev pub expected_in : ℕ → Option (List ℕ) → Result (Option Table) Mer
 expected_in number None = Ok None
 expected_in number (Some bytes) = in_file number (expected_table bytes) >>= λ table. Ok (Some table)
 
-abbrev pub is_unexpected : Option Table → Table → Bool
-is_unexpected expected table = option_map_or (λ rows. has_unexpected rows table) expected false
+-- the rows of races that may be bugs and are not expected, where some are
+abbrev pub unexpected_in : Option Table → Table → Table
+unexpected_in expected table = option_map_or (λ rows. filter (is_unexpected rows) table) expected []
 
 -- What the files are merged to, or the first of them that is refused. The one of expected races is the last.
 unfoldable pub merge_of : Bool → Files → Result Merge MergeFault
@@ -70,11 +70,11 @@ merge_of gaps files = do
   tables ← tables_from 0 files.tables
   whole ← whole_of gaps tables
   expected ← expected_in (length files.tables) files.expected
-  Ok (record { whole = whole; is_unexpected = is_unexpected expected whole.rows })
+  Ok (record { whole = whole; unexpected = unexpected_in expected whole.rows })
 
--- what is told of it
-abbrev pub told_of : Merge → Merged
-told_of merge = record { is_unexpected = merge.is_unexpected; is_of_one = is_some merge.whole.origin }
+-- each of the tables says what it is of
+abbrev pub is_of_one : Merge → Bool
+is_of_one merge = is_some merge.whole.origin
 
 -- ---- the files' bytes
 

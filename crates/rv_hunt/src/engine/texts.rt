@@ -16,7 +16,8 @@ use crate::saying::index::push_index;
 use crate::saying::lines::{push_behind, summary_line};
 use crate::saying::orders::shown_rows;
 use crate::saying::stuck::stuck_block_lines;
-use crate::saying::warnings::warnings_text;
+use crate::saying::unexpected::{is_among, mark};
+use crate::saying::warnings::first_notes;
 use crate::table::write_table;
 use crate::tally::Tally;
 use rv_explain::blocks::ordered_text;
@@ -34,14 +35,16 @@ pub(crate) fn race_text(
     symbols: &SymbolTable,
     number: u64,
     row: &RaceRow,
+    is_new: bool,
     shown: &ShownRace,
     order: &ShownOrder,
 ) -> Result<Vec<u8>, NoMemory> {
+    let mark = mark(is_new);
     let run = row.run;
     let harts = shown.harts;
     let words = match row.part {
-        0 => format!(in alloc; ", first in run {run}, {harts} harts")?,
-        part => format!(in alloc; ", first in run {run}, probe {part}, {harts} harts")?,
+        0 => format!(in alloc; "{mark}, first in run {run}, {harts} harts")?,
+        part => format!(in alloc; "{mark}, first in run {run}, probe {part}, {harts} harts")?,
     };
     let rows = shown_rows(alloc, symbols, order)?;
     let mut text = ordered_text(
@@ -111,11 +114,14 @@ pub(crate) fn hunt_text(
     let mut text = Vec::new(alloc);
     text.extend_from_slice(summary_line(alloc, outcome)?.as_bytes())?;
     let table = &outcome.saw.orders;
-    push_index(alloc, &mut text, symbols, table, shown.len(), told)?;
-    for (n, (((_, row), race), order)) in told.iter().zip(shown).zip(orders).enumerate() {
+    push_index(alloc, &mut text, symbols, table, shown.len(), told, outcome.new)?;
+    for (n, (((key, row), race), order)) in told.iter().zip(shown).zip(orders).enumerate() {
         let number = n as u64 + 1;
         text.push(b'\n')?;
-        text.extend_from_slice(&race_text(alloc, line, symbols, number, row, race, order)?)?;
+        let is_new = is_among(outcome.new, key);
+        text.extend_from_slice(&race_text(
+            alloc, line, symbols, number, row, is_new, race, order,
+        )?)?;
     }
     push_stuck(alloc, &mut text, symbols, outcome, line)?;
     text.push(b'\n')?;
@@ -124,14 +130,14 @@ pub(crate) fn hunt_text(
     Ok(text)
 }
 
-/// The warnings, the stuck ends, the lines behind the blocks, and how a run is kept.
+/// The warnings, the races that are new, the stuck ends, the lines behind the blocks, and how a run is kept.
 pub(crate) fn table_notes(
     alloc: Global,
     line: &LineParts<'_>,
     symbols: &SymbolTable,
     outcome: &Outcome,
 ) -> Result<Vec<u8>, NoMemory> {
-    let mut notes = warnings_text(alloc, symbols, outcome)?;
+    let mut notes = first_notes(alloc, symbols, outcome)?;
     push_stuck(alloc, &mut notes, symbols, outcome, line)?;
     push_behind(alloc, &mut notes, symbols, outcome)?;
     push_keep_line(alloc, &mut notes, line)?;

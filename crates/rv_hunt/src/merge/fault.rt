@@ -179,7 +179,7 @@ fn ignore_sentence(kind: IgnoreKind) -> &'static str
 {
     match kind {
         IgnoreKind::Shape =>
-            "a line is two sides, each an address of eight hexadecimal digits, a symbol's name or *",
+            "a line is two sides, each an address of eight hexadecimal digits, a symbol's name or *; on NAME may follow",
         IgnoreKind::Unknown => "the image has no symbol with this name",
     }
 }

@@ -17,6 +17,6 @@ returns-in_err-expected-clause-err g c =
 
 pub returns-clause-ok : goal.returns-clause-ok
 returns-clause-ok g c =
-    let found = rw (c.deref.ensures.value, c.in_ok-rows.ensures) at c.is_unexpected-is_unexpected.ensures in
-    rw (c.in_ok-rows.ensures) (all_merged c.args.gaps (spec.bytes_of g.R.Read.remaining c.args.tables.now) (spec.bytes_if g.R.Read.remaining c.args.expected.now) c.in_ok-whole.whole (length c.whole_in.new.tables) c.in_ok-expected.expected c.is_unexpected-is_unexpected.result c.in_ok-whole.ensures.ok
+    let found = rw (c.deref.ensures.value, c.in_ok-rows.ensures) at c.in_ok-unexpected.ensures in
+    rw (c.in_ok-rows.ensures) (all_merged c.args.gaps (spec.bytes_of g.R.Read.remaining c.args.tables.now) (spec.bytes_if g.R.Read.remaining c.args.expected.now) c.in_ok-whole.whole (length c.whole_in.new.tables) c.in_ok-expected.expected c.in_ok-unexpected.unexpected.items c.in_ok-whole.ensures.ok
     (rw c.in_ok-whole.ensures.count (count_known g.R.Read.remaining c.args.tables.now)) c.in_ok-expected.ensures.ok found)

@@ -10,7 +10,8 @@ returns-clause-made g c =
     let sites = c.len.ensures ∙ ap (λ (h : Hunt). length h.source.sites) c.hunt.view_is in
     let rows = c.deref-2.ensures.value ∙ c.in_ok-parted.ensures.told in
     let ignored = c.deref-3.ensures.value ∙ c.in_ok-parted.ensures.ignored in
-    let came = outcome_is hunting c.args.saw.now c.len.result c.mix.result c.deref-2.result.now c.deref-3.result.now _ sites (c.mix.ensures ∙ ap (λ (h : Hunt). h.given.mix) c.hunt.view_is) rows ignored refl in
+    let gone = c.in_ok-gone.ensures in
+    let came = outcome_is hunting c.args.saw.now c.len.result c.mix.result c.deref-2.result.now c.deref-3.result.now _ _ sites (c.mix.ensures ∙ ap (λ (h : Hunt). h.given.mix) c.hunt.view_is) rows ignored gone refl in
     made_is _ hunting c.args.saw.now _ _ c.in_ok-parted.parted.told.items c.in_ok-told.told.items c.first_of.result.now _ c.in_ok-shown.shown.items c.in_ok-orders.orders.items c.in_ok-stuck.stuck.shown.items _ _ _ _ c.requires.noted refl c.is_wrong.ensures c.in_ok-parted.ensures.told
     (rw (c.deref.ensures.value, c.requires.symbols) at c.in_ok-told.ensures)
     (rw (c.full_of-most.ensures, c.is_some.ensures, c.is_some-2.ensures, c.save_ends.ensures, c.stuck_ends.ensures.wanted, c.deref-4.ensures.value) at c.first_of.ensures)
