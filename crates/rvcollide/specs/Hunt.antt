@@ -40,10 +40,10 @@ asked line = record {
 
 -- The options are those of a line, with so many workers and these parts of the line to be shown.
 pub record AreOptionsOf (line : HuntLine) (workers : ℕ) (parts : LineParts) (options : HuntOptions) : Type 0 where
-  pub legal : engine.AreLegal options
-  pub asked : engine.asked options ≡ asked line
-  pub workers : options.workers ≡ workers
-  pub shows : options.shows ≡ shown_by line
-  pub blocks : options.blocks ≡ line.blocks
-  pub line : options.line ≡ parts
-  pub orders : options.orders ≡ not line.no_orders
+  pub is_legal : engine.AreLegal options
+  pub asked_is : engine.asked options ≡ asked line
+  pub workers_are : options.workers ≡ workers
+  pub shows_is : options.shows ≡ shown_by line
+  pub blocks_are : options.blocks ≡ line.blocks
+  pub parts_are : options.line ≡ parts
+  pub orders_are : options.orders ≡ not line.no_orders
