@@ -123,7 +123,7 @@ fn options_of<'a, 'b>(
     workers: u8,
     parts: LineParts<'b>,
 ) -> Option<HuntOptions<'a, 'b>>
-    ensures { IfSome result (λ options. asked.AreOptionsOf line.now workers parts options) }
+    ensures { IfSome result (λ options. asked.AreOptionsOf line.now workers parts.entry options) }
 {
     let slots = line.slots.unwrap_or(slots_of(line));
     let plans = Plans::new(mix_of(line), line.harts, slots, line.lengths)?;
