@@ -1,6 +1,6 @@
 -- What each entry of a run accessed, and the last stores of its pauses.
-use Rattle.std.proofs.Common.{◌≡◌, ℕ, zero, suc, ◌+◌, ◌-◌, ◌<◌, ◌≤◌, Bool, true, false, List, [], ◌∷◌, ◌++◌, Option, Some, None, get_or, map, take, refl, ap, sym, ◌∙◌, arith}
-use Rattle.std.specs.Prelude.{◌||◌, filter_map, option_and_then, length, slice_get, unwrap_or}
+use Rattle.std.proofs.Common.{◌≡◌, ℕ, zero, suc, ◌+◌, ◌-◌, ◌<◌, ◌≤◌, Bool, true, false, List, [], ◌∷◌, ◌++◌, Option, Some, None, get_or, map, take, refl, ap, sym, ◌∙◌, inl, inr, arith}
+use Rattle.std.specs.Prelude.{◌||◌, filter_map, option_and_then, option_map, length, slice_get, unwrap_or}
 use Rattle.std.specs.List.{fold, list_any, range_with_len}
 use Rattle.std.specs.Option.{option_map_or, option_to_list}
 use Rattle.std.proofs.lemmas.Bool.{cases_lt}
@@ -23,6 +23,7 @@ use Rattle.rv_collide.specs.declared.ending.Verdict.TheVariants.{Hit, Changed, Q
 use Rattle.rv_collide.specs.declared.entry.Entry.{Entry}
 use Rattle.rv_collide.specs.declared.entry.Entry.TheVariants.{Stepped, Paused, Resumed, Armed, Disarmed}
 use Rattle.rv_elf.specs.Contents.{Contents}
+use Rattle.rv_hart.specs.NextAccess.{accessed, next_access}
 use Rattle.rv_hart.specs.Run.{run}
 use Rattle.rv_hart.specs.State.{State}
 use Rattle.rv_hart.specs.Step.{step_of}
@@ -64,6 +65,23 @@ state_next start s t entries place other below here on =
     ∙ run_append start (steps (take place entries)) (option_to_list (stepped_hart entry))
     ∙ ap (option_and_then (λ u. run u (option_to_list (stepped_hart entry)))) here
     ∙ on
+
+-- ---- the step of an entry
+
+pub no_step : (s : State) (hart : Option ℕ) → None ≡ hart → run s (option_to_list hart) ≡ Some s
+no_step s hart none = rw (← none) refl
+
+pub one_step : (s t : State) (event : Event) (hart : Option ℕ) (h : ℕ) → Some h ≡ hart → step_of s h ≡ Some (event, t) → run s (option_to_list hart) ≡ Some t
+one_step s t event hart h is step = rw (← is, step) refl
+
+pub none_seen : (s : State) (place : ℕ) (hart : Option ℕ) → None ≡ hart → None ≡ seen_by s place hart
+unfolding seen_by
+none_seen s place hart none = rw (← none) refl
+
+pub one_seen : (s t : State) (event : Event) (place : ℕ) (hart : Option ℕ) (h : ℕ) (seen : Option Seen) → Some h ≡ hart → step_of s h ≡ Some (event, t)
+    → seen ≡ option_map (λ access. record { place = place; hart = h; access = access }) (accessed event) → seen ≡ seen_by s place hart
+unfolding seen_by next_access
+one_seen s t event place hart h seen is step found = rw (← is, step) found
 
 -- ---- the table
 

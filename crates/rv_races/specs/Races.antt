@@ -3,7 +3,6 @@ use Rattle.std.specs.Prelude.{◌≡◌, ℕ, ◌+◌, Bool, nat_lt, if◌then�
 use Rattle.std.specs.List.{fold, range_with_len}
 use Rattle.rv_collide.specs.Counts.{saturated}
 use Rattle.rv_collide.specs.Verdict.{endings}
-use Rattle.rv_collide.specs.declared.ending.Ending.{Ending}
 use Rattle.rv_elf.specs.Contents.{Contents}
 use Rattle.rv_races.specs.Classes.{class_of, rank}
 use Rattle.rv_races.specs.Judged.{judged}

@@ -66,6 +66,16 @@ fn seen_by(place: u32, hart: u8, access: Option<Access>) -> Option<Seen>
     })
 }
 
+/// The hart that makes a step at an entry.
+fn stepped_by(entry: Entry) -> Option<u8>
+    ensures { result ≡ stepped_hart entry }
+{
+    match entry {
+        Entry::Stepped(hart) => Some(hart),
+        _ => None,
+    }
+}
+
 /// Makes the step of an entry, if it is one. What it accessed.
 fn make_step<S: ByteStore>(
     machine: &mut Machine<S>,
@@ -75,7 +85,7 @@ fn make_step<S: ByteStore>(
     ensures on { OnOk result (steps_from machine.old.state (option_to_list (stepped_hart entry)) ≡ Some machine.new.state) }
     ensures seen { IfOk result (λ seen. seen ≡ internal.seen_by machine.old.state place (stepped_hart entry)) }
 {
-    let Entry::Stepped(hart) = entry else {
+    let Some(hart) = stepped_by(entry) else {
         return Ok(None);
     };
     match machine.step(hart) {
