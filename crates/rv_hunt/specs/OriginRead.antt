@@ -49,7 +49,7 @@ read_hunt text = do
 
 -- the rows of such a table, or of one without the line, of `hunt` or `run`
 unfoldable pub read_rows : List ℕ → Result (List (Key × RaceRow)) TableFault
-read_rows text = if is_some (origin_at text) then read_hunt text >>= λ table. Ok table.rows else read_either text
+read_rows text = if is_some (origin_at text) then (read_hunt text >>= λ table. Ok table.rows) else read_either text
 
 -- ---- what only private contracts cite
 

@@ -92,7 +92,7 @@ fn write_stretches<O: Output>(writer: &mut O, stretches: &[Stretch]) -> Result<(
 
 fn write_heading<O: Output>(writer: &mut O, heading: &Heading<'_>) -> Result<(), WriteFault>
     ensures ok { OnOk result (Appends (O.written writer.old) (O.written writer.new)
-        (spec.heading_text heading.image.now heading.version.now heading.seed)) }
+        (spec.heading_text heading.entry.now.image.now heading.entry.now.version.now heading.entry.now.seed)) }
     ensures failed { O.has_failed writer.new ≡ (O.has_failed writer.old || is_err result) }
 {
     let seed = Decimal::new(heading.seed);
@@ -118,11 +118,11 @@ pub fn write_line<O: Output>(
 ) -> Result<(), WriteFault>
     ensures ok { OnOk result (Appends (O.written writer.old) (O.written writer.new)
         (spec.last_line (Some (record {
-          image = heading.image.now;
-          version = heading.version.now;
-          seed = heading.seed;
+          image = heading.entry.now.image.now;
+          version = heading.entry.now.version.now;
+          seed = heading.entry.now.seed;
           stretches = stretches.now;
-          given = heading.given.now;
+          given = heading.entry.now.given.now;
         })))) }
     ensures failed { O.has_failed writer.new ≡ (O.has_failed writer.old || is_err result) }
 {
@@ -199,11 +199,11 @@ impl Origin {
         stretches: Vec<Stretch>,
     ) -> Result<Origin, NoMemory>
         ensures { IfOk result (λ origin. origin ≡ record {
-          image = heading.image.now;
-          version = heading.version.now;
-          seed = heading.seed;
+          image = heading.entry.now.image.now;
+          version = heading.entry.now.version.now;
+          seed = heading.entry.now.seed;
           stretches = stretches.items;
-          given = heading.given.now;
+          given = heading.entry.now.given.now;
         }) }
     {
         let image = Vec::from_slice(alloc, heading.image)?;

@@ -77,7 +77,7 @@ fn rest_text(
     first: Option<&[u8]>,
     words: &mut Pieces<'_>,
 ) -> Result<Vec<u8>, NoMemory>
-    ensures { IfOk result (λ text. text.items ≡ spec.words_text (read.onto (option_copied first) words.old)) }
+    ensures { IfOk result (λ text. text.items ≡ spec.words_text (read.onto (option_copied first.entry) words.old)) }
 {
     let mut text = Vec::new(alloc);
     let mut next = first;

@@ -533,10 +533,11 @@ Example:
 
 /// What the help of `merge` says after its arguments.
 const MERGE: &str = "\
-The pieces are hunts of one image with the same options but for --first and --runs. Their tables, in whatever
-order, make the table of the whole hunt, byte for byte. The output is that table. A table's last line says what
-it is of: tables of two images, versions or options are refused, and so are runs that two tables have, or that
-are missing between them. --expect stands before the tables or behind them, --gaps before all or behind all.
+The pieces are hunts of one image with the same options but for --first and --runs. Their tables, in
+whatever order, make the table of the whole hunt, byte for byte. The output is that table. The last line
+of a table says what it is of: tables of two images, versions or options are refused, and so are runs
+that two tables have, or that are missing between them. --expect stands before the tables or behind
+them, --gaps before all or behind all.
 
 A fault is told with its file and what is wrong, as in b.table: table line 2 Shape.
 

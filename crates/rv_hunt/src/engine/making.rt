@@ -25,14 +25,14 @@ use crate::engine::options::{HuntOptions, LineParts, Shows};
 use crate::engine::orders::{ShownOrder, shown_orders};
 use crate::engine::shown::{InFull, ShownRace};
 use crate::engine::stuck_ends::{ShownStuck, stuck_ends};
-use crate::engine::texts::{hunt_text, table_notes, table_of};
+use crate::engine::texts::{heading_of, hunt_text, stretch_of, table_notes, table_of};
 use crate::hunt::{Hunt, Watch};
 use crate::hunted::Hunted;
 use crate::merge::known::{gone, new_races};
 use crate::merge::listing::list_of;
 use crate::merge::parted::{Parted, part_rows};
 use crate::noted::Noted;
-use crate::origin::{Heading, Stretch, stretch_on};
+use crate::origin::{Heading, Stretch};
 use crate::page::page_text;
 use crate::page::parts::Outcome;
 use crate::row::RaceRow;
@@ -73,11 +73,11 @@ fn texts_of(
     orders: &[ShownOrder],
 ) -> Result<(Vec<u8>, Vec<u8>), NoMemory>
     ensures { IfOk result (λ texts. spec.IsTable shows outcome.now.rows (record {
-      image = heading.image.now;
-      version = heading.version.now;
-      seed = heading.seed;
+      image = heading.entry.now.image.now;
+      version = heading.entry.now.version.now;
+      seed = heading.entry.now.seed;
       stretches = stretch ∷ [];
-      given = heading.given.now;
+      given = heading.entry.now.given.now;
     }) texts.0.items) }
 {
     match shows {
@@ -101,8 +101,8 @@ fn parted_rows(
     saw: &Hunted,
 ) -> Result<Parted, NoMemory>
     requires { symbols.now ≡ hunt.now.source.image }
-    ensures told { IfOk result (λ parted. parted.told.items ≡ spec.told_in (hunting_with hunt.now [] lists.now) saw.now) }
-    ensures ignored { IfOk result (λ parted. parted.ignored.items ≡ spec.ignored_by (hunting_with hunt.now [] lists.now) saw.now) }
+    ensures told { IfOk result (λ parted. parted.told.items ≡ spec.told_in (hunting_with hunt.now [] [] lists.now) saw.now) }
+    ensures ignored { IfOk result (λ parted. parted.ignored.items ≡ spec.ignored_by (hunting_with hunt.now [] [] lists.now) saw.now) }
 {
     let rows = saw.table.rows(alloc)?;
     part_rows(alloc, symbols, &lists.ignored, &rows)
@@ -245,13 +245,8 @@ fn made_of<R: Threads + Wait, D: Folder, F: NewFile, P: Watch>(
     };
     let orders = shown_orders(rt, alloc, &full, options.workers, &saw.orders, folder)?;
     let shown = full.show(rt, alloc, options.workers, folder, watch)?;
-    let heading = Heading {
-        image: digits,
-        version: options.line.version.as_bytes(),
-        seed: u64::from(hunt.seed),
-        given: options.line.given.as_bytes(),
-    };
-    let stretch = stretch_on(u64::from(hunt.first), saw.tally.runs());
+    let heading = heading_of(hunt, &options.line, digits);
+    let stretch = stretch_of(hunt, saw);
     let (text, notes) = texts_of(
         alloc,
         options.shows,

@@ -79,6 +79,7 @@ struct FileRead {
 }
 
 /// Reads the file of an image.
+#[tactic(auto, unfolding(rv_engines::specs::Images::image_of))]
 fn read_file<R: Read>(alloc: Global, reader: &mut Flagged<R>) -> Result<FileRead, Fault>
     ensures image { IfOk result (λ read. IfSome (R.remaining (flag.device reader.old)) (λ bytes.
         image_of bytes ≡ Ok read.image)) }

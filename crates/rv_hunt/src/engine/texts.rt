@@ -2,14 +2,16 @@
 ghost use Rattle.std.specs.Prelude.{◌≡◌, ◌∷◌, ◌++◌, ◌||◌, [], Some, is_err, IfOk, OnOk};
 ghost use Rattle.std.specs.Io.KnownBytes.{Appends};
 ghost use Rattle.rv_hunt.specs.HuntText as table;
-ghost use Rattle.rv_hunt.specs.Origin.{last_line};
+ghost use Rattle.rv_hunt.specs.Origin.{last_line, stretch_on};
 
 use crate::engine::onward::{push_gdb_line, push_keep_line, push_stuck_gdb_line};
 use crate::engine::options::LineParts;
 use crate::engine::orders::ShownOrder;
 use crate::engine::shown::ShownRace;
 use crate::engine::stuck_ends::ShownStuck;
-use crate::origin::{Heading, Stretch, write_line};
+use crate::hunt::Hunt;
+use crate::hunted::Hunted;
+use crate::origin::{Heading, Stretch, stretch_on, write_line};
 use crate::page::parts::Outcome;
 use crate::row::RaceRow;
 use crate::saying::index::push_index;
@@ -144,6 +146,32 @@ pub(crate) fn table_notes(
     Ok(notes)
 }
 
+/// What the tables of a hunt are of, but for their runs.
+pub(crate) fn heading_of<'a>(
+    hunt: &Hunt<'_>,
+    line: &'a LineParts<'_>,
+    digits: &'a [u8],
+) -> Heading<'a>
+    ensures image { result.image.now ≡ digits.entry.now }
+    ensures version { result.version.now ≡ line.entry.now.version.now }
+    ensures seed { result.seed ≡ hunt.now.source.seed }
+    ensures given { result.given.now ≡ line.entry.now.given.now }
+{
+    Heading {
+        image: digits,
+        version: line.version.as_bytes(),
+        seed: u64::from(hunt.seed),
+        given: line.given.as_bytes(),
+    }
+}
+
+/// The runs of a hunt that were made.
+pub(crate) fn stretch_of(hunt: &Hunt<'_>, saw: &Hunted) -> Stretch
+    ensures { result ≡ stretch_on hunt.now.first saw.now.tally.runs }
+{
+    stretch_on(u64::from(hunt.first), saw.tally.runs())
+}
+
 /// Writes a hunt table of these rows, and the line of what it is of.
 fn write_all<O: Output>(
     writer: &mut O,
@@ -153,11 +181,11 @@ fn write_all<O: Output>(
 ) -> Result<(), WriteFault>
     ensures ok { OnOk result (Appends (O.written writer.old) (O.written writer.new)
         (table.table_text rows.now ++ last_line (Some (record {
-          image = heading.image.now;
-          version = heading.version.now;
-          seed = heading.seed;
+          image = heading.entry.now.image.now;
+          version = heading.entry.now.version.now;
+          seed = heading.entry.now.seed;
           stretches = stretch ∷ [];
-          given = heading.given.now;
+          given = heading.entry.now.given.now;
         })))) }
     ensures failed { O.has_failed writer.new ≡ (O.has_failed writer.old || is_err result) }
 {
@@ -173,11 +201,11 @@ pub(crate) fn table_of(
     stretch: Stretch,
 ) -> Result<Vec<u8>, NoMemory>
     ensures { IfOk result (λ text. text.items ≡ table.table_text rows.now ++ last_line (Some (record {
-      image = heading.image.now;
-      version = heading.version.now;
-      seed = heading.seed;
+      image = heading.entry.now.image.now;
+      version = heading.entry.now.version.now;
+      seed = heading.entry.now.seed;
       stretches = stretch ∷ [];
-      given = heading.given.now;
+      given = heading.entry.now.given.now;
     }))) }
 {
     let mut writer = Flagged::new(Vec::new(alloc));
