@@ -25,7 +25,7 @@ judged_append known [] more read = refl
 judged_append known (x ∷ before) more read = ap (after_line known x) (judged_append known before more read)
 
 -- what a line says, by its words
-abbrev said_by : Contents → Result (Option Said) IgnoreKind → Result (Option Line) IgnoreKind
+abbrev said_by : (Line → Bool) → Result (Option Said) IgnoreKind → Result (Option Line) IgnoreKind
 said_by known r = r >>= λ pair. want (option_map_or (λ (words : Said). known (sides_of words)) pair true) Unknown >>= λ _. Ok (option_map sides_of pair)
 
 -- what is read of a line and those after it
@@ -102,6 +102,11 @@ pub judged_fault : (known : Line → Bool) (lines : List ListedLine) (fault : Ig
 judged_fault known [] fault is = refl
 judged_fault known (x ∷ lines) fault is =
     fault_step (known x.line) x.at x.line (unknown_in known lines) (judged known lines (ended (Some fault))) fault (judged_fault known lines fault) is
+
+-- where each name is taken as known
+pub none_unknown : (lines : List ListedLine) → unknown_in (λ line. true) lines ≡ None
+none_unknown [] = refl
+none_unknown (x ∷ lines) = none_unknown lines
 
 -- ---- the pieces
 

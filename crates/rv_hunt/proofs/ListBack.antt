@@ -125,6 +125,7 @@ word_of_if given word is = at (is_word given) refl is where
   at false good h = absurd (cc)
 
 good_spelled : (name : List ℕ) → is_word (spelled name) ≡ true → IsGood (spelled name)
+unfolding spelled
 good_spelled name good =
     let both = and_both (has_bytes (spelled name)) (is_short (spelled name)) good in
     record {
@@ -149,6 +150,7 @@ named image address word is = at (symbol_of image address) refl is where
       record { symbol = symbol; told = same; spelled_is = parts.0; good = parts.1 }
 
 good_name : (image : Contents) (address : ℕ) (word : List ℕ) → name_at image address ≡ Some word → IsGood word × (side_of word ≡ Name word)
+unfolding spelled
 good_name image address word is =
     let found = named image address word is in
     rw (← found.spelled_is) (good_spelled found.symbol.name found.good, side_is (spelled found.symbol.name) (name_says (escaped found.symbol.name)))
@@ -310,8 +312,8 @@ module _ (decimals : DecimalIsReadBack) (decimal_lacks : DecimalLacksSeparators)
   line_lacks image race is byte low =
       let first = (good_side image race.0.first is.first).0 in
       let second = (good_other image race.0.second is.second).0 in
-      let data = on_lacks byte (option_and_then (name_at image) race.1.address) low (good_words (option_and_then (name_at image) race.1.address) (good_data image race.1.address)) in
-      let tail = lacks_append byte (on_text image race.1.address) (comment_text race.1) data (comment_lacks byte race.1 low is.count) in
+      let placed = on_lacks byte (option_and_then (name_at image) race.1.address) low (good_words (option_and_then (name_at image) race.1.address) (good_data image race.1.address)) in
+      let tail = lacks_append byte (on_text image race.1.address) (comment_text race.1) placed (comment_lacks byte race.1 low is.count) in
       let later = lacks_append byte (other_text image race.0.second) _ (second.lacks byte (omega (arith, low))) tail in
       lacks_append byte (side_text image race.0.first) _ (first.lacks byte (omega (arith, low))) (lacks_append byte (codes " ") _ (above byte (codes " ") low refl) later)
     where

@@ -1,5 +1,5 @@
 -- The lines of an ignore list by the numbers of their words.
-use Rattle.std.proofs.Common.{◌≡◌, ℕ, ◌+◌, ◌<◌, Bool, true, false, List, [], ◌∷◌, ◌++◌, Option, Some, None, get_or, length, take, refl, sym, ap, subst, ◌∙◌}
+use Rattle.std.proofs.Common.{◌≡◌, ℕ, ◌+◌, ◌<◌, Bool, true, false, List, [], ◌∷◌, ◌++◌, Option, Some, None, Result, Ok, Err, IfOk, get_or, length, take, refl, sym, ap, subst, ◌∙◌}
 use Rattle.std.specs.List.{AllByRecursion, AllZip, list_any}
 use Rattle.std.specs.Option.{option_map, option_map_or}
 use Rattle.std.specs.Prelude.{All, if◌then◌else◌, is_some, not, ◌==◌, ◌||◌}
@@ -7,6 +7,7 @@ use Rattle.std.proofs.lemmas.List.{take_more}
 use Rattle.std.proofs.lemmas.List.Elements.{All-from_recursion}
 use Rattle.rv_elf.specs.Contents.{Contents}
 use Rattle.rv_report.specs.declared.key.Key.{Key}
+use Rattle.rv_hunt.specs.declared.merge.ignore.Line.{Line}
 use Rattle.rv_hunt.specs.declared.merge.ignore.ListedLine.{ListedLine}
 use Rattle.rv_hunt.specs.declared.merge.ignore.Names.{Names}
 use Rattle.rv_hunt.specs.declared.merge.ignore.Side.{Side}
@@ -126,8 +127,8 @@ line_fits_by names image key on places are listed line sought =
     let one_second = fits_by names image key.second places.second are.second_is listed.line.one line.one sought.1 in
     let other_first = fits_by names image (Some key.first) places.first are.first_is listed.line.other line.other sought.2 in
     let other_second = fits_by names image key.second places.second are.second_is listed.line.other line.other sought.2 in
-    let data = fits_by names image on places.on are.on_is listed.line.on line.on sought.3 in
-    rw (one_first, one_second, other_first, other_second, data) refl
+    let placed = fits_by names image on places.on are.on_is listed.line.on line.on sought.3 in
+    rw (one_first, one_second, other_first, other_second, placed) refl
 
 pub any_is : (names : Names) (image : Contents) (key : Key) (on : Option ℕ) (places : RacePlaces) → ArePlaces names image key on places → (listed : List ListedLine) (lines : List SoughtLine) → AllZip (IsSought names.words) listed lines
     → list_any (line_fits places) lines ≡ spec.any_fits image (lines_in listed) key on
@@ -146,3 +147,8 @@ unknown_told image (x ∷ listed) = at (spec.are_known image x.line) (unknown_to
       → is_some (if b then unknown_in (spec.are_known image) listed else Some x.at) ≡ (not b || spec.has_unknown image (lines_in listed))
   at true next = next
   at false next = refl
+
+pub unknown_ok : {E : Type 0} (r : Result (Option ℕ) E) (image : Contents) (listed : List ListedLine) (lines : List Line) → lines ≡ lines_in listed → IfOk r (λ line. line ≡ unknown_in (spec.are_known image) listed)
+    → IfOk r (λ line. is_some line ≡ spec.has_unknown image lines)
+unknown_ok (Err fault) image listed lines same is = tt
+unknown_ok (Ok line) image listed lines same is = ap is_some is ∙ unknown_told image listed ∙ ap (spec.has_unknown image) (sym same)

@@ -132,6 +132,7 @@ named_length word = at (says_other word) where
   at false = omega arith
 
 spelled_length : (name : List ℕ) → length name ≤ length (spelled name)
+unfolding spelled
 spelled_length name =
     let shown = shown_length name in
     let named = named_length (escaped name) in

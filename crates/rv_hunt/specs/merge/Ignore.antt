@@ -42,7 +42,7 @@ abbrev pub as_name : List ℕ → List ℕ
 as_name word = if says_other word then first_escaped word else word
 
 -- A name as a list has it: as `explain` shows it, but that the first byte of one that would say something else is `\xNN`.
-abbrev pub spelled : List ℕ → List ℕ
+unfoldable pub spelled : List ℕ → List ℕ
 spelled name = as_name (escaped name)
 
 -- the word is the symbol's name
@@ -105,8 +105,8 @@ words_in [] = Ok None
 words_in (word ∷ []) = Err Shape
 words_in (one ∷ other ∷ []) = let said : Said = record { one = one; other = other; on = codes "*" } in said_if (are_short said) said
 words_in (one ∷ other ∷ word ∷ []) = Err Shape
-words_in (one ∷ other ∷ word ∷ data ∷ []) = let said : Said = record { one = one; other = other; on = data } in said_if (bytes_eq word (codes "on") && are_short said) said
-words_in (one ∷ other ∷ word ∷ data ∷ next ∷ words) = Err Shape
+words_in (one ∷ other ∷ word ∷ place ∷ []) = let said : Said = record { one = one; other = other; on = place } in said_if (bytes_eq word (codes "on") && are_short said) said
+words_in (one ∷ other ∷ word ∷ place ∷ next ∷ words) = Err Shape
 
 abbrev pub sides_of : Said → Line
 sides_of said = record { one = side_of said.one; other = side_of said.other; on = side_of said.on }

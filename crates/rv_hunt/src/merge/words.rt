@@ -148,6 +148,7 @@ fn first_escaped(alloc: Global, word: &[u8]) -> Result<Vec<u8>, NoMemory>
 }
 
 /// Writes a name, as a list has it, over a text.
+#[tactic(auto, unfolding(crate::specs::merge::Ignore::spelled))]
 pub(crate) fn write_spelled(
     alloc: Global,
     text: &mut Vec<u8>,
