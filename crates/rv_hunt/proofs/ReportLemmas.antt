@@ -81,4 +81,4 @@ pub report_is_ending : (run : Run) (ranges : List (ℕ × ℕ)) (r : Report) →
 unfolding reports reports_of
 report_is_ending run ranges r (k, below, same) =
     of_run run r (subst (IsEnding (judged_endings run)) same (All-get_or (IsEnding (judged_endings run)) (reports_of run.image ranges (judged_endings run) (length (judged_endings run))) k r below
-        (all_reports run.image ranges (judged_endings run) (range_with_len 0 (length (judged_endings run))))))
+    (all_reports run.image ranges (judged_endings run) (range_with_len 0 (length (judged_endings run))))))

@@ -104,10 +104,10 @@ impl Gathered {
         alloc: Global,
         hunt: &Hunt<'_>,
         part: &Part,
-        judged: &[Judged],
+        endings: &[Judged],
     ) -> Result<(), NoMemory>
         ensures { OnOk result ((gone : spec.Gone) (pairs : List Pair) (parts : List Made) →
-            judged.now ≡ map (judged (spec.run_of_part hunt.now gone part.now)) part.now.probed.finished.endings.items
+            endings.now ≡ map (judged (spec.run_of_part hunt.now gone part.now)) part.now.probed.finished.endings.items
             → internal.IsGathered hunt.now gone pairs parts self.old
             → internal.IsGathered hunt.now gone pairs (parts ++ part.now ∷ []) self.new) }
     {
@@ -116,7 +116,7 @@ impl Gathered {
             return Err(NoMemory);
         };
         let finished = &part.probed.finished;
-        let reports = reports_in_part(alloc, hunt, number, part.place, judged)?;
+        let reports = reports_in_part(alloc, hunt, number, part.place, endings)?;
         append_reports(&mut self.reports, reports)?;
         self.near.push(probed_pair(part))?;
         self.parts = number;

@@ -249,7 +249,7 @@ fn judged_part(
     walk: &RunWalk,
     part: &Part,
 ) -> Result<Vec<Judged>, NoMemory>
-    ensures { IfOk result (λ judged. judged.items ≡ map (judged (spec.run_of_part hunt.now (record {
+    ensures { IfOk result (λ found. found.items ≡ map (judged (spec.run_of_part hunt.now (record {
       start = first_state hunt.now.source.image.segments hunt.now.source.image.entry plan.now.harts;
       harts = walk.now.left.harts.items;
     }) part.now)) part.now.probed.finished.endings.items) }
