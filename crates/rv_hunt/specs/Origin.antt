@@ -37,14 +37,14 @@ stretch_text stretch = codes " first " ++ decimal stretch.first ++ codes " runs 
 abbrev pub heading_text : List ℕ → List ℕ → ℕ → List ℕ
 heading_text image version seed = codes "of " ++ image ++ codes " by " ++ version ++ codes " seed " ++ decimal seed
 
--- that, `first R runs N` of each stretch, and what was given
+-- that, `first R runs N` of each stretch, what was given, and an LF
 unfoldable pub origin_line : Origin → List ℕ
-origin_line origin = heading_text origin.image origin.version origin.seed ++ flat_map stretch_text origin.stretches ++ origin.given
+origin_line origin = heading_text origin.image origin.version origin.seed ++ (flat_map stretch_text origin.stretches ++ (origin.given ++ 10 ∷ []))
 
--- the line, where there is one, with its LF
+-- the line, where there is one
 abbrev pub last_line : Option Origin → List ℕ
 last_line None = []
-last_line (Some origin) = origin_line origin ++ 10 ∷ []
+last_line (Some origin) = origin_line origin
 
 -- ---- what is read of it
 

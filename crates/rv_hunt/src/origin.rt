@@ -1,5 +1,5 @@
 //! What a hunt table is of: the image, the program, the runs, and what was given of them.
-ghost use Rattle.std.specs.Prelude.{◌≡◌, ◌+◌, [], ◌||◌, is_err, Some, IfOk, OnOk};
+ghost use Rattle.std.specs.Prelude.{◌≡◌, ◌+◌, ◌++◌, ◌∷◌, [], ◌||◌, is_err, Some, IfOk, OnOk};
 ghost use Rattle.std.specs.List.{flat_map};
 ghost use Rattle.std.specs.Io.KnownBytes.{Appends};
 ghost use Rattle.rv_hunt.specs.Origin as spec;
@@ -109,6 +109,13 @@ fn write_heading<O: Output>(writer: &mut O, heading: &Heading<'_>) -> Result<(),
     )
 }
 
+fn write_given<O: Output>(writer: &mut O, given: &[u8]) -> Result<(), WriteFault>
+    ensures ok { OnOk result (Appends (O.written writer.old) (O.written writer.new) (given.now ++ 10 ∷ [])) }
+    ensures failed { O.has_failed writer.new ≡ (O.has_failed writer.old || is_err result) }
+{
+    put_pieces(writer, &[given, b"\n"])
+}
+
 /// Writes the line of what a table is of.
 #[tactic(auto, unfolding(crate::specs::Origin::origin_line))]
 pub fn write_line<O: Output>(
@@ -128,7 +135,7 @@ pub fn write_line<O: Output>(
 {
     write_heading(writer, heading)?;
     write_stretches(writer, stretches)?;
-    put_pieces(writer, &[heading.given, b"\n"])
+    write_given(writer, heading.given)
 }
 
 /// Where the stretches end: the number behind their last run.
