@@ -7,6 +7,7 @@ pub mod HuntLemmas
 pub mod IgnoreLemmas
 pub mod IgnoredRowLemmas
 pub mod ListBack
+pub mod ListingLemmas
 pub mod MadeLemmas
 pub mod MergeLemmas
 pub mod MergedFileLemmas

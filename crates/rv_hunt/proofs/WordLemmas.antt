@@ -131,7 +131,7 @@ named_length word = at (says_other word) where
   at true = escaped_first word
   at false = omega arith
 
-spelled_length : (name : List ℕ) → length name ≤ length (spelled name)
+pub spelled_length : (name : List ℕ) → length name ≤ length (spelled name)
 unfolding spelled
 spelled_length name =
     let shown = shown_length name in

@@ -1,7 +1,7 @@
 //! The races that are expected: those of a table, or those that a line of a list fits.
-ghost use Rattle.std.specs.Prelude.{◌≡◌, ◌≤◌, ◌&&◌, ◌||◌, ◌∷◌, ◌++◌, [], false, not, if◌then◌else◌, Ok, IfOk, IfErr, IfSome, OnOk, filter, is_some, length};
+ghost use Rattle.std.specs.Prelude.{◌≡◌, ◌≤◌, ◌||◌, ◌∷◌, ◌++◌, [], false, if◌then◌else◌, Ok, IfOk, IfErr, IfSome, OnOk, filter, is_some, length};
 ghost use Rattle.rv_memory.specs.Flagged as flag;
-ghost use Rattle.rv_hunt.specs.Expected.{may_be_bug};
+ghost use Rattle.rv_hunt.specs.internal.Sought.{AreTheNames};
 ghost use Rattle.rv_hunt.specs.declared.merge.known.Known.TheVariants as known;
 ghost use Rattle.rv_hunt.specs.merge.FileFault.{IsTold, fails_by, is_read, is_write};
 ghost use Rattle.rv_hunt.specs.merge.Known as spec;
@@ -9,7 +9,7 @@ ghost use Rattle.rv_hunt.specs.merge.Known as spec;
 use crate::expected::{may_be_bug, new_in};
 use crate::line::is_first;
 use crate::merge::fault::FileFault;
-use crate::merge::ignore::{Ignores, lines_of};
+use crate::merge::ignore::{Ignores, Names, lines_of};
 use crate::reading::read_either;
 use crate::row::RaceRow;
 use crate::table::HuntTable;
@@ -102,14 +102,29 @@ pub fn read_known<R: Read>(alloc: Global, reader: &mut Flagged<R>) -> Result<Kno
 fn add_if(
     found: &mut Vec<(Key, RaceRow)>,
     race: (Key, RaceRow),
-    is_expected: bool,
+    is_new: bool,
 ) -> Result<(), NoMemory>
-    ensures { OnOk result (found.new.items ≡ found.old.items ++ (if may_be_bug race.1.class && not is_expected then race ∷ [] else [])) }
+    ensures { OnOk result (found.new.items ≡ found.old.items ++ (if is_new then race ∷ [] else [])) }
 {
-    if may_be_bug(race.1.class) && !is_expected {
+    if is_new {
         found.push(race)?;
     }
     Ok(())
+}
+
+/// Whether a race may be a bug and no line fits it.
+fn is_new(
+    alloc: Global,
+    symbols: &SymbolTable,
+    lines: &Ignores,
+    names: &Names,
+    race: &(Key, RaceRow),
+) -> Result<bool, NoMemory>
+    requires { AreTheNames names.now symbols.now lines.now }
+    ensures { IfOk result (λ is_new. is_new ≡ spec.is_new symbols.now (known.Lines lines.now) race.now) }
+{
+    let is_expected = lines.fits(alloc, symbols, names, &race.0, race.1.address)?;
+    Ok(may_be_bug(race.1.class) && !is_expected)
 }
 
 /// The races that may be bugs and that no line fits.
@@ -124,8 +139,8 @@ fn new_by(
     let mut found = Vec::new(alloc);
     let names = lines.names(alloc, symbols.image())?;
     for race in races {
-        let is_expected = lines.fits(alloc, symbols, &names, &race.0, race.1.address)?;
-        add_if(&mut found, *race, is_expected)?;
+        let is_new = is_new(alloc, symbols, lines, &names, race)?;
+        add_if(&mut found, *race, is_new)?;
     }
     Ok(found)
 }
