@@ -31,5 +31,6 @@ pub mod SoughtLemmas
 pub mod SummaryLemmas
 pub mod WordLemmas
 pub mod WalkLemmas
+pub mod WholeLemmas
 pub mod Written
 pub mod ReadBack
