@@ -218,10 +218,7 @@ fn folder_if<'a>(rt: &'a HostRuntime, path: Option<FolderPath<'a>>) -> Option<Sc
 }
 
 /// The file that is made at a path, where one is given.
-fn made_if<'a>(
-    rt: &'a HostRuntime,
-    path: Option<&'a str>,
-) -> Option<OutputFile<'a, HostRuntime>> {
+fn made_if<'a>(rt: &'a HostRuntime, path: Option<&'a str>) -> Option<OutputFile<'a, HostRuntime>> {
     let path = path?;
     Some(OutputFile::new(rt, path))
 }

@@ -1,5 +1,7 @@
 use crate::command::asserting::{assert_asks, assert_refused};
-use rv_command::arguments::{Aim, FolderPath, IgnorePath, ImagePath, ListPath, PagePath, TablePath};
+use rv_command::arguments::{
+    Aim, FolderPath, IgnorePath, ImagePath, ListPath, PagePath, TablePath,
+};
 use rv_command::command::Job;
 use rv_command::command::hunt::HuntLine;
 use rv_tally::limit::Limit;

@@ -82,7 +82,11 @@ const FITS_ON: &[(&str, Option<u32>, bool)] = &[
     ("main inner on 00020008\n", Some(0x2000c), false),
     ("main inner #on rings\n", Some(0x20200), true),
     ("main twin on rings\n", Some(0x20008), false),
-    ("main inner on head\nmain inner on rings\n", Some(0x20008), true),
+    (
+        "main inner on head\nmain inner on rings\n",
+        Some(0x20008),
+        true,
+    ),
     ("main inner\n", Some(0x20200), true),
 ];
 
@@ -102,13 +106,7 @@ const REFUSED: &[(&str, &str)] = &[
     ("#main *\nput#2 *\n", "ignore line 2 Unknown"),
 ];
 
-fn assert_fits(
-    rt: &impl Abort,
-    alloc: Global,
-    symbols: &SymbolTable,
-    row: &Fits,
-    on: Option<u32>,
-) {
+fn assert_fits(rt: &impl Abort, alloc: Global, symbols: &SymbolTable, row: &Fits, on: Option<u32>) {
     let (list, first, second, wanted) = *row;
     let ignores = read_ignores(alloc, symbols.image(), &mut Flagged::new(list.as_bytes()))
         .ok()
