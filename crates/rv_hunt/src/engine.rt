@@ -136,9 +136,7 @@ fn make<'a, T: Threads + Wait + Sync, R: Read, D: Folder, F: NewFile, P: Watch>(
         Err(fault) => return Err(fault),
     };
     let (opened, lists) = &read;
-    let made = make_hunt(
-        rt, alloc, options, opened, lists, folder, page, list, watch,
-    );
+    let made = make_hunt(rt, alloc, options, opened, lists, folder, page, list, watch);
     // Let go here, once for both outcomes.
     drop(read);
     match made {

@@ -110,7 +110,15 @@ pub(crate) fn hunt_text(
     let mut text = Vec::new(alloc);
     text.extend_from_slice(summary_line(alloc, outcome)?.as_bytes())?;
     let table = &outcome.saw.orders;
-    push_index(alloc, &mut text, symbols, table, shown.len(), told, outcome.new)?;
+    push_index(
+        alloc,
+        &mut text,
+        symbols,
+        table,
+        shown.len(),
+        told,
+        outcome.new,
+    )?;
     for (n, (((key, row), race), order)) in told.iter().zip(shown).zip(orders).enumerate() {
         let number = n as u64 + 1;
         text.push(b'\n')?;

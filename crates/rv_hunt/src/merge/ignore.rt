@@ -345,7 +345,11 @@ fn said_if(is_line: bool, said: SaidWords<'_>) -> Result<Option<SaidWords<'_>>, 
 }
 
 /// The words of the data behind those of two sides, or the one that means any.
-fn data_words<'a>(words: &mut Pieces<'a>, one: &'a [u8], other: &'a [u8]) -> Result<Option<SaidWords<'a>>, IgnoreKind>
+fn data_words<'a>(
+    words: &mut Pieces<'a>,
+    one: &'a [u8],
+    other: &'a [u8],
+) -> Result<Option<SaidWords<'a>>, IgnoreKind>
     ensures ok { IfOk result (λ found. spec.words_in (one.entry.now ∷ other.entry.now ∷ spec.said_words words.old) ≡ Ok (option_map shape.said_by found)) }
     ensures err { IfErr result (λ kind. spec.words_in (one.entry.now ∷ other.entry.now ∷ spec.said_words words.old) ≡ Err kind) }
 {

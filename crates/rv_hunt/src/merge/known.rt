@@ -162,11 +162,7 @@ pub fn new_races(
 }
 
 /// The number of the first line with a name that no symbol of the image has, where a list says what is expected.
-pub fn gone(
-    alloc: Global,
-    image: &Image,
-    known: &Option<Known>,
-) -> Result<Option<u64>, NoMemory>
+pub fn gone(alloc: Global, image: &Image, known: &Option<Known>) -> Result<Option<u64>, NoMemory>
     ensures { IfOk result (λ line. is_some line ≡ spec.has_gone image.now known.now) }
 {
     match known {

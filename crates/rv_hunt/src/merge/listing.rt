@@ -23,11 +23,7 @@ fn is_word(word: &[u8]) -> bool
 
 /// The name by which an address is told, where a line can have it. One that is too long is not written: there are names of
 /// megabytes.
-fn name_at(
-    alloc: Global,
-    symbols: &SymbolTable,
-    address: u32,
-) -> Result<Option<Vec<u8>>, NoMemory>
+fn name_at(alloc: Global, symbols: &SymbolTable, address: u32) -> Result<Option<Vec<u8>>, NoMemory>
     ensures { IfOk result (λ name. option_map (λ word. word.items) name ≡ spec.name_at symbols.now address) }
 {
     let Some(symbol) = symbols.symbol_of(address) else {

@@ -149,11 +149,7 @@ fn first_escaped(alloc: Global, word: &[u8]) -> Result<Vec<u8>, NoMemory>
 
 /// Writes a name, as a list has it, over a text.
 #[tactic(auto, unfolding(crate::specs::merge::Ignore::spelled))]
-pub(crate) fn write_spelled(
-    alloc: Global,
-    text: &mut Vec<u8>,
-    name: &[u8],
-) -> Result<(), NoMemory>
+pub(crate) fn write_spelled(alloc: Global, text: &mut Vec<u8>, name: &[u8]) -> Result<(), NoMemory>
     ensures { OnOk result (text.new.items ≡ spelled name.now) }
 {
     write_shown(text, name)?;

@@ -202,7 +202,9 @@ fn race_shown(
     } else {
         open_title(page.begin_at(SECTION, &[], place)?.text(b"\n")?, number)?
     };
-    end_line(content_of(page, alloc, line, symbols, number, row, is_new, shown, order)?)
+    end_line(content_of(
+        page, alloc, line, symbols, number, row, is_new, shown, order,
+    )?)
 }
 
 /// The races that are shown in full, one by one: the first of those that are told.
