@@ -47,7 +47,6 @@ const FITS: &[Fits] = &[
     ("00010020 inner\n", 0x10024, Some(0x10034), false),
     ("inner   00010020 #", 0x10020, Some(0x10034), true),
     ("\\x23put put#1\n", 0x10400, Some(0x10404), true),
-    ("put#1 *#\n", 0x10404, None, false),
     ("\\x2a put#1\n", 0x10404, Some(0x10408), true),
     ("\\x2a put#1\n", 0x10404, Some(0x10400), false),
     ("\\x300010000 *\n", 0x10104, None, true),
@@ -104,6 +103,7 @@ const REFUSED: &[(&str, &str)] = &[
     ("main inner at rings\n", "ignore line 1 Shape"),
     ("main inner on nowhere\n", "ignore line 1 Unknown"),
     ("#main *\nput#2 *\n", "ignore line 2 Unknown"),
+    ("put#1 *#\n", "ignore line 1 Unknown"),
 ];
 
 fn assert_fits(rt: &impl Abort, alloc: Global, symbols: &SymbolTable, row: &Fits, on: Option<u32>) {
