@@ -1,6 +1,6 @@
 //! The words of the command `merge`. They are read without `clap`, since the job keeps its tables as they stand in the
 //! line.
-ghost use Rattle.std.specs.Prelude.{◌≡◌, ◌≤◌, length, option_map};
+ghost use Rattle.std.specs.Prelude.{◌≡◌, ◌<◌, ◌≤◌, true, length, option_map};
 ghost use Rattle.rv_command.specs.Command as spec;
 ghost use Rattle.rv_command.specs.MergeLine as line;
 
@@ -13,10 +13,26 @@ use crate::arguments::{TablePath, TablePaths};
 pub fn merge_of<'a>(words: &'a [&'a str]) -> Option<Job<'a>>
     ensures { option_map spec.asked result ≡ spec.merge_at (spec.texts words.entry.now) }
 {
-    match words {
-        [first, rest @ ..] if *first == "--gaps" => tables_of(rest, true),
-        [rest @ .., last] if *last == "--gaps" => tables_of(rest, true),
-        _ => tables_of(words, false),
+    if gaps_at(words, 0) {
+        let (_, rest) = words.split_at(1);
+        return tables_of(rest, true);
+    }
+    let last = words.len().saturating_sub(1);
+    if gaps_at(words, last) {
+        let (rest, _) = words.split_at(last);
+        return tables_of(rest, true);
+    }
+    tables_of(words, false)
+}
+
+/// Whether the word of that place is `--gaps`.
+fn gaps_at(words: &[&str], place: usize) -> bool
+    ensures gaps { result ≡ line.gaps_at place (spec.texts words.now) }
+    ensures within { result ≡ true → place < length words.now }
+{
+    match words.get(place) {
+        Some(word) => *word == "--gaps",
+        None => false,
     }
 }
 
