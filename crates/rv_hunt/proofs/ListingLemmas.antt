@@ -3,14 +3,12 @@ use Rattle.std.proofs.Common.{◌≡◌, ℕ, ◌+◌, ◌<◌, Bool, true, fals
 use Rattle.std.specs.Prelude.{if◌then◌else◌, nat_le, ◌&&◌}
 use Rattle.std.proofs.lemmas.Bool.Decides.{nat_tests}
 use Rattle.std.proofs.lemmas.List.{take_more}
-use Rattle.rv_elf.specs.Contents.{Contents, Named}
-use Rattle.rv_explain.specs.Symbols.{symbol_of}
 use Rattle.rv_text.specs.Lines.{text_of_lines}
 use Rattle.rv_hunt.proofs.WordLemmas.{spelled_length}
 use Rattle.rv_hunt.specs.declared.merge.ignore.TheConstants.{LONGEST_WORD}
 use Rattle.rv_hunt.specs.declared.row.RaceRow.{RaceRow}
 use Rattle.rv_hunt.specs.merge.Ignore.{has_bytes, is_short, spelled}
-use Rattle.rv_hunt.specs.merge.Listing.{name_at, word_if}
+use Rattle.rv_hunt.specs.merge.Listing.{word_if}
 use Rattle.rv_report.specs.declared.key.Key.{Key}
 
 abbrev Row : Type 0
@@ -31,8 +29,8 @@ and_false : (b : Bool) → (b && false) ≡ false
 and_false true = refl
 and_false false = refl
 
-pub too_long_at : (image : Contents) (address : ℕ) (symbol : Named) → symbol_of image address ≡ Some symbol → LONGEST_WORD < length symbol.name → name_at image address ≡ None
-too_long_at image address symbol told long =
-    let longer = spelled_length symbol.name in
-    let over : is_short (spelled symbol.name) ≡ false = grind (arith, nat_tests, longer, long) in
-    rw (told, over, and_false (has_bytes (spelled symbol.name))) refl
+pub too_long : (name : List ℕ) → LONGEST_WORD < length name → word_if (spelled name) ≡ None
+too_long name long =
+    let longer = spelled_length name in
+    let over : is_short (spelled name) ≡ false = grind (arith, nat_tests, longer, long) in
+    rw (over, and_false (has_bytes (spelled name))) refl

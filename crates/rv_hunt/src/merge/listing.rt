@@ -1,6 +1,7 @@
 //! Lists of a hunt's races are written.
 ghost use Rattle.std.specs.Prelude.{◌≡◌, ◌∷◌, ◌++◌, [], IfOk, OnOk, map, option_map};
 ghost use Rattle.rv_text.specs.Lines.{text_of_lines};
+ghost use Rattle.rv_hunt.specs.merge.Ignore.{spelled};
 ghost use Rattle.rv_hunt.specs.merge.Listing as spec;
 
 use crate::merge::ignore::LONGEST_WORD;
@@ -21,23 +22,30 @@ fn is_word(word: &[u8]) -> bool
     !word.is_empty() && word.len() <= LONGEST_WORD
 }
 
-/// The name by which an address is told, where a line can have it. One that is too long is not written: there are names of
-/// megabytes.
-fn name_at(alloc: Global, symbols: &SymbolTable, address: u32) -> Result<Option<Vec<u8>>, NoMemory>
-    ensures { IfOk result (λ name. option_map (λ word. word.items) name ≡ spec.name_at symbols.now address) }
+/// A name as a list has it, where a line can have it. One that is too long is not spelled: there are names of megabytes.
+#[tactic(auto, using(crate::proofs::ListingLemmas::too_long))]
+fn word_of(alloc: Global, name: &[u8]) -> Result<Option<Vec<u8>>, NoMemory>
+    ensures { IfOk result (λ found. option_map (λ word. word.items) found ≡ spec.word_if (spelled name.now)) }
 {
-    let Some(symbol) = symbols.symbol_of(address) else {
-        return Ok(None);
-    };
-    if symbol.name.len() > LONGEST_WORD {
+    if name.len() > LONGEST_WORD {
         return Ok(None);
     }
     let mut word = Vec::new(alloc);
-    write_spelled(alloc, &mut word, symbol.name.as_bytes())?;
+    write_spelled(alloc, &mut word, name)?;
     if is_word(&word) {
         Ok(Some(word))
     } else {
         Ok(None)
+    }
+}
+
+/// The name by which an address is told, where a line can have it.
+fn name_at(alloc: Global, symbols: &SymbolTable, address: u32) -> Result<Option<Vec<u8>>, NoMemory>
+    ensures { IfOk result (λ name. option_map (λ word. word.items) name ≡ spec.name_at symbols.now address) }
+{
+    match symbols.symbol_of(address) {
+        None => Ok(None),
+        Some(symbol) => word_of(alloc, symbol.name.as_bytes()),
     }
 }
 
