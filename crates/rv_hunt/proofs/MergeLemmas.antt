@@ -220,8 +220,7 @@ added_next g table rows xs x before =
 -- ---- what tables are of
 
 nat_same : (n : ℕ) → nat_eq n n ≡ true
-nat_same zero = refl
-nat_same (suc n) = nat_same n
+nat_same n = grind (arith, nat_tests)
 
 pub origins_joined : OriginsAreJoined
 unfolding joined_stretches with_stretch

@@ -81,5 +81,5 @@ each_is_shown_once image lines orders rows told weight order =
     let moved = sum_by-IsPermutation (at weight kept) (standings groups) order.stand order.all in
     let all = stood image orders weight kept groups 0 kept (λ n row there. ap (λ m. slice_get kept m) (omega arith) ∙ there) in
     let named = sum_by-filter_both is_shown (is_of Named) (λ row. by_class row.1.class) weight kept in
-    let ignored = sum_by-filter_both (is_told image lines) (is_ignored image lines) (λ row. twice (is_ignored image lines row.0)) weight rows in
+    let ignored = sum_by-filter_both (is_told image lines) (is_ignored image lines) (λ row. twice (is_ignored image lines row)) weight rows in
     omega (arith, shown, moved, all, named, ignored)

@@ -53,7 +53,7 @@ read_rows text = if is_some (origin_at text) then (read_hunt text >>= λ table. 
 
 -- ---- what only private contracts cite
 
--- a word onto others, where there is one
+-- a word and those behind it; none where there is no word
 abbrev pub onto : Option (List ℕ) → List (List ℕ) → List (List ℕ)
-onto None words = words
+onto None words = []
 onto (Some word) words = word ∷ words

@@ -55,6 +55,7 @@ pub struct Heading<'a> {
 }
 
 /// The first 16 digits of the SHA-256 digest of an image's file.
+#[tactic(auto, unfolding(crate::specs::Origin::image_digits))]
 pub fn image_digits(alloc: Global, bytes: &[u8]) -> Result<Vec<u8>, NoMemory>
     ensures { IfOk result (λ digits. digits.items ≡ spec.image_digits bytes.now) }
 {
