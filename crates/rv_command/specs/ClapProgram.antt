@@ -55,7 +55,7 @@ abbrev pub hunt_options : List Rule
 hunt_options = option (codes "harts") ∷ option (codes "seed") ∷ option (codes "first") ∷ option (codes "runs") ∷ option (codes "budget")
     ∷ option (codes "workers") ∷ option (codes "plan") ∷ option (codes "slots") ∷ flag (codes "sampled") ∷ option (codes "aim") ∷ flag (codes "no-orders") ∷ option (codes "named") ∷ option (codes "skip")
     ∷ option (codes "idle") ∷ option (codes "ignore") ∷ option (codes "save-to") ∷ option (codes "page") ∷ option (codes "blocks")
-    ∷ flag (codes "table") ∷ flag (codes "check") ∷ flag (codes "check-all") ∷ flag (codes "check-ends") ∷ option (codes "right") ∷ option (codes "expect") ∷ flag (codes "quiet") ∷ []
+    ∷ flag (codes "table") ∷ option (codes "table-to") ∷ flag (codes "check") ∷ flag (codes "check-all") ∷ flag (codes "check-ends") ∷ option (codes "right") ∷ option (codes "expect") ∷ flag (codes "quiet") ∷ []
 
 -- a command's name, and what it takes
 abbrev pub command : Text → List Rule → Shape

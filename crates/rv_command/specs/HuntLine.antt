@@ -37,6 +37,7 @@ pub record Hunting : Type 0 where
   pub page : Option Text
   pub blocks : ℕ
   pub shows_table : Bool
+  pub table_to : Option Text
   pub checks : Bool
   pub checks_all : Bool
   pub check_ends : Bool
@@ -69,6 +70,7 @@ hunting line = record {
   page = option_map (λ path. path.0.now) line.page;
   blocks = line.blocks;
   shows_table = line.shows_table;
+  table_to = option_map (λ path. path.0.now) line.table_to;
   checks = line.checks;
   checks_all = line.checks_all;
   check_ends = line.check_ends;
@@ -164,6 +166,7 @@ hunting_at rows =
       page = first_of (codes "page") rows;
       blocks = blocks;
       shows_table = flag_at (codes "table") rows;
+      table_to = first_of (codes "table-to") rows;
       checks = flag_at (codes "check") rows;
       checks_all = flag_at (codes "check-all") rows;
       check_ends = flag_at (codes "check-ends") rows;

@@ -17,11 +17,11 @@ use crate::engine::fault::HuntFault;
 use crate::engine::folder::Folder;
 use crate::engine::found::Found;
 use crate::engine::inputs::Inputs;
+use crate::engine::keeping::Keeper;
 use crate::engine::lists::{Lists, read_aim, read_ignored, read_known};
 use crate::engine::making::{Made, make_hunt};
 use crate::engine::opening::{Opened, open};
 use crate::engine::options::HuntOptions;
-use crate::hunt::Watch;
 use rv_engines::new_file::NewFile;
 use rv_memory::buffered::Buffered;
 use rv_memory::flagged::WriteFault;
@@ -36,6 +36,7 @@ pub mod fault;
 pub mod folder;
 pub mod found;
 pub mod inputs;
+pub mod keeping;
 mod lists;
 mod making;
 mod onward;
@@ -102,14 +103,14 @@ fn read<'a, R: Read>(
 
 /// Reads the image and the lists, looks at the folder, and makes the runs of a hunt, the schedules of the races that are told,
 /// the page, and the texts of what the runs saw.
-fn make<'a, T: Threads + Wait + Sync, R: Read, D: Folder, F: NewFile, P: Watch>(
+fn make<'a, T: Threads + Wait + Sync, R: Read, D: Folder, F: NewFile, K: Keeper>(
     rt: &T,
     alloc: Global,
     options: &HuntOptions<'a, '_>,
     inputs: &mut Inputs<R>,
     folder: &mut Option<D>,
     page: &mut Option<F>,
-    watch: &mut P,
+    keeper: &mut K,
 ) -> Result<Made, HuntFault<'a>>
     requires { AreLegal options.now }
     ensures made { IfOk result (λ made. IfSome (spec.files_of R.remaining inputs.old) (λ files.
@@ -132,7 +133,7 @@ fn make<'a, T: Threads + Wait + Sync, R: Read, D: Folder, F: NewFile, P: Watch>(
         Err(fault) => return Err(fault),
     };
     let (opened, lists) = &read;
-    let made = make_hunt(rt, alloc, options, opened, lists, folder, page, watch);
+    let made = make_hunt(rt, alloc, options, opened, lists, folder, page, keeper);
     // Let go here, once for both outcomes.
     drop(read);
     match made {
@@ -153,7 +154,7 @@ pub fn run_hunt<
     F: NewFile,
     W: Write,
     E: Write,
-    P: Watch,
+    K: Keeper,
 >(
     rt: &T,
     alloc: Global,
@@ -163,7 +164,7 @@ pub fn run_hunt<
     page: &mut Option<F>,
     writer: &mut Buffered<W>,
     notes: &mut Buffered<E>,
-    watch: &mut P,
+    keeper: &mut K,
 ) -> Result<Found, HuntFault<'a>>
     requires { AreLegal options.now }
     ensures told { IfOk result (λ found. IfSome (spec.files_of R.remaining inputs.old) (λ files.
@@ -196,7 +197,7 @@ pub fn run_hunt<
         → (buffer.has_failed notes.new || buffer.has_failed writer.new) ≡ true
         → fails_by is_write result ≡ true }
 {
-    let made = match make(rt, alloc, options, inputs, folder, page, watch) {
+    let made = match make(rt, alloc, options, inputs, folder, page, keeper) {
         Ok(made) => made,
         Err(fault) => return Err(fault),
     };

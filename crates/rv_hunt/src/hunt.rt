@@ -70,11 +70,8 @@ impl<'a> Model for Hunt<'a> {
 
 /// Is told how far a hunt has come.
 pub trait Watch {
-    /// One more run has been added up.
-    fn saw(&mut self, hunted: &Hunted);
-
-    /// Of so many races that are shown in full some have been.
-    fn shows(&mut self, shown: usize, all: usize);
+    /// One more run has been added up: this is what all so far saw, and what is noted of them.
+    fn saw(&mut self, alloc: Global, hunted: &Hunted, noted: &Noted) -> Result<(), NoMemory>;
 }
 
 /// So many runs of a hunt from a number on, as jobs. The words of code that were executed in earlier ones are counted.
@@ -242,7 +239,7 @@ impl Hunt<'_> {
                 return Ok(());
             }
             self.add(alloc, hunted, noted, next + place as u32, &lot[place])?;
-            watch.saw(hunted);
+            watch.saw(alloc, hunted, noted)?;
         }
         Ok(())
     }

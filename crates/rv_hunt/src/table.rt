@@ -1,5 +1,5 @@
 //! The hunt table.
-ghost use Rattle.std.specs.Prelude.{◌≡◌, ◌<◌, ◌^◌, ◌∷◌, [], ◌||◌, length, is_err, IfOk, OnOk, OnErr};
+ghost use Rattle.std.specs.Prelude.{◌≡◌, ◌<◌, ◌^◌, ◌∷◌, [], ◌||◌, length, take, is_err, IfOk, OnOk, OnErr};
 ghost use Rattle.std.specs.Io.KnownBytes.{Appends};
 ghost use Rattle.rv_hunt.specs.HuntText as text;
 ghost use Rattle.rv_hunt.specs.Rows as spec;
@@ -102,6 +102,14 @@ impl HuntTable {
         ensures { IfOk result (λ rows. rows.items ≡ self.now) }
     {
         let rows = self.rows.iter().map(|(key, row)| (*key, *row));
+        Ok(rows.collect(alloc)?)
+    }
+
+    /// The first rows, at most so many.
+    pub fn first_rows(&self, alloc: Global, most: usize) -> Result<Vec<(Key, RaceRow)>, NoMemory>
+        ensures { IfOk result (λ rows. rows.items ≡ take most self.now) }
+    {
+        let rows = self.rows.iter().take(most).map(|(key, row)| (*key, *row));
         Ok(rows.collect(alloc)?)
     }
 

@@ -1,5 +1,5 @@
 -- The exit status of a failure, and what is printed of it.
-use Rattle.std.specs.Prelude.{ℕ, Bool, true, false, if◌then◌else◌, Option, Some, None, option_map, List, [], ◌++◌, codes}
+use Rattle.std.specs.Prelude.{ℕ, Bool, true, false, if◌then◌else◌, Option, Some, None, is_some, option_and_then, option_map, List, [], ◌++◌, codes}
 use Rattle.std.specs.declared.io.ErrorKind.{ErrorKind}
 use Rattle.std.specs.declared.io.ErrorKind.TheVariants as kind
 use Rattle.rv_engines.specs.CommandFault.{refusal_output, status}
@@ -64,16 +64,17 @@ abbrev pub schedule_file : Option Saved → List ℕ
 schedule_file None = []
 schedule_file (Some file) = codes "/" ++ (word_of file.kind ++ (codes "-" ++ (decimal file.number ++ (tail_of file.kind ++ codes ".schedule"))))
 
-abbrev pub place_output : FilePlace → List ℕ
-place_output place = shown place.path.now ++ schedule_file place.schedule
+-- of a schedule that is named by addresses it is tried, not proved
+abbrev pub place_output : FilePlace → Option (List ℕ)
+place_output place = if is_some place.kept then None else Some (shown place.path.now ++ schedule_file place.schedule)
 
-abbrev pub after_place : Option FilePlace → List ℕ → List ℕ
-after_place None said = said
-after_place (Some place) said = place_output place ++ (codes ": " ++ said)
+abbrev pub after_place : Option FilePlace → List ℕ → Option (List ℕ)
+after_place None said = Some said
+after_place (Some place) said = option_map (λ file. file ++ (codes ": " ++ said)) (place_output place)
 
 -- the same after the file, where one is at fault
 abbrev pub file_line_output : FileLine → Option (List ℕ)
-file_line_output line = option_map (after_place line.file) (file_said_output line.stands line.said line.fault)
+file_line_output line = option_and_then (after_place line.file) (file_said_output line.stands line.said line.fault)
 
 -- the exit status: that of a refused command line, those of what a hunt was to look for, and else the fault's
 abbrev pub status_of : Failure → ℕ

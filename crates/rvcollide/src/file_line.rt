@@ -2,7 +2,7 @@
 ghost use Rattle.std.specs.Prelude.{◌≡◌, Some};
 ghost use Rattle.rvcollide.specs.Failure as spec;
 
-use crate::folder::Saved;
+use crate::folder::{Addresses, Saved};
 use crate::system::SystemSaid;
 use rv_engines::fault::Fault;
 use rv_engines::shown::Shown;
@@ -14,12 +14,26 @@ use std::fmt;
 pub struct FilePlace<'a> {
     pub path: &'a str,
     pub schedule: Option<Saved>,
+    /// The schedule of a race by its addresses.
+    pub kept: Option<Addresses>,
+}
+
+/// The path of the schedule of a race by its addresses.
+fn kept_name<W: fmt::Write>(f: &mut fmt::Formatter<W>, path: &str, race: Addresses) -> fmt::Result {
+    let (folder, first) = (Shown(path), race.first);
+    match race.second {
+        Some(second) => write!(f, "{folder}/{first:08x}-{second:08x}.schedule"),
+        None => write!(f, "{folder}/{first:08x}.schedule"),
+    }
 }
 
 impl fmt::Display for FilePlace<'_> {
-    ghost output = { λ place. Some (spec.place_output place) };
+    ghost output = { spec.place_output };
 
     fn fmt<W: fmt::Write>(&self, f: &mut fmt::Formatter<W>) -> fmt::Result {
+        if let Some(race) = self.kept {
+            return kept_name(f, self.path, race);
+        }
         match self.schedule {
             Some(file) => write!(
                 f,

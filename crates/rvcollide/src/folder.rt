@@ -6,7 +6,10 @@ ghost use Rattle.rvcollide.specs.Failure.{tail_of, word_of};
 use crate::files::write_all;
 use crate::system::{SystemFault, SystemSaid};
 use rv_hunt::engine::folder::{Beside, Folder, FolderFault};
+use rv_report::key::Key;
 use rv_text::decimal::read_decimal;
+use rv_text::hexadecimal::read_word;
+use std::alloc::{AllocError, Global};
 use std::fs::{self, File};
 use std::io;
 
@@ -60,6 +63,46 @@ pub struct Saved {
     pub number: u64,
 }
 
+/// The addresses of a race's instructions, by which its schedule is named while the hunt goes on.
+#[derive(Clone, Copy, PartialEq, Eq, PartialOrd, Ord)]
+pub struct Addresses {
+    pub first: u32,
+    pub second: Option<u32>,
+}
+
+impl Addresses {
+    pub fn of(key: &Key) -> Addresses {
+        Addresses {
+            first: key.first,
+            second: key.second,
+        }
+    }
+}
+
+/// The path of the schedule of a race while the hunt goes on.
+pub fn kept_path(alloc: Global, folder: &str, race: Addresses) -> Result<String, AllocError> {
+    let first = race.first;
+    match race.second {
+        Some(second) => format!(in alloc; "{folder}/{first:08x}-{second:08x}.schedule"),
+        None => format!(in alloc; "{folder}/{first:08x}.schedule"),
+    }
+}
+
+/// The addresses that a file of that name is named by.
+fn addresses_in(name: &str) -> Option<Addresses> {
+    let name = name.strip_suffix(".schedule")?;
+    let Some((first, second)) = name.split_once('-') else {
+        let first = read_word(name.as_bytes())?;
+        return Some(Addresses {
+            first,
+            second: None,
+        });
+    };
+    let first = read_word(first.as_bytes())?;
+    let second = Some(read_word(second.as_bytes())?);
+    Some(Addresses { first, second })
+}
+
 /// The name of the file by which a folder is tried.
 const TRIED: &str = "race-1.schedule";
 
@@ -72,6 +115,7 @@ pub struct ScheduleFolder<'a> {
     failed: bool,
     at: Option<Saved>,
     stands: bool,
+    kept: Option<Addresses>,
     said: Option<SystemSaid>,
 }
 
@@ -109,6 +153,7 @@ impl<'a> ScheduleFolder<'a> {
             failed: false,
             at: None,
             stands: false,
+            kept: None,
             said: None,
         }
     }
@@ -132,6 +177,11 @@ impl<'a> ScheduleFolder<'a> {
         ensures { result ≡ self.now.stands }
     {
         self.stands
+    }
+
+    /// The schedule of a hunt that was killed, where one was there already.
+    pub fn kept(&self) -> Option<Addresses> {
+        self.kept
     }
 
     /// What the system said of the file or the folder.
@@ -188,7 +238,7 @@ fn schedule_in(name: &str) -> Option<Saved> {
 }
 
 /// The first of two schedules, where there are any.
-fn first_of(one: Option<Saved>, other: Option<Saved>) -> Option<Saved> {
+fn first_of<T: Ord + Copy>(one: Option<T>, other: Option<T>) -> Option<T> {
     match (one, other) {
         (Some(one), Some(other)) => Some(one.min(other)),
         (Some(one), None) => Some(one),
@@ -196,22 +246,35 @@ fn first_of(one: Option<Saved>, other: Option<Saved>) -> Option<Saved> {
     }
 }
 
-/// The first schedule of a hunt, by kind and number, that lies in the folder, if there is one.
-fn schedule_there(rt: &HostRuntime, path: &str) -> Result<Option<Saved>, Refusal> {
+/// The schedules of a hunt that lie in a folder: the first by kind and number, and the first by addresses.
+#[derive(Clone, Copy)]
+struct There {
+    saved: Option<Saved>,
+    kept: Option<Addresses>,
+}
+
+/// The first schedules of a hunt that lie in the folder, if there are any.
+fn schedules_there(rt: &HostRuntime, path: &str) -> Result<There, Refusal> {
     let entries = match fs::read_dir(rt, path) {
         Ok(entries) => entries,
         Err(error) => return Err(Refusal::of(&error)),
     };
-    let mut first = None;
+    let mut there = There {
+        saved: None,
+        kept: None,
+    };
     for entry in entries {
         match entry {
-            Ok(entry) => first = first_of(first, schedule_in(entry.file_name())),
+            Ok(entry) => {
+                there.saved = first_of(there.saved, schedule_in(entry.file_name()));
+                there.kept = first_of(there.kept, addresses_in(entry.file_name()));
+            }
             // A name that is no text is not that of a schedule.
             Err(error) if error.kind() == io::ErrorKind::InvalidFilename => {}
             Err(error) => return Err(Refusal::of(&error)),
         }
     }
-    Ok(first)
+    Ok(there)
 }
 
 /// Makes a file that is not there yet, with these bytes.
@@ -253,9 +316,9 @@ fn try_folder(rt: &HostRuntime, folder: &str) -> Result<(), Refusal> {
 }
 
 /// Looks whether the folder has no schedule of a hunt yet, and takes files.
-fn look_in(rt: &HostRuntime, folder: &str) -> Result<Option<Saved>, Refusal> {
-    let there = schedule_there(rt, folder)?;
-    if there.is_none() {
+fn look_in(rt: &HostRuntime, folder: &str) -> Result<There, Refusal> {
+    let there = schedules_there(rt, folder)?;
+    if there.saved.is_none() && there.kept.is_none() {
         try_folder(rt, folder)?;
     }
     Ok(there)
@@ -272,13 +335,21 @@ impl Folder for ScheduleFolder<'_> {
     ghost has_failed = { λ folder. folder.failed };
 
     fn look(&mut self) -> Result<(), FolderFault> {
-        let (refusal, there) = match look_in(self.rt, self.path) {
-            Ok(None) => return Ok(()),
-            Ok(Some(file)) => (Refusal::plain(FolderFault::Write), Some(file)),
+        let (refusal, saved) = match look_in(self.rt, self.path) {
+            Ok(
+                There {
+                    saved: None,
+                    kept: None,
+                },
+            ) => return Ok(()),
+            Ok(there) => {
+                self.stands = true;
+                self.kept = there.kept;
+                (Refusal::plain(FolderFault::Write), there.saved)
+            }
             Err(refusal) => (refusal, None),
         };
-        self.stands = there.is_some();
-        self.note(refusal, there);
+        self.note(refusal, saved);
         Err(refusal.fault)
     }
 

@@ -1,8 +1,8 @@
 //! The lines of a hunt's faults, each with the file that is at fault.
 use crate::failure::Failure;
 use crate::file_line::{FileLine, FilePlace};
-use crate::folder::{Saved, ScheduleFolder};
-use crate::paths::{expect_path, folder_path, ignore_path, page_path};
+use crate::folder::{Addresses, Saved, ScheduleFolder};
+use crate::paths::{expect_path, folder_path, ignore_path, page_path, table_path};
 use crate::system::SystemSaid;
 use rv_command::arguments::ImagePath;
 use rv_command::command::hunt::HuntLine;
@@ -26,6 +26,8 @@ pub enum AtFault {
     Schedule(Saved),
     /// The same, which was there before the hunt.
     Standing(Saved),
+    /// The same of one that a hunt left which was killed.
+    Kept(Addresses),
 }
 
 /// Which of a hunt's files have failed, and what the system said of each file and of the streams. The others' faults name their file.
@@ -34,6 +36,7 @@ pub struct Failed {
     pub image: bool,
     pub folder: AtFault,
     pub page: bool,
+    pub table: bool,
     pub said: Said,
 }
 
@@ -45,23 +48,25 @@ pub struct Said {
     pub expected: Option<SystemSaid>,
     pub folder: Option<SystemSaid>,
     pub page: Option<SystemSaid>,
+    pub table: Option<SystemSaid>,
     pub output: Option<SystemSaid>,
 }
 
 impl Failed {
     /// Whether a file that the hunt makes has failed.
     pub fn has_file(&self) -> bool {
-        self.page || !matches!(self.folder, AtFault::Nothing)
+        self.page || self.table || !matches!(self.folder, AtFault::Nothing)
     }
 }
 
 /// What is at fault in a folder, where one is given.
 pub fn at_fault_in(folder: &Option<ScheduleFolder<'_>>) -> AtFault {
     match folder {
-        Some(folder) if folder.has_failed() => match folder.at_fault() {
-            Some(file) if folder.stands() => AtFault::Standing(file),
-            Some(file) => AtFault::Schedule(file),
-            None => AtFault::Folder,
+        Some(folder) if folder.has_failed() => match (folder.at_fault(), folder.kept()) {
+            (Some(file), _) if folder.stands() => AtFault::Standing(file),
+            (Some(file), _) => AtFault::Schedule(file),
+            (None, Some(race)) => AtFault::Kept(race),
+            (None, None) => AtFault::Folder,
         },
         _ => AtFault::Nothing,
     }
@@ -73,6 +78,7 @@ fn of_file<'a>(path: Option<&'a str>, said: Option<SystemSaid>, fault: FileFault
         Some(path) => Some(FilePlace {
             path,
             schedule: None,
+            kept: None,
         }),
         None => None,
     };
@@ -82,6 +88,29 @@ fn of_file<'a>(path: Option<&'a str>, said: Option<SystemSaid>, fault: FileFault
         said,
         fault,
     })
+}
+
+/// The line of a schedule that a killed hunt left in a folder.
+fn of_kept<'a>(folder: Option<&'a str>, race: Addresses) -> Failure<'a> {
+    let file = match folder {
+        Some(path) => Some(FilePlace {
+            path,
+            schedule: None,
+            kept: Some(race),
+        }),
+        None => None,
+    };
+    Failure::OfFile(FileLine {
+        file,
+        stands: true,
+        said: None,
+        fault: WRITE,
+    })
+}
+
+/// The line of a table's file that can't be made.
+pub fn table_fault<'a>(line: &HuntLine<'a>, said: Option<SystemSaid>) -> Failure<'a> {
+    of_file(table_path(line.table_to), said, WRITE)
 }
 
 /// The line of a schedule in a folder, which was there before the hunt or can't be written.
@@ -95,6 +124,7 @@ fn of_schedule<'a>(
         Some(path) => Some(FilePlace {
             path,
             schedule: Some(schedule),
+            kept: None,
         }),
         None => None,
     };
@@ -153,7 +183,9 @@ fn of_command<'a>(
             of_schedule(folder_path(line.save_to), file, false, failed.said.folder)
         }
         AtFault::Standing(file) => of_schedule(folder_path(line.save_to), file, true, None),
+        AtFault::Kept(race) => of_kept(folder_path(line.save_to), race),
         AtFault::Nothing if failed.page => of_file(page_path(line.page), failed.said.page, WRITE),
+        AtFault::Nothing if failed.table => table_fault(line, failed.said.table),
         AtFault::Nothing => of_image(image, failed, fault),
     }
 }

@@ -4,25 +4,27 @@ ghost use Rattle.rv_hunt.specs.engine.Asked.{AreLegal};
 ghost use Rattle.rvcollide.specs.Ending as spec;
 ghost use Rattle.rvcollide.specs.Hunt as asked;
 
+use crate::anew::AnewFile;
 use crate::failure::Failure;
-use crate::files::{InputFile, OutputFile, has_failed, said_by};
+use crate::files::InputFile;
 use crate::folder::ScheduleFolder;
-use crate::hunt_failure::{Failed, Said, WRITE_FAULT, at_fault_in, failure_of};
-use crate::paths::{expect_path, ignore_path};
+use crate::hunt_failure::{
+    AtFault, Failed, Said, WRITE_FAULT, at_fault_in, failure_of, table_fault,
+};
+use crate::keeper::{HuntKeeper, Progress};
+use crate::paths::{expect_path, folder_path, ignore_path, page_path, table_path};
 use crate::shown_line::ShownLine;
 use crate::system::{Stream, SystemSaid};
 use rv_collide::plan::DEFAULT_SLOTS;
 use rv_command::arguments::{FolderPath, ImagePath, PagePath};
 use rv_command::command::hunt::HuntLine;
+use rv_engines::new_file::NewFile;
 use rv_hunt::engine::found::Found;
 use rv_hunt::engine::inputs::Inputs;
 use rv_hunt::engine::options::{HuntOptions, LineParts, MOST_WORKERS, Shows, Sides};
 use rv_hunt::engine::run_hunt;
-use rv_hunt::hunt::Watch;
-use rv_hunt::hunted::Hunted;
 use rv_memory::buffered::Buffered;
 use rv_memory::flagged::Flagged;
-use rv_tally::limit::Limit;
 use rv_tally::plans::{Mix, Plans};
 use std::io::IsTerminal;
 use std::sync::Wait;
@@ -30,62 +32,6 @@ use std::thread::{Threads, available_parallelism};
 
 /// How many slots the runs of a hunt have, where not all are sampled ones: in contended programs many harts are paused at once.
 const SLOTS: u8 = 8;
-
-/// How many lines of progress there are at most.
-const LINES: u64 = 100;
-
-/// Tells a person at a terminal how far a hunt has come, once for each hundredth of its budget.
-#[derive(Drop)]
-struct Progress<'a> {
-    rt: &'a HostRuntime,
-    limit: Limit,
-    is_shown: bool,
-    hundredths: u64,
-}
-
-impl Progress<'_> {
-    /// How many hundredths of what was asked for are done.
-    fn hundredths_of(&self, hunted: &Hunted) -> u64 {
-        let (done, all) = match self.limit {
-            Limit::Runs(runs) => (hunted.tally.runs(), runs),
-            Limit::Budget(steps) => (hunted.tally.reached().cost, steps),
-        };
-        (done / all.div_ceil(LINES).max(1)).min(LINES)
-    }
-
-    fn tell(&self, hunted: &Hunted) {
-        let (runs, races) = (hunted.tally.runs(), hunted.table.len());
-        let probes = hunted.tally.probes();
-        // Where the standard error fails there is nothing left to tell it to.
-        let _ = match self.limit {
-            Limit::Runs(all) => eprintln!(self.rt;
-                "runs {runs} of {all}, probes {probes}, races {races}"
-            ),
-            Limit::Budget(all) => {
-                let spent = hunted.tally.reached().cost.min(all);
-                eprintln!(self.rt;
-                    "runs {runs}, probes {probes}, races {races}, {spent} of {all} steps"
-                )
-            }
-        };
-    }
-}
-
-impl Watch for Progress<'_> {
-    fn saw(&mut self, hunted: &Hunted) {
-        let hundredths = self.hundredths_of(hunted);
-        if self.is_shown && self.hundredths < hundredths {
-            self.hundredths = hundredths;
-            self.tell(hunted);
-        }
-    }
-
-    fn shows(&mut self, shown: usize, all: usize) {
-        if self.is_shown && shown > 0 {
-            let _ = eprintln!(self.rt; "races shown {shown} of {all}");
-        }
-    }
-}
 
 /// How many threads make the runs: as many as are asked for, else as many as the machine has processors.
 fn workers_of(rt: &impl Threads, line: &HuntLine) -> u8 {
@@ -212,12 +158,33 @@ fn folder_if<'a>(rt: &'a HostRuntime, path: Option<FolderPath<'a>>) -> Option<Sc
 }
 
 /// The page of a path, where one is given.
-fn page_if<'a>(
-    rt: &'a HostRuntime,
-    path: Option<PagePath<'a>>,
-) -> Option<OutputFile<'a, HostRuntime>> {
+fn page_if<'a>(rt: &'a HostRuntime, path: Option<PagePath<'a>>) -> Option<AnewFile<'a>> {
     let path = path?;
-    Some(OutputFile::new(rt, path.0))
+    Some(AnewFile::new(rt, path.0))
+}
+
+/// Whether a file that is made has failed, where one is.
+fn has_failed(file: &Option<AnewFile<'_>>) -> bool {
+    match file {
+        Some(file) => file.has_failed(),
+        None => false,
+    }
+}
+
+/// What the system said of it.
+fn said_by(file: &Option<AnewFile<'_>>) -> Option<SystemSaid> {
+    match file {
+        Some(file) => file.said(),
+        None => None,
+    }
+}
+
+/// Looks whether the table can be made, where a file for it is given.
+fn look_at_table(file: &mut Option<AnewFile<'_>>) -> bool {
+    match file {
+        Some(file) => file.look().is_ok(),
+        None => true,
+    }
 }
 
 /// What the system said of a file, where one is given.
@@ -267,12 +234,23 @@ fn hunt_by<'a>(
     let mut page = page_if(rt, line.page);
     let mut writer = Buffered::new(alloc, Stream::new(rt.stdout()));
     let mut notes = Buffered::new(alloc, rt.stderr());
-    let mut progress = Progress {
+    let progress = Progress {
         rt,
         limit: line.limit,
         is_shown: !line.is_quiet && rt.stderr().is_terminal(),
         hundredths: 0,
     };
+    let mut keeper = HuntKeeper::new(
+        rt,
+        progress,
+        folder_path(line.save_to),
+        page_path(line.page),
+        table_path(line.table_to),
+    );
+    if !look_at_table(&mut keeper.table) {
+        let said = said_by(&keeper.table);
+        return Err(table_fault(line, said));
+    }
     let hunted = run_hunt(
         threads,
         alloc,
@@ -282,7 +260,7 @@ fn hunt_by<'a>(
         &mut page,
         &mut writer,
         &mut notes,
-        &mut progress,
+        &mut keeper,
     );
     let Inputs {
         image: image_file,
@@ -293,15 +271,20 @@ fn hunt_by<'a>(
         image: image_file.failed(),
         folder: at_fault_in(&folder),
         page: has_failed(&page),
+        table: has_failed(&keeper.table),
         said: Said {
             image: image_file.into_inner().said(),
             ignored: said_of(ignored),
             expected: said_of(expected),
             folder: folder_said(&folder),
             page: said_by(&page),
+            table: said_by(&keeper.table),
             output: writer.into_inner().said(),
         },
     };
+    if matches!(failed.folder, AtFault::Nothing) {
+        keeper.settle();
+    }
     match hunted {
         // What a file's fault left is written by now.
         Ok(_) if failed.has_file() => Err(failure_of(image, line, failed, WRITE_FAULT)),

@@ -6,12 +6,14 @@ ghost use Rattle.std.specs.Prelude.{◌≡◌};
 ghost use Rattle.std.specs.Process.{exit_status};
 ghost use Rattle.rvcollide.specs.Failure.{status_of};
 
+pub mod anew;
 pub mod failure;
 pub mod file_line;
 pub mod files;
 pub mod folder;
 pub mod hunt_failure;
 mod hunting;
+mod keeper;
 mod merging;
 mod paths;
 mod shown_line;

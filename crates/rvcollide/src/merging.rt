@@ -47,6 +47,7 @@ fn place_of<'a>(
     Some(FilePlace {
         path,
         schedule: None,
+        kept: None,
     })
 }
 

@@ -19,6 +19,12 @@ pub fn folder_path<'a>(path: Option<FolderPath<'a>>) -> Option<&'a str> {
     Some(path.0)
 }
 
+/// The path of the file for the table.
+pub fn table_path<'a>(path: Option<TablePath<'a>>) -> Option<&'a str> {
+    let path = path?;
+    Some(path.0)
+}
+
 /// The path of the page.
 pub fn page_path<'a>(path: Option<PagePath<'a>>) -> Option<&'a str> {
     let path = path?;

@@ -264,6 +264,11 @@ pub const COMMANDS: [Subcommand; 12] = [
                 name: "table",
                 help: "Print the table of the races, and what was seen on the standard error",
             },
+            Argument::Optional {
+                name: "table-to",
+                value: "FILE",
+                help: "File for that table, which is written at each tenth of the hunt",
+            },
             Argument::Flag {
                 name: "check",
                 help: "Exit with status 5 if there is a race that may be a bug, 6 if none means nothing",
@@ -517,6 +522,8 @@ The output is a report of each race, as explain prints it, then how the harts en
 Each line of --ignore is two sides: a symbol's name, an address of eight hexadecimal digits, or * for any
 instruction; # begins a comment. --save-to takes a folder that is there and has no such schedule; explain,
 replay, debug, exhibit and gdb read the schedules. TABLE is an output of hunt --table, of merge or of run.
+A hunt that is killed leaves a schedule of each race so far, named by its addresses, and the page and the
+table of --table-to as they were at the last tenth of the budget.
 
 A fault is told with its file and what is wrong:
   rvcollide: guest.elf: load NotRiscV: the file is for another processor

@@ -87,6 +87,8 @@ pub struct HuntLine<'a> {
     pub blocks: u32,
     /// The standard output is the table alone.
     pub shows_table: bool,
+    /// The file for the table.
+    pub table_to: Option<TablePath<'a>>,
     /// A race that may be a bug gives the status 5.
     pub checks: bool,
     /// So does one that is likely benign.
@@ -148,6 +150,7 @@ fn line_of<'a>(given: &ArgMatches<'a>) -> Result<HuntLine<'a>, Complaint<'a>>
         page: page_of(given),
         blocks: blocks as u32,
         shows_table: flag_of(given, "table"),
+        table_to: table_of(given),
         checks: flag_of(given, "check"),
         checks_all: flag_of(given, "check-all"),
         check_ends: flag_of(given, "check-ends"),
@@ -177,6 +180,13 @@ fn page_of<'a>(given: &ArgMatches<'a>) -> Option<PagePath<'a>>
     ensures { option_map (λ path. path.0.now) result ≡ first_of (codes "page") (rows_of (found_of given.now)) }
 {
     text_of(given, "page").map(|path| PagePath(path))
+}
+
+/// The file for the table.
+fn table_of<'a>(given: &ArgMatches<'a>) -> Option<TablePath<'a>>
+    ensures { option_map (λ path. path.0.now) result ≡ first_of (codes "table-to") (rows_of (found_of given.now)) }
+{
+    text_of(given, "table-to").map(|path| TablePath(path))
 }
 
 /// The table of the races that are expected.

@@ -24,6 +24,7 @@ const PLAIN: HuntLine = HuntLine {
     page: None,
     blocks: 50,
     shows_table: false,
+    table_to: None,
     checks: false,
     checks_all: false,
     check_ends: false,
@@ -75,6 +76,7 @@ const ALL: HuntLine = HuntLine {
     page: Some(PagePath("p.html")),
     blocks: 7,
     shows_table: true,
+    table_to: Some(TablePath("t")),
     checks: true,
     checks_all: true,
     check_ends: true,
@@ -130,7 +132,7 @@ const LINES: &[(&str, HuntLine)] = &[
     ("rvcollide hunt a.elf --right=4294967295", MOST_RIGHT),
     ("rvcollide hunt a.elf --budget 1000000000000000", MOST_STEPS),
     (
-        "rvcollide hunt --no-orders --quiet --expect=t.txt --right=0,255 --check-ends --check-all --check --table \
+        "rvcollide hunt --no-orders --quiet --expect=t.txt --right=0,255 --check-ends --check-all --check --table-to=t --table \
 --blocks=7 --page=p.html --save-to=d --ignore=i.txt --idle=sleep, --skip=00010000,x --named=a,,b --aim=f,00010000 --slots=8 --plan=02000,064,100 --workers=6 --runs=3 \
 --first=12 --seed=7 --harts=2 -- a.elf",
         ALL,
@@ -141,7 +143,7 @@ const LINES: &[(&str, HuntLine)] = &[
 const GIVEN: &str =
     "rvcollide hunt a.elf --harts 2 --seed 7 --first 12 --runs 3 --budget 5 --workers 6 \
 --plan 2000,64,100 --slots 8 --aim f,00010000 --named a,,b --skip 00010000,x --idle sleep, --ignore i.txt --save-to d \
---page p.html --blocks 7 --table --check --check-all --check-ends --right 0,255 --expect t.txt --quiet --no-orders";
+--page p.html --blocks 7 --table --table-to t --check --check-all --check-ends --right 0,255 --expect t.txt --quiet --no-orders";
 
 /// All options left out, all given, in any order, with and without `=`.
 #[test]

@@ -9,14 +9,15 @@ use rv_engines::fault::Fault;
 use rv_engines::run::fault::CommandFault;
 use rv_hunt::engine::fault::HuntFault;
 use rv_hunt::engine::inputs::Inputs;
+use rv_hunt::engine::keeping::{Keeper, Wants};
 use rv_hunt::engine::options::{HuntOptions, LineParts, Shows};
 use rv_hunt::engine::run_hunt;
-use rv_hunt::hunt::Watch;
 use rv_hunt::hunted::Hunted;
 use rv_hunt::merge::fault::FileFault;
 use rv_memory::buffered::{Buffered, MOST_PENDING};
 use rv_memory::flagged::Flagged;
 use rv_memory::output::Output;
+use rv_report::key::Key;
 use rv_tally::limit::Limit;
 use rv_tally::plans::{Lengths, Mix, Plans};
 use std::alloc::Global;
@@ -34,10 +35,26 @@ const WORD: [Named; 1] = [("word", 0x20000, 4, 1)];
 #[derive(Drop)]
 struct Unseen;
 
-impl Watch for Unseen {
+impl Keeper for Unseen {
     fn saw(&mut self, _: &Hunted) {}
 
     fn shows(&mut self, _: usize, _: usize) {}
+
+    fn wants(&self) -> Wants {
+        Wants {
+            schedules: true,
+            page: true,
+            table: true,
+        }
+    }
+
+    fn keep(&mut self, _: &Key, _: &[u8]) {}
+
+    fn keep_page(&mut self, _: &[u8]) {}
+
+    fn keep_table(&mut self, _: &[u8]) {}
+
+    fn made(&mut self, _: Option<&[u8]>) {}
 }
 
 const LENGTHS: Lengths = Lengths {

@@ -18,6 +18,7 @@ use crate::engine::beside::save_ends;
 use crate::engine::fault::MakeFault;
 use crate::engine::folder::{Folder, FolderFault};
 use crate::engine::found::Found;
+use crate::engine::keeping::{Keeper, Keeping};
 use crate::engine::lists::Lists;
 use crate::engine::opening::Opened;
 use crate::engine::options::{HuntOptions, LineParts, Shows};
@@ -26,7 +27,7 @@ use crate::engine::shown::{InFull, ShownRace};
 use crate::engine::stuck_ends::{ShownStuck, stuck_ends};
 use crate::engine::texts::{heading_of, hunt_text, stretch_of, table_notes, table_of};
 use crate::expected::is_unexpected;
-use crate::hunt::{Hunt, Watch};
+use crate::hunt::Hunt;
 use crate::hunted::Hunted;
 use crate::merge::parted::{Parted, part_rows};
 use crate::noted::Noted;
@@ -167,10 +168,27 @@ fn make_page<F: NewFile>(
     Ok(())
 }
 
+/// Tells the keeper that all is made, with the table of all runs, where it is wanted.
+fn tell_made<K: Keeper>(
+    alloc: Global,
+    outcome: &Outcome,
+    heading: &Heading<'_>,
+    stretch: Stretch,
+    keeper: &mut K,
+) -> Result<(), NoMemory> {
+    if keeper.wants().table {
+        let text = table_of(alloc, outcome.rows, heading, stretch)?;
+        keeper.made(Some(&text));
+    } else {
+        keeper.made(None);
+    }
+    Ok(())
+}
+
 /// What a hunt shows of all that its runs saw. The schedules of stuck ends and of how harts ended are saved first, those of the races in full
 /// while these are made again, and the page is made last: what wants memory comes before it. Where a file can't be made that is noted, and the others
 /// are.
-fn made_of<R: Threads + Wait, D: Folder, F: NewFile, P: Watch>(
+fn made_of<R: Threads + Wait, D: Folder, F: NewFile, K: Keeper>(
     rt: &R,
     alloc: Global,
     hunt: &Hunt,
@@ -182,7 +200,7 @@ fn made_of<R: Threads + Wait, D: Folder, F: NewFile, P: Watch>(
     noted: &Noted,
     folder: &mut Option<D>,
     page: &mut Option<F>,
-    watch: &mut P,
+    keeper: &mut K,
 ) -> Result<Made, PoolFault>
     requires legal { AreLegal options.now }
     requires symbols { symbols.now ≡ hunt.now.source.image }
@@ -220,7 +238,7 @@ fn made_of<R: Threads + Wait, D: Folder, F: NewFile, P: Watch>(
         rows: first_of(&told, most),
     };
     let orders = shown_orders(rt, alloc, &full, options.workers, &saw.orders, folder)?;
-    let shown = full.show(rt, alloc, options.workers, folder, watch)?;
+    let shown = full.show(rt, alloc, options.workers, folder, keeper)?;
     let heading = heading_of(hunt, &options.line, digits);
     let stretch = stretch_of(hunt, saw);
     let (text, notes) = texts_of(
@@ -245,6 +263,7 @@ fn made_of<R: Threads + Wait, D: Folder, F: NewFile, P: Watch>(
         &orders,
         page,
     )?;
+    tell_made(alloc, &outcome, &heading, stretch, keeper)?;
     Ok(Made {
         found: found_in(
             lists,
@@ -284,7 +303,7 @@ fn look_at_page<F: NewFile>(page: &mut Option<F>) -> Result<(), WriteFault>
 
 /// Looks at the folder and the page, and makes the runs of a hunt of what was opened, the schedules of the races that are shown in
 /// full, the page, and the texts of what the runs saw.
-pub(crate) fn make_hunt<T: Threads + Wait + Sync, P: Watch, D: Folder, F: NewFile>(
+pub(crate) fn make_hunt<T: Threads + Wait + Sync, K: Keeper, D: Folder, F: NewFile>(
     rt: &T,
     alloc: Global,
     options: &HuntOptions<'_, '_>,
@@ -292,7 +311,7 @@ pub(crate) fn make_hunt<T: Threads + Wait + Sync, P: Watch, D: Folder, F: NewFil
     lists: &Lists,
     folder: &mut Option<D>,
     page: &mut Option<F>,
-    watch: &mut P,
+    keeper: &mut K,
 ) -> Result<Made, MakeFault>
     requires { AreLegal options.now }
     ensures made { IfOk result (λ made. spec.IsMade
@@ -326,7 +345,16 @@ pub(crate) fn make_hunt<T: Threads + Wait + Sync, P: Watch, D: Folder, F: NewFil
         limit: options.limit,
         orders: options.orders,
     };
-    let saw = hunt.hunted(rt, alloc, options.workers, &mut noted, watch)?;
+    let mut keeping = Keeping {
+        hunt: &hunt,
+        symbols: &symbols,
+        options,
+        lists,
+        digits: &opened.digits,
+        keeper,
+        tenths: 0,
+    };
+    let saw = hunt.hunted(rt, alloc, options.workers, &mut noted, &mut keeping)?;
     let made = made_of(
         rt,
         alloc,
@@ -339,7 +367,7 @@ pub(crate) fn make_hunt<T: Threads + Wait + Sync, P: Watch, D: Folder, F: NewFil
         &noted,
         folder,
         page,
-        watch,
+        keeper,
     );
     // It has many parts, which are let go by one call.
     drop(saw);

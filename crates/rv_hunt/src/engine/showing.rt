@@ -5,8 +5,8 @@ ghost use Rattle.rv_hunt.specs.engine.Shown.{AreShown};
 ghost use Rattle.rv_hunt.specs.internal.Showing as spec;
 
 use crate::engine::folder::{Folder, FolderFault};
+use crate::engine::keeping::Keeper;
 use crate::engine::shown::{InFull, Showers, ShownPart, ShownRace};
-use crate::hunt::Watch;
 use rv_campaign::{PoolFault, all_made};
 use rv_memory::store::NoMemory;
 use std::alloc::Global;
@@ -202,7 +202,7 @@ impl<'a, 'h, 's> InFull<'a, 'h, 's> {
     }
 
     /// Where the slot at a place is empty, makes the next runs that rows from there on name, and takes in what is shown of them.
-    fn fill<R: Threads + Wait, D: Folder, W: Watch>(
+    fn fill<R: Threads + Wait, D: Folder, K: Keeper>(
         &self,
         rt: &R,
         alloc: Global,
@@ -210,7 +210,7 @@ impl<'a, 'h, 's> InFull<'a, 'h, 's> {
         place: usize,
         slots: &mut Slots,
         folder: &mut Option<D>,
-        watch: &mut W,
+        keeper: &mut K,
     ) -> Result<(), PoolFault>
         requires workers { workers ≤ 16 }
         requires image { self.now.symbols.now ≡ self.now.hunt.now.source.image }
@@ -224,7 +224,7 @@ impl<'a, 'h, 's> InFull<'a, 'h, 's> {
         if slots[place].is_some() {
             return Ok(());
         }
-        watch.shows(place, slots.len());
+        keeper.shows(place, slots.len());
         let most = RUNS_OF_A_WORKER * usize::from(workers.max(1));
         let numbers = self.next(alloc, slots, place, most)?;
         let runs = self.made(rt, alloc, &numbers, workers)?;
@@ -233,13 +233,13 @@ impl<'a, 'h, 's> InFull<'a, 'h, 's> {
     }
 
     /// Shows the races and saves the schedules of their runs, where a folder is given.
-    pub(crate) fn show<R: Threads + Wait, D: Folder, W: Watch>(
+    pub(crate) fn show<R: Threads + Wait, D: Folder, K: Keeper>(
         &self,
         rt: &R,
         alloc: Global,
         workers: u8,
         folder: &mut Option<D>,
-        watch: &mut W,
+        keeper: &mut K,
     ) -> Result<Vec<ShownRace>, PoolFault>
         requires workers { workers ≤ 16 }
         requires image { self.now.symbols.now ≡ self.now.hunt.now.source.image }
@@ -250,7 +250,7 @@ impl<'a, 'h, 's> InFull<'a, 'h, 's> {
         let count = self.rows.len();
         let mut slots = empty_slots(alloc, count)?;
         for place in 0..count {
-            self.fill(rt, alloc, workers, place, &mut slots, folder, watch)?;
+            self.fill(rt, alloc, workers, place, &mut slots, folder, keeper)?;
         }
         Ok(races_in(alloc, slots)?)
     }

@@ -240,7 +240,7 @@ impl InFull<'_, '_, '_> {
     }
 
     /// What is shown of a run.
-    fn run(&self, alloc: Global, run: u32) -> Result<Vec<ShownPart>, NoMemory>
+    pub(crate) fn run(&self, alloc: Global, run: u32) -> Result<Vec<ShownPart>, NoMemory>
         ensures { IfOk result (λ parts. internal.AreShownIn self.now parts.items) }
     {
         let hunt = self.hunt;
