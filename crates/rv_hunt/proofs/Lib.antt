@@ -5,6 +5,7 @@ pub mod FileLemmas
 pub mod FoldLemmas
 pub mod HuntLemmas
 pub mod IgnoreLemmas
+pub mod JudgedLemmas
 pub mod IgnoredRowLemmas
 pub mod ListBack
 pub mod ListingLemmas
