@@ -10,9 +10,7 @@ pub returns-in_default : goal.returns-in_default
 returns-in_default c =
     let none : None ≡ slice_get c.words.words 0 = cc in
     let words = lines.none_left c.words.words none in
-    let rest : c.next_piece.new.self ≡ drop 1 c.words.words = cc in
-    rw (rest ∙ ap (λ (ws : List (List ℕ)). drop 1 ws) words)
-    (sym (c.words.invariant ∙ ap (λ (ws : List (List ℕ)). stretches_in c.words.stretches.items ws) words ∙ none_left c.words.stretches.items))
+    sym (c.words.invariant ∙ ap (λ (ws : List (List ℕ)). stretches_in c.words.stretches.items ws) words ∙ none_left c.words.stretches.items)
 
 pub returns-then-ne : goal.returns-then-ne
 returns-then-ne c =
