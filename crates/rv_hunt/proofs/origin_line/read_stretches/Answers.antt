@@ -10,9 +10,7 @@ pub returns-in_default : goal.returns-in_default
 returns-in_default c =
     let none : None ≡ slice_get c.words.words 0 = cc in
     let words = lines.none_left c.words.words none in
-    let rest : c.next_piece.new.self ≡ drop 1 c.words.words = cc in
-    rw (rest ∙ ap (λ (ws : List (List ℕ)). drop 1 ws) words)
-    (sym (c.words.invariant ∙ ap (λ (ws : List (List ℕ)). stretches_in c.words.stretches.items ws) words ∙ none_left c.words.stretches.items))
+    sym (c.words.invariant ∙ ap (λ (ws : List (List ℕ)). stretches_in c.words.stretches.items ws) words ∙ none_left c.words.stretches.items)
 
 pub returns-then-ne : goal.returns-then-ne
 returns-then-ne c =
@@ -44,12 +42,12 @@ returns-then-not-is_behind c =
 
 pub words-preserved : goal.words-preserved
 words-preserved c =
-    let first : Some c.in-Some.word.now ≡ slice_get c.words.words 0 = cc in
+    let first : Some c.in-Some.word.now ≡ slice_get c.words.words 0 = c.in-Some.ensures.first in
     let words = lines.first_and_others c.words.words c.next_piece.new.self c.in-Some.word.now first c.in-Some.ensures.rest in
     let same : not (is_first c.in-Some.word.now) ≡ false = cc in
     let is : stretch_in c.next_piece.new.self ≡ Some c.in-Some-read_stretch.stretch = cc in
     let behind : not (is_behind c.words.stretches.items c.in-Some-read_stretch.stretch) ≡ false = cc in
-    let rest : c.read_stretch.new.words ≡ drop 3 c.next_piece.new.self = cc in
+    let rest : c.read_stretch.new.words ≡ drop 3 c.next_piece.new.self = c.in-Some-read_stretch.ensures.rest in
     rw (c.in_ok-push.ensures.items, rest)
     (c.words.invariant ∙ ap (λ (ws : List (List ℕ)). stretches_in c.words.stretches.items ws) words
     ∙ next_stretch c.words.stretches.items c.in-Some.word.now c.next_piece.new.self c.in-Some-read_stretch.stretch (not-false (is_first c.in-Some.word.now) same) is
