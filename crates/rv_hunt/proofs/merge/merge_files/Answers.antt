@@ -1,6 +1,7 @@
 use Rattle.std.proofs.Common.{length}
 use Rattle.std.proofs.lemmas.Result.{err_from_is_err_and}
 use Rattle.rv_hunt.specs.merge.Merge as spec
+use Rattle.rv_hunt.proofs.BoolLemmas.{nothing_more}
 use Rattle.rv_hunt.proofs.MergedFileLemmas.{all_merged, count_known, expected_refused, tables_refused}
 use Rattle.rv_hunt.proofs.merge.merge_files.Goals as goal
 
@@ -20,3 +21,8 @@ returns-clause-ok g c =
     let found = rw (c.deref.ensures.value, c.in_ok-rows.ensures) at c.in_ok-unexpected.ensures in
     rw (c.in_ok-rows.ensures) (all_merged c.args.gaps (spec.bytes_of g.R.Read.remaining c.args.tables.now) (spec.bytes_if g.R.Read.remaining c.args.expected.now) c.in_ok-whole.whole (length c.whole_in.new.tables) c.in_ok-expected.expected c.in_ok-unexpected.unexpected.items c.in_ok-whole.ensures.ok
     (rw c.in_ok-whole.ensures.count (count_known g.R.Read.remaining c.args.tables.now)) c.in_ok-expected.ensures.ok found)
+
+pub returns-in_err-unexpected-clause-readers : goal.returns-in_err-unexpected-clause-readers
+returns-in_err-unexpected-clause-readers g c =
+    let p = err_from_is_err_and c.from_residual-in_err-unexpected.result c.from_residual-in_err-unexpected.ensures.1 in
+    rw (p.1, p.2, c.in_ok-whole.ensures.readers, c.in_ok-expected.ensures.reader) (nothing_more _ _)

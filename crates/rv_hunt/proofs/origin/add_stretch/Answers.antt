@@ -14,11 +14,11 @@ returns-in_ok-push-in-Some c =
 pub returns-in_ok-push-in_default : goal.returns-in_ok-push-in_default
 returns-in_ok-push-in_default c =
     rw c.in_ok-push-in_default.ensures.items (elim c.in_default.branch [
-      in_default-via-in-Some+else-last-stretch w ↦
-        let last : slice_get c.args.stretches.now.items (length c.args.stretches.now.items - 1) ≡ Some w.in-Some.last = cc in
-        let ends : (w.in-Some.last.end == c.args.stretch.first) ≡ false = ne_eqb _ _ w.if-last-stretch.false in
-        with_more c.args.stretches.now.items w.in-Some.last c.args.stretch last ends
+      | in_default-via-in-Some+else-last-stretch w ↦
+          let last : slice_get c.args.stretches.now.items (length c.args.stretches.now.items - 1) ≡ Some w.in-Some.last = cc in
+          let ends : (w.in-Some.last.end == c.args.stretch.first) ≡ false = ne_eqb _ _ w.if-last-stretch.false in
+          with_more c.args.stretches.now.items w.in-Some.last c.args.stretch last ends
       | in_default-via-in_default w ↦
-        let none : slice_get c.args.stretches.now.items (length c.args.stretches.now.items - 1) ≡ None = cc in
-        with_none c.args.stretches.now.items c.args.stretch none
+          let none : slice_get c.args.stretches.now.items (length c.args.stretches.now.items - 1) ≡ None = cc in
+          with_none c.args.stretches.now.items c.args.stretch none
     ])
