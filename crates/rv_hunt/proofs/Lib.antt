@@ -6,7 +6,6 @@ pub mod FoldLemmas
 pub mod HuntLemmas
 pub mod IgnoreLemmas
 pub mod IgnoredRowLemmas
-pub mod ListBack
 pub mod ListingLemmas
 pub mod MadeLemmas
 pub mod MergeLemmas

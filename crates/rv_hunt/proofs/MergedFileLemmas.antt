@@ -7,8 +7,8 @@ use Rattle.rv_memory.specs.Chain.{◌>>=◌}
 use Rattle.rv_memory.specs.Flagged.{device, has_failed}
 use Rattle.rv_memory.specs.declared.flagged.Flagged.{Flagged}
 use Rattle.rv_engines.specs.declared.fault.Fault.TheVariants as fault
-use Rattle.rv_hunt.specs.merge.FileFault.{UnlessDevice}
-use Rattle.rv_hunt.specs.merge.Merge.{Files, Merge, IsTold, Table, bytes_of, expected_in, given_as, in_file, merge_of, tables_from, unexpected_in}
+use Rattle.rv_hunt.specs.merge.FileFault.{UnlessDevice, is_read, no_memory}
+use Rattle.rv_hunt.specs.merge.Merge.{Files, Merge, IsTold, Table, bytes_of, expected_in, fails_by, given_as, in_file, merge_of, tables_from, unexpected_in}
 use Rattle.rv_hunt.specs.merge.TableFiles.{hunt_table}
 use Rattle.rv_hunt.specs.declared.merge.fault.FileFault.{FileFault}
 use Rattle.rv_hunt.specs.declared.merge.fault.FileFault.TheVariants.{Plain}
@@ -264,3 +264,9 @@ count_known remaining readers = counted (bytes_of remaining readers) refl
 pub none_failed : (failed : Bool) → (failed || false) ≡ failed
 none_failed true = refl
 none_failed false = refl
+
+-- ---- want of memory is no reader's failure
+
+pub no_reader_failed : {A : Type 0} (tables expected tables_then expected_then : Bool) (r : Result A MergeFault) (made : MergeFault) → tables_then ≡ (tables || false) → expected_then ≡ (expected || false) → r ≡ Err made → made ≡ record { file = None; fault = no_memory } → (tables_then || expected_then) ≡ ((tables || expected) || fails_by is_read r)
+no_reader_failed tables expected tables_then expected_then r made of_tables of_expected is made_is =
+    rw (of_tables, of_expected, is, made_is, none_failed tables, none_failed expected, none_failed (tables || expected)) refl

@@ -1,7 +1,7 @@
 use Rattle.std.proofs.Common.{length}
 use Rattle.std.proofs.lemmas.Result.{err_from_is_err_and}
 use Rattle.rv_hunt.specs.merge.Merge as spec
-use Rattle.rv_hunt.proofs.MergedFileLemmas.{all_merged, count_known, expected_refused, tables_refused}
+use Rattle.rv_hunt.proofs.MergedFileLemmas.{all_merged, count_known, expected_refused, no_reader_failed, tables_refused}
 use Rattle.rv_hunt.proofs.merge.merge_files.Goals as goal
 
 pub returns-in_err-whole-clause-err : goal.returns-in_err-whole-clause-err
@@ -20,3 +20,8 @@ returns-clause-ok g c =
     let found = rw (c.deref.ensures.value, c.in_ok-rows.ensures) at c.in_ok-unexpected.ensures in
     rw (c.in_ok-rows.ensures) (all_merged c.args.gaps (spec.bytes_of g.R.Read.remaining c.args.tables.now) (spec.bytes_if g.R.Read.remaining c.args.expected.now) c.in_ok-whole.whole (length c.whole_in.new.tables) c.in_ok-expected.expected c.in_ok-unexpected.unexpected.items c.in_ok-whole.ensures.ok
     (rw c.in_ok-whole.ensures.count (count_known g.R.Read.remaining c.args.tables.now)) c.in_ok-expected.ensures.ok found)
+
+pub returns-in_err-unexpected-clause-readers : goal.returns-in_err-unexpected-clause-readers
+returns-in_err-unexpected-clause-readers g c =
+    let p = err_from_is_err_and c.from_residual-in_err-unexpected.result c.from_residual-in_err-unexpected.ensures.1 in
+    no_reader_failed _ _ _ _ c.from_residual-in_err-unexpected.result p.0 c.in_ok-whole.ensures.readers c.in_ok-expected.ensures.reader p.1 p.2
