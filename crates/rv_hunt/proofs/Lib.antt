@@ -7,7 +7,6 @@ pub mod HuntLemmas
 pub mod IgnoreLemmas
 pub mod JudgedLemmas
 pub mod IgnoredRowLemmas
-pub mod ListBack
 pub mod ListingLemmas
 pub mod MadeLemmas
 pub mod MergeLemmas

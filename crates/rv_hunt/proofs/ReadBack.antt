@@ -72,14 +72,14 @@ verdict_same : (second : Option ℕ) → bytes_eq (verdict_word second) (verdict
 verdict_same None = refl
 verdict_same (Some address) = refl
 
-pub lacks_append : (byte : ℕ) (xs ys : List ℕ) → Lacks byte xs → Lacks byte ys → Lacks byte (xs ++ ys)
+lacks_append : (byte : ℕ) (xs ys : List ℕ) → Lacks byte xs → Lacks byte ys → Lacks byte (xs ++ ys)
 lacks_append byte xs ys one other = list_any-append (λ b. b == byte) xs ys ∙ or_from _ _ one other
 
 first_differs : (a b : ℕ) (xs ys : List ℕ) → (a == b) ≡ false → bytes_eq (a ∷ xs) (b ∷ ys) ≡ false
 first_differs a b xs ys other = rw other refl
 
 -- texts of lines are cut into them, with nothing after the last LF
-pub text_pieces : PiecesAreCut → (lines : List (List ℕ)) → list_any has_line_feed lines ≡ false → pieces_of 10 (text_of_lines lines) ≡ lines ++ [] ∷ []
+text_pieces : PiecesAreCut → (lines : List (List ℕ)) → list_any has_line_feed lines ≡ false → pieces_of 10 (text_of_lines lines) ≡ lines ++ [] ∷ []
 text_pieces cut [] lack = refl
 text_pieces cut (line ∷ lines) lack =
     let parts = or_parts (has_line_feed line) (list_any has_line_feed lines) lack in

@@ -3,7 +3,6 @@ pub mod FileFault
 pub mod FileFaultText
 pub mod Ignore
 pub mod Known
-pub mod ListLaws
 pub mod Listing
 pub mod Merge
 pub mod TableFiles

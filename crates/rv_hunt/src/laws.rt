@@ -3,7 +3,6 @@ ghost use Rattle.rv_hunt.specs.HuntLaws.{OriginsAreJoined, PiecesAreMerged, Tabl
 ghost use Rattle.rv_hunt.specs.HuntReadLaws.{TablesAreReadBack};
 ghost use Rattle.rv_hunt.specs.HuntedLaws.{OneResult, PiecesAreWhole, RowsAreTold};
 ghost use Rattle.rv_hunt.specs.ShownOnce.{EachIsShownOnce};
-ghost use Rattle.rv_hunt.specs.merge.ListLaws.{LinesFitTheirRaces, ListsAreReadBack};
 
 use rv_drive::driver_laws::seeded_runs;
 use rv_text::laws::{
@@ -37,18 +36,6 @@ pub fn hunts_have_one_result()
 pub fn each_race_is_shown_once()
     ensures { EachIsShownOnce }
 {}
-
-/// A list of races that is written is read back, and each of its lines fits the race that it was written of.
-pub fn lists_are_read_back()
-    ensures back { ListsAreReadBack }
-    ensures fit { LinesFitTheirRaces }
-{
-    decimal_is_read_back();
-    decimal_lacks_separators();
-    word_is_read_back();
-    word_lacks_separators();
-    pieces_are_cut();
-}
 
 /// A table that is written is read back: so tables of pieces that are merged from their files are the table of the whole, too.
 pub fn tables_are_read_back()
