@@ -7,8 +7,8 @@ use Rattle.rv_memory.specs.Chain.{◌>>=◌}
 use Rattle.rv_memory.specs.Flagged.{device, has_failed}
 use Rattle.rv_memory.specs.declared.flagged.Flagged.{Flagged}
 use Rattle.rv_engines.specs.declared.fault.Fault.TheVariants as fault
-use Rattle.rv_hunt.specs.merge.FileFault.{UnlessDevice, is_read, no_memory}
-use Rattle.rv_hunt.specs.merge.Merge.{Files, Merge, IsTold, Table, bytes_of, expected_in, fails_by, given_as, in_file, merge_of, tables_from, unexpected_in}
+use Rattle.rv_hunt.specs.merge.FileFault.{UnlessDevice}
+use Rattle.rv_hunt.specs.merge.Merge.{Files, Merge, IsTold, Table, bytes_of, expected_in, given_as, in_file, merge_of, tables_from, unexpected_in}
 use Rattle.rv_hunt.specs.merge.TableFiles.{hunt_table}
 use Rattle.rv_hunt.specs.declared.merge.fault.FileFault.{FileFault}
 use Rattle.rv_hunt.specs.declared.merge.fault.FileFault.TheVariants.{Plain}
