@@ -1,6 +1,6 @@
 -- Rows that are added to a table, one by one or as a table of their own.
 use Rattle.std.proofs.Common.{◌≡◌, ℕ, ◌+◌, Bool, true, false, List, [], ◌∷◌, ◌++◌, refl, sym, ap, ◌∙◌, rules, arith}
-use Rattle.std.specs.Prelude.{◌||◌, map, nat_eq, nat_lt, zero, suc}
+use Rattle.std.specs.Prelude.{◌||◌, map, nat_eq, nat_lt}
 use Rattle.std.specs.List.{fold, flat_map}
 use Rattle.std.specs.Cmp.{IsEquivalence}
 use Rattle.std.specs.Cmp.Rules.{comparing}

@@ -6,7 +6,7 @@ use Rattle.std.proofs.lemmas.List.{drop-drop}
 use Rattle.std.proofs.lemmas.Option.{slice_get-get_or}
 use Rattle.rv_collide.specs.ScheduleRead.{named}
 use Rattle.rv_hunt.specs.HuntRead.{option_then, sized}
-use Rattle.rv_hunt.specs.Origin.{Origin, is_behind, is_first, origin_in, stretch_in, stretches_in, with_stretch, word_after, words_text}
+use Rattle.rv_hunt.specs.Origin.{is_behind, is_first, origin_in, stretch_in, stretches_in, with_stretch, word_after, words_text}
 use Rattle.rv_hunt.specs.OriginRead.{last_text, origin_at, rows_text}
 use Rattle.rv_hunt.specs.declared.origin.Stretch.{Stretch}
 

@@ -1,4 +1,4 @@
-use Rattle.std.proofs.Common.{◌≡◌, ◌-◌, None, Some, true, false, length, vec_len, ap, refl, sym, arith, eq-eqb, ne_eqb}
+use Rattle.std.proofs.Common.{◌≡◌, ◌-◌, None, Some, true, false, length, vec_len, ap, arith, eq-eqb, ne_eqb}
 use Rattle.std.specs.Prelude.{◌==◌, slice_get}
 use Rattle.rv_hunt.proofs.OriginLemmas.{with_longer, with_more, with_none}
 use Rattle.rv_hunt.proofs.origin.add_stretch.Goals.{in_default-via-in-Some+else-last-stretch, in_default-via-in_default}

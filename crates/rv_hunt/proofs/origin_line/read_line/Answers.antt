@@ -1,8 +1,7 @@
-use Rattle.std.proofs.Common.{◌≡◌, ◌∙◌, List, ℕ, Some, [], false, ap, refl, sym}
+use Rattle.std.proofs.Common.{◌≡◌, ◌∙◌, List, ℕ, Some, false, ap, sym}
 use Rattle.std.specs.Prelude.{◌==◌, codes, drop, length}
 use Rattle.std.specs.Option.{option_copied}
-use Rattle.rv_collide.specs.ScheduleRead.{named, words_of}
-use Rattle.rv_hunt.specs.HuntRead.{option_then, sized}
+use Rattle.rv_collide.specs.ScheduleRead.{words_of}
 use Rattle.rv_hunt.specs.Origin as spec
 use Rattle.rv_hunt.specs.OriginRead as read
 use Rattle.rv_hunt.proofs.OriginLemmas.{origin_read}

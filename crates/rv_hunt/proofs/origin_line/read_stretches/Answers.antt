@@ -1,4 +1,4 @@
-use Rattle.std.proofs.Common.{◌≡◌, ◌∙◌, ◌∷◌, ◌++◌, [], List, ℕ, None, Some, true, false, ap, sym}
+use Rattle.std.proofs.Common.{◌≡◌, ◌∙◌, List, ℕ, None, Some, true, false, ap, sym}
 use Rattle.std.specs.Prelude.{drop, not, slice_get}
 use Rattle.std.proofs.lemmas.Bool.{not-false, not-true}
 use Rattle.rv_hunt.specs.Origin.{is_behind, is_first, stretch_in, stretches_in}
