@@ -1,4 +1,5 @@
 """What the scripts share that compare every byte of what the built program writes: its builds, their rows, and small images."""
+import hashlib
 import pathlib
 import struct
 import subprocess
@@ -20,7 +21,18 @@ TABLE_SENTENCES = {
     "Range": "a number or an address of the row is out of range",
     "Twice": "the race has a row already: use merge to add tables",
     "End": "there are not as many rows as the first line says: was the file cut off?",
+    "Image": "the table is of another image than the first one",
+    "Version": "the table was made by another version of rvcollide than the first one",
+    "Options": "the runs of the table had another seed or other options than those of the first one",
+    "Overlap": "the table has runs that another table has, or that come before the last of another: leave one out",
+    "Gap": "runs are missing before those of the table: add their table, or allow it by --gaps",
 }
+
+# What `merge` warns of where a table doesn't say what it is of.
+NOT_OF_ONE = (
+    "rvcollide: warning: a table does not say what it is of (it has no last line of ..), so they are added in the order given: "
+    "nothing tells whether they are of one hunt\n"
+)
 
 
 def table_fault(name, line, kind):
@@ -59,6 +71,12 @@ class Tries:
         """Runs the program: its exit status and both of its outputs."""
         done = subprocess.run([self.program, *words], cwd=self.folder, stdin=subprocess.DEVNULL, capture_output=True, timeout=300)
         return done.returncode, done.stdout, done.stderr
+
+    def of(self, image, first, runs, given="", seed=1):
+        """The last line of a table of such runs of an image."""
+        digits = hashlib.sha256(self.path(image).read_bytes()).hexdigest()[:16]
+        version = self.run("--version")[1].decode().split()[1]
+        return f"of {digits} by {version} seed {seed} first {first} runs {runs}{given}\n"
 
     def holds(self, what, is_so, found=""):
         """Counts a row."""

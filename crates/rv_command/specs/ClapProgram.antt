@@ -54,7 +54,7 @@ explain_options = option (codes "named") ∷ option (codes "around") ∷ option 
 abbrev pub hunt_options : List Rule
 hunt_options = option (codes "harts") ∷ option (codes "seed") ∷ option (codes "first") ∷ option (codes "runs") ∷ option (codes "budget")
     ∷ option (codes "workers") ∷ option (codes "plan") ∷ option (codes "slots") ∷ flag (codes "sampled") ∷ option (codes "aim") ∷ flag (codes "no-orders") ∷ option (codes "named") ∷ option (codes "skip")
-    ∷ option (codes "idle") ∷ option (codes "ignore") ∷ option (codes "save-to") ∷ option (codes "page") ∷ option (codes "blocks")
+    ∷ option (codes "idle") ∷ option (codes "ignore") ∷ option (codes "save-to") ∷ option (codes "page") ∷ option (codes "list") ∷ option (codes "blocks")
     ∷ flag (codes "table") ∷ flag (codes "check") ∷ flag (codes "check-all") ∷ flag (codes "check-ends") ∷ option (codes "right") ∷ option (codes "expect") ∷ flag (codes "quiet") ∷ []
 
 -- a command's name, and what it takes
@@ -73,7 +73,7 @@ commands = command (codes "words") []
     ∷ command (codes "explain") (image ∷ schedule ∷ explain_options)
     ∷ command (codes "gdb") (image ∷ schedule ∷ [])
     ∷ command (codes "hunt") (image ∷ hunt_options)
-    ∷ command (codes "merge") (required_words (codes "TABLE") ∷ option (codes "expect") ∷ [])
+    ∷ command (codes "merge") (required_words (codes "TABLE") ∷ option (codes "expect") ∷ flag (codes "gaps") ∷ [])
     ∷ []
 
 abbrev pub without_commands : App

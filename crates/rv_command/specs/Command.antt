@@ -1,5 +1,5 @@
 -- Which job a command line asks for. A word is the list of its bytes.
-use Rattle.std.specs.Prelude.{ℕ, ◌==◌, List, ◌∷◌, map, drop, take, Option, Some, None, option_map, option_and_then, codes, if◌then◌else◌}
+use Rattle.std.specs.Prelude.{ℕ, ◌-◌, ◌==◌, Bool, true, false, List, ◌∷◌, length, map, drop, take, Option, Some, None, option_map, option_and_then, codes, if◌then◌else◌}
 use Rattle.std.specs.Borrow.{Bor}
 use Rattle.std.specs.Str.{bytes_eq}
 use Rattle.clap.specs.Words.{Row, Text, first_of, subcommand_of}
@@ -10,7 +10,7 @@ use Rattle.rv_engines.specs.Request.{Request, request}
 use Rattle.rv_command.specs.ClapProgram.{is_accepted, program}
 use Rattle.rv_command.specs.ExplainLine.{asking_at}
 use Rattle.rv_command.specs.HuntLine.{Hunting, hunting, hunting_at}
-use Rattle.rv_command.specs.MergeLine.{are_tables, expected_first, option_last, tables_before}
+use Rattle.rv_command.specs.MergeLine.{are_tables, expected_first, gaps_at, option_last, tables_before}
 use Rattle.rv_command.specs.RunLine.{plan_at, request_at}
 use Rattle.rv_command.specs.Values.{number_at}
 use Rattle.rv_command.specs.declared.command.Job.{Job}
@@ -35,7 +35,7 @@ pub data Asked : Type 0 where
   Explain : (image schedule : Text) → (wanted : Asking) → (picture : Option Text) → Asked
   Gdb : (image schedule : Text) → Asked
   Hunt : (image : Text) → (wanted : Hunting) → Asked
-  Merge : (tables : List Text) → (expected : Option Text) → Asked
+  Merge : (tables : List Text) → (expected : Option Text) → (gaps : Bool) → Asked
 
 -- what a job asks for: each of its paths in its own role
 abbrev pub asked : Job → Asked
@@ -50,7 +50,7 @@ asked (job.Exhibit image schedule number) = Exhibit image.0.now schedule.0.now n
 asked (job.Explain image schedule options picture) = Explain image.0.now schedule.0.now (asking options) (option_map (λ path. path.0.now) picture)
 asked (job.Gdb image schedule) = Gdb image.0.now schedule.0.now
 asked (job.Hunt image line) = Hunt image.0.now (hunting line)
-asked (job.Merge tables expected) = Merge (texts tables.0.now) (option_map (λ path. path.0.now) expected)
+asked (job.Merge tables expected gaps) = Merge (texts tables.0.now) (option_map (λ path. path.0.now) expected) gaps
 
 -- ---- what the arguments of each command mean, in what `clap` finds
 
@@ -90,13 +90,19 @@ abbrev pub hunt_at : List Row → Option Asked
 hunt_at rows = option_and_then (λ image. option_map (λ wanted. Hunt image wanted) (hunting_at rows)) (first_of (codes "IMAGE") rows)
 
 -- `merge` with the option before the tables
-abbrev pub option_first : List Text → Option Asked
-option_first words = option_and_then (λ found. if are_tables found.1 then Some (Merge found.1 (Some found.0)) else None) (expected_first words)
+abbrev pub option_first : Bool → List Text → Option Asked
+option_first gaps words = option_and_then (λ found. if are_tables found.1 then Some (Merge found.1 (Some found.0) gaps) else None) (expected_first words)
 
--- the words of `merge`, which are read as they stand: where tables come first, only the option may follow
+-- the words of `merge` but for `--gaps`: where tables come first, only the option may follow
+abbrev pub merge_with : Bool → List Text → Option Asked
+merge_with gaps words = if tables_before words == 0 then option_first gaps words
+    else option_map (λ expected. Merge (take (tables_before words) words) expected gaps) (option_last (drop (tables_before words) words))
+
+-- the words of `merge`, which are read as they stand; the first or the last of them may be `--gaps`
 abbrev pub merge_at : List Text → Option Asked
-merge_at words = if tables_before words == 0 then option_first words
-    else option_map (λ expected. Merge (take (tables_before words) words) expected) (option_last (drop (tables_before words) words))
+merge_at words = if gaps_at 0 words then merge_with true (drop 1 words)
+    else if gaps_at (length words - 1) words then merge_with true (take (length words - 1) words)
+    else merge_with false words
 
 -- the job of the command of this name
 abbrev pub job_at : Text → List Row → Option Asked

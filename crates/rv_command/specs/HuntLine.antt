@@ -35,6 +35,7 @@ pub record Hunting : Type 0 where
   pub ignore : Option Text
   pub save_to : Option Text
   pub page : Option Text
+  pub list : Option Text
   pub blocks : ℕ
   pub shows_table : Bool
   pub checks : Bool
@@ -67,6 +68,7 @@ hunting line = record {
   ignore = option_map (λ path. path.0.now) line.ignore;
   save_to = option_map (λ path. path.0.now) line.save_to;
   page = option_map (λ path. path.0.now) line.page;
+  list = option_map (λ path. path.0.now) line.list;
   blocks = line.blocks;
   shows_table = line.shows_table;
   checks = line.checks;
@@ -162,6 +164,7 @@ hunting_at rows =
       ignore = first_of (codes "ignore") rows;
       save_to = first_of (codes "save-to") rows;
       page = first_of (codes "page") rows;
+      list = first_of (codes "list") rows;
       blocks = blocks;
       shows_table = flag_at (codes "table") rows;
       checks = flag_at (codes "check") rows;

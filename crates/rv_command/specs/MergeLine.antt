@@ -1,5 +1,6 @@
--- The words of `merge TABLE..`, with `--expect TABLE` or `--expect=TABLE` before the tables or behind them.
-use Rattle.std.specs.Prelude.{ℕ, ◌+◌, ◌==◌, ◌&&◌, Bool, false, nat_eq, nat_lt, if◌then◌else◌, List, [], ◌∷◌, drop, length, Option, Some, None, option_and_then, option_map, codes}
+-- The words of `merge TABLE..`, with `--expect TABLE` or `--expect=TABLE` before the tables or behind them, and `--gaps` as the first word or the last.
+use Rattle.std.specs.Prelude.{ℕ, ◌+◌, ◌==◌, ◌&&◌, Bool, false, nat_eq, nat_lt, if◌then◌else◌, List, [], ◌∷◌, drop, length, Option, Some, None, option_and_then, option_map, slice_get, codes}
+use Rattle.std.specs.Option.{option_map_or}
 use Rattle.std.specs.List.{starts_with}
 use Rattle.std.specs.Str.{bytes_eq}
 use Rattle.clap.specs.Words.{Text}
@@ -37,3 +38,7 @@ expected_first (option ∷ rest) = if bytes_eq option (codes "--expect") then va
 abbrev pub option_last : List Text → Option (Option Text)
 option_last [] = Some None
 option_last (option ∷ rest) = option_and_then (λ found. if length found.1 == 0 then Some (Some found.0) else None) (expected_first (option ∷ rest))
+
+-- the word of that place is `--gaps`
+abbrev pub gaps_at : ℕ → List Text → Bool
+gaps_at place words = option_map_or (λ word. bytes_eq word (codes "--gaps")) (slice_get words place) false

@@ -24,6 +24,10 @@ pub struct PicturePath<'a>(pub &'a str);
 #[derive(Clone, Copy, Debug, PartialEq, Eq)]
 pub struct PagePath<'a>(pub &'a str);
 
+/// The path of a file for a list of races.
+#[derive(Clone, Copy, Debug, PartialEq, Eq)]
+pub struct ListPath<'a>(pub &'a str);
+
 /// The path of a folder for schedules.
 #[derive(Clone, Copy, Debug, PartialEq, Eq)]
 pub struct FolderPath<'a>(pub &'a str);
@@ -40,7 +44,7 @@ pub struct Aim<'a> {
     pub other: &'a str,
 }
 
-/// The path of a table of races.
+/// The path of a table of races, or of a list of them.
 #[derive(Clone, Copy, Debug, PartialEq, Eq)]
 pub struct TablePath<'a>(pub &'a str);
 

@@ -117,8 +117,12 @@ pub enum Job<'a> {
     Merge {
         tables: TablePaths<'a>,
         expected: Option<TablePath<'a>>,
+        gaps: bool,
     },
 }
+
+/// The version of the program.
+pub const VERSION: &str = "0.1.0";
 
 /// Why a command line gives no job.
 #[derive(Clone, Copy, Debug, PartialEq, Eq)]
@@ -318,7 +322,7 @@ fn program<'a>(alloc: Global, after: &'a [String]) -> Result<Command<'a>, AllocE
     ensures { IfOk result (λ c. app_of c ≡ known.program) }
 {
     let program = Command::new(alloc, "rvcollide")
-        .version("0.1.0")
+        .version(VERSION)
         .override_help(OVERVIEW)
         .subcommand_required(true);
     with_subcommands(alloc, program, &COMMANDS, after)

@@ -78,6 +78,13 @@ impl Schedule {
         self.count
     }
 
+    /// Its plan.
+    pub(crate) fn plan(&self) -> Plan
+        ensures { numbers result ≡ self.now.plan }
+    {
+        self.plan
+    }
+
     /// How many steps the plan allows.
     pub(crate) fn steps(&self) -> u32
         ensures value { result ≡ self.now.plan.steps }

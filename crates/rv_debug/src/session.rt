@@ -147,6 +147,13 @@ impl Session {
         self.schedule.entries()
     }
 
+    /// Its plan.
+    pub fn plan(&self) -> Plan
+        ensures { numbers result ≡ self.now.plan }
+    {
+        self.schedule.plan()
+    }
+
     /// The endings of its pauses, in the order in which they ended.
     pub fn endings(&self) -> &[Ending]
         ensures { result.now ≡ endings (setting self.now).start self.now.entries }

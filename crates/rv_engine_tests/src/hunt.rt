@@ -1,7 +1,7 @@
 //! The engines of `hunt` and `merge`, on devices that fail; what of hunts and tables the built program can't show. What it can
 //! is in `tests/hunts`.
 use crate::assertion::assert_is;
-use rv_explain::block::RaceClass::{self, Counter, Flag, Kept, Named, Ordered};
+use rv_explain::block::RaceClass::{self, Atomic, Counter, Flag, Kept, Named, Ordered, Unwatched};
 use rv_hunt::expected::{is_likely_benign, may_be_bug};
 use rv_hunt::fault::ReadFault;
 use rv_hunt::reading::read_either;
@@ -102,8 +102,10 @@ fn a_damaged_table_tells_its_line(rt: HostRuntime) {
 const CLASSES: &[(RaceClass, bool, bool)] = &[
     (Kept, true, false),
     (Counter, true, false),
+    (Unwatched, false, false),
     (Flag, false, true),
     (Ordered, false, true),
+    (Atomic, false, true),
     (Named, false, false),
 ];
 

@@ -1,11 +1,9 @@
 //! Images that commands read.
 ghost use Rattle.std.specs.Prelude.{◌≡◌, ◌≤◌, ◌||◌, false, Ok, IfOk, IfErr, IfSome, length};
 ghost use Rattle.rv_memory.specs.Flagged as flag;
-ghost use Rattle.rv_engines.specs.Built as flags;
 ghost use Rattle.rv_engines.specs.Fault.{IsToldFault, fails_by, is_read, is_write};
 ghost use Rattle.rv_engines.specs.Images as spec;
 
-use crate::built::{Built, built_of};
 use crate::fault::Fault;
 use rv_elf::{Image, load};
 use rv_memory::flagged::{Flagged, INPUT_LIMIT, read_whole};
@@ -14,7 +12,7 @@ use std::io::Read;
 
 /// The image of the bytes of a file, which are not too many.
 #[tactic(auto, unfolding(crate::specs::Images::image_of))]
-fn image_of(alloc: Global, bytes: &[u8]) -> Result<Image, Fault>
+pub fn image_of(alloc: Global, bytes: &[u8]) -> Result<Image, Fault>
     requires { length bytes.now ≤ INPUT_LIMIT }
     ensures ok { IfOk result (λ image. spec.image_of bytes.now ≡ Ok image) }
     ensures err { IfErr result (IsToldFault (spec.image_of bytes.now)) }
@@ -39,21 +37,4 @@ pub fn read_image<R: Read>(alloc: Global, reader: &mut Flagged<R>) -> Result<Ima
 {
     let bytes = read_whole(alloc, reader, INPUT_LIMIT)?;
     image_of(alloc, &bytes)
-}
-
-/// Reads an image, and sees what it was built with.
-#[tactic(auto, unfolding(crate::specs::Images::image_of))]
-pub fn read_built<R: Read>(alloc: Global, reader: &mut Flagged<R>) -> Result<(Image, Built), Fault>
-    ensures ok { IfOk result (λ read. IfSome (R.remaining (flag.device reader.old)) (λ bytes.
-        spec.image_of bytes ≡ Ok read.0)) }
-    ensures built { IfOk result (λ read. IfSome (R.remaining (flag.device reader.old)) (λ bytes.
-        read.1 ≡ flags.built_of bytes)) }
-    ensures err { IfErr result (λ fault. IfSome (R.remaining (flag.device reader.old)) (λ bytes.
-        IsToldFault (spec.image_of bytes) fault)) }
-    ensures reader { flag.has_failed reader.new ≡ (flag.has_failed reader.old || fails_by is_read result) }
-    ensures writer { fails_by is_write result ≡ false }
-{
-    let bytes = read_whole(alloc, reader, INPUT_LIMIT)?;
-    let built = built_of(&bytes);
-    Ok((image_of(alloc, &bytes)?, built))
 }

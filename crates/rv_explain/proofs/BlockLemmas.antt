@@ -15,7 +15,8 @@ use Rattle.rv_collide.specs.declared.ending.Ending.{Ending}
 use Rattle.rv_collide.specs.declared.entry.Entry.{Entry}
 use Rattle.rv_debug.specs.Placed.{Placed, moved}
 use Rattle.rv_explain.proofs.Ranges.{fold_found_to, fold_to, map_to}
-use Rattle.rv_explain.specs.BlockOf.{Lines, last_store, lines, lines_from, meets_at, no_lines, places_about, race_shown, row_at, row_between, second, shown_with, side, store_or, with_place}
+use Rattle.rv_explain.specs.BlockOf.{Lines, lines, lines_from, meets_at, no_lines, places_about, race_shown, row_at, row_between, second, shown_with, side, with_place}
+use Rattle.rv_races.specs.Judged.{last_store, store_or}
 use Rattle.rv_explain.specs.Meeting.{is_within}
 use Rattle.rv_explain.specs.Told.{IsRow, row_of}
 use Rattle.rv_explain.specs.declared.block.Side.{Side}

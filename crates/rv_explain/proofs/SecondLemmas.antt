@@ -16,7 +16,8 @@ use Rattle.rv_collide.specs.declared.ending.Verdict.{Verdict}
 use Rattle.rv_collide.specs.declared.ending.Verdict.TheVariants.{Hit, Changed, Quiet}
 use Rattle.rv_collide.specs.declared.entry.Entry.{Entry}
 use Rattle.rv_explain.proofs.Ranges.{fold_found_to}
-use Rattle.rv_explain.specs.BlockOf.{last_store, second, seen_within, store_or}
+use Rattle.rv_explain.specs.BlockOf.{second}
+use Rattle.rv_races.specs.Judged.{last_store, seen_within, store_or}
 use Rattle.rv_explain.specs.SecondLaws.{SecondIsExhibited}
 use Rattle.rv_hart.specs.State.{State}
 use Rattle.rv_hart.specs.declared.access.Access.{Access}

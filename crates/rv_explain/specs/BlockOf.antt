@@ -1,12 +1,9 @@
 -- What is shown of a race of a run: both accesses, and the entries around them.
-use Rattle.std.specs.Prelude.{ℕ, ◌+◌, ◌-◌, Bool, ◌==◌, ◌&&◌, min, if◌then◌else◌, Option, Some, None, option_and_then, option_map, List, [], ◌∷◌, ◌++◌, length, slice_get, filter_map}
+use Rattle.std.specs.Prelude.{ℕ, ◌+◌, ◌-◌, Bool, ◌==◌, ◌&&◌, min, if◌then◌else◌, Option, option_and_then, option_map, List, [], ◌∷◌, ◌++◌, length, slice_get}
 use Rattle.std.specs.List.{fold, range_with_len}
 use Rattle.std.specs.Option.{option_to_list}
 use Rattle.rv_break.specs.declared.claim.Seen.{Seen}
-use Rattle.rv_collide.specs.Answers.{pause_of}
-use Rattle.rv_collide.specs.First.{seen_at}
 use Rattle.rv_collide.specs.Made.{made}
-use Rattle.rv_collide.specs.Pause.{within}
 use Rattle.rv_collide.specs.StateAt.{state_at}
 use Rattle.rv_collide.specs.declared.ending.Ending.{Ending}
 use Rattle.rv_debug.specs.Answers.{word_at}
@@ -22,24 +19,12 @@ use Rattle.rv_explain.specs.declared.row.Shown.TheVariants as shown
 use Rattle.rv_hart.specs.State.{State}
 use Rattle.rv_hart.specs.declared.access.Access.{Access}
 use Rattle.rv_races.specs.Races.{Run}
+use Rattle.rv_races.specs.Judged.{last_store}
 use Rattle.rv_races.specs.Second.{second_of}
 use Rattle.rv_races.specs.Stretches.{is_shown}
 use Rattle.rv_races.specs.declared.races.Race.{Race}
-use Rattle.rv_report.specs.Exhibit.{writes_over}
 
--- ---- the other hart's accesses
-
--- the accesses within the pause, in order: all are other harts'
-unfoldable pub seen_within : Run → Ending → List Seen
-seen_within run told = filter_map (seen_at run.start run.entries) (within (pause_of told))
-
--- the later of two where it writes one of the bytes
-abbrev pub store_or : Access → Option Seen → Seen → Option Seen
-store_or paused earlier seen = if writes_over paused seen.access then Some seen else earlier
-
--- the last of them that writes one of the bytes
-unfoldable pub last_store : Run → Ending → Option Seen
-last_store run told = fold (store_or told.access) None (seen_within run told)
+-- ---- the other hart's access
 
 -- the second access, by the last store
 unfoldable pub second : Run → Ending → Seen

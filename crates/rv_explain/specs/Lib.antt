@@ -13,6 +13,7 @@ pub mod StuckReads
 pub mod Told
 pub mod internal
 pub use Rattle.rv_races.specs.Classes
+pub use Rattle.rv_races.specs.Judged
 pub use Rattle.rv_races.specs.Races
 pub use Rattle.rv_races.specs.Second
 pub use Rattle.rv_races.specs.Stretches

@@ -23,8 +23,10 @@ pub fn class_word(class: RaceClass) -> &'static [u8]
     match class {
         RaceClass::Kept => b"kept",
         RaceClass::Counter => b"counter",
+        RaceClass::Unwatched => b"unwatched",
         RaceClass::Flag => b"flag",
         RaceClass::Ordered => b"ordered",
+        RaceClass::Atomic => b"atomic",
         RaceClass::Named => b"named",
     }
 }
@@ -75,8 +77,14 @@ fn reason_line(alloc: Global, names: &Names, block: &Block) -> Result<Option<Str
         RaceClass::Counter => {
             "counter: both add to a word in memory, so this may be a statistics counter"
         }
+        RaceClass::Unwatched => {
+            "unwatched: no data breakpoint watched the pause, so this was not seen to be a race"
+        }
         RaceClass::Flag => "flag: the code looks at none of the bits that changed",
         RaceClass::Named => "named: the bytes are listed by --named",
+        RaceClass::Atomic => {
+            "atomic: no fence orders the load; this machine is sequentially consistent and cannot show what hardware may do"
+        }
         RaceClass::Ordered => {
             let image = names.symbols.image();
             let one = role_text(role_at(image, block.paused.access.pc));

@@ -7,6 +7,7 @@ ghost use Rattle.rv_collide.specs.First.{seen_at};
 ghost use Rattle.rv_collide.specs.Pause.{within};
 ghost use Rattle.rv_debug.specs.Placed.{moved};
 ghost use Rattle.rv_explain.specs.BlockOf as spec;
+ghost use Rattle.rv_races.specs.Judged as judged;
 ghost use Rattle.rv_races.specs.Races.{run_of};
 
 use crate::meeting::{is_within, met, wrote};
@@ -68,7 +69,7 @@ fn seen_by(place: u32, hart: Option<u8>, access: Option<Access>) -> Option<Seen>
 
 /// The later of two accesses where there is one and it writes one of the bytes.
 fn last_after(paused: &Access, last: Option<Seen>, seen: Option<Seen>) -> Option<Seen>
-    ensures { result ≡ option_map_or (spec.store_or paused.now last) seen last }
+    ensures { result ≡ option_map_or (judged.store_or paused.now last) seen last }
 {
     match seen {
         Some(seen) if wrote(paused, &Some(seen.access)) => Some(seen),
@@ -80,7 +81,7 @@ impl Walked {
     /// Goes on by the entry at the session's place.
     fn pass(&mut self, session: &mut Session, told: &Ending) -> Result<(), NoMemory>
         requires { session.old.place < length session.old.entries }
-        ensures last { OnOk result (self.new.last ≡ option_map_or (spec.store_or told.now.access self.old.last)
+        ensures last { OnOk result (self.new.last ≡ option_map_or (judged.store_or told.now.access self.old.last)
             (seen_at (run_of session.old).start session.old.entries session.old.place) self.old.last) }
         ensures meets { OnOk result (self.new.meets.items
             ≡ self.old.meets.items ++ spec.meets_at (run_of session.old) told.now session.old.place ∷ []) }
@@ -101,7 +102,7 @@ impl Walked {
 pub(crate) fn walk(alloc: Global, session: &mut Session, told: &Ending) -> Result<Walked, NoMemory>
     requires starts { told.now.paused_at < told.now.resumed_at }
     requires inside { told.now.resumed_at < length session.old.entries }
-    ensures last { IfOk result (λ walked. walked.last ≡ spec.last_store (run_of session.old) told.now) }
+    ensures last { IfOk result (λ walked. walked.last ≡ judged.last_store (run_of session.old) told.now) }
     ensures before { IfOk result (λ walked. IfSome walked.last (λ seen. seen.place < told.now.resumed_at)) }
     ensures meets { IfOk result (λ walked.
         walked.meets.items ≡ map (spec.meets_at (run_of session.old) told.now) (within (pause_of told.now))) }

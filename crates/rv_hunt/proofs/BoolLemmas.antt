@@ -26,3 +26,9 @@ third_failed i g e a b c z first next last = rw (first, next, last) (third i g e
 -- none of them failed by a fault that is none of a reader's
 pub none_failed : (i g e a b c z : Bool) → a ≡ (i || false) → b ≡ (g || false) → c ≡ (e || false) → z ≡ false → ((a || b) || c) ≡ (((i || g) || e) || z)
 none_failed i g e a b c z first next last never = rw never (third_failed i g e a b c false first next last)
+
+-- neither of two with nothing more
+pub nothing_more : (a b : Bool) → ((a || false) || (b || false)) ≡ ((a || b) || false)
+nothing_more true b = refl
+nothing_more false true = refl
+nothing_more false false = refl

@@ -32,17 +32,17 @@ write_same NoMemory = refl
 write_same NoThread = refl
 write_same Write = refl
 
-pub made_known : (known : Option Files) (asked : Asked) (way : Showing) (hunting : Hunting) (Saves : ℕ → List ℕ → Type 0) (Pages : List Fact → Type 0) (found : Found) (texts : Texts)
-    → IfSome known (λ files. IsHuntingOf asked files hunting) → IsMade way hunting Saves Pages found texts
-    → IfSome known (λ files. (x : Hunting) × IsHuntingOf asked files x × IsMade way x Saves Pages found texts)
-made_known None asked way hunting Saves Pages found texts is all = tt
-made_known (Some files) asked way hunting Saves Pages found texts is all = (hunting, is, all)
+pub made_known : (known : Option Files) (asked : Asked) (way : Showing) (hunting : Hunting) (Saves : ℕ → List ℕ → Type 0) (Pages : List Fact → Type 0) (Lists : List ℕ → Type 0) (found : Found) (texts : Texts)
+    → IfSome known (λ files. IsHuntingOf asked files hunting) → IsMade way hunting Saves Pages Lists found texts
+    → IfSome known (λ files. (x : Hunting) × IsHuntingOf asked files x × IsMade way x Saves Pages Lists found texts)
+made_known None asked way hunting Saves Pages Lists found texts is all = tt
+made_known (Some files) asked way hunting Saves Pages Lists found texts is all = (hunting, is, all)
 
-pub told_known : (known : Option Files) (asked : Asked) (way : Showing) (Writes Notes : List ℕ → Type 0) (Saves : ℕ → List ℕ → Type 0) (Pages : List Fact → Type 0) (found : Found) (texts : Texts)
-    → IfSome known (λ files. (x : Hunting) × IsHuntingOf asked files x × IsMade way x Saves Pages found texts) → Writes texts.text → Notes texts.notes
-    → IfSome known (λ files. (x : Hunting) × IsHuntingOf asked files x × IsTold way x found Writes Notes Saves Pages)
-told_known None asked way Writes Notes Saves Pages found texts is written noted = tt
-told_known (Some files) asked way Writes Notes Saves Pages found texts (hunting, is, all) written noted = (
+pub told_known : (known : Option Files) (asked : Asked) (way : Showing) (Writes Notes : List ℕ → Type 0) (Saves : ℕ → List ℕ → Type 0) (Pages : List Fact → Type 0) (Lists : List ℕ → Type 0) (found : Found) (texts : Texts)
+    → IfSome known (λ files. (x : Hunting) × IsHuntingOf asked files x × IsMade way x Saves Pages Lists found texts) → Writes texts.text → Notes texts.notes
+    → IfSome known (λ files. (x : Hunting) × IsHuntingOf asked files x × IsTold way x found Writes Notes Saves Pages Lists)
+told_known None asked way Writes Notes Saves Pages Lists found texts is written noted = tt
+told_known (Some files) asked way Writes Notes Saves Pages Lists found texts (hunting, is, all) written noted = (
   hunting,
   is,
   record { texts = texts; made = all; written = written; noted = noted },

@@ -4,12 +4,11 @@ use Rattle.std.specs.Prelude.{drop, if◌then◌else◌, length, slice_get, ◌=
 use Rattle.std.specs.Option.{option_map, option_map_or}
 use Rattle.std.proofs.lemmas.List.Splits.{length-slice_split}
 use Rattle.std.proofs.lemmas.List.Sums.{count_by-le-length}
-use Rattle.rv_elf.specs.Contents.{Contents}
 use Rattle.rv_memory.specs.Chain.{◌>>=◌, want}
 use Rattle.rv_text.specs.Pieces.{pieces_of}
 use Rattle.rv_hunt.specs.internal.Shaped.{after_line, ended, judged, listed_at, unknown_at, unknown_in}
 use Rattle.rv_hunt.specs.internal.Sought.{lines_in}
-use Rattle.rv_hunt.specs.merge.Ignore.{are_known, at_line, line_of, lines_from, listed, sides_of, words_in, words_of}
+use Rattle.rv_hunt.specs.merge.Ignore.{Said, at_line, line_of, lines_from, listed, sides_of, words_in, words_of}
 use Rattle.rv_hunt.specs.declared.merge.fault.IgnoreFault.{IgnoreFault}
 use Rattle.rv_hunt.specs.declared.merge.fault.IgnoreKind.{IgnoreKind}
 use Rattle.rv_hunt.specs.declared.merge.fault.IgnoreKind.TheVariants.{Unknown}
@@ -19,18 +18,15 @@ use Rattle.rv_hunt.specs.declared.merge.ignore.ListedLine.{ListedLine}
 abbrev pub Read : Type 0
 Read = Result (List Line) IgnoreFault
 
-abbrev Pair : Type 0
-Pair = List ℕ × List ℕ
-
 -- ---- a line more
 
-judged_append : (image : Contents) (before more : List ListedLine) (read : Read) → judged image (before ++ more) read ≡ judged image before (judged image more read)
-judged_append image [] more read = refl
-judged_append image (x ∷ before) more read = ap (after_line image x) (judged_append image before more read)
+judged_append : (known : Line → Bool) (before more : List ListedLine) (read : Read) → judged known (before ++ more) read ≡ judged known before (judged known more read)
+judged_append known [] more read = refl
+judged_append known (x ∷ before) more read = ap (after_line known x) (judged_append known before more read)
 
 -- what a line says, by its words
-abbrev said_by : Contents → Result (Option Pair) IgnoreKind → Result (Option Line) IgnoreKind
-said_by image r = r >>= λ pair. want (option_map_or (λ (words : Pair). are_known image (sides_of words)) pair true) Unknown >>= λ _. Ok (option_map sides_of pair)
+abbrev said_by : (Line → Bool) → Result (Option Said) IgnoreKind → Result (Option Line) IgnoreKind
+said_by known r = r >>= λ pair. want (option_map_or (λ (words : Said). known (sides_of words)) pair true) Unknown >>= λ _. Ok (option_map sides_of pair)
 
 -- what is read of a line and those after it
 abbrev with_later : ℕ → Result (Option Line) IgnoreKind → Read → Read
@@ -44,34 +40,34 @@ by_known : (b : Bool) (line : Line) (at : ℕ) (read : Read) → with_later at (
 by_known true line at read = refl
 by_known false line at read = refl
 
-by_words : (image : Contents) (at : ℕ) (pair : Option Pair) (read : Read) → with_later at (said_by image (Ok pair)) read ≡ judged image (listed_at at pair) read
-by_words image at None read = by_nothing at read
-by_words image at (Some pair) read = by_known (are_known image (sides_of pair)) (sides_of pair) at read
+by_words : (known : Line → Bool) (at : ℕ) (pair : Option Said) (read : Read) → with_later at (said_by known (Ok pair)) read ≡ judged known (listed_at at pair) read
+by_words known at None read = by_nothing at read
+by_words known at (Some pair) read = by_known (known (sides_of pair)) (sides_of pair) at read
 
-by_shape : (image : Contents) (at : ℕ) (pair : Option Pair) (r : Result (Option Pair) IgnoreKind) (read : Read) → r ≡ Ok pair → with_later at (said_by image r) read ≡ judged image (listed_at at pair) read
-by_shape image at pair r read is = rw is (by_words image at pair read)
+by_shape : (known : Line → Bool) (at : ℕ) (pair : Option Said) (r : Result (Option Said) IgnoreKind) (read : Read) → r ≡ Ok pair → with_later at (said_by known r) read ≡ judged known (listed_at at pair) read
+by_shape known at pair r read is = rw is (by_words known at pair read)
 
-pub step : (image : Contents) (at : ℕ) (before : List ListedLine) (pair : Option Pair) (text : List ℕ) (later : List (List ℕ)) → words_in (words_of text) ≡ Ok pair
-    → judged image before (lines_from image at (text ∷ later)) ≡ judged image (before ++ listed_at at pair) (lines_from image (at + 1) later)
+pub step : (known : Line → Bool) (at : ℕ) (before : List ListedLine) (pair : Option Said) (text : List ℕ) (later : List (List ℕ)) → words_in (words_of text) ≡ Ok pair
+    → judged known before (lines_from known at (text ∷ later)) ≡ judged known (before ++ listed_at at pair) (lines_from known (at + 1) later)
 unfolding lines_from line_of
-step image at before pair text later is =
-    ap (judged image before) (by_shape image at pair (words_in (words_of text)) (lines_from image (at + 1) later) is)
-    ∙ sym (judged_append image before (listed_at at pair) (lines_from image (at + 1) later))
+step known at before pair text later is =
+    ap (judged known before) (by_shape known at pair (words_in (words_of text)) (lines_from known (at + 1) later) is)
+    ∙ sym (judged_append known before (listed_at at pair) (lines_from known (at + 1) later))
 
 -- ---- a line that has no shape, and none
 
-faulty_by : (image : Contents) (at : ℕ) (kind : IgnoreKind) (r : Result (Option Pair) IgnoreKind) (read : Read) → r ≡ Err kind → with_later at (said_by image r) read ≡ Err (record { line = at; kind = kind })
-faulty_by image at kind r read is = rw is refl
+faulty_by : (known : Line → Bool) (at : ℕ) (kind : IgnoreKind) (r : Result (Option Said) IgnoreKind) (read : Read) → r ≡ Err kind → with_later at (said_by known r) read ≡ Err (record { line = at; kind = kind })
+faulty_by known at kind r read is = rw is refl
 
-pub faulty : (image : Contents) (at : ℕ) (before : List ListedLine) (kind : IgnoreKind) (text : List ℕ) (later : List (List ℕ)) → words_in (words_of text) ≡ Err kind
-    → judged image before (lines_from image at (text ∷ later)) ≡ judged image before (ended (Some (record { line = at; kind = kind })))
+pub faulty : (known : Line → Bool) (at : ℕ) (before : List ListedLine) (kind : IgnoreKind) (text : List ℕ) (later : List (List ℕ)) → words_in (words_of text) ≡ Err kind
+    → judged known before (lines_from known at (text ∷ later)) ≡ judged known before (ended (Some (record { line = at; kind = kind })))
 unfolding lines_from line_of
-faulty image at before kind text later is =
-    ap (judged image before) (faulty_by image at kind (words_in (words_of text)) (lines_from image (at + 1) later) is)
+faulty known at before kind text later is =
+    ap (judged known before) (faulty_by known at kind (words_in (words_of text)) (lines_from known (at + 1) later) is)
 
-pub no_more : (image : Contents) (at : ℕ) (before : List ListedLine) → judged image before (lines_from image at []) ≡ judged image before (ended None)
+pub no_more : (known : Line → Bool) (at : ℕ) (before : List ListedLine) → judged known before (lines_from known at []) ≡ judged known before (ended None)
 unfolding lines_from
-no_more image at before = refl
+no_more known at before = refl
 
 -- ---- the names of the lines
 
@@ -82,30 +78,35 @@ unknown_step false here at line rest read next is =
     let same : here ≡ at = cc in
     ap (λ (n : ℕ). Err (unknown_at n)) same
 
-pub judged_unknown : (image : Contents) (lines : List ListedLine) (read : Read) (at : ℕ) → unknown_in image lines ≡ Some at → judged image lines read ≡ Err (unknown_at at)
-judged_unknown image [] read at is = absurd (cc)
-judged_unknown image (x ∷ lines) read at is =
-    unknown_step (are_known image x.line) x.at at x.line (unknown_in image lines) (judged image lines read) (judged_unknown image lines read at) is
+pub judged_unknown : (known : Line → Bool) (lines : List ListedLine) (read : Read) (at : ℕ) → unknown_in known lines ≡ Some at → judged known lines read ≡ Err (unknown_at at)
+judged_unknown known [] read at is = absurd (cc)
+judged_unknown known (x ∷ lines) read at is =
+    unknown_step (known x.line) x.at at x.line (unknown_in known lines) (judged known lines read) (judged_unknown known lines read at) is
 
 known_step : (b : Bool) (here : ℕ) (line : Line) (rest : Option ℕ) (read : Read) (lines : List Line) → (rest ≡ None → read ≡ Ok lines) → (if b then rest else Some here) ≡ None
     → (if b then (read >>= λ later. Ok (line ∷ later)) else Err (unknown_at here)) ≡ Ok (line ∷ lines)
 known_step true here line rest read lines next is = rw (next is) refl
 known_step false here line rest read lines next is = absurd (cc)
 
-pub judged_known : (image : Contents) (lines : List ListedLine) → unknown_in image lines ≡ None → judged image lines (ended None) ≡ Ok (lines_in lines)
-judged_known image [] is = refl
-judged_known image (x ∷ lines) is =
-    known_step (are_known image x.line) x.at x.line (unknown_in image lines) (judged image lines (ended None)) (lines_in lines) (judged_known image lines) is
+pub judged_known : (known : Line → Bool) (lines : List ListedLine) → unknown_in known lines ≡ None → judged known lines (ended None) ≡ Ok (lines_in lines)
+judged_known known [] is = refl
+judged_known known (x ∷ lines) is =
+    known_step (known x.line) x.at x.line (unknown_in known lines) (judged known lines (ended None)) (lines_in lines) (judged_known known lines) is
 
 fault_step : (b : Bool) (here : ℕ) (line : Line) (rest : Option ℕ) (read : Read) (fault : IgnoreFault) → (rest ≡ None → read ≡ Err fault) → (if b then rest else Some here) ≡ None
     → (if b then (read >>= λ later. Ok (line ∷ later)) else Err (unknown_at here)) ≡ Err fault
 fault_step true here line rest read fault next is = rw (next is) refl
 fault_step false here line rest read fault next is = absurd (cc)
 
-pub judged_fault : (image : Contents) (lines : List ListedLine) (fault : IgnoreFault) → unknown_in image lines ≡ None → judged image lines (ended (Some fault)) ≡ Err fault
-judged_fault image [] fault is = refl
-judged_fault image (x ∷ lines) fault is =
-    fault_step (are_known image x.line) x.at x.line (unknown_in image lines) (judged image lines (ended (Some fault))) fault (judged_fault image lines fault) is
+pub judged_fault : (known : Line → Bool) (lines : List ListedLine) (fault : IgnoreFault) → unknown_in known lines ≡ None → judged known lines (ended (Some fault)) ≡ Err fault
+judged_fault known [] fault is = refl
+judged_fault known (x ∷ lines) fault is =
+    fault_step (known x.line) x.at x.line (unknown_in known lines) (judged known lines (ended (Some fault))) fault (judged_fault known lines fault) is
+
+-- where each name is taken as known
+pub none_unknown : (lines : List ListedLine) → unknown_in (λ line. true) lines ≡ None
+none_unknown [] = refl
+none_unknown (x ∷ lines) = none_unknown lines
 
 -- ---- the pieces
 

@@ -5,7 +5,10 @@ pub mod FileLemmas
 pub mod FoldLemmas
 pub mod HuntLemmas
 pub mod IgnoreLemmas
+pub mod JudgedLemmas
 pub mod IgnoredRowLemmas
+pub mod KnownLemmas
+pub mod ListingLemmas
 pub mod MadeLemmas
 pub mod MergeLemmas
 pub mod MergedFileLemmas
@@ -14,12 +17,14 @@ pub mod OpenLemmas
 pub mod OrderLemmas
 pub mod OrderRowLemmas
 pub mod OrderShowingLemmas
+pub mod OriginLemmas
 pub mod PartedLemmas
 pub mod ReadLemmas
 pub mod RemadeLemmas
 pub mod ReportLemmas
 pub mod ResultLemmas
 pub mod RightLemmas
+pub mod SaidLemmas
 pub mod Rows
 pub mod ShowingLemmas
 pub mod ShownLemmas
@@ -27,5 +32,6 @@ pub mod SoughtLemmas
 pub mod SummaryLemmas
 pub mod WordLemmas
 pub mod WalkLemmas
+pub mod WholeLemmas
 pub mod Written
 pub mod ReadBack

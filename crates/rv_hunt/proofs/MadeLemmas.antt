@@ -1,6 +1,7 @@
 -- What is made of a hunt.
-use Rattle.std.proofs.Common.{◌≡◌, ℕ, Bool, List, length, ap, subst, ◌∙◌, take, true, false}
+use Rattle.std.proofs.Common.{◌≡◌, ℕ, Bool, Option, List, length, ap, subst, ◌∙◌, take, true, false}
 use Rattle.std.specs.Map.{keys_of}
+use Rattle.rv_elf.specs.Contents.{Contents}
 use Rattle.rv_campaign.specs.declared.pool.PoolFault.{PoolFault}
 use Rattle.rv_campaign.specs.declared.pool.PoolFault.TheVariants as pool
 use Rattle.rv_hunt.specs.declared.engine.fault.MakeFault.{MakeFault}
@@ -15,8 +16,11 @@ use Rattle.rv_hunt.specs.declared.engine.found.Found.{Found}
 use Rattle.rv_hunt.specs.declared.engine.orders.ShownOrder.{ShownOrder}
 use Rattle.rv_hunt.specs.declared.engine.shown.ShownRace.{ShownRace}
 use Rattle.rv_hunt.specs.declared.hunted.Hunted.{Hunted}
+use Rattle.rv_hunt.specs.declared.merge.known.Known.{Known}
 use Rattle.rv_hunt.specs.declared.row.RaceRow.{RaceRow}
-use Rattle.rv_hunt.specs.engine.Hunting.{Hunting, IsMade, IsTable, Showing, Texts, found_in, ignored_by, outcome, told_in}
+use Rattle.rv_hunt.specs.engine.Hunting.{Hunting, IsMade, IsTable, Showing, Texts, found_in, ignored_by, new_in, origin_of, outcome, told_in}
+use Rattle.rv_hunt.specs.merge.Known.{has_gone, new_races}
+use Rattle.rv_hunt.specs.merge.Listing.{list_text}
 use Rattle.rv_hunt.specs.engine.OrderShown.{AreOrdersShown}
 use Rattle.rv_hunt.specs.engine.Shown.{AreShown}
 use Rattle.rv_hunt.specs.engine.StuckShown.{AreStuckShown}
@@ -29,15 +33,16 @@ use Rattle.rv_tally.specs.declared.plans.Mix.{Mix}
 abbrev Row : Type 0
 Row = Key × RaceRow
 
-pub outcome_is : (hunting : Hunting) (saw : Hunted) (n : ℕ) (mix : Mix) (rows ignored : List Row) (built : Built) → n ≡ length hunting.hunt.source.sites → mix ≡ hunting.hunt.given.mix → rows ≡ told_in hunting saw → ignored ≡ ignored_by hunting saw → built ≡ hunting.built
-    → record { sites = n; mix = mix; saw = saw; rows = rows; ignored = ignored; built = built } ≡ outcome hunting saw
-outcome_is hunting saw n mix rows ignored built a b c d e = rw (a, b, c, d, e)
+pub outcome_is : (hunting : Hunting) (saw : Hunted) (n : ℕ) (mix : Mix) (rows ignored : List Row) (gone : Bool) (built : Built) → n ≡ length hunting.hunt.source.sites → mix ≡ hunting.hunt.given.mix → rows ≡ told_in hunting saw → ignored ≡ ignored_by hunting saw → gone ≡ has_gone hunting.hunt.source.image hunting.expected → built ≡ hunting.built
+    → record { sites = n; mix = mix; saw = saw; rows = rows; ignored = ignored; gone = gone; built = built } ≡ outcome hunting saw
+outcome_is hunting saw n mix rows ignored gone built a b c d f e = rw (a, b, c, d, f, e)
 
-pub made_is : (way : Showing) (hunting : Hunting) (saw : Hunted) (Saves : ℕ → List ℕ → Type 0) (Pages : List Fact → Type 0) (rows told full : List Row) (o : Outcome) (shown : List ShownRace) (orders : List ShownOrder) (stuck : List ShownStuck) (ends : EndsSeen) (wrong : Bool) (found : Found) (texts : Texts) → IsNoted hunting.hunt saw ends → ends.right ≡ hunting.right → wrong ≡ ends.is_wrong
+pub made_is : (way : Showing) (hunting : Hunting) (saw : Hunted) (Saves : ℕ → List ℕ → Type 0) (Pages : List Fact → Type 0) (Lists : List ℕ → Type 0) (rows told full unexpected : List Row) (o : Outcome) (paged_told : List Row) (paged_shown : List ShownRace) (listed_image : Contents) (listed_rows : List Row) (shown : List ShownRace) (orders : List ShownOrder) (stuck : List ShownStuck) (ends : EndsSeen) (wrong : Bool) (found : Found) (texts : Texts) → IsNoted hunting.hunt saw ends → ends.right ≡ hunting.right → wrong ≡ ends.is_wrong
     → rows ≡ told_in hunting saw → AreInOrder hunting.hunt.source.image saw.orders rows told → full ≡ take way.full told → o ≡ outcome hunting saw → AreShown hunting.hunt Saves full shown → AreOrdersShown hunting.hunt saw.orders (keys_of full) orders
-    → IsTable way.shows o.rows texts.text → Pages (page_facts o told (length shown)) → AreStuckShown hunting.hunt stuck → found ≡ found_in hunting.expected rows (length stuck) wrong (is_void o)
-    → IsMade way hunting Saves Pages found texts
-made_is way hunting saw Saves Pages rows told full o shown orders stuck ends wrong found texts noted right is_wrong are order first came are_shown ordered table paged are_stuck found_is = record {
+    → IsTable way.shows o.rows (origin_of way hunting saw) texts.text → paged_told ≡ told → paged_shown ≡ shown → Pages (page_facts o paged_told (length paged_shown)) → AreStuckShown hunting.hunt stuck
+    → listed_image ≡ hunting.hunt.source.image → listed_rows ≡ rows → Lists (list_text listed_image listed_rows) → unexpected ≡ new_races hunting.hunt.source.image hunting.expected rows → found ≡ found_in unexpected rows (length stuck) wrong (is_void o)
+    → IsMade way hunting Saves Pages Lists found texts
+made_is way hunting saw Saves Pages Lists rows told full unexpected o paged_told paged_shown listed_image listed_rows shown orders stuck ends wrong found texts noted right is_wrong are order first came are_shown ordered table same_told same_shown paged are_stuck same_image same_rows listed new_is found_is = record {
   saw = saw;
   hunted = noted.hunted_is;
   told = told;
@@ -46,16 +51,32 @@ made_is way hunting saw Saves Pages rows told full o shown orders stuck ends wro
   are_shown = subst (λ (rs : List Row). AreShown hunting.hunt Saves rs shown) first are_shown;
   orders = orders;
   are_ordered = subst (λ (rs : List Row). AreOrdersShown hunting.hunt saw.orders (keys_of rs) orders) first ordered;
-  is_table = subst (λ (x : Outcome). IsTable way.shows x.rows texts.text) came table;
-  paged = subst (λ (x : Outcome). Pages (page_facts x told (length shown))) came paged;
+  is_table = subst (λ (x : Outcome). IsTable way.shows x.rows (origin_of way hunting saw) texts.text) came table;
+  paged =
+      subst (λ (x : Outcome). Pages (page_facts x told (length shown))) came
+      (subst (λ (those : List ShownRace). Pages (page_facts o told (length those))) same_shown
+      (subst (λ (rs : List Row). Pages (page_facts o rs (length paged_shown))) same_told paged));
+  listed =
+      subst (λ (rs : List Row). Lists (list_text hunting.hunt.source.image rs)) (same_rows ∙ are)
+      (subst (λ (image : Contents). Lists (list_text image listed_rows)) same_image listed);
   stuck = stuck;
   are_stuck = are_stuck;
   found_is =
-      found_is ∙ ap (λ (rs : List Row). found_in hunting.expected rs (length stuck) wrong (is_void o)) are
-      ∙ ap (λ (x : Outcome). found_in hunting.expected (told_in hunting saw) (length stuck) wrong (is_void x)) came
-      ∙ ap (λ (w : Bool). found_in hunting.expected (told_in hunting saw) (length stuck) w (is_void (outcome hunting saw)))
+      found_is ∙ ap (λ (rs : List Row). found_in rs rows (length stuck) wrong (is_void o)) new_is
+      ∙ ap (λ (rs : List Row). found_in (new_races hunting.hunt.source.image hunting.expected rs) rs (length stuck) wrong (is_void o)) are
+      ∙ ap (λ (x : Outcome). found_in (new_in hunting saw) (told_in hunting saw) (length stuck) wrong (is_void x)) came
+      ∙ ap (λ (w : Bool). found_in (new_in hunting saw) (told_in hunting saw) (length stuck) w (is_void (outcome hunting saw)))
       (is_wrong ∙ noted.wrong ∙ ap (λ (codes : List ℕ). has_wrong_end codes noted.hunted_is.so_far.runs) right);
 }
+
+-- the same of rows that are the same
+pub new_from : (image that : Contents) (known : Option Known) (rows those found : List Row) → image ≡ that → rows ≡ those → found ≡ new_races image known rows → found ≡ new_races that known those
+new_from image that known rows those found a b is = is ∙ ap (λ (i : Contents). new_races i known rows) a ∙ ap (λ (rs : List Row). new_races that known rs) b
+
+pub found_from : (unexpected new_ones rows those : List Row) (stuck ends : List ShownStuck) (wrong void is_so : Bool) (found : Found) → unexpected ≡ new_ones → rows ≡ those → stuck ≡ ends → void ≡ is_so → found ≡ found_in unexpected rows (length stuck) wrong void → found ≡ found_in new_ones those (length ends) wrong is_so
+found_from unexpected new_ones rows those stuck ends wrong void is_so found a b c d is =
+    is ∙ ap (λ (rs : List Row). found_in rs rows (length stuck) wrong void) a ∙ ap (λ (rs : List Row). found_in new_ones rs (length stuck) wrong void) b
+    ∙ ap (λ (es : List ShownStuck). found_in new_ones those (length es) wrong void) c ∙ ap (λ (v : Bool). found_in new_ones those (length ends) wrong v) d
 
 never : {P : Type 0} → false ≡ true → P
 never h = cc

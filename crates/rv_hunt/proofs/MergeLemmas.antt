@@ -1,6 +1,6 @@
 -- Rows that are added to a table, one by one or as a table of their own.
 use Rattle.std.proofs.Common.{◌≡◌, ℕ, ◌+◌, Bool, true, false, List, [], ◌∷◌, ◌++◌, refl, sym, ap, ◌∙◌, rules, arith}
-use Rattle.std.specs.Prelude.{◌||◌, map, nat_lt}
+use Rattle.std.specs.Prelude.{◌||◌, map, nat_eq, nat_lt}
 use Rattle.std.specs.List.{fold, flat_map}
 use Rattle.std.specs.Cmp.{IsEquivalence}
 use Rattle.std.specs.Cmp.Rules.{comparing}
@@ -9,7 +9,8 @@ use Rattle.std.proofs.lemmas.Bool.Decides.{nat_tests}
 use Rattle.std.proofs.lemmas.List.{map-append}
 use Rattle.std.proofs.lemmas.List.Sums.{fold-append}
 use Rattle.rv_explain.specs.Classes.{rank}
-use Rattle.rv_hunt.specs.HuntLaws.{PiecesAreMerged, TableIsKept, TwoAreMerged}
+use Rattle.rv_hunt.specs.HuntLaws.{OriginsAreJoined, PiecesAreMerged, TableIsKept, TwoAreMerged}
+use Rattle.rv_hunt.specs.Origin.{joined_stretches, with_stretch}
 use Rattle.rv_hunt.specs.Rows.{added, has_race, joined, merged, table_of}
 use Rattle.rv_hunt.specs.declared.row.RaceRow.{RaceRow}
 use Rattle.rv_collide.specs.Counts.{saturated}
@@ -215,3 +216,12 @@ pub added_next : {A : Type 0} (g : A → Row) (table rows : List Row) (xs : List
 added_next g table rows xs x before =
     ap (λ (es : List Row). added es (g x)) before
     ∙ sym (ap (fold added table) (map-append g xs (x ∷ [])) ∙ fold-append added table (map g xs) (g x ∷ []))
+
+-- ---- what tables are of
+
+nat_same : (n : ℕ) → nat_eq n n ≡ true
+nat_same n = grind (arith, nat_tests)
+
+pub origins_joined : OriginsAreJoined
+unfolding joined_stretches with_stretch
+origins_joined origin first middle end = rw (nat_same middle) refl

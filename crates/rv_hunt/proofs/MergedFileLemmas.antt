@@ -1,19 +1,23 @@
 -- Files that are merged one after another.
-use Rattle.std.proofs.Common.{◌≡◌, ℕ, ◌+◌, ◌<◌, Bool, true, false, List, [], ◌∷◌, Option, Some, None, Result, Ok, Err, zero, suc, refl, sym, ap, subst, ◌∙◌, arith}
+use Rattle.std.proofs.Common.{◌≡◌, ℕ, ◌+◌, ◌<◌, Bool, true, false, List, [], ◌∷◌, ◌++◌, Option, Some, None, Result, Ok, Err, zero, suc, refl, sym, ap, subst, ◌∙◌, arith}
 use Rattle.std.specs.Prelude.{◌||◌, IfSome, drop, length, option_and_then, option_map, slice_get, slice_set}
-use Rattle.std.specs.List.{fold, list_any}
-use Rattle.rv_hunt.specs.Rows.{merged}
+use Rattle.std.specs.List.{list_any}
+use Rattle.std.proofs.lemmas.List.{append_assoc, append-nil}
 use Rattle.rv_memory.specs.Chain.{◌>>=◌}
 use Rattle.rv_memory.specs.Flagged.{device, has_failed}
 use Rattle.rv_memory.specs.declared.flagged.Flagged.{Flagged}
 use Rattle.rv_engines.specs.declared.fault.Fault.TheVariants as fault
 use Rattle.rv_hunt.specs.merge.FileFault.{UnlessDevice}
-use Rattle.rv_hunt.specs.merge.Merge.{Files, Merge, IsTold, Table, bytes_of, expected_in, in_file, is_unexpected, merge_of, merged_all, tables_from}
+use Rattle.rv_hunt.specs.merge.Merge.{Files, Merge, IsTold, Table, bytes_of, expected_in, given_as, in_file, merge_of, tables_from, unexpected_in}
 use Rattle.rv_hunt.specs.merge.TableFiles.{hunt_table}
 use Rattle.rv_hunt.specs.declared.merge.fault.FileFault.{FileFault}
 use Rattle.rv_hunt.specs.declared.merge.fault.FileFault.TheVariants.{Plain}
 use Rattle.rv_hunt.specs.declared.merge.MergeFault.{MergeFault}
-use Rattle.rv_hunt.specs.internal.Adding.{with_file, with_files}
+use Rattle.rv_hunt.specs.declared.merge.whole.GivenTable.{GivenTable}
+use Rattle.rv_hunt.specs.declared.merge.whole.Whole.{Whole}
+use Rattle.rv_hunt.specs.declared.origin_line.ReadTable.{ReadTable}
+use Rattle.rv_hunt.specs.internal.Adding.{whole_in, with_file, with_files}
+use Rattle.rv_hunt.specs.merge.Whole.{whole_of}
 
 -- ---- what is told of a file is told of those that more files follow
 
@@ -30,31 +34,34 @@ err_then : {A B : Type 0} (r : Result A MergeFault) (next : A → Result B Merge
 err_then (Ok a) next given is = cc
 err_then (Err e) next given is = cc
 
--- ---- tables added one by one are what they are merged to
+-- ---- tables that are read one by one are those of all files
 
-fold_next : (before table : Table) (r : Result (List Table) MergeFault) → (r >>= λ tables. Ok (fold merged (merged before table) tables)) ≡ ((r >>= λ tables. Ok (table ∷ tables)) >>= λ tables. Ok (fold merged before tables))
-fold_next before table (Ok tables) = refl
-fold_next before table (Err given) = refl
+abbrev Tables : Type 0
+Tables = List GivenTable
 
-added_next : (number : ℕ) (before : Table) (later : List (List ℕ)) (r : Result Table MergeFault) → ((rows : Table) → with_files (number + 1) rows later ≡ (tables_from (number + 1) later >>= λ tables. Ok (fold merged rows tables)))
-    → ((r >>= λ table. Ok (merged before table)) >>= λ rows. with_files (number + 1) rows later) ≡ ((r >>= λ table. tables_from (number + 1) later >>= λ tables. Ok (table ∷ tables)) >>= λ tables. Ok (fold merged before tables))
-added_next number before later (Ok table) others = others (merged before table) ∙ fold_next before table (tables_from (number + 1) later)
+append_next : (before : Tables) (table : GivenTable) (r : Result Tables MergeFault) → (r >>= λ tables. Ok ((before ++ table ∷ []) ++ tables)) ≡ ((r >>= λ tables. Ok (table ∷ tables)) >>= λ tables. Ok (before ++ tables))
+append_next before table (Ok tables) = ap (λ (ts : Tables). Ok ts) (append_assoc before (table ∷ []) tables)
+append_next before table (Err given) = refl
+
+added_next : (number : ℕ) (before : Tables) (later : List (List ℕ)) (r : Result ReadTable MergeFault) → ((tables : Tables) → with_files (number + 1) tables later ≡ (tables_from (number + 1) later >>= λ others. Ok (tables ++ others)))
+    → ((r >>= λ table. Ok (before ++ given_as number table ∷ [])) >>= λ tables. with_files (number + 1) tables later) ≡ ((r >>= λ table. tables_from (number + 1) later >>= λ tables. Ok (given_as number table ∷ tables)) >>= λ tables. Ok (before ++ tables))
+added_next number before later (Ok table) others = others (before ++ given_as number table ∷ []) ∙ append_next before (given_as number table) (tables_from (number + 1) later)
 added_next number before later (Err given) others = refl
 
-pub added_are : (number : ℕ) (before : Table) (files : List (List ℕ)) → with_files number before files ≡ (tables_from number files >>= λ tables. Ok (fold merged before tables))
+pub added_are : (number : ℕ) (before : Tables) (files : List (List ℕ)) → with_files number before files ≡ (tables_from number files >>= λ tables. Ok (before ++ tables))
 unfolding with_files with_file tables_from
-added_are number before [] = refl
-added_are number before (bytes ∷ later) = added_next number before later (in_file number (hunt_table bytes)) (λ rows. added_are (number + 1) rows later)
+added_are number before [] = ap (λ (ts : Tables). Ok ts) (sym (append-nil before))
+added_are number before (bytes ∷ later) = added_next number before later (in_file number (hunt_table bytes)) (λ tables. added_are (number + 1) tables later)
 
-pub files_next : (number : ℕ) (before after : Table) (bytes : List ℕ) (later : List (List ℕ)) → with_file number before bytes ≡ Ok after → with_files number before (bytes ∷ later) ≡ with_files (number + 1) after later
+pub files_next : (number : ℕ) (before after : Tables) (bytes : List ℕ) (later : List (List ℕ)) → with_file number before bytes ≡ Ok after → with_files number before (bytes ∷ later) ≡ with_files (number + 1) after later
 unfolding with_files
 files_next number before after bytes later is = ap (λ r. r >>= λ rows. with_files (number + 1) rows later) is
 
-pub files_end : (number : ℕ) (before : Table) → with_files number before [] ≡ Ok before
+pub files_end : (number : ℕ) (before : Tables) → with_files number before [] ≡ Ok before
 unfolding with_files
 files_end number before = refl
 
-pub files_told : (number : ℕ) (before : Table) (bytes : List ℕ) (later : List (List ℕ)) (given : MergeFault) → with_file number before bytes ≡ Err given → with_files number before (bytes ∷ later) ≡ Err given
+pub files_told : (number : ℕ) (before : Tables) (bytes : List ℕ) (later : List (List ℕ)) (given : MergeFault) → with_file number before bytes ≡ Err given → with_files number before (bytes ∷ later) ≡ Err given
 unfolding with_files
 files_told number before bytes later given is = err_then (with_file number before bytes) (λ rows. with_files (number + 1) rows later) given is
 
@@ -119,7 +126,7 @@ bytes_count remaining (first ∷ readers) files are =
 
 -- ---- one table more
 
-step_known : {R : Type 0} (remaining : R → Option (List ℕ)) (readers : List (Flagged R)) (place : ℕ) (reader : Flagged R) (rows after : Table) (known : Option (List (List ℕ))) → bytes_of remaining readers ≡ known → slice_get readers place ≡ Some reader
+step_known : {R : Type 0} (remaining : R → Option (List ℕ)) (readers : List (Flagged R)) (place : ℕ) (reader : Flagged R) (rows after : Tables) (known : Option (List (List ℕ))) → bytes_of remaining readers ≡ known → slice_get readers place ≡ Some reader
     → IfSome known (λ files. with_files 0 [] files ≡ with_files place rows (drop place files)) → IfSome (remaining (device reader)) (λ bytes. with_file place rows bytes ≡ Ok after)
     → IfSome known (λ files. with_files 0 [] files ≡ with_files (place + 1) after (drop (place + 1) files))
 step_known remaining readers place reader rows after None are at so_far is = tt
@@ -127,12 +134,12 @@ step_known remaining readers place reader rows after (Some files) are at so_far 
     let found = bytes_at remaining readers place reader files at are in
     so_far ∙ ap (with_files place rows) found.2 ∙ files_next place rows after found.0 (drop (place + 1) files) (subst (λ (o : Option (List ℕ)). IfSome o (λ bytes. with_file place rows bytes ≡ Ok after)) found.1 is)
 
-pub step : {R : Type 0} (remaining : R → Option (List ℕ)) (readers : List (Flagged R)) (place : ℕ) (reader : Flagged R) (rows after : Table) → slice_get readers place ≡ Some reader
+pub step : {R : Type 0} (remaining : R → Option (List ℕ)) (readers : List (Flagged R)) (place : ℕ) (reader : Flagged R) (rows after : Tables) → slice_get readers place ≡ Some reader
     → IfSome (bytes_of remaining readers) (λ files. with_files 0 [] files ≡ with_files place rows (drop place files)) → IfSome (remaining (device reader)) (λ bytes. with_file place rows bytes ≡ Ok after)
     → IfSome (bytes_of remaining readers) (λ files. with_files 0 [] files ≡ with_files (place + 1) after (drop (place + 1) files))
 step remaining readers place reader rows after at so_far is = step_known remaining readers place reader rows after (bytes_of remaining readers) refl at so_far is
 
-refused_known : {R : Type 0} (remaining : R → Option (List ℕ)) (readers : List (Flagged R)) (place : ℕ) (reader : Flagged R) (rows : Table) (given : MergeFault) (known : Option (List (List ℕ))) → bytes_of remaining readers ≡ known → slice_get readers place ≡ Some reader
+refused_known : {R : Type 0} (remaining : R → Option (List ℕ)) (readers : List (Flagged R)) (place : ℕ) (reader : Flagged R) (rows : Tables) (given : MergeFault) (known : Option (List (List ℕ))) → bytes_of remaining readers ≡ known → slice_get readers place ≡ Some reader
     → IfSome known (λ files. with_files 0 [] files ≡ with_files place rows (drop place files)) → IfSome (remaining (device reader)) (λ bytes. IsTold (with_file place rows bytes) given)
     → IfSome known (λ files. IsTold (with_files 0 [] files) given)
 refused_known remaining readers place reader rows given None are at so_far told = tt
@@ -142,18 +149,18 @@ refused_known remaining readers place reader rows given (Some files) are at so_f
     (λ is. so_far ∙ ap (with_files place rows) found.2 ∙ files_told place rows found.0 (drop (place + 1) files) given is)
     (subst (λ (o : Option (List ℕ)). IfSome o (λ bytes. IsTold (with_file place rows bytes) given)) found.1 told)
 
-pub refused : {R : Type 0} (remaining : R → Option (List ℕ)) (readers : List (Flagged R)) (place : ℕ) (reader : Flagged R) (rows : Table) (given : MergeFault) → slice_get readers place ≡ Some reader
+pub refused : {R : Type 0} (remaining : R → Option (List ℕ)) (readers : List (Flagged R)) (place : ℕ) (reader : Flagged R) (rows : Tables) (given : MergeFault) → slice_get readers place ≡ Some reader
     → IfSome (bytes_of remaining readers) (λ files. with_files 0 [] files ≡ with_files place rows (drop place files)) → IfSome (remaining (device reader)) (λ bytes. IsTold (with_file place rows bytes) given)
     → IfSome (bytes_of remaining readers) (λ files. IsTold (with_files 0 [] files) given)
 refused remaining readers place reader rows given at so_far told = refused_known remaining readers place reader rows given (bytes_of remaining readers) refl at so_far told
 
-all_known : {R : Type 0} (remaining : R → Option (List ℕ)) (readers : List (Flagged R)) (place : ℕ) (rows : Table) (known : Option (List (List ℕ))) → bytes_of remaining readers ≡ known → place ≡ length readers
+all_known : {R : Type 0} (remaining : R → Option (List ℕ)) (readers : List (Flagged R)) (place : ℕ) (rows : Tables) (known : Option (List (List ℕ))) → bytes_of remaining readers ≡ known → place ≡ length readers
     → IfSome known (λ files. with_files 0 [] files ≡ with_files place rows (drop place files)) → IfSome known (λ files. with_files 0 [] files ≡ Ok rows)
 all_known remaining readers place rows None are is so_far = tt
 all_known remaining readers place rows (Some files) are is so_far =
     so_far ∙ ap (with_files place rows) (ap (λ n. drop n files) is ∙ bytes_end remaining readers files are) ∙ files_end place rows
 
-pub all_added : {R : Type 0} (remaining : R → Option (List ℕ)) (readers : List (Flagged R)) (place : ℕ) (rows : Table) → place ≡ length readers
+pub all_added : {R : Type 0} (remaining : R → Option (List ℕ)) (readers : List (Flagged R)) (place : ℕ) (rows : Tables) → place ≡ length readers
     → IfSome (bytes_of remaining readers) (λ files. with_files 0 [] files ≡ with_files place rows (drop place files)) → IfSome (bytes_of remaining readers) (λ files. with_files 0 [] files ≡ Ok rows)
 all_added remaining readers place rows is so_far = all_known remaining readers place rows (bytes_of remaining readers) refl is so_far
 
@@ -172,62 +179,80 @@ behind (y ∷ ys) zero (suc other) x below = refl
 behind (y ∷ ys) (suc place) zero x below = absurd (omega arith)
 behind (y ∷ ys) (suc place) (suc other) x below = behind ys place other x (omega arith)
 
+-- ---- what the tables make
+
+pub whole_told : (tables : Option (List (List ℕ))) (given : MergeFault) → IfSome tables (λ each. IsTold (with_files 0 [] each) given) → (gaps : Bool) → IfSome tables (λ each. IsTold (whole_in gaps each) given)
+whole_told None given told gaps = tt
+whole_told (Some each) given told gaps =
+    told_of (with_files 0 [] each) (whole_in gaps each) given (err_then (with_files 0 [] each) (whole_of gaps) given) told
+
+pub whole_refused : (tables : Option (List (List ℕ))) (read : Tables) (gaps : Bool) (given : MergeFault) → IfSome tables (λ each. with_files 0 [] each ≡ Ok read) → IsTold (whole_of gaps read) given → IfSome tables (λ each. IsTold (whole_in gaps each) given)
+whole_refused None read gaps given are told = tt
+whole_refused (Some each) read gaps given are told =
+    told_of (whole_of gaps read) (whole_in gaps each) given (λ is. ap (λ r. r >>= whole_of gaps) are ∙ is) told
+
+pub whole_is : (tables : Option (List (List ℕ))) (read : Tables) (gaps : Bool) (whole : Whole) → IfSome tables (λ each. with_files 0 [] each ≡ Ok read) → whole_of gaps read ≡ Ok whole → IfSome tables (λ each. whole_in gaps each ≡ Ok whole)
+whole_is None read gaps whole are is = tt
+whole_is (Some each) read gaps whole are is = ap (λ r. r >>= whole_of gaps) are ∙ is
+
 -- ---- all files
 
 -- what is merged, where the races that are expected are read last
-abbrev with_expected : Table → Option Table → Result Merge MergeFault
-with_expected table expected = Ok (record { table = table; is_unexpected = is_unexpected expected table })
+abbrev with_expected : Whole → Option Table → Result Merge MergeFault
+with_expected whole expected = Ok (record { whole = whole; unexpected = unexpected_in expected whole.rows })
 
-tables_read : (rows : Table) (r : Result (List Table) MergeFault) (last : Result (Option Table) MergeFault) → (r >>= λ tables. Ok (merged_all tables)) ≡ Ok rows → (r >>= λ tables. last >>= with_expected (merged_all tables)) ≡ (last >>= with_expected rows)
-tables_read rows (Ok tables) last is = ap (λ (table : Table). last >>= with_expected table) (ok_same (merged_all tables) rows is)
-  where
-    ok_value : Result Table MergeFault → Table
-    ok_value (Ok a) = a
-    ok_value (Err other) = []
+none_before : (r : Result Tables MergeFault) → (r >>= λ tables. Ok ([] ++ tables)) ≡ r
+none_before (Ok tables) = refl
+none_before (Err given) = refl
 
-    ok_same : (a b : Table) → (let one : Result Table MergeFault = Ok a in one ≡ Ok b) → a ≡ b
-    ok_same a b same = ap ok_value same
-tables_read rows (Err given) last is = cc
+whole_same : (gaps : Bool) (files : List (List ℕ)) → whole_in gaps files ≡ (tables_from 0 files >>= whole_of gaps)
+whole_same gaps files = ap (λ r. r >>= whole_of gaps) (added_are 0 [] files ∙ none_before (tables_from 0 files))
 
-tables_told : (r : Result (List Table) MergeFault) (last : Result (Option Table) MergeFault) (given : MergeFault) → (r >>= λ tables. Ok (merged_all tables)) ≡ Err given → (r >>= λ tables. last >>= with_expected (merged_all tables)) ≡ Err given
-tables_told (Ok tables) last given is = cc
-tables_told (Err other) last given is = cc
+then_same : (r : Result Tables MergeFault) (gaps : Bool) (last : Result (Option Table) MergeFault) → (r >>= λ tables. whole_of gaps tables >>= λ whole. last >>= with_expected whole) ≡ ((r >>= whole_of gaps) >>= λ whole. last >>= with_expected whole)
+then_same (Ok tables) gaps last = refl
+then_same (Err given) gaps last = refl
+
+merge_same : (gaps : Bool) (files : Files) → merge_of gaps files ≡ (whole_in gaps files.tables >>= λ whole. expected_in (length files.tables) files.expected >>= with_expected whole)
+unfolding merge_of
+merge_same gaps files =
+    then_same (tables_from 0 files.tables) gaps (expected_in (length files.tables) files.expected)
+    ∙ ap (λ r. r >>= λ whole. expected_in (length files.tables) files.expected >>= with_expected whole) (sym (whole_same gaps files.tables))
 
 -- the tables were merged
-tables_ok : (files : Files) (rows : Table) → with_files 0 [] files.tables ≡ Ok rows → merge_of files ≡ (expected_in (length files.tables) files.expected >>= with_expected rows)
-unfolding merge_of
-tables_ok files rows is = tables_read rows (tables_from 0 files.tables) (expected_in (length files.tables) files.expected) (sym (added_are 0 [] files.tables) ∙ is)
+tables_ok : (gaps : Bool) (files : Files) (whole : Whole) → whole_in gaps files.tables ≡ Ok whole → merge_of gaps files ≡ (expected_in (length files.tables) files.expected >>= with_expected whole)
+tables_ok gaps files whole is =
+    merge_same gaps files ∙ ap (λ r. r >>= λ w. expected_in (length files.tables) files.expected >>= with_expected w) is
 
 -- one of them was refused
-tables_err : (files : Files) (given : MergeFault) → with_files 0 [] files.tables ≡ Err given → merge_of files ≡ Err given
-unfolding merge_of
-tables_err files given is = tables_told (tables_from 0 files.tables) (expected_in (length files.tables) files.expected) given (sym (added_are 0 [] files.tables) ∙ is)
+tables_err : (gaps : Bool) (files : Files) (given : MergeFault) → whole_in gaps files.tables ≡ Err given → merge_of gaps files ≡ Err given
+tables_err gaps files given is =
+    merge_same gaps files ∙ err_then (whole_in gaps files.tables) (λ whole. expected_in (length files.tables) files.expected >>= with_expected whole) given is
 
 abbrev known : Option (List (List ℕ)) → Option (Option (List ℕ)) → Option Files
 known tables last = option_and_then (λ each. option_map (λ expected. record { tables = each; expected = expected }) last) tables
 
-pub tables_refused : (tables : Option (List (List ℕ))) (last : Option (Option (List ℕ))) (given : MergeFault) → IfSome tables (λ each. IsTold (with_files 0 [] each) given) → IfSome (known tables last) (λ files. IsTold (merge_of files) given)
-tables_refused None last given told = tt
-tables_refused (Some each) None given told = tt
-tables_refused (Some each) (Some expected) given told =
-    told_of (with_files 0 [] each) (merge_of (record { tables = each; expected = expected })) given (tables_err (record { tables = each; expected = expected }) given) told
+pub tables_refused : (gaps : Bool) (tables : Option (List (List ℕ))) (last : Option (Option (List ℕ))) (given : MergeFault) → IfSome tables (λ each. IsTold (whole_in gaps each) given) → IfSome (known tables last) (λ files. IsTold (merge_of gaps files) given)
+tables_refused gaps None last given told = tt
+tables_refused gaps (Some each) None given told = tt
+tables_refused gaps (Some each) (Some expected) given told =
+    told_of (whole_in gaps each) (merge_of gaps (record { tables = each; expected = expected })) given (tables_err gaps (record { tables = each; expected = expected }) given) told
 
-pub expected_refused : (tables : Option (List (List ℕ))) (last : Option (Option (List ℕ))) (rows : Table) (count : ℕ) (given : MergeFault) → IfSome tables (λ each. with_files 0 [] each ≡ Ok rows) → IfSome tables (λ each. count ≡ length each)
-    → IfSome last (λ expected. IsTold (expected_in count expected) given) → IfSome (known tables last) (λ files. IsTold (merge_of files) given)
-expected_refused None last rows count given is many told = tt
-expected_refused (Some each) None rows count given is many told = tt
-expected_refused (Some each) (Some expected) rows count given is many told =
-    told_of (expected_in count expected) (merge_of (record { tables = each; expected = expected })) given
-    (λ refused. tables_ok (record { tables = each; expected = expected }) rows is ∙ err_then (expected_in (length each) expected) (with_expected rows) given (ap (λ n. expected_in n expected) (sym many) ∙ refused))
+pub expected_refused : (gaps : Bool) (tables : Option (List (List ℕ))) (last : Option (Option (List ℕ))) (whole : Whole) (count : ℕ) (given : MergeFault) → IfSome tables (λ each. whole_in gaps each ≡ Ok whole) → IfSome tables (λ each. count ≡ length each)
+    → IfSome last (λ expected. IsTold (expected_in count expected) given) → IfSome (known tables last) (λ files. IsTold (merge_of gaps files) given)
+expected_refused gaps None last whole count given is many told = tt
+expected_refused gaps (Some each) None whole count given is many told = tt
+expected_refused gaps (Some each) (Some expected) whole count given is many told =
+    told_of (expected_in count expected) (merge_of gaps (record { tables = each; expected = expected })) given
+    (λ refused. tables_ok gaps (record { tables = each; expected = expected }) whole is ∙ err_then (expected_in (length each) expected) (with_expected whole) given (ap (λ n. expected_in n expected) (sym many) ∙ refused))
     told
 
-pub all_merged : (tables : Option (List (List ℕ))) (last : Option (Option (List ℕ))) (rows : Table) (count : ℕ) (expected : Option Table) (found : Bool) → IfSome tables (λ each. with_files 0 [] each ≡ Ok rows) → IfSome tables (λ each. count ≡ length each)
-    → IfSome last (λ given. expected_in count given ≡ Ok expected) → found ≡ is_unexpected expected rows → IfSome (known tables last) (λ files. merge_of files ≡ Ok (record { table = rows; is_unexpected = found }))
-all_merged None last rows count expected found is many read told = tt
-all_merged (Some each) None rows count expected found is many read told = tt
-all_merged (Some each) (Some given) rows count expected found is many read told =
-    tables_ok (record { tables = each; expected = given }) rows is ∙ ap (λ r. r >>= with_expected rows) (ap (λ n. expected_in n given) (sym many) ∙ read)
-    ∙ ap (λ (f : Bool). Ok (record { table = rows; is_unexpected = f })) (sym told)
+pub all_merged : (gaps : Bool) (tables : Option (List (List ℕ))) (last : Option (Option (List ℕ))) (whole : Whole) (count : ℕ) (expected : Option Table) (found : Table) → IfSome tables (λ each. whole_in gaps each ≡ Ok whole) → IfSome tables (λ each. count ≡ length each)
+    → IfSome last (λ given. expected_in count given ≡ Ok expected) → found ≡ unexpected_in expected whole.rows → IfSome (known tables last) (λ files. merge_of gaps files ≡ Ok (record { whole = whole; unexpected = found }))
+all_merged gaps None last whole count expected found is many read told = tt
+all_merged gaps (Some each) None whole count expected found is many read told = tt
+all_merged gaps (Some each) (Some given) whole count expected found is many read told =
+    tables_ok gaps (record { tables = each; expected = given }) whole is ∙ ap (λ r. r >>= with_expected whole) (ap (λ n. expected_in n given) (sym many) ∙ read)
+    ∙ ap (λ (f : Table). Ok (record { whole = whole; unexpected = f })) (sym told)
 
 pub count_known : {R : Type 0} (remaining : R → Option (List ℕ)) (readers : List (Flagged R)) → IfSome (bytes_of remaining readers) (λ each. length readers ≡ length each)
 count_known remaining readers = counted (bytes_of remaining readers) refl

@@ -9,11 +9,11 @@ use Rattle.rv_report.specs.declared.key.Key.{Key}
 abbrev Row : Type 0
 Row = Key × RaceRow
 
-abbrev part : (Contents → List Line → Key → Bool) → Contents → List Line → List Row → List Row
-part test image lines rows = filter (λ (row : Row). test image lines row.0) rows
+abbrev part : (Contents → List Line → Row → Bool) → Contents → List Line → List Row → List Row
+part test image lines rows = filter (test image lines) rows
 
 -- the same of the same image and the same rows
-pub parted_is : {T E : Type 0} (items : T → List Row) (r : Result T E) (test : Contents → List Line → Key → Bool) (image other : Contents) (lines : List Line) (rows table : List Row) → image ≡ other → rows ≡ table
+pub parted_is : {T E : Type 0} (items : T → List Row) (r : Result T E) (test : Contents → List Line → Row → Bool) (image other : Contents) (lines : List Line) (rows table : List Row) → image ≡ other → rows ≡ table
     → IfOk r (λ parted. items parted ≡ part test image lines rows) → IfOk r (λ parted. items parted ≡ part test other lines table)
 parted_is items (Err fault) test image other lines rows table same are h = tt
 parted_is items (Ok parted) test image other lines rows table same are h =

@@ -26,7 +26,7 @@ use Rattle.rv_hunt.specs.declared.format.TableFormat.TheVariants.{Hunt}
 use Rattle.rv_hunt.specs.declared.line.Said.{Said}
 use Rattle.rv_hunt.specs.declared.row.RaceRow.{RaceRow}
 use Rattle.rv_races.specs.declared.classes.RaceClass.{RaceClass}
-use Rattle.rv_races.specs.declared.classes.RaceClass.TheVariants.{Kept, Counter, Flag, Ordered, Named}
+use Rattle.rv_races.specs.declared.classes.RaceClass.TheVariants.{Kept, Counter, Unwatched, Flag, Ordered, Atomic, Named}
 use Rattle.rv_report.specs.Races.{same_key}
 use Rattle.rv_report.specs.TableText.{address_text, races_line}
 use Rattle.rv_report.specs.declared.key.Key.{Key}
@@ -36,22 +36,28 @@ use Rattle.rv_report.specs.declared.key.Key.{Key}
 class_lacks_blank : (class : RaceClass) → Lacks 32 (class_word class)
 class_lacks_blank Kept = refl
 class_lacks_blank Counter = refl
+class_lacks_blank Unwatched = refl
 class_lacks_blank Flag = refl
 class_lacks_blank Ordered = refl
+class_lacks_blank Atomic = refl
 class_lacks_blank Named = refl
 
 class_lacks_lf : (class : RaceClass) → Lacks 10 (class_word class)
 class_lacks_lf Kept = refl
 class_lacks_lf Counter = refl
+class_lacks_lf Unwatched = refl
 class_lacks_lf Flag = refl
 class_lacks_lf Ordered = refl
+class_lacks_lf Atomic = refl
 class_lacks_lf Named = refl
 
 class_back : (class : RaceClass) → class_named (class_word class) ≡ Some class
 class_back Kept = refl
 class_back Counter = refl
+class_back Unwatched = refl
 class_back Flag = refl
 class_back Ordered = refl
+class_back Atomic = refl
 class_back Named = refl
 
 verdict_lacks_blank : (second : Option ℕ) → Lacks 32 (verdict_word second)

@@ -21,7 +21,7 @@ use Rattle.rv_hunt.proofs.MergeLemmas.{two_merged}
 use Rattle.rv_hunt.specs.Hunt.{Hunt, IsSampledRun}
 use Rattle.rv_hunt.specs.Hunted.{AreRuns, IsHunted, is_due, rows_from, rows_of, seen_in, summed}
 use Rattle.rv_hunt.specs.HuntedLaws.{OneResult, PiecesAreWhole, piece}
-use Rattle.rv_hunt.specs.KeptRun.{IsOfRun, reports_of_part, reports_of_parts, reports_of_sampled}
+use Rattle.rv_hunt.specs.KeptRun.{Gone, IsOfRun, begin, gone_of, reports_of_part, reports_of_parts, reports_of_sampled}
 use Rattle.rv_hunt.specs.Near as near
 use Rattle.rv_hunt.specs.Orders as orders
 use Rattle.rv_hunt.specs.Rows as rows
@@ -108,7 +108,7 @@ same_run once hunt hunted run one other sampled a b =
     let y = b.sampled is in
     let same = alike_runs once hunt run x.left y.left x.is_run y.is_run in
     same_hunted (same_added hunted.tally _ x.left y.left one.summary other.summary same x.summary y.summary)
-    (ap (λ reports. fold rows.added hunted.table (map (rows.row_of run) reports)) (x.reports_are ∙ ap (reports_of_sampled hunt) same.endings ∙ sym y.reports_are))
+    (ap (λ reports. fold rows.added hunted.table (map (rows.row_of run) reports)) (x.reports_are ∙ ap (λ (es : List Entry). reports_of_sampled hunt (begin hunt run) es x.left.endings.items) same.entries ∙ ap (reports_of_sampled hunt (begin hunt run) y.left.entries.items) same.endings ∙ sym y.reports_are))
     (ap (fold near.added hunted.near) (x.near_are ∙ sym y.near_are))
     (ap (λ tried. fold orders.added hunted.orders (map (orders.row_of run) tried)) (x.tried_are ∙ sym y.tried_are))
 
@@ -237,10 +237,10 @@ over_in runs count long few =
     grind (arith, nat_tests)
 
 -- what is kept of a run doesn't depend on where the hunt begins and how far it goes
-same_reports : (hunt : Hunt) (first : ℕ) (limit : Limit) (number : ℕ) (parts : List Part) → reports_of_parts (record hunt { first = first; limit = limit }) number parts ≡ reports_of_parts hunt number parts
-same_reports hunt first limit number [] = refl
-same_reports hunt first limit number (part ∷ parts) =
-    ap (λ (rs : List PartReport). reports_of_part hunt number part ++ rs) (same_reports hunt first limit (number + 1) parts)
+same_reports : (hunt : Hunt) (gone : Gone) (first : ℕ) (limit : Limit) (number : ℕ) (parts : List Part) → reports_of_parts (record hunt { first = first; limit = limit }) gone number parts ≡ reports_of_parts hunt gone number parts
+same_reports hunt gone first limit number [] = refl
+same_reports hunt gone first limit number (part ∷ parts) =
+    ap (λ (rs : List PartReport). reports_of_part hunt gone number part ++ rs) (same_reports hunt gone first limit (number + 1) parts)
 
 moved : (hunt : Hunt) (first : ℕ) (limit : Limit) (run : ℕ) (kept : KeptRun) → IsOfRun hunt run kept → IsOfRun (record hunt { first = first; limit = limit }) run kept
 moved hunt first limit run kept is = record {
@@ -257,7 +257,7 @@ moved hunt first limit run kept is = record {
         parts = w.parts;
         are_parts = w.are_parts;
         summary = w.summary;
-        reports_are = w.reports_are ∙ sym (same_reports hunt first limit 1 w.parts);
+        reports_are = w.reports_are ∙ sym (same_reports hunt (gone_of w.walk) first limit 1 w.parts);
         near_are = w.near_are;
         tried_are = w.tried_are;
       };

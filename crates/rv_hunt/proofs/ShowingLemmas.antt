@@ -6,9 +6,8 @@ use Rattle.std.proofs.lemmas.List.Elements.{All-push}
 use Rattle.rv_collide.specs.Grammar.{schedule_text}
 use Rattle.rv_collide.specs.Numbers.{numbers}
 use Rattle.rv_collide.specs.declared.collider.Finished.{Finished}
-use Rattle.rv_collide.specs.declared.ending.Ending.{Ending}
 use Rattle.rv_elf.specs.Contents.{Contents}
-use Rattle.rv_explain.specs.Races.{Run, reports_of}
+use Rattle.rv_explain.specs.Races.{Run, reports as reports_in}
 use Rattle.rv_races.specs.declared.races.Report.{Report}
 use Rattle.rv_hunt.specs.Hunt.{Hunt, IsSampledRun}
 use Rattle.rv_hunt.specs.Remade.{is_told_by, race_by, race_in}
@@ -29,9 +28,9 @@ same_some x y h = cc
 
 -- ---- the race of a row
 
-pub race_found : (image : Contents) (ranges : List (ℕ × ℕ)) (row : Row) (ended : List Ending) (reports : List Report) (told : Report) → reports ≡ reports_of image ranges ended (length ended) → find (is_told_by row) reports ≡ Some told → race_in image ranges row ended ≡ Some (race_by row told)
+pub race_found : (run : Run) (ranges : List (ℕ × ℕ)) (row : Row) (reports : List Report) (told : Report) → reports ≡ reports_in run ranges → find (is_told_by row) reports ≡ Some told → race_in run ranges row ≡ Some (race_by row told)
 unfolding race_in
-race_found image ranges row ended reports told are found =
+race_found run ranges row reports told are found =
     ap (λ (rs : List Report). option_map (race_by row) (find (is_told_by row) rs)) (sym are) ∙ ap (option_map (race_by row)) found
 
 -- ---- the races of a part of a run

@@ -8,7 +8,7 @@ use Rattle.std.proofs.lemmas.List.Sums.{sum_by-cons}
 use Rattle.rv_elf.specs.Contents.{Contents}
 use Rattle.rv_explain.specs.Classes.{rank}
 use Rattle.rv_races.specs.declared.classes.RaceClass.{RaceClass}
-use Rattle.rv_races.specs.declared.classes.RaceClass.TheVariants.{Kept, Counter, Flag, Ordered, Named}
+use Rattle.rv_races.specs.declared.classes.RaceClass.TheVariants.{Kept, Counter, Unwatched, Flag, Ordered, Atomic, Named}
 use Rattle.rv_hunt.specs.ShownOnce.{EachIsShownOnce}
 use Rattle.rv_hunt.specs.ToldOrder.{AreAt, group_of, is_of, standing_of, standings, standings_from}
 use Rattle.rv_hunt.specs.declared.orders.OrderRow.{OrderRow}
@@ -63,8 +63,10 @@ stood image orders weight all groups k (row ∷ rows) there =
 by_class : (class : RaceClass) → (rank class == rank Named) ≡ not (nat_lt (rank class) (rank Named))
 by_class Kept = refl
 by_class Counter = refl
+by_class Unwatched = refl
 by_class Flag = refl
 by_class Ordered = refl
+by_class Atomic = refl
 by_class Named = refl
 
 twice : (b : Bool) → b ≡ not (not b)
@@ -73,11 +75,11 @@ twice false = refl
 
 pub each_is_shown_once : EachIsShownOnce
 each_is_shown_once image lines orders rows told weight order =
-    let kept = filter (λ (row : Row). is_told image lines row.0) rows in
+    let kept = filter (is_told image lines) rows in
     let groups = map (group_of image orders) kept in
     let shown = told_sum weight kept told order.stand order.are in
     let moved = sum_by-IsPermutation (at weight kept) (standings groups) order.stand order.all in
     let all = stood image orders weight kept groups 0 kept (λ n row there. ap (λ m. slice_get kept m) (omega arith) ∙ there) in
     let named = sum_by-filter_both is_shown (is_of Named) (λ row. by_class row.1.class) weight kept in
-    let ignored = sum_by-filter_both (λ (row : Row). is_told image lines row.0) (λ (row : Row). is_ignored image lines row.0) (λ row. twice (is_ignored image lines row.0)) weight rows in
+    let ignored = sum_by-filter_both (is_told image lines) (is_ignored image lines) (λ row. twice (is_ignored image lines row)) weight rows in
     omega (arith, shown, moved, all, named, ignored)

@@ -1,12 +1,13 @@
 -- The lines of an ignore list by the numbers of their words.
-use Rattle.std.proofs.Common.{◌≡◌, ℕ, ◌+◌, ◌<◌, Bool, true, false, List, [], ◌∷◌, ◌++◌, Option, Some, None, get_or, length, take, refl, sym, ap, subst, ◌∙◌}
+use Rattle.std.proofs.Common.{◌≡◌, ℕ, ◌+◌, ◌<◌, Bool, true, false, List, [], ◌∷◌, ◌++◌, Option, Some, None, Result, Ok, Err, IfOk, get_or, length, take, refl, sym, ap, subst, ◌∙◌}
 use Rattle.std.specs.List.{AllByRecursion, AllZip, list_any}
 use Rattle.std.specs.Option.{option_map, option_map_or}
-use Rattle.std.specs.Prelude.{All, ◌==◌}
+use Rattle.std.specs.Prelude.{All, if◌then◌else◌, is_some, not, ◌==◌, ◌||◌}
 use Rattle.std.proofs.lemmas.List.{take_more}
 use Rattle.std.proofs.lemmas.List.Elements.{All-from_recursion}
 use Rattle.rv_elf.specs.Contents.{Contents}
 use Rattle.rv_report.specs.declared.key.Key.{Key}
+use Rattle.rv_hunt.specs.declared.merge.ignore.Line.{Line}
 use Rattle.rv_hunt.specs.declared.merge.ignore.ListedLine.{ListedLine}
 use Rattle.rv_hunt.specs.declared.merge.ignore.Names.{Names}
 use Rattle.rv_hunt.specs.declared.merge.ignore.Side.{Side}
@@ -16,7 +17,8 @@ use Rattle.rv_hunt.specs.declared.merge.sought.SoughtLine.{SoughtLine}
 use Rattle.rv_hunt.specs.declared.merge.sought.SoughtSide.{SoughtSide}
 use Rattle.rv_hunt.specs.declared.merge.sought.SoughtSide.TheVariants.{Any, Address, Word}
 use Rattle.rv_hunt.specs.internal.Shaped.{unknown_in}
-use Rattle.rv_hunt.specs.internal.Sought.{AreNamesOf, IsInstruction, IsSought, IsWithin, LineIsWithin, first_unknown, fits, is_known, line_fits, lines_in, sought_side}
+use Rattle.rv_hunt.specs.declared.merge.sought.RacePlaces.{RacePlaces}
+use Rattle.rv_hunt.specs.internal.Sought.{AreNamesOf, ArePlaces, IsInstruction, IsSought, IsWithin, LineIsWithin, first_unknown, fits, is_known, line_fits, lines_in, sought_side}
 use Rattle.rv_hunt.specs.internal.Words.{AreMarks, AreNumbered, Keeps, count, number_of}
 use Rattle.rv_hunt.specs.declared.merge.words.Words.{Words}
 use Rattle.rv_hunt.specs.merge.Ignore as spec
@@ -43,6 +45,7 @@ kept_line old new keeps listed line is = (
   is.0,
   kept_side old new keeps listed.line.one line.one is.1,
   kept_side old new keeps listed.line.other line.other is.2,
+  kept_side old new keeps listed.line.on line.on is.3,
 )
 
 pub kept_lines : (old new : Words) → Keeps old new → (listed : List ListedLine) (lines : List SoughtLine) → AllZip (IsSought old) listed lines → AllZip (IsSought new) listed lines
@@ -78,7 +81,7 @@ within_each words numbered [] [] are = tt
 within_each words numbered [] (line ∷ lines) are = absurd are
 within_each words numbered (x ∷ listed) [] are = absurd are
 within_each words numbered (x ∷ listed) (line ∷ lines) are = (
-  (within_side words numbered x.line.one line.one are.0.1, within_side words numbered x.line.other line.other are.0.2),
+  (within_side words numbered x.line.one line.one are.0.1, within_side words numbered x.line.other line.other are.0.2, within_side words numbered x.line.on line.on are.0.3),
   within_each words numbered listed lines are.1,
 )
 
@@ -96,15 +99,16 @@ known_side names image are known marked (side.Name word) sought is =
     ap (is_known known) name.1 ∙ marked name.0 ∙ ap (list_any (λ s. s.word == name.0)) are.symbols
     ∙ named_any (λ value size. true) names.words are.numbered word name.0 name.2 image.symbols
 
-pub first_unknown_is : (names : Names) (image : Contents) → AreNamesOf names image → (known : List Bool) → AreMarks names.symbols.items known → (listed : List ListedLine) (lines : List SoughtLine) → AllZip (IsSought names.words) listed lines → first_unknown known lines ≡ unknown_in image listed
+pub first_unknown_is : (names : Names) (image : Contents) → AreNamesOf names image → (known : List Bool) → AreMarks names.symbols.items known → (listed : List ListedLine) (lines : List SoughtLine) → AllZip (IsSought names.words) listed lines → first_unknown known lines ≡ unknown_in (spec.are_known image) listed
 first_unknown_is names image are known marked [] [] sought = refl
 first_unknown_is names image are known marked [] (line ∷ lines) sought = absurd sought
 first_unknown_is names image are known marked (x ∷ listed) [] sought = absurd sought
 first_unknown_is names image are known marked (x ∷ listed) (line ∷ lines) sought =
     let one = known_side names image are known marked x.line.one line.one sought.0.1 in
     let other = known_side names image are known marked x.line.other line.other sought.0.2 in
+    let on = known_side names image are known marked x.line.on line.on sought.0.3 in
     let next = first_unknown_is names image are known marked listed lines sought.1 in
-    rw (one, other, next, sought.0.0) refl
+    rw (one, other, on, next, sought.0.0) refl
 
 -- ---- lines that fit
 
@@ -116,19 +120,35 @@ fits_by names image at instruction is_at (side.Name word) sought is =
     let name = name_is (number_of names.words word) sought is in
     ap (fits instruction) name.1 ∙ is_at.marks word name.0 name.2
 
-line_fits_by : (names : Names) (image : Contents) (key : Key) (first second : Instruction) → IsInstruction names image (Some key.first) first → IsInstruction names image key.second second → (listed : ListedLine) (line : SoughtLine) → IsSought names.words listed line
-    → line_fits first second line ≡ spec.fits image key listed.line
-line_fits_by names image key first second is_first is_second listed line sought =
-    let one_first = fits_by names image (Some key.first) first is_first listed.line.one line.one sought.1 in
-    let one_second = fits_by names image key.second second is_second listed.line.one line.one sought.1 in
-    let other_first = fits_by names image (Some key.first) first is_first listed.line.other line.other sought.2 in
-    let other_second = fits_by names image key.second second is_second listed.line.other line.other sought.2 in
-    rw (one_first, one_second, other_first, other_second) refl
+line_fits_by : (names : Names) (image : Contents) (key : Key) (on : Option ℕ) (places : RacePlaces) → ArePlaces names image key on places → (listed : ListedLine) (line : SoughtLine) → IsSought names.words listed line
+    → line_fits places line ≡ spec.fits image key on listed.line
+line_fits_by names image key on places are listed line sought =
+    let one_first = fits_by names image (Some key.first) places.first are.first_is listed.line.one line.one sought.1 in
+    let one_second = fits_by names image key.second places.second are.second_is listed.line.one line.one sought.1 in
+    let other_first = fits_by names image (Some key.first) places.first are.first_is listed.line.other line.other sought.2 in
+    let other_second = fits_by names image key.second places.second are.second_is listed.line.other line.other sought.2 in
+    let placed = fits_by names image on places.on are.on_is listed.line.on line.on sought.3 in
+    rw (one_first, one_second, other_first, other_second, placed) refl
 
-pub any_is : (names : Names) (image : Contents) (key : Key) (first second : Instruction) → IsInstruction names image (Some key.first) first → IsInstruction names image key.second second → (listed : List ListedLine) (lines : List SoughtLine) → AllZip (IsSought names.words) listed lines
-    → list_any (line_fits first second) lines ≡ spec.is_ignored image (lines_in listed) key
-any_is names image key first second is_first is_second [] [] sought = refl
-any_is names image key first second is_first is_second [] (line ∷ lines) sought = absurd sought
-any_is names image key first second is_first is_second (x ∷ listed) [] sought = absurd sought
-any_is names image key first second is_first is_second (x ∷ listed) (line ∷ lines) sought =
-    rw (line_fits_by names image key first second is_first is_second x line sought.0, any_is names image key first second is_first is_second listed lines sought.1) refl
+pub any_is : (names : Names) (image : Contents) (key : Key) (on : Option ℕ) (places : RacePlaces) → ArePlaces names image key on places → (listed : List ListedLine) (lines : List SoughtLine) → AllZip (IsSought names.words) listed lines
+    → list_any (line_fits places) lines ≡ spec.any_fits image (lines_in listed) key on
+any_is names image key on places are [] [] sought = refl
+any_is names image key on places are [] (line ∷ lines) sought = absurd sought
+any_is names image key on places are (x ∷ listed) [] sought = absurd sought
+any_is names image key on places are (x ∷ listed) (line ∷ lines) sought =
+    rw (line_fits_by names image key on places are x line sought.0, any_is names image key on places are listed lines sought.1) refl
+
+-- ---- whether there is one with an unknown name
+
+pub unknown_told : (image : Contents) (listed : List ListedLine) → is_some (unknown_in (spec.are_known image) listed) ≡ spec.has_unknown image (lines_in listed)
+unknown_told image [] = refl
+unknown_told image (x ∷ listed) = at (spec.are_known image x.line) (unknown_told image listed) where
+  at : (b : Bool) → is_some (unknown_in (spec.are_known image) listed) ≡ spec.has_unknown image (lines_in listed)
+      → is_some (if b then unknown_in (spec.are_known image) listed else Some x.at) ≡ (not b || spec.has_unknown image (lines_in listed))
+  at true next = next
+  at false next = refl
+
+pub unknown_ok : {E : Type 0} (r : Result (Option ℕ) E) (image : Contents) (listed : List ListedLine) (lines : List Line) → lines ≡ lines_in listed → IfOk r (λ line. line ≡ unknown_in (spec.are_known image) listed)
+    → IfOk r (λ line. is_some line ≡ spec.has_unknown image lines)
+unknown_ok (Err fault) image listed lines same is = tt
+unknown_ok (Ok line) image listed lines same is = ap is_some is ∙ unknown_told image listed ∙ ap (spec.has_unknown image) (sym same)

@@ -12,7 +12,7 @@ use Rattle.rv_collide.specs.declared.entry.Entry.{Entry}
 use Rattle.rv_elf.specs.Contents.{Contents}
 use Rattle.rv_hart.specs.State.{State, start as first_state}
 use Rattle.rv_hunt.specs.Hunt.{Hunt}
-use Rattle.rv_hunt.specs.KeptRun.{IsOfSome, probed_pair, reports_of_part, reports_of_parts, seen_pair}
+use Rattle.rv_hunt.specs.KeptRun.{Gone, IsOfSome, probed_pair, reports_of_part, reports_of_parts, seen_pair}
 use Rattle.rv_hunt.specs.Sums.{no_counts, sum}
 use Rattle.rv_hunt.specs.Summary.{counts_of_part, counts_of_walk, ends}
 use Rattle.rv_hunt.specs.declared.gathered.Gathered.{Gathered}
@@ -56,14 +56,20 @@ part_of start harts sites most other part is = record {
 same_walk : {s s' : State} {h h' i i' : List ℕ} {m m' : ℕ} → s ≡ s' → h ≡ h' → i ≡ i' → m ≡ m' → walk_with s h i m ≡ walk_with s' h' i' m'
 same_walk start harts sites most = cc
 
+abbrev pub gone_by : State → List ℕ → Gone
+gone_by start harts = record { start = start; harts = harts }
+
+pub same_gone : {s s' : State} {h h' : List ℕ} → s ≡ s' → h ≡ h' → gone_by s h ≡ gone_by s' h'
+same_gone start harts = cc
+
 -- the reports of one part more
-pub reports_next : (hunt : Hunt) (number : ℕ) (parts : List Part) (part : Part) → reports_of_parts hunt number (parts ++ part ∷ []) ≡ reports_of_parts hunt number parts ++ reports_of_part hunt (number + length parts) part
-reports_next hunt number [] part =
-    append-nil (reports_of_part hunt number part) ∙ ap (λ (n : ℕ). reports_of_part hunt n part) (omega arith)
-reports_next hunt number (one ∷ parts) part =
-    ap (λ (rs : List PartReport). reports_of_part hunt number one ++ rs) (reports_next hunt (number + 1) parts part)
-    ∙ ap (λ (n : ℕ). reports_of_part hunt number one ++ (reports_of_parts hunt (number + 1) parts ++ reports_of_part hunt n part)) place
-    ∙ sym (append_assoc (reports_of_part hunt number one) (reports_of_parts hunt (number + 1) parts) (reports_of_part hunt (number + suc (length parts)) part))
+pub reports_next : (hunt : Hunt) (gone : Gone) (number : ℕ) (parts : List Part) (part : Part) → reports_of_parts hunt gone number (parts ++ part ∷ []) ≡ reports_of_parts hunt gone number parts ++ reports_of_part hunt gone (number + length parts) part
+reports_next hunt gone number [] part =
+    append-nil (reports_of_part hunt gone number part) ∙ ap (λ (n : ℕ). reports_of_part hunt gone n part) (omega arith)
+reports_next hunt gone number (one ∷ parts) part =
+    ap (λ (rs : List PartReport). reports_of_part hunt gone number one ++ rs) (reports_next hunt gone (number + 1) parts part)
+    ∙ ap (λ (n : ℕ). reports_of_part hunt gone number one ++ (reports_of_parts hunt gone (number + 1) parts ++ reports_of_part hunt gone n part)) place
+    ∙ sym (append_assoc (reports_of_part hunt gone number one) (reports_of_parts hunt gone (number + 1) parts) (reports_of_part hunt gone (number + suc (length parts)) part))
   where
     place : number + 1 + length parts ≡ number + suc (length parts)
     place = omega arith
@@ -78,11 +84,11 @@ pub counted_so : (steps : ℕ) (parts : List Part) (part : Part) (before more af
 counted_so steps parts part before more after so_far one is =
     is ∙ ap (λ (c : Counts). sum c more) so_far ∙ ap (sum (counts_of_walk steps parts)) one ∙ sym (counts_next steps parts part)
 
-pub reports_so : (hunt : Hunt) (parts : List Part) (part : Part) (number : ℕ) (before more after : List PartReport) → before ≡ reports_of_parts hunt 1 parts → more ≡ reports_of_part hunt number part → number ≡ length parts + 1 → after ≡ before ++ more → after ≡ reports_of_parts hunt 1 (parts ++ part ∷ [])
-reports_so hunt parts part number before more after so_far one count is =
+pub reports_so : (hunt : Hunt) (gone : Gone) (parts : List Part) (part : Part) (number : ℕ) (before more after : List PartReport) → before ≡ reports_of_parts hunt gone 1 parts → more ≡ reports_of_part hunt gone number part → number ≡ length parts + 1 → after ≡ before ++ more → after ≡ reports_of_parts hunt gone 1 (parts ++ part ∷ [])
+reports_so hunt gone parts part number before more after so_far one count is =
     is ∙ ap (λ (rs : List PartReport). rs ++ more) so_far
-    ∙ ap (λ (rs : List PartReport). reports_of_parts hunt 1 parts ++ rs) (one ∙ ap (λ (n : ℕ). reports_of_part hunt n part) (omega (arith, count)))
-    ∙ sym (reports_next hunt 1 parts part)
+    ∙ ap (λ (rs : List PartReport). reports_of_parts hunt gone 1 parts ++ rs) (one ∙ ap (λ (n : ℕ). reports_of_part hunt gone n part) (omega (arith, count)))
+    ∙ sym (reports_next hunt gone 1 parts part)
 
 pub near_so : (pairs : List NearPair) (parts : List Part) (part : Part) (row : Addresses × NearRow) (before after : List (Addresses × NearRow)) → before ≡ map seen_pair pairs ++ map probed_pair parts → row ≡ probed_pair part → after ≡ before ++ row ∷ [] → after ≡ map seen_pair pairs ++ map probed_pair (parts ++ part ∷ [])
 near_so pairs parts part row before after so_far one is =
@@ -122,8 +128,8 @@ pub all_of_some : (before more after : List PartReport) (tried : List TriedOrder
 all_of_some before more after tried is all = λ k d below. of_some_more before more after is (get_or tried k d) (all k d below)
 
 -- trials were added alone
-pub tried_so : (hunt : Hunt) (harts : List ℕ) (pairs : List NearPair) (parts : List Part) (old new : Gathered) → new ≡ record old { trials = new.trials } → (All (IsOfSome old.reports.items) old.trials.tried.items → All (IsOfSome old.reports.items) new.trials.tried.items) → IsGathered hunt harts pairs parts old → IsGathered hunt harts pairs parts new
-tried_so hunt harts pairs parts old new same keeps is = record {
+pub tried_so : (hunt : Hunt) (gone : Gone) (pairs : List NearPair) (parts : List Part) (old new : Gathered) → new ≡ record old { trials = new.trials } → (All (IsOfSome old.reports.items) old.trials.tried.items → All (IsOfSome old.reports.items) new.trials.tried.items) → IsGathered hunt gone pairs parts old → IsGathered hunt gone pairs parts new
+tried_so hunt gone pairs parts old new same keeps is = record {
   counts_are = ap (λ (g : Gathered). g.counts) same ∙ is.counts_are;
   parts_are = ap (λ (g : Gathered). g.parts) same ∙ is.parts_are;
   reports_are = ap (λ (g : Gathered). g.reports.items) same ∙ is.reports_are;

@@ -19,7 +19,7 @@ use Rattle.rv_text.specs.Hexadecimal.{byte_digits}
 use Rattle.rv_hunt.specs.declared.merge.words.NamedSymbol.{NamedSymbol}
 use Rattle.rv_hunt.specs.declared.merge.words.Words.{Words}
 use Rattle.rv_hunt.specs.internal.Words.{AreMarks, AreMarksAt, AreNumbered, Keeps, MarksMore, count, holds, named, named_by, number_of, told_word}
-use Rattle.rv_hunt.specs.merge.Ignore.{is_in_name, is_spelled, is_told_by_name}
+use Rattle.rv_hunt.specs.merge.Ignore.{as_name, first_escaped, is_in_name, is_spelled, is_told_by_name, says_other, spelled}
 
 -- ---- a word more
 
@@ -117,13 +117,34 @@ shown_length (byte ∷ name) =
     let next = shown_length name in
     omega arith
 
-pub too_long : (words : Words) → AreNumbered words → (name : List ℕ) → words.longest < length name → number_of words (escaped name) ≡ None
-too_long words numbered name long = at (number_of words (escaped name)) refl where
-  at : (given : Option ℕ) → number_of words (escaped name) ≡ given → given ≡ None
+escaped_first : (word : List ℕ) → length word ≤ length (first_escaped word)
+escaped_first [] = omega arith
+escaped_first (byte ∷ rest) =
+    let all = length-append (codes "\\x") (byte_digits byte ++ rest) in
+    let front : length (byte_digits byte ++ rest) ≡ length (byte_digits byte) + length rest = length-append (byte_digits byte) rest in
+    let two : length (codes "\\x") ≡ 2 = refl in
+    omega arith
+
+named_length : (word : List ℕ) → length word ≤ length (as_name word)
+named_length word = at (says_other word) where
+  at : (b : Bool) → length word ≤ length (if b then first_escaped word else word)
+  at true = escaped_first word
+  at false = omega arith
+
+pub spelled_length : (name : List ℕ) → length name ≤ length (spelled name)
+unfolding spelled
+spelled_length name =
+    let shown = shown_length name in
+    let named = named_length (escaped name) in
+    omega arith
+
+pub too_long : (words : Words) → AreNumbered words → (name : List ℕ) → words.longest < length name → number_of words (spelled name) ≡ None
+too_long words numbered name long = at (number_of words (spelled name)) refl where
+  at : (given : Option ℕ) → number_of words (spelled name) ≡ given → given ≡ None
   at None is = refl
   at (Some number) is =
-      let short = numbered.short (escaped name) number is in
-      let shown = shown_length name in
+      let short = numbered.short (spelled name) number is in
+      let shown = spelled_length name in
       absurd (omega arith)
 
 -- ---- the symbols that words name
@@ -136,30 +157,30 @@ abbrev Test : Type 0
 Test = ℕ → ℕ → Bool
 
 named_step : (test : Test) (words : Words) → AreNumbered words → (word : List ℕ) (number : ℕ) → number_of words word ≡ Some number → (symbol : Named) (rest : List NamedSymbol) (later : Bool)
-    → list_any (λ (s : NamedSymbol). test s.value s.size && (s.word == number)) rest ≡ later → (named : Option ℕ) → number_of words (escaped symbol.name) ≡ named
+    → list_any (λ (s : NamedSymbol). test s.value s.size && (s.word == number)) rest ≡ later → (named : Option ℕ) → number_of words (spelled symbol.name) ≡ named
     → list_any (λ (s : NamedSymbol). test s.value s.size && (s.word == number)) (cons_option (option_map (λ n. let s : NamedSymbol = record { word = n; value = symbol.value; size = symbol.size } in s) named) rest)
     ≡ ((test symbol.value symbol.size && is_spelled word symbol) || later)
 named_step test words numbered word number is symbol rest later next None named =
-    rw (unnumbered words (escaped symbol.name) word number named is, and_false (test symbol.value symbol.size)) next
+    rw (unnumbered words (spelled symbol.name) word number named is, and_false (test symbol.value symbol.size)) next
 named_step test words numbered word number is symbol rest later next (Some one) named =
-    rw (same_number words numbered (escaped symbol.name) word one number named is) (ap (λ b. (test symbol.value symbol.size && is_spelled word symbol) || b) next)
+    rw (same_number words numbered (spelled symbol.name) word one number named is) (ap (λ b. (test symbol.value symbol.size && is_spelled word symbol) || b) next)
 
 pub named_any : (test : Test) (words : Words) → AreNumbered words → (word : List ℕ) (number : ℕ) → number_of words word ≡ Some number → (symbols : List Named)
     → list_any (λ (s : NamedSymbol). test s.value s.size && (s.word == number)) (filter_map (named_by words) symbols)
     ≡ list_any (λ (s : Named). test s.value s.size && is_spelled word s) symbols
 named_any test words numbered word number is [] = refl
 named_any test words numbered word number is (symbol ∷ symbols) =
-    named_step test words numbered word number is symbol (filter_map (named_by words) symbols) _ (named_any test words numbered word number is symbols) (number_of words (escaped symbol.name)) refl
+    named_step test words numbered word number is symbol (filter_map (named_by words) symbols) _ (named_any test words numbered word number is symbols) (number_of words (spelled symbol.name)) refl
 
-within_step : (words : Words) → AreNumbered words → (symbol : Named) (rest : List NamedSymbol) → AllByRecursion (λ (s : NamedSymbol). s.word < count words) rest → (named : Option ℕ) → number_of words (escaped symbol.name) ≡ named
+within_step : (words : Words) → AreNumbered words → (symbol : Named) (rest : List NamedSymbol) → AllByRecursion (λ (s : NamedSymbol). s.word < count words) rest → (named : Option ℕ) → number_of words (spelled symbol.name) ≡ named
     → AllByRecursion (λ (s : NamedSymbol). s.word < count words) (cons_option (option_map (λ n. let s : NamedSymbol = record { word = n; value = symbol.value; size = symbol.size } in s) named) rest)
 within_step words numbered symbol rest later None named = later
-within_step words numbered symbol rest later (Some one) named = (numbered.within (escaped symbol.name) one named, later)
+within_step words numbered symbol rest later (Some one) named = (numbered.within (spelled symbol.name) one named, later)
 
 within_each : (words : Words) → AreNumbered words → (symbols : List Named) → AllByRecursion (λ (s : NamedSymbol). s.word < count words) (filter_map (named_by words) symbols)
 within_each words numbered [] = tt
 within_each words numbered (symbol ∷ symbols) =
-    within_step words numbered symbol (filter_map (named_by words) symbols) (within_each words numbered symbols) (number_of words (escaped symbol.name)) refl
+    within_step words numbered symbol (filter_map (named_by words) symbols) (within_each words numbered symbols) (number_of words (spelled symbol.name)) refl
 
 pub named_within : (words : Words) → AreNumbered words → (symbols : List Named) (named : List NamedSymbol) → named ≡ filter_map (named_by words) symbols → All (λ (s : NamedSymbol). s.word < count words) named
 named_within words numbered symbols named is =
@@ -175,12 +196,12 @@ any_filter keep test (s ∷ symbols) = at (keep s) (any_filter keep test symbols
   at false next = next
 
 told_is : (words : Words) → AreNumbered words → (word : List ℕ) (number : ℕ) → number_of words word ≡ Some number → (told : Option Named)
-    → option_map_or (λ given. given == number) (option_and_then (λ (s : Named). number_of words (escaped s.name)) told) false ≡ option_map_or (is_spelled word) told false
+    → option_map_or (λ given. given == number) (option_and_then (λ (s : Named). number_of words (spelled s.name)) told) false ≡ option_map_or (is_spelled word) told false
 told_is words numbered word number is None = refl
-told_is words numbered word number is (Some symbol) = at (number_of words (escaped symbol.name)) refl where
-  at : (named : Option ℕ) → number_of words (escaped symbol.name) ≡ named → option_map_or (λ given. given == number) named false ≡ is_spelled word symbol
-  at None named = sym (unnumbered words (escaped symbol.name) word number named is)
-  at (Some one) named = same_number words numbered (escaped symbol.name) word one number named is
+told_is words numbered word number is (Some symbol) = at (number_of words (spelled symbol.name)) refl where
+  at : (named : Option ℕ) → number_of words (spelled symbol.name) ≡ named → option_map_or (λ given. given == number) named false ≡ is_spelled word symbol
+  at None named = sym (unnumbered words (spelled symbol.name) word number named is)
+  at (Some one) named = same_number words numbered (spelled symbol.name) word one number named is
 
 pub marks_at : (words : Words) → AreNumbered words → (image : Contents) (address : ℕ) (named holding : List NamedSymbol) (before after : List Bool) (told : Option ℕ)
     → named ≡ filter_map (named_by words) image.symbols → holding ≡ filter (holds address) named → AreMarks holding before → told ≡ told_word words image address → MarksMore told before after → AreMarksAt words image (Some address) after
@@ -201,7 +222,7 @@ no_marks_at words image marks marked word number is = marked number
 
 -- ---- a symbol more
 
-pub named_more : (words : Words) (symbols : List Named) (place : ℕ) (symbol : Named) (word : Option ℕ) (before after : List NamedSymbol) → place < length symbols → symbol ≡ get_or symbols place symbol → word ≡ number_of words (escaped symbol.name)
+pub named_more : (words : Words) (symbols : List Named) (place : ℕ) (symbol : Named) (word : Option ℕ) (before after : List NamedSymbol) → place < length symbols → symbol ≡ get_or symbols place symbol → word ≡ number_of words (spelled symbol.name)
     → before ≡ filter_map (named_by words) (take place symbols) → after ≡ before ++ option_to_list (named symbol word) → after ≡ filter_map (named_by words) (take (place + 1) symbols)
 named_more words symbols place symbol word before after within is word_is so_far after_is =
     let taken : take (place + 1) symbols ≡ take place symbols ++ symbol ∷ [] = take_more symbols place symbol within ∙ ap (λ (s : Named). take place symbols ++ s ∷ []) (sym is) in

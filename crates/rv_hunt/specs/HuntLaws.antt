@@ -1,6 +1,7 @@
 -- What holds of hunt tables.
-use Rattle.std.specs.Prelude.{◌≡◌, List, [], ◌++◌, map}
+use Rattle.std.specs.Prelude.{◌≡◌, ℕ, List, [], ◌∷◌, ◌++◌, map}
 use Rattle.std.specs.List.{fold, flat_map}
+use Rattle.rv_hunt.specs.Origin.{Origin, joined_origin}
 use Rattle.rv_hunt.specs.Rows.{merged, table_of}
 use Rattle.rv_hunt.specs.declared.row.RaceRow.{RaceRow}
 use Rattle.rv_report.specs.declared.key.Key.{Key}
@@ -16,3 +17,12 @@ TwoAreMerged = (earlier later : List (Key × RaceRow)) → merged (table_of earl
 -- a table's own rows make that table
 abbrev pub TableIsKept : Type 0
 TableIsKept = (rows : List (Key × RaceRow)) → table_of (table_of rows) ≡ table_of rows
+
+-- the same of the runs from a number up to another
+abbrev pub of_runs : Origin → ℕ → ℕ → Origin
+of_runs origin first end = record origin { stretches = record { first = first; end = end } ∷ [] }
+
+-- What the rows of two pieces of a hunt are of, joined, is what those of the whole are of: the later begins where the earlier ends.
+abbrev pub OriginsAreJoined : Type 0
+OriginsAreJoined =
+    (origin : Origin) (first middle end : ℕ) → joined_origin (of_runs origin first middle) (of_runs origin middle end) ≡ of_runs origin first end

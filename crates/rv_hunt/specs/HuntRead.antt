@@ -5,7 +5,7 @@ use Rattle.std.specs.Str.{bytes_eq}
 use Rattle.rv_collide.specs.ScheduleRead.{address_of, is_over, named, words_of}
 use Rattle.rv_explain.specs.Blocks.{class_word}
 use Rattle.rv_races.specs.declared.classes.RaceClass.{RaceClass}
-use Rattle.rv_races.specs.declared.classes.RaceClass.TheVariants.{Kept, Counter, Flag, Ordered, Named}
+use Rattle.rv_races.specs.declared.classes.RaceClass.TheVariants.{Kept, Counter, Unwatched, Flag, Ordered, Atomic, Named}
 use Rattle.rv_hunt.specs.HuntText.{verdict_word}
 use Rattle.rv_hunt.specs.Rows.{has_race}
 use Rattle.rv_hunt.specs.declared.fault.TableFault.{TableFault}
@@ -23,7 +23,7 @@ use Rattle.rv_memory.specs.Chain.{◌>>=◌, want}
 use Rattle.rv_report.specs.declared.key.Key.{Key}
 use Rattle.rv_text.specs.Pieces.{pieces_of}
 
-abbrev option_then : {A B : Type 0} → Option A → (A → Option B) → Option B
+abbrev pub option_then : {A B : Type 0} → Option A → (A → Option B) → Option B
 option_then o next = option_and_then next o
 
 -- a number of a table, or None where it is over 2^64 - 1
@@ -74,15 +74,18 @@ abbrev pub class_named : List ℕ → Option RaceClass
 class_named word =
     if bytes_eq word (class_word Kept) then Some Kept
     else if bytes_eq word (class_word Counter) then Some Counter
+    else if bytes_eq word (class_word Unwatched) then Some Unwatched
     else if bytes_eq word (class_word Flag) then Some Flag
     else if bytes_eq word (class_word Ordered) then Some Ordered
+    else if bytes_eq word (class_word Atomic) then Some Atomic
     else if bytes_eq word (class_word Named) then Some Named
     else None
 
--- A race may have the class. What only found its bytes changed met no access that could make it a count or ordered.
+-- A race may have the class. What only found its bytes changed is no counter, and what a data breakpoint saw is not unwatched. (Older
+-- tables have kept ones of the former.)
 abbrev pub may_be : Option ℕ → RaceClass → Bool
 may_be None Counter = false
-may_be None Ordered = false
+may_be (Some second) Unwatched = false
 may_be second class = true
 
 abbrev pub class_of_word : Option ℕ → List ℕ → Option RaceClass

@@ -35,6 +35,7 @@ pub record AreRows (rows : List (Key × RaceRow)) : Type 0 where
 abbrev pub said : Key × RaceRow → Key × RaceRow
 said row = (row.0, record row.1 { part = 0; address = None })
 
--- So the tables that a merge reads are those that were written, and `PiecesAreMerged` is of the files too.
+-- So the rows that a merge reads are those that were written, and `PiecesAreMerged` is of the files too: it is of the text before a table's
+-- last line.
 abbrev pub TablesAreReadBack : Type 0
 TablesAreReadBack = (rows : List (Key × RaceRow)) → AreRows rows → read Hunt (table_text rows) ≡ Ok (map said rows)

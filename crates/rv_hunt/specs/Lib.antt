@@ -12,6 +12,8 @@ pub mod Keyed
 pub mod Kinds
 pub mod Near
 pub mod Orders
+pub mod Origin
+pub mod OriginRead
 pub mod Outcome
 pub mod PageFacts
 pub mod Remade

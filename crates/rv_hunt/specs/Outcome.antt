@@ -1,5 +1,5 @@
 -- What a hunt came to, and its sums.
-use Rattle.std.specs.Prelude.{ℕ, ◌+◌, List, [], ◌∷◌, length}
+use Rattle.std.specs.Prelude.{ℕ, ◌+◌, Bool, List, [], ◌∷◌, length}
 use Rattle.rv_collide.specs.Counts.{saturated}
 use Rattle.rv_engines.specs.declared.built.Built.{Built}
 use Rattle.rv_hunt.specs.Near.{how_many}
@@ -11,13 +11,14 @@ use Rattle.rv_hunt.specs.declared.row.RaceRow.{RaceRow}
 use Rattle.rv_report.specs.declared.key.Key.{Key}
 
 -- How many sites the image has without those that are skipped, what its runs are, what they saw, the rows of its races, and those
--- that a line of --ignore fits; and what the image was built with.
+-- that a line of --ignore fits; whether the list of expected races has a name that the image lacks; and what the image was built with.
 pub record Outcome : Type 0 where
   pub sites : ℕ
   pub mix : Mix
   pub saw : Hunted
   pub rows : List (Key × RaceRow)
   pub ignored : List (Key × RaceRow)
+  pub gone : Bool
   pub built : Built
 
 -- of the sampled runs: the sites, how many were armed and paused at, the pauses, how they ended, and their steps

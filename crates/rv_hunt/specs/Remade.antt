@@ -1,9 +1,7 @@
 -- The run that a row of a hunt's table is told by, made again.
-use Rattle.std.specs.Prelude.{ℕ, Bool, ◌==◌, ◌&&◌, Option, option_map, find, length, List}
-use Rattle.rv_collide.specs.declared.ending.Ending.{Ending}
-use Rattle.rv_elf.specs.Contents.{Contents}
+use Rattle.std.specs.Prelude.{ℕ, Bool, ◌==◌, ◌&&◌, Option, option_map, find, List}
 use Rattle.rv_explain.specs.Classes.{rank}
-use Rattle.rv_explain.specs.Races.{reports_of}
+use Rattle.rv_explain.specs.Races.{Run, reports}
 use Rattle.rv_races.specs.declared.races.Race.{Race}
 use Rattle.rv_races.specs.declared.races.Report.{Report}
 use Rattle.rv_hunt.specs.declared.row.RaceRow.{RaceRow}
@@ -19,7 +17,6 @@ is_told_by row report =
 abbrev pub race_by : Key × RaceRow → Report → Race
 race_by row report = record { reports = row.1.count; told = report }
 
--- the race of a row in a run of these endings: it is told by the first report that the row says
-unfoldable pub race_in : Contents → List (ℕ × ℕ) → Key × RaceRow → List Ending → Option Race
-race_in image ranges row ended =
-    option_map (race_by row) (find (is_told_by row) (reports_of image ranges ended (length ended)))
+-- the race of a row in a run: it is told by the first report that the row says
+unfoldable pub race_in : Run → List (ℕ × ℕ) → Key × RaceRow → Option Race
+race_in run ranges row = option_map (race_by row) (find (is_told_by row) (reports run ranges))

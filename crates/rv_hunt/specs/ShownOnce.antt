@@ -15,6 +15,6 @@ use Rattle.rv_report.specs.declared.key.Key.{Key}
 abbrev pub EachIsShownOnce : Type 0
 EachIsShownOnce =
     (image : Contents) (lines : List Line) (orders : List (Key × OrderRow)) (rows told : List (Key × RaceRow)) (weight : Key × RaceRow → ℕ)
-    → let kept = filter (λ (row : Key × RaceRow). is_told image lines row.0) rows in
+    → let kept = filter (is_told image lines) rows in
     AreInOrder image orders kept told
-    → sum_by weight told + (sum_by weight (of_class Named kept) + sum_by weight (filter (λ (row : Key × RaceRow). is_ignored image lines row.0) rows)) ≡ sum_by weight rows
+    → sum_by weight told + (sum_by weight (of_class Named kept) + sum_by weight (filter (is_ignored image lines) rows)) ≡ sum_by weight rows

@@ -9,7 +9,7 @@ use Rattle.rv_hunt.specs.declared.near.Fate.TheVariants.{Untried}
 use Rattle.rv_tally.specs.declared.plans.Mix.{Mix}
 use Rattle.rv_tally.specs.declared.plans.Mix.TheVariants.{Mixed, Sampled, Walks}
 use Rattle.rv_hunt.specs.declared.saying.warnings.Warning.{Warning}
-use Rattle.rv_hunt.specs.declared.saying.warnings.Warning.TheVariants.{Compressed, Floating, NoSite, NoPause, Lost, Trapped, NoOtherStep, FewArmed, NoNear, ManyUntried, WalkedInVain, NoExit}
+use Rattle.rv_hunt.specs.declared.saying.warnings.Warning.TheVariants.{Compressed, Floating, NoSite, NoPause, Lost, Trapped, NoOtherStep, FewArmed, NoNear, ManyUntried, WalkedInVain, NoExit, Gone}
 
 -- the image has no site
 abbrev pub has_no_site : ℕ → Bool
@@ -75,9 +75,10 @@ holds outcome NoNear = saw_no_pair outcome.saw
 holds outcome ManyUntried = tried_few outcome.saw
 holds outcome WalkedInVain = walked_in_vain outcome.saw.tally
 holds outcome NoExit = exited_nowhere outcome.saw.tally
+holds outcome Gone = outcome.gone
 
 abbrev pub all_warnings : List Warning
-all_warnings = Compressed ∷ Floating ∷ NoSite ∷ NoPause ∷ Lost ∷ Trapped ∷ NoOtherStep ∷ FewArmed ∷ NoNear ∷ ManyUntried ∷ WalkedInVain ∷ NoExit ∷ []
+all_warnings = Compressed ∷ Floating ∷ NoSite ∷ NoPause ∷ Lost ∷ Trapped ∷ NoOtherStep ∷ FewArmed ∷ NoNear ∷ ManyUntried ∷ WalkedInVain ∷ NoExit ∷ Gone ∷ []
 
 -- those that hold
 abbrev pub warnings_of : Outcome → List Warning
@@ -105,6 +106,7 @@ voids mix FewArmed = false
 voids mix ManyUntried = false
 voids mix WalkedInVain = false
 voids mix NoExit = false
+voids mix Gone = false
 
 -- one of these holds of what a hunt came to
 unfoldable pub is_void : Outcome → Bool

@@ -2,5 +2,9 @@
 pub mod FileFault
 pub mod FileFaultText
 pub mod Ignore
+pub mod Known
+pub mod KnownLaws
+pub mod Listing
 pub mod Merge
 pub mod TableFiles
+pub mod Whole

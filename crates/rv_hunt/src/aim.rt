@@ -30,7 +30,7 @@ fn fitted(
                 first: stretch.first.wrapping_add(place.wrapping_mul(4)),
                 second: None,
             };
-            if line.fits(alloc, symbols, &names, &key)? {
+            if line.fits(alloc, symbols, &names, &key, None)? {
                 marks.add(stretch.before.wrapping_add(place));
             }
         }

@@ -9,7 +9,7 @@ ghost use Rattle.rv_engines.specs.Campaigns.{passes};
 ghost use Rattle.rv_hunt.specs.engine.Asked.{AreLegal, asked};
 ghost use Rattle.rv_hunt.specs.engine.HuntFault.{IsTold, fails_by, is_of_files, is_read, is_write};
 ghost use Rattle.rv_hunt.specs.engine.Hunting as spec;
-ghost use Rattle.rv_hunt.specs.engine.Late.{IfPaged, IfSaved};
+ghost use Rattle.rv_hunt.specs.engine.Late.{IfListed, IfPaged, IfSaved};
 ghost use Rattle.rv_hunt.specs.RightEnds.{right_codes};
 ghost use Rattle.rv_hunt.specs.internal.Opened.{hunt_in, hunting_with, texts_in};
 
@@ -73,7 +73,7 @@ fn read<'a, R: Read>(
     inputs: &mut Inputs<R>,
 ) -> Result<(Opened, Lists), HuntFault<'a>>
     ensures ok { IfOk result (λ read. IfSome (spec.files_of R.remaining inputs.old) (λ files.
-        spec.IsHuntingOf (asked options.now) files (hunting_with (hunt_in (asked options.now) read.0) (right_codes (asked options.now).right) read.1))) }
+        spec.IsHuntingOf (asked options.now) files (hunting_with (hunt_in (asked options.now) read.0) read.0.digits.items (right_codes (asked options.now).right) read.1))) }
     ensures err { IfErr result (λ fault. IfSome (spec.files_of R.remaining inputs.old) (λ files.
         IsTold (asked options.now) files fault)) }
     ensures readers { spec.any_failed inputs.new ≡ (spec.any_failed inputs.old || fails_by is_read result) }
@@ -101,7 +101,7 @@ fn read<'a, R: Read>(
 }
 
 /// Reads the image and the lists, looks at the folder, and makes the runs of a hunt, the schedules of the races that are told,
-/// the page, and the texts of what the runs saw.
+/// the page, the list of the races, and the texts of what the runs saw.
 fn make<'a, T: Threads + Wait + Sync, R: Read, D: Folder, F: NewFile, P: Watch>(
     rt: &T,
     alloc: Global,
@@ -109,30 +109,34 @@ fn make<'a, T: Threads + Wait + Sync, R: Read, D: Folder, F: NewFile, P: Watch>(
     inputs: &mut Inputs<R>,
     folder: &mut Option<D>,
     page: &mut Option<F>,
+    list: &mut Option<F>,
     watch: &mut P,
 ) -> Result<Made, HuntFault<'a>>
     requires { AreLegal options.now }
     ensures made { IfOk result (λ made. IfSome (spec.files_of R.remaining inputs.old) (λ files.
         (hunting : spec.Hunting) × spec.IsHuntingOf (asked options.now) files hunting
         × spec.IsMade (spec.showing_of options.now (is_some folder.old) (is_some page.old)) hunting
-        (IfSaved D.has_failed D.Holds folder.new) (IfPaged F.has_failed F.Holds page.new) made.found (texts_in made))) }
-    ensures wanted { (is_some folder.new ≡ is_some folder.old) × (is_some page.new ≡ is_some page.old) }
+        (IfSaved D.has_failed D.Holds folder.new) (IfPaged F.has_failed F.Holds page.new) (IfListed F.has_failed F.Holds list.new)
+        made.found (texts_in made))) }
+    ensures wanted { (is_some folder.new ≡ is_some folder.old) × (is_some page.new ≡ is_some page.old) × (is_some list.new ≡ is_some list.old) }
     ensures refused { IfErr result (λ fault. IfSome (spec.files_of R.remaining inputs.old) (λ files.
         IsTold (asked options.now) files fault)) }
     ensures no_schedules { IfErr result (λ fault. is_of_files fault ≡ true
         → passes D.is_used folder.new ≡ passes D.is_used folder.old) }
     ensures no_page { IfErr result (λ fault. is_of_files fault ≡ true
         → passes F.is_made page.new ≡ passes F.is_made page.old) }
+    ensures no_list { IfErr result (λ fault. is_of_files fault ≡ true
+        → passes F.is_made list.new ≡ passes F.is_made list.old) }
     ensures readers { spec.any_failed inputs.new ≡ (spec.any_failed inputs.old || fails_by is_read result) }
     ensures files { fails_by is_write result ≡ true
-        → (passes D.has_failed folder.new || passes F.has_failed page.new) ≡ true }
+        → (passes D.has_failed folder.new || passes F.has_failed page.new || passes F.has_failed list.new) ≡ true }
 {
     let read = match read(alloc, options, inputs) {
         Ok(read) => read,
         Err(fault) => return Err(fault),
     };
     let (opened, lists) = &read;
-    let made = make_hunt(rt, alloc, options, opened, lists, folder, page, watch);
+    let made = make_hunt(rt, alloc, options, opened, lists, folder, page, list, watch);
     // Let go here, once for both outcomes.
     drop(read);
     match made {
@@ -141,9 +145,9 @@ fn make<'a, T: Threads + Wait + Sync, R: Read, D: Folder, F: NewFile, P: Watch>(
     }
 }
 
-/// Reads the image and the lists, looks at the folder, makes the runs of a hunt, the schedules of the races that are told
-/// and the page, and writes what the runs saw. `notes` is the standard error: it has got all of the notes before the first byte
-/// of the text is written. Where a file or a list is refused, or the folder or the page can't be made, nothing is made or
+/// Reads the image and the lists, looks at the folder, makes the runs of a hunt, the schedules of the races that are told,
+/// the page and the list of the races, and writes what the runs saw. `notes` is the standard error: it has got all of the notes before the first byte
+/// of the text is written. Where a file or a list is refused, or the folder, the page or the list can't be made, nothing is made or
 /// written. A file that fails after the runs has it noted: all others are made, and the text is written.
 pub fn run_hunt<
     'a,
@@ -161,6 +165,7 @@ pub fn run_hunt<
     inputs: &mut Inputs<R>,
     folder: &mut Option<D>,
     page: &mut Option<F>,
+    list: &mut Option<F>,
     writer: &mut Buffered<W>,
     notes: &mut Buffered<E>,
     watch: &mut P,
@@ -171,8 +176,8 @@ pub fn run_hunt<
         × spec.IsTold (spec.showing_of options.now (is_some folder.old) (is_some page.old)) hunting found
         (Appends (buffer.written W.contents writer.old) (buffer.sent W.contents writer.new))
         (Appends (buffer.written E.contents notes.old) (buffer.sent E.contents notes.new))
-        (IfSaved D.has_failed D.Holds folder.new) (IfPaged F.has_failed F.Holds page.new))) }
-    ensures wanted { (is_some folder.new ≡ is_some folder.old) × (is_some page.new ≡ is_some page.old) }
+        (IfSaved D.has_failed D.Holds folder.new) (IfPaged F.has_failed F.Holds page.new) (IfListed F.has_failed F.Holds list.new))) }
+    ensures wanted { (is_some folder.new ≡ is_some folder.old) × (is_some page.new ≡ is_some page.old) × (is_some list.new ≡ is_some list.old) }
     ensures refused { IfErr result (λ fault. IfSome (spec.files_of R.remaining inputs.old) (λ files.
         IsTold (asked options.now) files fault)) }
     ensures nothing { IfErr result (λ fault. is_write fault ≡ false
@@ -183,6 +188,8 @@ pub fn run_hunt<
         → passes D.is_used folder.new ≡ passes D.is_used folder.old) }
     ensures no_page { IfErr result (λ fault. is_of_files fault ≡ true
         → passes F.is_made page.new ≡ passes F.is_made page.old) }
+    ensures no_list { IfErr result (λ fault. is_of_files fault ≡ true
+        → passes F.is_made list.new ≡ passes F.is_made list.old) }
     ensures first { buffer.has_failed notes.old ≡ false → buffer.has_failed notes.new ≡ true
         → Keeps (buffer.sent W.contents writer.old) (buffer.sent W.contents writer.new) }
     ensures looked { fails_by is_write result ≡ true
@@ -190,13 +197,13 @@ pub fn run_hunt<
         → Keeps (buffer.sent W.contents writer.old) (buffer.sent W.contents writer.new) }
     ensures readers { spec.any_failed inputs.new ≡ (spec.any_failed inputs.old || fails_by is_read result) }
     ensures writers { fails_by is_write result ≡ true
-        → ((passes D.has_failed folder.new || passes F.has_failed page.new)
+        → ((passes D.has_failed folder.new || passes F.has_failed page.new || passes F.has_failed list.new)
         || (buffer.has_failed notes.new || buffer.has_failed writer.new)) ≡ true }
     ensures streams { (buffer.has_failed notes.old || buffer.has_failed writer.old) ≡ false
         → (buffer.has_failed notes.new || buffer.has_failed writer.new) ≡ true
         → fails_by is_write result ≡ true }
 {
-    let made = match make(rt, alloc, options, inputs, folder, page, watch) {
+    let made = match make(rt, alloc, options, inputs, folder, page, list, watch) {
         Ok(made) => made,
         Err(fault) => return Err(fault),
     };

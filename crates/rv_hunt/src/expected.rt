@@ -1,12 +1,14 @@
 //! Which races a hunt counts.
-ghost use Rattle.std.specs.Prelude.{◌≡◌};
+ghost use Rattle.std.specs.Prelude.{◌≡◌, IfOk, filter};
 ghost use Rattle.rv_hunt.specs.Expected as spec;
 ghost use Rattle.rv_hunt.specs.merge.Merge as merge;
 
 use crate::row::RaceRow;
 use crate::table::HuntTable;
 use rv_explain::block::RaceClass;
+use rv_memory::store::NoMemory;
 use rv_report::key::Key;
+use std::alloc::Global;
 
 /// Whether a race of the class may be a bug: it is kept, or a counter. What the rule takes for a statistics counter may
 /// be a lost update.
@@ -15,18 +17,29 @@ pub fn may_be_bug(class: RaceClass) -> bool
 {
     match class {
         RaceClass::Kept | RaceClass::Counter => true,
-        RaceClass::Flag | RaceClass::Ordered | RaceClass::Named => false,
+        RaceClass::Unwatched
+        | RaceClass::Flag
+        | RaceClass::Ordered
+        | RaceClass::Atomic
+        | RaceClass::Named => false,
     }
 }
 
-/// Whether a race of the class is likely benign: it is a flag, or ordered.
+/// Whether a race of the class is likely benign: it is a flag, ordered, or of an atomic.
 pub fn is_likely_benign(class: RaceClass) -> bool
     ensures { result ≡ spec.is_likely_benign class }
 {
     match class {
-        RaceClass::Flag | RaceClass::Ordered => true,
-        RaceClass::Kept | RaceClass::Counter | RaceClass::Named => false,
+        RaceClass::Flag | RaceClass::Ordered | RaceClass::Atomic => true,
+        RaceClass::Kept | RaceClass::Counter | RaceClass::Unwatched | RaceClass::Named => false,
     }
+}
+
+/// Whether no data breakpoint watched what a race of the class found, which counts as neither.
+pub fn is_unwatched(class: RaceClass) -> bool
+    ensures { result ≡ spec.is_unwatched class }
+{
+    matches!(class, RaceClass::Unwatched)
 }
 
 /// Whether the race of a row may be a bug and has no row among those that are expected.
@@ -36,19 +49,28 @@ fn is_new(known: &HuntTable, row: &(Key, RaceRow)) -> bool
     may_be_bug(row.1.class) && !known.has(&row.0)
 }
 
-/// Whether one of the rows is such a race.
-fn has_new(known: &HuntTable, rows: &[(Key, RaceRow)]) -> bool
-    ensures { result ≡ spec.has_unexpected known.now rows.now }
+/// Those of the rows whose races may be bugs and have no row among those that are expected.
+pub(crate) fn new_in(
+    alloc: Global,
+    known: &HuntTable,
+    rows: &[(Key, RaceRow)],
+) -> Result<Vec<(Key, RaceRow)>, NoMemory>
+    ensures { IfOk result (λ found. found.items ≡ filter (spec.is_unexpected known.now) rows.now) }
 {
-    rows.iter().any(|row| is_new(known, row))
+    let those = rows.iter().copied();
+    Ok(those.filter(|row| is_new(known, row)).collect(alloc)?)
 }
 
-/// Whether there is a race that may be a bug and is not among those that are expected, where some are.
-pub(crate) fn is_unexpected(known: &Option<HuntTable>, rows: &[(Key, RaceRow)]) -> bool
-    ensures { result ≡ merge.is_unexpected known.now rows.now }
+/// The same, where some are expected.
+pub(crate) fn new_of(
+    alloc: Global,
+    known: &Option<HuntTable>,
+    rows: &[(Key, RaceRow)],
+) -> Result<Vec<(Key, RaceRow)>, NoMemory>
+    ensures { IfOk result (λ found. found.items ≡ merge.unexpected_in known.now rows.now) }
 {
     match known {
-        Some(table) => has_new(table, rows),
-        None => false,
+        Some(table) => new_in(alloc, table, rows),
+        None => Ok(Vec::new(alloc)),
     }
 }

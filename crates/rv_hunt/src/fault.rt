@@ -7,7 +7,7 @@ use rv_memory::store::NoMemory;
 /// What is wrong with a line of a table.
 #[derive(Clone, Copy)]
 pub enum TableKind {
-    /// The line is not `races N`, or no row: a hit with `-`, a changed one with two addresses or of class counter or
+    /// The line is not `races N`, or no row, or does not say what the table is of: a hit with `-`, a changed one with two addresses or of class counter or
     /// ordered is none.
     Shape,
     /// A number is outside its field, an address is no multiple of 4, the first address is over the second, or the
@@ -17,6 +17,16 @@ pub enum TableKind {
     Twice,
     /// There are other rows than the first line says, or the last LF is missing.
     End,
+    /// The table is of another image than the first that is merged.
+    Image,
+    /// It was made by another version of the program.
+    Version,
+    /// Other runs were asked for: by the seed, or by the options.
+    Options,
+    /// It has runs before the last of a table whose runs begin before.
+    Overlap,
+    /// Runs between those of the tables before and its own are missing.
+    Gap,
 }
 
 /// The first line with a fault, from 1 on, and its first fault.

@@ -1,5 +1,7 @@
 //! What the probes of a walk come to, added up while they are made.
-ghost use Rattle.std.specs.Prelude.{◌≡◌, ℕ, ◌∷◌, ◌++◌, [], All, List, OnOk, IfOk, map};
+ghost use Rattle.std.specs.Prelude.{◌≡◌, ◌∷◌, ◌++◌, [], All, List, OnOk, IfOk, map};
+ghost use Rattle.rv_explain.specs.Judged.{judged};
+ghost use Rattle.rv_hart.specs.State.{State};
 ghost use Rattle.rv_hunt.specs.Hunt.{Hunt as Asked};
 ghost use Rattle.rv_hunt.specs.KeptRun as spec;
 ghost use Rattle.rv_hunt.specs.Near as near;
@@ -15,6 +17,7 @@ use crate::stuck::{StuckSeen, is_reported};
 use crate::summary::counts_of;
 use crate::tally::counts::{Counts, sum};
 use crate::trials::Trials;
+use rv_explain::races::Judged;
 use rv_memory::paged::Paged;
 use rv_memory::store::NoMemory;
 use rv_stuck::acts_of;
@@ -77,7 +80,8 @@ impl Gathered {
     pub(crate) fn of(alloc: Global, walk: &RunWalk, trials: Trials) -> Result<Gathered, NoMemory>
         requires { trials.tried.items ≡ [] }
         ensures { IfOk result (λ gathered. (hunt : Asked) →
-            internal.IsGathered hunt walk.now.left.harts.items walk.now.left.pairs.items [] gathered) }
+            (start : State) → internal.IsGathered hunt (record { start = start; harts = walk.now.left.harts.items })
+            walk.now.left.pairs.items [] gathered) }
     {
         let near = seen_pairs(alloc, &walk.left.pairs)?;
         let counts = Counts {
@@ -94,23 +98,25 @@ impl Gathered {
         })
     }
 
-    /// Adds what the next part comes to.
+    /// Adds what the next part comes to, whose endings come with what they are judged by.
     pub(crate) fn add(
         &mut self,
         alloc: Global,
         hunt: &Hunt<'_>,
         part: &Part,
+        endings: &[Judged],
     ) -> Result<(), NoMemory>
-        ensures { OnOk result ((harts : List ℕ) (pairs : List Pair) (parts : List Made) →
-            internal.IsGathered hunt.now harts pairs parts self.old
-            → internal.IsGathered hunt.now harts pairs (parts ++ part.now ∷ []) self.new) }
+        ensures { OnOk result ((gone : spec.Gone) (pairs : List Pair) (parts : List Made) →
+            endings.now ≡ map (judged (spec.run_of_part hunt.now gone part.now)) part.now.probed.finished.endings.items
+            → internal.IsGathered hunt.now gone pairs parts self.old
+            → internal.IsGathered hunt.now gone pairs (parts ++ part.now ∷ []) self.new) }
     {
         // A walk has far fewer probes than 2^32.
         let Some(number) = self.parts.checked_add(1) else {
             return Err(NoMemory);
         };
         let finished = &part.probed.finished;
-        let reports = reports_in_part(alloc, hunt, number, part.place, &finished.endings)?;
+        let reports = reports_in_part(alloc, hunt, number, part.place, endings)?;
         append_reports(&mut self.reports, reports)?;
         self.near.push(probed_pair(part))?;
         self.parts = number;

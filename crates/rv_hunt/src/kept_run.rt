@@ -1,9 +1,11 @@
 //! What a hunt keeps of a run.
-ghost use Rattle.std.specs.Prelude.{◌≡◌, IfOk, map};
+ghost use Rattle.std.specs.Prelude.{◌≡◌, IfOk, map, take};
 ghost use Rattle.rv_hunt.specs.KeptRun as spec;
 ghost use Rattle.rv_campaign.specs.Kept.{IsCoreOf};
 ghost use Rattle.rv_collide.specs.Grammar.{IsWritable};
 ghost use Rattle.rv_collide.specs.Numbers.{numbers};
+ghost use Rattle.rv_explain.specs.Judged.{judged};
+ghost use Rattle.rv_hart.specs.State.{start as first_state};
 ghost use Rattle.rv_hunt.specs.Hunt.{IsSampledRun};
 ghost use Rattle.rv_hunt.specs.internal.Gathered.{AreGathered};
 ghost use Rattle.rv_hunt.specs.internal.RunWalk.{IsBegin, IsRunWalk};
@@ -20,10 +22,10 @@ use crate::tally::counts::Counts;
 use crate::trials::Trials;
 use rv_campaign::{core_sampled, left_by};
 use rv_collide::collider::{Collider, Finished, machine_of};
-use rv_collide::ending::Ending;
 use rv_collide::entry::Entry;
+use rv_collide::plan::Plan;
 use rv_collide::schedule::laws::legal_is_writable;
-use rv_explain::races::{Report, reports_of};
+use rv_explain::races::{Judged, Report, judged_in, reports_of};
 use rv_hart::machine::Machine;
 use rv_memory::flat::Flat;
 use rv_memory::paged::Paged;
@@ -31,6 +33,7 @@ use rv_memory::store::NoMemory;
 use rv_stuck::Act;
 use rv_walk::code::{Executed, Marks};
 use rv_walk::near_pair::Addresses;
+use rv_walk::probes::Part;
 use std::alloc::Global;
 
 /// A report of a run: of its part of that number, before whose own entries there are so many of the run's walk. Part 0 is a
@@ -61,10 +64,10 @@ pub(crate) fn reports_in_part(
     hunt: &Hunt<'_>,
     part: u32,
     before: u32,
-    endings: &[Ending],
+    endings: &[Judged],
 ) -> Result<Vec<PartReport>, NoMemory>
     ensures { IfOk result (λ reports.
-        reports.items ≡ map (spec.in_part part before) (spec.reports_among hunt.now endings.now)) }
+        reports.items ≡ map (spec.in_part part before) (spec.reports_by hunt.now endings.now)) }
 {
     let reports = reports_of(alloc, hunt.image, hunt.ranges, endings)?;
     Ok(
@@ -127,7 +130,9 @@ impl Hunt<'_> {
         let core = core_of(alloc, self, number)?;
         let ends = ends_of(alloc, &core)?;
         let left = left_by(core);
-        let reports = reports_in_part(alloc, self, 0, 0, &left.endings)?;
+        let plan = self.plans.plan(number);
+        let judged = judged_in(alloc, self.image, &plan, &[], &left.entries, &left.endings)?;
+        let reports = reports_in_part(alloc, self, 0, 0, &judged)?;
         let summary = sampled_summary(alloc, ends, &left)?;
         let words = executed_in(alloc, self, &left, counted)?;
         Ok(KeptRun {
@@ -224,6 +229,43 @@ fn execute(
     }
 }
 
+/// The steps of a walk before a place.
+fn steps_before(harts: &[u8], place: u32) -> &[u8]
+    ensures { result.now ≡ take place harts.now }
+{
+    let place = place as usize;
+    if place < harts.len() {
+        &harts[..place]
+    } else {
+        harts
+    }
+}
+
+/// The endings of a part of a walk of so many harts, each with what it is judged by.
+fn judged_part(
+    alloc: Global,
+    hunt: &Hunt<'_>,
+    plan: &Plan,
+    walk: &RunWalk,
+    part: &Part,
+) -> Result<Vec<Judged>, NoMemory>
+    ensures { IfOk result (λ found. found.items ≡ map (judged (spec.run_of_part hunt.now (record {
+      start = first_state hunt.now.source.image.segments hunt.now.source.image.entry plan.now.harts;
+      harts = walk.now.left.harts.items;
+    }) part.now)) part.now.probed.finished.endings.items) }
+{
+    let steps = steps_before(&walk.left.harts, part.place);
+    let finished = &part.probed.finished;
+    judged_in(
+        alloc,
+        hunt.image,
+        plan,
+        steps,
+        &finished.entries,
+        &finished.endings,
+    )
+}
+
 /// What the probes of a walk come to, by a machine as it began.
 fn gathered<'a>(
     alloc: Global,
@@ -239,12 +281,14 @@ fn gathered<'a>(
     let drawn = drawn_pairs(alloc, hunt, number, walk)?;
     let trials = Trials::of(alloc, hunt, number, walk.left.harts.len(), drawn.len());
     let mut gathered = Gathered::of(alloc, walk, trials)?;
+    let plan = hunt.plans.plan(number);
     let mut probes = probes_of(begin, hunt, number, walk);
     let mut repeats = Repeats::none();
     for pair in &drawn {
         let part = probes.probe(alloc, pair, repeats.before(pair))?;
+        let judged = judged_part(alloc, hunt, &plan, walk, &part)?;
         let first = gathered.reports.len();
-        gathered.add(alloc, hunt, &part)?;
+        gathered.add(alloc, hunt, &part, &judged)?;
         gathered.try_from(alloc, &mut probes, &part, first)?;
     }
     Ok(gathered)

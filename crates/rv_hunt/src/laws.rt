@@ -1,8 +1,9 @@
 //! What holds of hunts and their tables. Each law is the contract of a function that does nothing.
-ghost use Rattle.rv_hunt.specs.HuntLaws.{PiecesAreMerged, TableIsKept, TwoAreMerged};
+ghost use Rattle.rv_hunt.specs.HuntLaws.{OriginsAreJoined, PiecesAreMerged, TableIsKept, TwoAreMerged};
 ghost use Rattle.rv_hunt.specs.HuntReadLaws.{TablesAreReadBack};
 ghost use Rattle.rv_hunt.specs.HuntedLaws.{OneResult, PiecesAreWhole, RowsAreTold};
 ghost use Rattle.rv_hunt.specs.ShownOnce.{EachIsShownOnce};
+ghost use Rattle.rv_hunt.specs.merge.KnownLaws.{TablesAreExpectedAlike};
 
 use rv_drive::driver_laws::seeded_runs;
 use rv_text::laws::{
@@ -15,6 +16,11 @@ pub fn pieces_are_merged()
     ensures all { PiecesAreMerged }
     ensures two { TwoAreMerged }
     ensures one { TableIsKept }
+{}
+
+/// What the rows of two pieces are of, joined, is what those of the whole are of.
+pub fn origins_are_joined()
+    ensures { OriginsAreJoined }
 {}
 
 /// What is asked of a hunt of sampled runs determines what it sees; the tables of a hunt's pieces make the table of the whole; and each
@@ -30,6 +36,11 @@ pub fn hunts_have_one_result()
 /// Each race that a hunt saw is counted once: it is shown, or it is of class named, or a line of `--ignore` fits it.
 pub fn each_race_is_shown_once()
     ensures { EachIsShownOnce }
+{}
+
+/// What is expected by a table is the same to `hunt` and to `merge`.
+pub fn tables_are_expected_alike()
+    ensures { TablesAreExpectedAlike }
 {}
 
 /// A table that is written is read back: so tables of pieces that are merged from their files are the table of the whole, too.

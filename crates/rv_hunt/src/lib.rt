@@ -28,6 +28,8 @@ pub mod near;
 pub mod noted;
 mod number;
 pub mod orders;
+pub mod origin;
+pub mod origin_line;
 pub mod page;
 pub mod reading;
 pub mod row;

@@ -144,10 +144,14 @@ fn class_named(word: &[u8]) -> Option<RaceClass>
         Some(RaceClass::Kept)
     } else if word == class_word(RaceClass::Counter) {
         Some(RaceClass::Counter)
+    } else if word == class_word(RaceClass::Unwatched) {
+        Some(RaceClass::Unwatched)
     } else if word == class_word(RaceClass::Flag) {
         Some(RaceClass::Flag)
     } else if word == class_word(RaceClass::Ordered) {
         Some(RaceClass::Ordered)
+    } else if word == class_word(RaceClass::Atomic) {
+        Some(RaceClass::Atomic)
     } else if word == class_word(RaceClass::Named) {
         Some(RaceClass::Named)
     } else {
@@ -160,7 +164,7 @@ fn may_be(second: Option<u32>, class: RaceClass) -> bool
     ensures { result ≡ spec.may_be second class }
 {
     match (second, class) {
-        (None, RaceClass::Counter | RaceClass::Ordered) => false,
+        (None, RaceClass::Counter) | (Some(_), RaceClass::Unwatched) => false,
         _ => true,
     }
 }
@@ -300,6 +304,13 @@ fn read_races(line: &[u8]) -> Option<Option<u64>>
 {
     let mut words = Pieces::of(line, b' ');
     read_only(&mut words, b"races")
+}
+
+/// Whether the line is the first of a table.
+pub(crate) fn is_first(line: &[u8]) -> bool
+    ensures { result ≡ is_some (spec.races_in (words_of line.now)) }
+{
+    read_races(line).is_some()
 }
 
 /// How many rows the first line says that there are.

@@ -96,6 +96,7 @@ fn told_races(
     alloc: Global,
     line: &LineParts<'_>,
     symbols: &SymbolTable,
+    outcome: &Outcome,
     told: &[(Key, RaceRow)],
     shown: &[ShownRace],
     orders: &[ShownOrder],
@@ -104,8 +105,8 @@ fn told_races(
     requires orders { length orders.now ≡ length shown.now }
     ensures { IfOk result (λ more. more ≡ record page { facts = spec.told_facts told.now (length shown.now) page.facts }) }
 {
-    let page = races_part(page, alloc, symbols, shown.len(), told)?;
-    races_shown(page, alloc, line, symbols, told, shown, orders)
+    let page = races_part(page, alloc, symbols, shown.len(), told, outcome.new)?;
+    races_shown(page, alloc, line, symbols, told, outcome.new, shown, orders)
 }
 
 /// What stands below the races.
@@ -140,7 +141,7 @@ pub fn page_text(
     let summary = summary_line(alloc, outcome)?;
     let page = begin_page(Markup::new(alloc), line, summary.as_bytes())?;
     let page = warnings_part(page, alloc, symbols, outcome)?;
-    let page = told_races(page, alloc, line, symbols, told, shown, orders)?;
+    let page = told_races(page, alloc, line, symbols, outcome, told, shown, orders)?;
     let page = stuck_part(page, alloc, line, symbols, outcome)?;
     let page = terms_part(below_races(page, alloc, symbols, outcome)?)?;
     Ok(end_line(end_line(page)?)?.finish())

@@ -5,4 +5,5 @@ pub mod lines;
 pub mod order;
 pub(crate) mod orders;
 pub(crate) mod stuck;
+pub(crate) mod unexpected;
 pub mod warnings;

@@ -1,5 +1,5 @@
--- Which reports are ordered: to the machine a lock, or a release and an acquire of C11, is a race of accesses, each of
--- which is one that such code is made of. (RISC-V Unprivileged ISA, "Code Porting and Mapping Guidelines": the mapping
+-- Which reports are ordered, and which are of an atomic: to the machine a lock, or a release and an acquire of C11, is a race
+-- of accesses, each of which is one that such code is made of. (RISC-V Unprivileged ISA, "Code Porting and Mapping Guidelines": the mapping
 -- of C and C++ primitives that uses fences.) No rule of the classes asks it.
 --
 -- All instructions, the accesses' own too, are those of the image's file.
@@ -43,20 +43,31 @@ is_ordering role.Acquire = true
 is_ordering role.Load = false
 is_ordering role.Plain = false
 
--- an access of LR, SC or an AMO, and any plain load
+abbrev pub are_ordered : Role → Role → Bool
+are_ordered one other = is_ordering one && is_ordering other
+
+-- an access of LR, SC or an AMO, and a plain load that no fence orders
 abbrev pub is_atomic_with_load : Role → Role → Bool
-is_atomic_with_load role.Atomic role.Acquire = true
 is_atomic_with_load role.Atomic role.Load = true
 is_atomic_with_load _ _ = false
 
-abbrev pub are_ordered : Role → Role → Bool
-are_ordered one other = (is_ordering one && is_ordering other) || is_atomic_with_load one other || is_atomic_with_load other one
+abbrev pub are_atomic : Role → Role → Bool
+are_atomic one other = is_atomic_with_load one other || is_atomic_with_load other one
 
 abbrev pub meets_ordered : Contents → ℕ → Verdict → Bool
 meets_ordered image pc (Hit seen) = are_ordered (role_at image pc) (role_at image seen.access.pc)
 meets_ordered image pc Changed = false
 meets_ordered image pc Quiet = false
 
--- a Hit, both of whose accesses order; or one is of LR, SC or an AMO and the other a plain load
+-- a Hit, both of whose accesses order
 unfoldable pub is_ordered : Contents → Ending → Bool
 is_ordered image e = meets_ordered image e.access.pc e.verdict
+
+abbrev pub meets_atomic : Contents → ℕ → Verdict → Bool
+meets_atomic image pc (Hit seen) = are_atomic (role_at image pc) (role_at image seen.access.pc)
+meets_atomic image pc Changed = false
+meets_atomic image pc Quiet = false
+
+-- a Hit, one of whose accesses is of LR, SC or an AMO, and the other a plain load that no fence orders
+unfoldable pub is_atomic : Contents → Ending → Bool
+is_atomic image e = meets_atomic image e.access.pc e.verdict

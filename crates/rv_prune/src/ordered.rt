@@ -1,4 +1,4 @@
-//! Which reports are ordered, as `specs/Ordered.antt` has it.
+//! Which reports are ordered, and which are of an atomic, as `specs/Ordered.antt` has it.
 ghost use Rattle.std.specs.Prelude.{◌≡◌};
 ghost use Rattle.rv_prune.specs.Ordered as spec;
 
@@ -45,31 +45,50 @@ fn is_ordering(role: Role) -> bool
     }
 }
 
-fn is_atomic_with_load(one: Role, other: Role) -> bool
-    ensures { result ≡ spec.is_atomic_with_load one other }
-{
-    match (one, other) {
-        (Role::Atomic, Role::Acquire | Role::Load) => true,
-        _ => false,
-    }
-}
-
 fn are_ordered(one: Role, other: Role) -> bool
     ensures { result ≡ spec.are_ordered one other }
 {
     is_ordering(one) && is_ordering(other)
-        || is_atomic_with_load(one, other)
-        || is_atomic_with_load(other, one)
 }
 
-/// Whether the ending is a hit that a lock, or a release and an acquire, would give: both accesses order, or
-/// one is of LR, SC or an AMO and the other a plain load. No class depends on it. It takes no memory.
+fn is_atomic_with_load(one: Role, other: Role) -> bool
+    ensures { result ≡ spec.is_atomic_with_load one other }
+{
+    match (one, other) {
+        (Role::Atomic, Role::Load) => true,
+        _ => false,
+    }
+}
+
+fn are_atomic(one: Role, other: Role) -> bool
+    ensures { result ≡ spec.are_atomic one other }
+{
+    is_atomic_with_load(one, other) || is_atomic_with_load(other, one)
+}
+
+/// Whether the ending is a hit that a lock, or a release and an acquire, would give: both accesses order. No
+/// class of `classify` depends on it. It takes no memory.
 #[tactic(auto, unfolding(crate::specs::Ordered::is_ordered))]
 pub fn is_ordered(image: &Image, ending: &Ending) -> bool
     ensures { result ≡ spec.is_ordered image.now ending.now }
 {
     match ending.verdict {
         Verdict::Hit(seen) => are_ordered(
+            role_at(image, ending.access.pc),
+            role_at(image, seen.access.pc),
+        ),
+        Verdict::Changed | Verdict::Quiet => false,
+    }
+}
+
+/// Whether the ending is a hit of LR, SC or an AMO and a plain load that no fence orders. No class of `classify`
+/// depends on it. It takes no memory.
+#[tactic(auto, unfolding(crate::specs::Ordered::is_atomic))]
+pub fn is_atomic(image: &Image, ending: &Ending) -> bool
+    ensures { result ≡ spec.is_atomic image.now ending.now }
+{
+    match ending.verdict {
+        Verdict::Hit(seen) => are_atomic(
             role_at(image, ending.access.pc),
             role_at(image, seen.access.pc),
         ),

@@ -1,6 +1,6 @@
 -- The races of reports, report by report; each race is told by an ending of the run.
 use Rattle.std.proofs.Common.{◌≡◌, ℕ, map, get_or, zero, suc, ◌+◌, ◌<◌, Bool, true, false, List, [], ◌∷◌, ◌++◌, Option, Some, None, refl, ap, sym, subst, ◌∙◌, arith, take}
-use Rattle.std.specs.Prelude.{filter_map, length, nat_lt, position, slice_get, slice_set}
+use Rattle.std.specs.Prelude.{filter_map, length, nat_lt, option_map, position, slice_get, slice_set}
 use Rattle.std.specs.List.{fold, position_or_len, range_with_len}
 use Rattle.std.specs.Option.{option_to_list}
 use Rattle.std.proofs.lemmas.Bool.Decides.{nat_tests}
@@ -8,11 +8,14 @@ use Rattle.std.proofs.lemmas.List.{take_more}
 use Rattle.std.proofs.lemmas.List.Elements.{filter_map-append}
 use Rattle.std.proofs.lemmas.List.FromFn.{map-range_with_len_more}
 use Rattle.std.proofs.lemmas.List.Sums.{fold-append}
+use Rattle.std.proofs.lemmas.Option.{slice_get-map}
 use Rattle.rv_collide.specs.Verdict.{endings}
 use Rattle.rv_collide.specs.declared.ending.Ending.{Ending}
 use Rattle.rv_elf.specs.Contents.{Contents}
 use Rattle.rv_races.specs.Classes.{rank}
-use Rattle.rv_races.specs.Races.{AreTold, Run, is_of, races, races_of, raised, report_at, report_of, reports, reports_of, told_by, with_report}
+use Rattle.rv_races.specs.Races.{AreTold, Run, is_of, judged_endings, races, races_of, raised, report_at, report_of, reports, reports_of, told_by, with_report}
+use Rattle.rv_races.specs.Judged.{judged}
+use Rattle.rv_races.specs.declared.judged.Judged.{Judged}
 use Rattle.rv_races.specs.declared.races.Race.{Race}
 use Rattle.rv_races.specs.declared.races.Report.{Report}
 use Rattle.rv_report.specs.Races.{key_of}
@@ -29,14 +32,14 @@ range_from_0 n =
     sym (mapped_same (range_with_len 0 (n + 1))) ∙ map-range_with_len_more (λ (k : ℕ). k) 0 n n (omega arith)
     ∙ ap (λ (xs : List ℕ). xs ++ n ∷ []) (mapped_same (range_with_len 0 n))
 
-one_report : (image : Contents) (ranges : List (ℕ × ℕ)) (ended : List Ending) (n : ℕ) (o : Option Report) → report_at image ranges ended n ≡ o → filter_map (report_at image ranges ended) (n ∷ []) ≡ option_to_list o
+one_report : (image : Contents) (ranges : List (ℕ × ℕ)) (ended : List Judged) (n : ℕ) (o : Option Report) → report_at image ranges ended n ≡ o → filter_map (report_at image ranges ended) (n ∷ []) ≡ option_to_list o
 one_report image ranges ended n None is = rw is refl
 one_report image ranges ended n (Some r) is = rw is refl
 
-report_of_ending : (image : Contents) (ranges : List (ℕ × ℕ)) (ended : List Ending) (n : ℕ) (told : Ending) → slice_get ended n ≡ Some told → report_at image ranges ended n ≡ report_of image ranges n told
+report_of_ending : (image : Contents) (ranges : List (ℕ × ℕ)) (ended : List Judged) (n : ℕ) (told : Judged) → slice_get ended n ≡ Some told → report_at image ranges ended n ≡ report_of image ranges n told
 report_of_ending image ranges ended n told there = rw there refl
 
-pub reports_more : (image : Contents) (ranges : List (ℕ × ℕ)) (ended : List Ending) (n : ℕ) (o : Option Report) → o ≡ report_at image ranges ended n → reports_of image ranges ended (n + 1) ≡ reports_of image ranges ended n ++ option_to_list o
+pub reports_more : (image : Contents) (ranges : List (ℕ × ℕ)) (ended : List Judged) (n : ℕ) (o : Option Report) → o ≡ report_at image ranges ended n → reports_of image ranges ended (n + 1) ≡ reports_of image ranges ended n ++ option_to_list o
 unfolding reports_of
 reports_more image ranges ended n o is =
     ap (filter_map (report_at image ranges ended)) (range_from_0 n)
@@ -142,23 +145,30 @@ abbrev AllRaces : List Ending → List Race → Type 0
 AllRaces ended [] = Unit {0}
 AllRaces ended (r ∷ rs) = IsTold ended r.told × AllRaces ended rs
 
-told_report : (image : Contents) (ranges : List (ℕ × ℕ)) (ended : List Ending) (n : ℕ) (told : Ending) (k : Option Key) → key_of told.access told.verdict ≡ k → slice_get ended n ≡ Some told → (rs : List Report) → AllTold ended rs → AllTold ended (option_to_list (report_of image ranges n told) ++ rs)
-told_report image ranges ended n told None is there rs all = rw is all
-told_report image ranges ended n told (Some key) is there rs all = rw is (there, all)
+-- the endings of what is judged
+abbrev endings_of : List Judged → List Ending
+endings_of ended = map (λ (one : Judged). one.ending) ended
 
-told_at : (image : Contents) (ranges : List (ℕ × ℕ)) (ended : List Ending) (n : ℕ) (o : Option Ending) → slice_get ended n ≡ o → (rs : List Report) → AllTold ended rs → AllTold ended (option_to_list (report_at image ranges ended n) ++ rs)
+ending_there : (ended : List Judged) (n : ℕ) (one : Judged) → slice_get ended n ≡ Some one → slice_get (endings_of ended) n ≡ Some one.ending
+ending_there ended n one there = slice_get-map (λ (one : Judged). one.ending) ended n ∙ ap (option_map (λ (one : Judged). one.ending)) there
+
+told_report : (image : Contents) (ranges : List (ℕ × ℕ)) (ended : List Judged) (n : ℕ) (told : Judged) (k : Option Key) → key_of told.ending.access told.ending.verdict ≡ k → slice_get ended n ≡ Some told → (rs : List Report) → AllTold (endings_of ended) rs → AllTold (endings_of ended) (option_to_list (report_of image ranges n told) ++ rs)
+told_report image ranges ended n told None is there rs all = rw is all
+told_report image ranges ended n told (Some key) is there rs all = rw is (ending_there ended n told there, all)
+
+told_at : (image : Contents) (ranges : List (ℕ × ℕ)) (ended : List Judged) (n : ℕ) (o : Option Judged) → slice_get ended n ≡ o → (rs : List Report) → AllTold (endings_of ended) rs → AllTold (endings_of ended) (option_to_list (report_at image ranges ended n) ++ rs)
 told_at image ranges ended n None is rs all = rw is all
 told_at image ranges ended n (Some told) is rs all =
-    rw (report_of_ending image ranges ended n told is) (told_report image ranges ended n told (key_of told.access told.verdict) refl is rs all)
+    rw (report_of_ending image ranges ended n told is) (told_report image ranges ended n told (key_of told.ending.access told.ending.verdict) refl is rs all)
 
-cons_found : (image : Contents) (ranges : List (ℕ × ℕ)) (ended : List Ending) (n : ℕ) (ns : List ℕ) (o : Option Report) → report_at image ranges ended n ≡ o → filter_map (report_at image ranges ended) (n ∷ ns) ≡ option_to_list o ++ filter_map (report_at image ranges ended) ns
+cons_found : (image : Contents) (ranges : List (ℕ × ℕ)) (ended : List Judged) (n : ℕ) (ns : List ℕ) (o : Option Report) → report_at image ranges ended n ≡ o → filter_map (report_at image ranges ended) (n ∷ ns) ≡ option_to_list o ++ filter_map (report_at image ranges ended) ns
 cons_found image ranges ended n ns None is = rw is refl
 cons_found image ranges ended n ns (Some r) is = rw is refl
 
-told_reports : (image : Contents) (ranges : List (ℕ × ℕ)) (ended : List Ending) (ns : List ℕ) → AllTold ended (filter_map (report_at image ranges ended) ns)
+told_reports : (image : Contents) (ranges : List (ℕ × ℕ)) (ended : List Judged) (ns : List ℕ) → AllTold (endings_of ended) (filter_map (report_at image ranges ended) ns)
 told_reports image ranges ended [] = tt
 told_reports image ranges ended (n ∷ ns) =
-    subst (AllTold ended) (sym (cons_found image ranges ended n ns (report_at image ranges ended n) refl))
+    subst (AllTold (endings_of ended)) (sym (cons_found image ranges ended n ns (report_at image ranges ended n) refl))
     (told_at image ranges ended n (slice_get ended n) refl (filter_map (report_at image ranges ended) ns) (told_reports image ranges ended ns))
 
 told_later : (ended : List Ending) (one later : Report) (b : Bool) → nat_lt (rank later.class) (rank one.class) ≡ b → IsTold ended one → IsTold ended later → IsTold ended (told_by one later)
@@ -190,9 +200,23 @@ told_there ended (r ∷ rs) all zero race there = subst (λ (x : Race). IsTold e
     some_same x y h = cc
 told_there ended (r ∷ rs) all (suc place) race there = told_there ended rs all.1 place race there
 
+judged_ending : (run : Run) (told : Ending) → (judged run told).ending ≡ told
+unfolding judged
+judged_ending run told = refl
+
+all_endings : (run : Run) (told : List Ending) → endings_of (map (judged run) told) ≡ told
+all_endings run [] = refl
+all_endings run (e ∷ es) = rw (judged_ending run e) (ap (λ (xs : List Ending). e ∷ xs) (all_endings run es))
+
+told_endings : (run : Run) (told : List Ending) → told ≡ endings run.start run.entries → endings_of (judged_endings run) ≡ told
+unfolding judged_endings
+told_endings run told is = ap (λ (es : List Ending). endings_of (map (judged run) es)) (sym is) ∙ all_endings run told
+
 pub told_races : (run : Run) (ranges : List (ℕ × ℕ)) → AreTold run (races run ranges)
 unfolding races races_of reports reports_of
 told_races run ranges =
-    let ended = endings run.start run.entries in
-    told_there ended (fold with_report [] (filter_map (report_at run.image ranges ended) (range_with_len 0 (length ended))))
-    (told_fold ended (filter_map (report_at run.image ranges ended) (range_with_len 0 (length ended))) [] (told_reports run.image ranges ended (range_with_len 0 (length ended))) tt)
+    let ended = judged_endings run in
+    let reports = filter_map (report_at run.image ranges ended) (range_with_len 0 (length ended)) in
+    subst (λ (told : List Ending). (place : ℕ) (race : Race) → slice_get (fold with_report [] reports) place ≡ Some race → slice_get told race.told.number ≡ Some race.told.ending)
+    (told_endings run (endings run.start run.entries) refl)
+    (told_there (endings_of ended) (fold with_report [] reports) (told_fold (endings_of ended) reports [] (told_reports run.image ranges ended (range_with_len 0 (length ended))) tt))

@@ -1,40 +1,65 @@
 -- What a report counts as, where people read it.
 use Rattle.std.specs.Prelude.{ℕ, if◌then◌else◌, List}
 use Rattle.rv_collide.specs.declared.ending.Ending.{Ending}
+use Rattle.rv_collide.specs.declared.ending.Verdict.{Verdict}
+use Rattle.rv_collide.specs.declared.ending.Verdict.TheVariants.{Hit, Changed, Quiet}
 use Rattle.rv_elf.specs.Contents.{Contents}
 use Rattle.rv_prune.specs.Class.{class}
-use Rattle.rv_prune.specs.Ordered.{is_ordered}
+use Rattle.rv_prune.specs.Ordered.{is_atomic, is_ordered}
 use Rattle.rv_prune.specs.declared.class.Class.{Class}
 use Rattle.rv_prune.specs.declared.class.Class.TheVariants as prune
 use Rattle.rv_races.specs.declared.classes.RaceClass.{RaceClass}
-use Rattle.rv_races.specs.declared.classes.RaceClass.TheVariants.{Kept, Counter, Flag, Ordered, Named}
+use Rattle.rv_races.specs.declared.classes.RaceClass.TheVariants.{Kept, Counter, Unwatched, Flag, Ordered, Atomic, Named}
+use Rattle.rv_races.specs.declared.judged.Judged.{Judged}
 
 abbrev pub class_as_told : Contents → Ending → Class → RaceClass
 class_as_told image told prune.Named = Named
 class_as_told image told prune.Flag = Flag
 class_as_told image told prune.Counter = Counter
-class_as_told image told prune.Kept = if is_ordered image told then Ordered else Kept
+class_as_told image told prune.Kept = if is_ordered image told then Ordered else (if is_atomic image told then Atomic else Kept)
 
--- its class, or ordered where that is Kept and the report is ordered
-unfoldable pub class_of : Contents → List (ℕ × ℕ) → Ending → RaceClass
-class_of image ranges told = class_as_told image told (class image told ranges)
+-- what may be a bug, where no data breakpoint watched the pause
+abbrev pub unwatched : RaceClass → RaceClass
+unwatched Kept = Unwatched
+unwatched Counter = Unwatched
+unwatched class = class
 
--- of two reports of one race the class that the race has: kept before counter, flag, ordered and named
+abbrev pub class_by : Verdict → RaceClass → RaceClass
+class_by (Hit seen) class = class
+class_by Changed class = unwatched class
+class_by Quiet class = class
+
+-- its class by an ending's table, or ordered or atomic where that is Kept
+abbrev pub class_as : Contents → List (ℕ × ℕ) → Ending → RaceClass
+class_as image ranges told = class_as_told image told (class image told ranges)
+
+-- What a report counts as. A Changed one counts as the hit of its last store would; where that may be a bug it is unwatched.
+unfoldable pub class_of : Contents → List (ℕ × ℕ) → Judged → RaceClass
+class_of image ranges judged =
+    class_by judged.ending.verdict (class_as image ranges (record judged.ending { verdict = judged.verdict }))
+
+-- of two reports of one race the class that the race has: kept before counter, unwatched, flag, ordered, atomic and named
 abbrev pub stronger : RaceClass → RaceClass → RaceClass
 stronger Kept other = Kept
 stronger one Kept = Kept
 stronger Counter other = Counter
 stronger one Counter = Counter
+stronger Unwatched other = Unwatched
+stronger one Unwatched = Unwatched
 stronger Flag other = Flag
 stronger one Flag = Flag
 stronger Ordered other = Ordered
 stronger one Ordered = Ordered
+stronger Atomic other = Atomic
+stronger one Atomic = Atomic
 stronger Named Named = Named
 
 -- its place in that order
 abbrev pub rank : RaceClass → ℕ
 rank Kept = 0
 rank Counter = 1
-rank Flag = 2
-rank Ordered = 3
-rank Named = 4
+rank Unwatched = 2
+rank Flag = 3
+rank Ordered = 4
+rank Atomic = 5
+rank Named = 6

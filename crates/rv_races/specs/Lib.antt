@@ -1,4 +1,7 @@
 pub mod Classes
+pub mod Judged
 pub mod Races
+pub mod Run
 pub mod Second
 pub mod Stretches
+pub mod internal

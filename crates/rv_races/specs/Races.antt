@@ -1,44 +1,33 @@
 -- The races of a run: its reports race by race, and the one that each race is told by.
-use Rattle.std.specs.Prelude.{◌≡◌, ℕ, ◌+◌, Bool, nat_lt, if◌then◌else◌, Option, option_and_then, option_map, Some, List, [], ◌∷◌, length, slice_get, filter_map}
+use Rattle.std.specs.Prelude.{◌≡◌, ℕ, ◌+◌, Bool, nat_lt, if◌then◌else◌, Option, option_and_then, option_map, Some, List, map, [], ◌∷◌, length, slice_get, filter_map}
 use Rattle.std.specs.List.{fold, range_with_len}
 use Rattle.rv_collide.specs.Counts.{saturated}
 use Rattle.rv_collide.specs.Verdict.{endings}
-use Rattle.rv_collide.specs.declared.ending.Ending.{Ending}
-use Rattle.rv_collide.specs.declared.entry.Entry.{Entry}
-use Rattle.rv_debug.specs.Placed.{Placed, setting}
 use Rattle.rv_elf.specs.Contents.{Contents}
-use Rattle.rv_hart.specs.State.{State}
 use Rattle.rv_races.specs.Classes.{class_of, rank}
+use Rattle.rv_races.specs.Judged.{judged}
+use Rattle.rv_races.specs.declared.judged.Judged.{Judged}
 use Rattle.rv_races.specs.declared.races.Race.{Race}
 use Rattle.rv_races.specs.declared.races.Report.{Report}
 use Rattle.rv_races.specs.declared.races.RunRaces.{RunRaces}
 use Rattle.rv_report.specs.Races.{key_of, same_key}
 use Rattle.rv_report.specs.declared.key.Key.{Key}
-
--- A run: the image, the state in which it began, and its entries.
-pub record Run : Type 0 where
-  pub image : Contents
-  pub start : State
-  pub entries : List Entry
-
--- the run of a session
-abbrev pub run_of : Placed → Run
-run_of p = record { image = p.image; start = (setting p).start; entries = p.entries }
+pub use Rattle.rv_races.specs.Run.{Run, run_of}
 
 -- ---- reports
 
-abbrev pub with_key : Contents → List (ℕ × ℕ) → ℕ → Ending → Key → Report
-with_key image ranges n told key = record { number = n; key = key; class = class_of image ranges told; ending = told }
+abbrev pub with_key : Contents → List (ℕ × ℕ) → ℕ → Judged → Key → Report
+with_key image ranges n one key = record { number = n; key = key; class = class_of image ranges one; ending = one.ending }
 
 -- Ending n is a report where it is no quiet one. The ranges are those of the listed names.
-abbrev pub report_of : Contents → List (ℕ × ℕ) → ℕ → Ending → Option Report
-report_of image ranges n told = option_map (with_key image ranges n told) (key_of told.access told.verdict)
+abbrev pub report_of : Contents → List (ℕ × ℕ) → ℕ → Judged → Option Report
+report_of image ranges n one = option_map (with_key image ranges n one) (key_of one.ending.access one.ending.verdict)
 
-abbrev pub report_at : Contents → List (ℕ × ℕ) → List Ending → ℕ → Option Report
+abbrev pub report_at : Contents → List (ℕ × ℕ) → List Judged → ℕ → Option Report
 report_at image ranges ended n = option_and_then (report_of image ranges n) (slice_get ended n)
 
--- the reports among the first so many endings
-unfoldable pub reports_of : Contents → List (ℕ × ℕ) → List Ending → ℕ → List Report
+-- the reports among the first so many endings, each with what it is judged by
+unfoldable pub reports_of : Contents → List (ℕ × ℕ) → List Judged → ℕ → List Report
 reports_of image ranges ended count = filter_map (report_at image ranges ended) (range_with_len 0 count)
 
 -- ---- races
@@ -66,8 +55,12 @@ races_of reports = fold with_report [] reports
 
 -- ---- of a run
 
+-- its endings, each with what it is judged by
+unfoldable pub judged_endings : Run → List Judged
+judged_endings run = map (judged run) (endings run.start run.entries)
+
 unfoldable pub reports : Run → List (ℕ × ℕ) → List Report
-reports run ranges = reports_of run.image ranges (endings run.start run.entries) (length (endings run.start run.entries))
+reports run ranges = reports_of run.image ranges (judged_endings run) (length (judged_endings run))
 
 unfoldable pub races : Run → List (ℕ × ℕ) → List Race
 races run ranges = races_of (reports run ranges)

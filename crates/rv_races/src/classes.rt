@@ -2,11 +2,12 @@
 ghost use Rattle.std.specs.Prelude.{◌≡◌};
 ghost use Rattle.rv_races.specs.Classes as spec;
 
-use rv_collide::ending::Ending;
+use crate::judged::Judged;
+use rv_collide::ending::{Ending, Verdict};
 use rv_elf::Image;
 use rv_prune::class::Class;
 use rv_prune::named_bytes::NamedBytes;
-use rv_prune::ordered::is_ordered;
+use rv_prune::ordered::{is_atomic, is_ordered};
 use rv_prune::pruning::classify;
 
 /// What a race counts as: the first of these that one of its reports is.
@@ -14,35 +15,64 @@ use rv_prune::pruning::classify;
 pub enum RaceClass {
     Kept,
     Counter,
+    Unwatched,
     Flag,
     Ordered,
+    Atomic,
     Named,
 }
 
-/// The class of a report: that of `classify`, or ordered where that is Kept and the report is ordered. The ranges
-/// are those of the listed names. It takes no memory.
-#[tactic(auto, unfolding(crate::specs::Classes::class_of))]
-pub fn class_of(image: &Image, ranges: &NamedBytes, ending: &Ending) -> RaceClass
-    ensures { result ≡ spec.class_of image.now ranges.now ending.now }
+/// The class of an ending: that of `classify`, or ordered or atomic where that is Kept and the ending is so.
+fn class_as(image: &Image, ranges: &NamedBytes, ending: &Ending) -> RaceClass
+    ensures { result ≡ spec.class_as image.now ranges.now ending.now }
 {
     match classify(image, ending, ranges) {
         Class::Named => RaceClass::Named,
         Class::Flag => RaceClass::Flag,
         Class::Counter => RaceClass::Counter,
         Class::Kept if is_ordered(image, ending) => RaceClass::Ordered,
+        Class::Kept if is_atomic(image, ending) => RaceClass::Atomic,
         Class::Kept => RaceClass::Kept,
     }
 }
 
-/// The class of a race that has reports of both: kept before counter, flag, ordered and named.
+/// What may be a bug, where no data breakpoint watched the pause.
+fn unwatched(class: RaceClass) -> RaceClass
+    ensures { result ≡ spec.unwatched class }
+{
+    match class {
+        RaceClass::Kept | RaceClass::Counter => RaceClass::Unwatched,
+        class => class,
+    }
+}
+
+/// The class of a report, by what it is judged by. The ranges are those of the listed names. It takes no memory.
+#[tactic(auto, unfolding(crate::specs::Classes::class_of))]
+pub fn class_of(image: &Image, ranges: &NamedBytes, judged: &Judged) -> RaceClass
+    ensures { result ≡ spec.class_of image.now ranges.now judged.now }
+{
+    let ending = Ending {
+        verdict: judged.verdict,
+        ..judged.ending
+    };
+    let class = class_as(image, ranges, &ending);
+    match judged.ending.verdict {
+        Verdict::Changed => unwatched(class),
+        Verdict::Hit(_) | Verdict::Quiet => class,
+    }
+}
+
+/// The class of a race that has reports of both: kept before counter, unwatched, flag, ordered, atomic and named.
 pub fn stronger(one: RaceClass, other: RaceClass) -> RaceClass
     ensures { result ≡ spec.stronger one other }
 {
     match (one, other) {
         (RaceClass::Kept, _) | (_, RaceClass::Kept) => RaceClass::Kept,
         (RaceClass::Counter, _) | (_, RaceClass::Counter) => RaceClass::Counter,
+        (RaceClass::Unwatched, _) | (_, RaceClass::Unwatched) => RaceClass::Unwatched,
         (RaceClass::Flag, _) | (_, RaceClass::Flag) => RaceClass::Flag,
         (RaceClass::Ordered, _) | (_, RaceClass::Ordered) => RaceClass::Ordered,
+        (RaceClass::Atomic, _) | (_, RaceClass::Atomic) => RaceClass::Atomic,
         (RaceClass::Named, RaceClass::Named) => RaceClass::Named,
     }
 }
@@ -54,8 +84,10 @@ pub fn rank(class: RaceClass) -> u8
     match class {
         RaceClass::Kept => 0,
         RaceClass::Counter => 1,
-        RaceClass::Flag => 2,
-        RaceClass::Ordered => 3,
-        RaceClass::Named => 4,
+        RaceClass::Unwatched => 2,
+        RaceClass::Flag => 3,
+        RaceClass::Ordered => 4,
+        RaceClass::Atomic => 5,
+        RaceClass::Named => 6,
     }
 }

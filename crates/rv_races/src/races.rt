@@ -4,6 +4,7 @@ ghost use Rattle.std.specs.Option.{option_to_list};
 ghost use Rattle.rv_races.specs.Races as spec;
 
 use crate::classes::{RaceClass, class_of, rank};
+use crate::judged::{Judged, judged_in};
 use rv_collide::ending::Ending;
 use rv_debug::session::Session;
 use rv_elf::Image;
@@ -47,7 +48,7 @@ pub fn races_in(
     ensures found { IfOk result (λ found. spec.found_of found ≡ spec.found (spec.run_of session.now) ranges.now) }
     ensures told { IfOk result (λ found. spec.AreTold (spec.run_of session.now) found.races.items) }
 {
-    let reports = reports_of(alloc, image, ranges, session.endings())?;
+    let reports = reports_in(alloc, image, session, ranges)?;
     let races = races_of(alloc, &reports)?;
     Ok(RunRaces {
         races,
@@ -56,12 +57,28 @@ pub fn races_in(
     })
 }
 
-/// The reports among the endings of a run.
+/// The reports of a session's run. The ranges are those of the listed names.
+#[tactic(auto, unfolding(crate::specs::Races::reports, crate::specs::Races::judged_endings))]
+pub fn reports_in(
+    alloc: Global,
+    image: &Image,
+    session: &Session,
+    ranges: &NamedBytes,
+) -> Result<Vec<Report>, NoMemory>
+    requires { session.now.image ≡ image.now }
+    ensures { IfOk result (λ reports. reports.items ≡ spec.reports (spec.run_of session.now) ranges.now) }
+{
+    let (entries, endings) = (session.entries(), session.endings());
+    let judged = judged_in(alloc, image, &session.plan(), &[], entries, endings)?;
+    reports_of(alloc, image, ranges, &judged)
+}
+
+/// The reports among the endings of a run, each of which comes with what it is judged by.
 pub fn reports_of(
     alloc: Global,
     image: &Image,
     ranges: &NamedBytes,
-    endings: &[Ending],
+    endings: &[Judged],
 ) -> Result<Vec<Report>, NoMemory>
     ensures { IfOk result (λ reports. reports.items
         ≡ spec.reports_of image.now ranges.now endings.now (length endings.now)) }
@@ -88,20 +105,20 @@ fn add_found(reports: &mut Vec<Report>, report: Option<Report>) -> Result<(), No
 }
 
 /// Ending n as a report, where it is one.
-fn report_of(image: &Image, ranges: &NamedBytes, n: u32, told: &Ending) -> Option<Report>
-    ensures { result ≡ spec.report_of image.now ranges.now n told.now }
+fn report_of(image: &Image, ranges: &NamedBytes, n: u32, one: &Judged) -> Option<Report>
+    ensures { result ≡ spec.report_of image.now ranges.now n one.now }
 {
-    let key = key_of(told)?;
+    let key = key_of(&one.ending)?;
     Some(Report {
         number: n,
         key,
-        class: class_of(image, ranges, told),
-        ending: *told,
+        class: class_of(image, ranges, one),
+        ending: one.ending,
     })
 }
 
 /// Ending n of a run as a report, where it is one.
-fn report_at(image: &Image, ranges: &NamedBytes, endings: &[Ending], n: u32) -> Option<Report>
+fn report_at(image: &Image, ranges: &NamedBytes, endings: &[Judged], n: u32) -> Option<Report>
     ensures { result ≡ spec.report_at image.now ranges.now endings.now n }
 {
     report_of(image, ranges, n, endings.get(n as usize)?)

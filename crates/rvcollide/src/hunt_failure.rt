@@ -2,7 +2,7 @@
 use crate::failure::Failure;
 use crate::file_line::{FileLine, FilePlace};
 use crate::folder::{Saved, ScheduleFolder};
-use crate::paths::{expect_path, folder_path, ignore_path, page_path};
+use crate::paths::{expect_path, folder_path, ignore_path, list_path, page_path};
 use crate::system::SystemSaid;
 use rv_command::arguments::ImagePath;
 use rv_command::command::hunt::HuntLine;
@@ -34,6 +34,7 @@ pub struct Failed {
     pub image: bool,
     pub folder: AtFault,
     pub page: bool,
+    pub list: bool,
     pub said: Said,
 }
 
@@ -45,13 +46,14 @@ pub struct Said {
     pub expected: Option<SystemSaid>,
     pub folder: Option<SystemSaid>,
     pub page: Option<SystemSaid>,
+    pub list: Option<SystemSaid>,
     pub output: Option<SystemSaid>,
 }
 
 impl Failed {
     /// Whether a file that the hunt makes has failed.
     pub fn has_file(&self) -> bool {
-        self.page || !matches!(self.folder, AtFault::Nothing)
+        self.page || self.list || !matches!(self.folder, AtFault::Nothing)
     }
 }
 
@@ -154,6 +156,7 @@ fn of_command<'a>(
         }
         AtFault::Standing(file) => of_schedule(folder_path(line.save_to), file, true, None),
         AtFault::Nothing if failed.page => of_file(page_path(line.page), failed.said.page, WRITE),
+        AtFault::Nothing if failed.list => of_file(list_path(line.list), failed.said.list, WRITE),
         AtFault::Nothing => of_image(image, failed, fault),
     }
 }

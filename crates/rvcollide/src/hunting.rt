@@ -8,11 +8,11 @@ use crate::failure::Failure;
 use crate::files::{InputFile, OutputFile, has_failed, said_by};
 use crate::folder::ScheduleFolder;
 use crate::hunt_failure::{Failed, Said, WRITE_FAULT, at_fault_in, failure_of};
-use crate::paths::{expect_path, ignore_path};
+use crate::paths::{expect_path, ignore_path, list_path, page_path};
 use crate::shown_line::ShownLine;
 use crate::system::{Stream, SystemSaid};
 use rv_collide::plan::DEFAULT_SLOTS;
-use rv_command::arguments::{FolderPath, ImagePath, PagePath};
+use rv_command::arguments::{FolderPath, ImagePath};
 use rv_command::command::hunt::HuntLine;
 use rv_hunt::engine::found::Found;
 use rv_hunt::engine::inputs::Inputs;
@@ -217,13 +217,10 @@ fn folder_if<'a>(rt: &'a HostRuntime, path: Option<FolderPath<'a>>) -> Option<Sc
     Some(ScheduleFolder::new(rt, path.0))
 }
 
-/// The page of a path, where one is given.
-fn page_if<'a>(
-    rt: &'a HostRuntime,
-    path: Option<PagePath<'a>>,
-) -> Option<OutputFile<'a, HostRuntime>> {
+/// The file that is made at a path, where one is given.
+fn made_if<'a>(rt: &'a HostRuntime, path: Option<&'a str>) -> Option<OutputFile<'a, HostRuntime>> {
     let path = path?;
-    Some(OutputFile::new(rt, path.0))
+    Some(OutputFile::new(rt, path))
 }
 
 /// What the system said of a file, where one is given.
@@ -270,7 +267,8 @@ fn hunt_by<'a>(
         expected: file_if(rt, expect_path(line.expect)),
     };
     let mut folder = folder_if(rt, line.save_to);
-    let mut page = page_if(rt, line.page);
+    let mut page = made_if(rt, page_path(line.page));
+    let mut list = made_if(rt, list_path(line.list));
     let mut writer = Buffered::new(alloc, Stream::new(rt.stdout()));
     let mut notes = Buffered::new(alloc, rt.stderr());
     let mut progress = Progress {
@@ -286,6 +284,7 @@ fn hunt_by<'a>(
         &mut inputs,
         &mut folder,
         &mut page,
+        &mut list,
         &mut writer,
         &mut notes,
         &mut progress,
@@ -299,12 +298,14 @@ fn hunt_by<'a>(
         image: image_file.failed(),
         folder: at_fault_in(&folder),
         page: has_failed(&page),
+        list: has_failed(&list),
         said: Said {
             image: image_file.into_inner().said(),
             ignored: said_of(ignored),
             expected: said_of(expected),
             folder: folder_said(&folder),
             page: said_by(&page),
+            list: said_by(&list),
             output: writer.into_inner().said(),
         },
     };

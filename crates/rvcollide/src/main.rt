@@ -113,7 +113,11 @@ fn run_job<'a>(
         Job::Debug { image, schedule } => Ok(debug_files(rt, image, schedule)?),
         Job::Gdb { image, schedule } => gdb_files(rt, image, schedule),
         Job::Hunt { image, line } => hunt_file(rt, threads, words, image, &line),
-        Job::Merge { tables, expected } => merge_files(rt, tables, expected),
+        Job::Merge {
+            tables,
+            expected,
+            gaps,
+        } => merge_files(rt, tables, expected, gaps),
         Job::Run {
             image,
             options,

@@ -11,9 +11,14 @@ use crate::system::Stream;
 use rv_command::arguments::{TablePath, TablePaths};
 use rv_engines::fault::Fault;
 use rv_engines::run::fault::CommandFault;
+use rv_hunt::merge::listing::plain_names;
 use rv_hunt::merge::run_merge;
 use rv_memory::buffered::Buffered;
 use rv_memory::flagged::Flagged;
+
+/// What is told where a table doesn't say what it is of.
+const NOT_OF_ONE: &[u8] =
+    b"rvcollide: warning: a table does not say what it is of (it has no last line of ..), so they are added in the order given: nothing tells whether they are of one hunt\n";
 
 /// The path of the file of a number, where there is one: the tables count from 0, and the table of what is expected comes
 /// behind them.
@@ -55,11 +60,20 @@ fn expected_file<'a>(
     Some(Flagged::new(InputFile::new(rt, path.0)))
 }
 
+/// Writes lines to the standard error. Where that fails there is nothing left to tell it to.
+fn tell(rt: &HostRuntime, lines: &[u8]) {
+    // They are ASCII.
+    if let Ok(text) = String::from_utf8_lossy(rt.alloc(), lines) {
+        let _ = eprint!(rt; "{text}");
+    }
+}
+
 /// Runs the engine of `merge` on files.
 pub fn merge_files<'a>(
     rt: &HostRuntime,
     tables: TablePaths<'a>,
     expected: Option<TablePath<'a>>,
+    gaps: bool,
 ) -> Result<(), Failure<'a>> {
     let alloc = rt.alloc();
     let mut files = Vec::new(alloc);
@@ -71,9 +85,19 @@ pub fn merge_files<'a>(
     }
     let mut known = expected_file(rt, expected);
     let mut writer = Buffered::new(alloc, Stream::new(rt.stdout()));
-    match run_merge(alloc, &mut files, &mut known, &mut writer) {
-        Ok(false) => Ok(()),
-        Ok(true) => Err(Failure::Found),
+    match run_merge(alloc, gaps, &mut files, &mut known, &mut writer) {
+        Ok(merged) => {
+            if !merged.is_of_one {
+                tell(rt, NOT_OF_ONE);
+            }
+            if merged.unexpected.is_empty() {
+                return Ok(());
+            }
+            if let Ok(names) = plain_names(alloc, &merged.unexpected) {
+                tell(rt, &names);
+            }
+            Err(Failure::Found)
+        }
         Err(fault) => {
             let said = match fault.file {
                 Some(number) if number < files.len() => files

@@ -1,5 +1,5 @@
 //! The paths of a line of `hunt`.
-use rv_command::arguments::{FolderPath, IgnorePath, PagePath, TablePath};
+use rv_command::arguments::{FolderPath, IgnorePath, ListPath, PagePath, TablePath};
 
 /// The path of the list of races that are to be ignored.
 pub fn ignore_path<'a>(path: Option<IgnorePath<'a>>) -> Option<&'a str> {
@@ -7,7 +7,7 @@ pub fn ignore_path<'a>(path: Option<IgnorePath<'a>>) -> Option<&'a str> {
     Some(path.0)
 }
 
-/// The path of the table of the races that are expected.
+/// The path of the table or the list of the races that are expected.
 pub fn expect_path<'a>(path: Option<TablePath<'a>>) -> Option<&'a str> {
     let path = path?;
     Some(path.0)
@@ -21,6 +21,12 @@ pub fn folder_path<'a>(path: Option<FolderPath<'a>>) -> Option<&'a str> {
 
 /// The path of the page.
 pub fn page_path<'a>(path: Option<PagePath<'a>>) -> Option<&'a str> {
+    let path = path?;
+    Some(path.0)
+}
+
+/// The path of the list of the races.
+pub fn list_path<'a>(path: Option<ListPath<'a>>) -> Option<&'a str> {
     let path = path?;
     Some(path.0)
 }

@@ -1,6 +1,7 @@
 //! What a hunt's text tells of its command line.
 use crate::paths::ignore_path;
 use rv_command::arguments::{Aim, FolderPath, ImagePath};
+use rv_command::command::VERSION;
 use rv_command::command::hunt::{DEFAULT_SEED, HuntLine};
 use rv_engines::shown::Shown;
 use rv_hunt::engine::options::LineParts;
@@ -15,6 +16,7 @@ pub struct ShownLine {
     nested_image: String,
     options: String,
     folder: Option<String>,
+    given: String,
 }
 
 impl ShownLine {
@@ -30,6 +32,7 @@ impl ShownLine {
             nested_image: nested(alloc, image.0)?,
             options: options_of(alloc, line)?,
             folder: folder_of(alloc, line.save_to)?,
+            given: given_of(alloc, line)?,
         })
     }
 
@@ -41,6 +44,8 @@ impl ShownLine {
             nested_image: self.nested_image.as_str(),
             options: self.options.as_str(),
             folder: self.folder.as_deref(),
+            version: VERSION,
+            given: self.given.as_str(),
         }
     }
 }
@@ -179,5 +184,54 @@ fn options_of(alloc: Global, line: &HuntLine<'_>) -> Result<String, AllocError> 
     push_text(alloc, &mut text, "skip", line.skip)?;
     push_text(alloc, &mut text, "idle", line.idle)?;
     push_text(alloc, &mut text, "ignore", ignore_path(line.ignore))?;
+    Ok(text)
+}
+
+/// Adds a word and a number behind it, where it is given.
+fn push_given(
+    alloc: Global,
+    text: &mut String,
+    name: &str,
+    number: Option<u8>,
+) -> Result<(), AllocError> {
+    let Some(number) = number else {
+        return Ok(());
+    };
+    let words = format!(in alloc; " {name} {number}")?;
+    text.push_str(words.as_str())
+}
+
+/// Adds a word and a list behind it, as messages show it, where it is given.
+fn push_list(
+    alloc: Global,
+    text: &mut String,
+    name: &str,
+    list: Option<&str>,
+) -> Result<(), AllocError> {
+    let Some(list) = list else {
+        return Ok(());
+    };
+    let words = format!(in alloc; " {name} {}", Shown(list))?;
+    text.push_str(words.as_str())
+}
+
+/// What was given of the runs, as a table's last line has it: a blank before each word.
+fn given_of(alloc: Global, line: &HuntLine<'_>) -> Result<String, AllocError> {
+    let mut text = String::new(alloc);
+    push_given(alloc, &mut text, "harts", line.harts)?;
+    if let Some(of) = line.lengths {
+        let plan = format!(in alloc; " plan {},{},{}", of.steps, of.arms, of.pause)?;
+        text.push_str(plan.as_str())?;
+    }
+    push_given(alloc, &mut text, "slots", line.slots)?;
+    if line.sampled {
+        text.push_str(" sampled")?;
+    }
+    push_list(alloc, &mut text, "skip", line.skip)?;
+    push_list(alloc, &mut text, "named", line.named)?;
+    if let Some(aim) = line.aim {
+        let sides = format!(in alloc; "{},{}", aim.one, aim.other)?;
+        push_list(alloc, &mut text, "aim", Some(sides.as_str()))?;
+    }
     Ok(text)
 }

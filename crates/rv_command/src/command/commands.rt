@@ -243,7 +243,7 @@ pub const COMMANDS: [Subcommand; 12] = [
             Argument::Optional {
                 name: "ignore",
                 value: "FILE",
-                help: "List of known races that are counted, not reported: two symbols or addresses a line",
+                help: "List of known races that are counted, not reported: two functions or addresses a line",
             },
             Argument::Optional {
                 name: "save-to",
@@ -254,6 +254,11 @@ pub const COMMANDS: [Subcommand; 12] = [
                 name: "page",
                 value: "FILE",
                 help: "HTML file to write, with the reports and a picture of each race",
+            },
+            Argument::Optional {
+                name: "list",
+                value: "FILE",
+                help: "List of the races to write, for --ignore and --expect of later builds",
             },
             Argument::Optional {
                 name: "blocks",
@@ -283,8 +288,8 @@ pub const COMMANDS: [Subcommand; 12] = [
             },
             Argument::Optional {
                 name: "expect",
-                value: "TABLE",
-                help: "Table of known races: exit with status 5 if one that may be a bug is not in it",
+                value: "FILE",
+                help: "Table or list of known races: exit with status 5 if one that may be a bug is not in it",
             },
             Argument::Flag {
                 name: "quiet",
@@ -303,12 +308,16 @@ pub const COMMANDS: [Subcommand; 12] = [
         arguments: &[
             Argument::Words {
                 name: "TABLE",
-                help: "Files that hunt --table wrote, in the order of their runs",
+                help: "Files that hunt --table wrote",
             },
             Argument::Optional {
                 name: "expect",
                 value: "TABLE",
                 help: "Table of known races: exit with status 5 if one that may be a bug is not in it",
+            },
+            Argument::Flag {
+                name: "gaps",
+                help: "Allow that runs between those of two tables are missing",
             },
         ],
     },
@@ -510,9 +519,11 @@ that a clean answer means little here, why, and what to do. IMAGE is as rvcollid
 
 The output is a report of each race, as explain prints it, then how the harts ended and what was seen:
   races 1, likely benign 0, reports 13 of 84 endings in 3 runs
-Each line of --ignore is two sides: a symbol's name, an address of eight hexadecimal digits, or * for any
-instruction; # begins a comment. --save-to takes a folder that is there and has no such schedule; explain,
-replay, debug, exhibit and gdb read the schedules. TABLE is an output of hunt --table, of merge or of run.
+A line of a list is two sides: each a function's name, an address of eight hexadecimal digits, or * for any
+instruction. It may go on with on and a variable's name; a word that begins with # begins a comment. --list
+writes such lines, --ignore takes them, and --expect takes them or a table, the output of hunt --table, of
+merge or of run. A race that --expect lacks and that may be a bug is marked new. --save-to takes a folder that
+is there and has no such schedule; explain, replay, debug, exhibit and gdb read the schedules.
 
 A fault is told with its file and what is wrong:
   rvcollide: guest.elf: load NotRiscV: the file is for another processor
@@ -522,9 +533,11 @@ Example:
 
 /// What the help of `merge` says after its arguments.
 const MERGE: &str = "\
-The pieces are hunts of one image with the same options but for --first and --runs. Their tables, in the
-order of their runs, make the table of the whole hunt, byte for byte. The output is that table. The
-option stands before the tables or behind them.
+The pieces are hunts of one image with the same options but for --first and --runs. Their tables, in
+whatever order, make the table of the whole hunt, byte for byte. The output is that table. The last line
+of a table says what it is of: tables of two images, versions or options are refused, and so are runs
+that two tables have, or that are missing between them. --expect stands before the tables or behind
+them, --gaps before all or behind all.
 
 A fault is told with its file and what is wrong, as in b.table: table line 2 Shape.
 

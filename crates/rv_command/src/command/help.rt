@@ -141,9 +141,14 @@ table line N NAME, of a table of hunt or run:
   Range: a number or an address of the row is out of range
   Twice: the race has a row already: use merge to add tables
   End: there are not as many rows as the first line says: was the file cut off?
+  Image: the table is of another image than the first one
+  Version: the table was made by another version of rvcollide than the first one
+  Options: the runs of the table had another seed or other options than those of the first one
+  Overlap: the table has runs that another table has, or that come before the last of another: leave one out
+  Gap: runs are missing before those of the table: add their table, or allow it by --gaps
 
-ignore line N NAME, of a list of --ignore:
-  Shape: a line is two sides, each an address of eight hexadecimal digits, a symbol's name or *
+ignore line N NAME, of a list of --ignore, or of --expect:
+  Shape: a line is two sides, each an address of eight hexadecimal digits, a symbol's name or *; on NAME may follow
   Unknown: the image has no symbol with this name
 
 ignore aim NAME, of --aim:

@@ -9,7 +9,7 @@ use super::complaint::{Complaint, NumberOption};
 use super::number::{flag_of, number_between, number_if, number_or};
 use super::run::{HARTS, SEED, SLOTS, WORKERS};
 use super::{Job, text_of};
-use crate::arguments::{Aim, FolderPath, IgnorePath, ImagePath, PagePath, TablePath};
+use crate::arguments::{Aim, FolderPath, IgnorePath, ImagePath, ListPath, PagePath, TablePath};
 use clap::ArgMatches;
 use rv_collide::plan::{MOST_ARMS, MOST_PAUSE, MOST_STEPS};
 use rv_tally::limit::{Limit, MOST_BUDGET};
@@ -83,6 +83,8 @@ pub struct HuntLine<'a> {
     pub save_to: Option<FolderPath<'a>>,
     /// The file for the page.
     pub page: Option<PagePath<'a>>,
+    /// The file for the list of the races.
+    pub list: Option<ListPath<'a>>,
     /// How many races are shown in full.
     pub blocks: u32,
     /// The standard output is the table alone.
@@ -95,7 +97,7 @@ pub struct HuntLine<'a> {
     pub check_ends: bool,
     /// The exit codes that are right, with a comma between two, where 0 alone isn't.
     pub right: Option<&'a str>,
-    /// The table of the races that are expected: another one that may be a bug gives the status 5 too.
+    /// The table or the list of the races that are expected: another one that may be a bug gives the status 5 too.
     pub expect: Option<TablePath<'a>>,
     /// No progress is told.
     pub is_quiet: bool,
@@ -146,6 +148,7 @@ fn line_of<'a>(given: &ArgMatches<'a>) -> Result<HuntLine<'a>, Complaint<'a>>
         ignore: ignore_of(given),
         save_to: folder_of(given),
         page: page_of(given),
+        list: list_of(given),
         blocks: blocks as u32,
         shows_table: flag_of(given, "table"),
         checks: flag_of(given, "check"),
@@ -179,7 +182,14 @@ fn page_of<'a>(given: &ArgMatches<'a>) -> Option<PagePath<'a>>
     text_of(given, "page").map(|path| PagePath(path))
 }
 
-/// The table of the races that are expected.
+/// The file for the list of the races.
+fn list_of<'a>(given: &ArgMatches<'a>) -> Option<ListPath<'a>>
+    ensures { option_map (λ path. path.0.now) result ≡ first_of (codes "list") (rows_of (found_of given.now)) }
+{
+    text_of(given, "list").map(|path| ListPath(path))
+}
+
+/// The table or the list of the races that are expected.
 fn expect_of<'a>(given: &ArgMatches<'a>) -> Option<TablePath<'a>>
     ensures { option_map (λ path. path.0.now) result ≡ first_of (codes "expect") (rows_of (found_of given.now)) }
 {

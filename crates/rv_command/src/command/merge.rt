@@ -1,30 +1,60 @@
 //! The words of the command `merge`. They are read without `clap`, since the job keeps its tables as they stand in the
 //! line.
-ghost use Rattle.std.specs.Prelude.{◌≡◌, ◌≤◌, length, option_map};
+ghost use Rattle.std.specs.Prelude.{◌≡◌, ◌<◌, ◌≤◌, true, length, option_map};
 ghost use Rattle.rv_command.specs.Command as spec;
 ghost use Rattle.rv_command.specs.MergeLine as line;
 
 use super::Job;
 use crate::arguments::{TablePath, TablePaths};
 
-/// `merge` with the words after its name: one table or more, and `--expect TABLE` or `--expect=TABLE` before them or behind.
+/// `merge` with the words after its name: one table or more, `--expect TABLE` or `--expect=TABLE` before them or behind, and `--gaps` as the first
+/// word or the last.
 #[tactic(auto, using(crate::proofs::TextLists::take_texts, crate::proofs::TextLists::drop_texts))]
 pub fn merge_of<'a>(words: &'a [&'a str]) -> Option<Job<'a>>
     ensures { option_map spec.asked result ≡ spec.merge_at (spec.texts words.entry.now) }
 {
+    if gaps_at(words, 0) {
+        let (_, rest) = words.split_at(1);
+        return tables_of(rest, true);
+    }
+    let last = words.len().saturating_sub(1);
+    if gaps_at(words, last) {
+        let (rest, _) = words.split_at(last);
+        return tables_of(rest, true);
+    }
+    tables_of(words, false)
+}
+
+/// Whether the word of that place is `--gaps`.
+fn gaps_at(words: &[&str], place: usize) -> bool
+    ensures gaps { result ≡ line.gaps_at place (spec.texts words.now) }
+    ensures within { result ≡ true → place < length words.now }
+{
+    match words.get(place) {
+        Some(word) => *word == "--gaps",
+        None => false,
+    }
+}
+
+/// The job of the words without `--gaps`.
+#[tactic(auto, using(crate::proofs::TextLists::take_texts, crate::proofs::TextLists::drop_texts))]
+fn tables_of<'a>(words: &'a [&'a str], gaps: bool) -> Option<Job<'a>>
+    ensures { option_map spec.asked result ≡ spec.merge_with gaps (spec.texts words.entry.now) }
+{
     let (tables, rest) = words.split_at(tables_before(words));
     if tables.is_empty() {
-        return option_first(words);
+        return option_first(words, gaps);
     }
     Some(Job::Merge {
         tables: TablePaths(tables),
         expected: option_last(rest)?,
+        gaps,
     })
 }
 
 /// The job of words that the option begins, with the tables behind it.
-fn option_first<'a>(words: &'a [&'a str]) -> Option<Job<'a>>
-    ensures { option_map spec.asked result ≡ spec.option_first (spec.texts words.entry.now) }
+fn option_first<'a>(words: &'a [&'a str], gaps: bool) -> Option<Job<'a>>
+    ensures { option_map spec.asked result ≡ spec.option_first gaps (spec.texts words.entry.now) }
 {
     let (expected, tables) = expected_first(words)?;
     if !are_tables(tables) {
@@ -33,6 +63,7 @@ fn option_first<'a>(words: &'a [&'a str]) -> Option<Job<'a>>
     Some(Job::Merge {
         tables: TablePaths(tables),
         expected: Some(expected),
+        gaps,
     })
 }
 

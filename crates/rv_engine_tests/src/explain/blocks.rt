@@ -10,6 +10,7 @@ use rv_collide::entry::Entry::{self, Armed, Disarmed, Paused, Resumed, Stepped};
 use rv_explain::block::{Block, RaceClass, Side};
 use rv_explain::blocks::block_text;
 use rv_explain::classes::{class_of, stronger};
+use rv_explain::races::Judged;
 use rv_explain::row::{After, Row, Shown};
 use rv_explain::symbol_table::SymbolTable;
 use rv_hart::access::Access;
@@ -332,18 +333,28 @@ fn blocks_and_classes_of_reports(rt: HostRuntime) {
     let symbols = SymbolTable::new(rt.alloc(), &image).expect(&rt, "memory");
     assert_blocks(&rt, rt.alloc(), &symbols);
     let ending = told(HIT, Some(1));
+    let verdict = ending.verdict;
+    let hit = Judged { ending, verdict };
+    let last = Judged {
+        ending: Ending {
+            verdict: Verdict::Changed,
+            ..ending
+        },
+        verdict,
+    };
     let found = (
-        class_of(&image, &bytes_of(&rt, rt.alloc(), &[]), &ending),
-        class_of(&image, &bytes_of(&rt, rt.alloc(), &[(0x20008, 1)]), &ending),
+        class_of(&image, &bytes_of(&rt, rt.alloc(), &[]), &hit),
+        class_of(&image, &bytes_of(&rt, rt.alloc(), &[(0x20008, 1)]), &hit),
+        class_of(&image, &bytes_of(&rt, rt.alloc(), &[]), &last),
     );
     drop(symbols);
     drop(image);
     assert_is(
         &rt,
         found,
-        (RaceClass::Kept, RaceClass::Named),
-        "kept, and named",
+        (RaceClass::Kept, RaceClass::Named, RaceClass::Unwatched),
+        "kept, named, and by the last store",
     );
-    let both = stronger(RaceClass::Ordered, RaceClass::Flag);
-    assert_is(&rt, both, RaceClass::Flag, "of two");
+    let both = stronger(RaceClass::Ordered, RaceClass::Unwatched);
+    assert_is(&rt, both, RaceClass::Unwatched, "of two");
 }

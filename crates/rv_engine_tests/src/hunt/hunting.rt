@@ -67,6 +67,8 @@ fn options(rt: &impl Abort) -> HuntOptions<'static, 'static> {
             nested_image: "a.elf",
             options: " --seed 0",
             folder: None,
+            version: "0.1.0",
+            given: "",
         },
         orders: true,
     }
@@ -98,6 +100,7 @@ fn told<R: Read, W: Write, E: Write>(
     }
     let mut folder: Option<NoFolder> = None;
     let mut page: Option<Kept> = None;
+    let mut list: Option<Kept> = None;
     let outcome = run_hunt(
         rt,
         alloc,
@@ -105,11 +108,13 @@ fn told<R: Read, W: Write, E: Write>(
         inputs,
         &mut folder,
         &mut page,
+        &mut list,
         writer,
         notes,
         &mut Unseen,
     );
     drop(page);
+    drop(list);
     match outcome {
         Ok(_) => Ok(()),
         Err(fault) => Err(of_device(fault)),

@@ -11,8 +11,8 @@ use std::alloc::Global;
 use std::process::Abort;
 
 /// A start file's label without a size, a function, one that lies in it, a name with bytes that are not shown, one of
-/// eight hexadecimal digits, and two of one name.
-const SYMBOLS: [Named; 7] = [
+/// eight hexadecimal digits, two of one name, two that begin with `#` and that have it inside, one that is `*`, and two variables.
+const SYMBOLS: [Named; 12] = [
     ("_start", 0x10000, 0, 2),
     ("main", 0x10020, 0x20, 2),
     ("inner", 0x10030, 0x8, 2),
@@ -20,6 +20,11 @@ const SYMBOLS: [Named; 7] = [
     ("00010000", 0x10104, 4, 2),
     ("twin", 0x10200, 4, 2),
     ("twin", 0x10300, 8, 2),
+    ("#put", 0x10400, 4, 2),
+    ("put#1", 0x10404, 4, 2),
+    ("*", 0x10408, 4, 2),
+    ("rings", 0x20000, 0x200, 1),
+    ("head", 0x20200, 4, 1),
 ];
 
 /// A list, a race, and whether the list fits it.
@@ -40,7 +45,11 @@ const FITS: &[Fits] = &[
     ("inner inner", 0x10020, Some(0x10030), false),
     ("00010020 inner # known\n", 0x10020, Some(0x10034), true),
     ("00010020 inner\n", 0x10024, Some(0x10034), false),
-    ("inner   00010020#", 0x10020, Some(0x10034), true),
+    ("inner   00010020 #", 0x10020, Some(0x10034), true),
+    ("\\x23put put#1\n", 0x10400, Some(0x10404), true),
+    ("\\x2a put#1\n", 0x10404, Some(0x10408), true),
+    ("\\x2a put#1\n", 0x10404, Some(0x10400), false),
+    ("\\x300010000 *\n", 0x10104, None, true),
     (
         "# list\r\n\r\nmain inner\r\n00010100 *\r\n",
         0x10020,
@@ -61,6 +70,25 @@ const FITS: &[Fits] = &[
     ("twin inner\ninner inner\n", 0x10300, Some(0x10020), false),
 ];
 
+/// A list, the data of a race of `main` and `inner`, and whether the list fits it.
+const FITS_ON: &[(&str, Option<u32>, bool)] = &[
+    ("main inner on rings\n", Some(0x20008), true),
+    ("inner main on rings # known\n", Some(0x20000), true),
+    ("main inner on rings\n", Some(0x20200), false),
+    ("main inner on rings\n", None, false),
+    ("main inner on *\n", None, true),
+    ("main inner on 00020008\n", Some(0x20008), true),
+    ("main inner on 00020008\n", Some(0x2000c), false),
+    ("main inner #on rings\n", Some(0x20200), true),
+    ("main twin on rings\n", Some(0x20008), false),
+    (
+        "main inner on head\nmain inner on rings\n",
+        Some(0x20008),
+        true,
+    ),
+    ("main inner\n", Some(0x20200), true),
+];
+
 /// A list that is refused, and what is told of it.
 const REFUSED: &[(&str, &str)] = &[
     ("main *\nnone *\nmain\n", "ignore line 2 Unknown"),
@@ -70,15 +98,21 @@ const REFUSED: &[(&str, &str)] = &[
     ("twin *\n\n# none\ntwin none\n", "ignore line 4 Unknown"),
     ("main *\rinner *\n", "ignore line 1 Shape"),
     ("main \r*\n", "ignore line 1 Unknown"),
+    ("main inner on\n", "ignore line 1 Shape"),
+    ("main inner on rings head\n", "ignore line 1 Shape"),
+    ("main inner at rings\n", "ignore line 1 Shape"),
+    ("main inner on nowhere\n", "ignore line 1 Unknown"),
+    ("#main *\nput#2 *\n", "ignore line 2 Unknown"),
+    ("put#1 *#\n", "ignore line 1 Unknown"),
 ];
 
-fn assert_fits(rt: &impl Abort, alloc: Global, symbols: &SymbolTable, row: &Fits) {
+fn assert_fits(rt: &impl Abort, alloc: Global, symbols: &SymbolTable, row: &Fits, on: Option<u32>) {
     let (list, first, second, wanted) = *row;
     let ignores = read_ignores(alloc, symbols.image(), &mut Flagged::new(list.as_bytes()))
         .ok()
         .expect(rt, list);
     let names = ignores.names(alloc, symbols.image()).expect(rt, "memory");
-    let found = ignores.fits(alloc, symbols, &names, &Key { first, second });
+    let found = ignores.fits(alloc, symbols, &names, &Key { first, second }, on);
     assert_is(rt, found.expect(rt, "memory"), wanted, list);
 }
 
@@ -97,7 +131,11 @@ fn lists_fit_races(rt: HostRuntime) {
     let image = image(&rt, alloc, &[], &SYMBOLS);
     let symbols = SymbolTable::new(alloc, &image).expect(&rt, "memory");
     for row in FITS {
-        assert_fits(&rt, alloc, &symbols, row);
+        assert_fits(&rt, alloc, &symbols, row, None);
+    }
+    for (list, on, wanted) in FITS_ON {
+        let row = (*list, 0x10020, Some(0x10030), *wanted);
+        assert_fits(&rt, alloc, &symbols, &row, *on);
     }
 }
 

@@ -3,9 +3,10 @@ use crate::assertion::{assert_is, assert_tells_each_failing_call};
 use crate::devices::{Failing, Sink, reader_of};
 use rv_engines::fault::Fault;
 use rv_hunt::merge::fault::FileFault;
-use rv_hunt::merge::{MergeFault, run_merge};
+use rv_hunt::merge::{MergeFault, Merged, run_merge};
 use rv_memory::buffered::{Buffered, MOST_PENDING};
 use rv_memory::output::Output;
+use rv_report::key::Key;
 use std::alloc::Global;
 use std::process::Abort;
 
@@ -42,7 +43,7 @@ fn merge_failing(
     let mut tables = [reader_of(EARLIER, 10, at(0)), reader_of(LATER, 10, at(1))];
     let mut expected = Some(reader_of(NONE, 10, at(2)));
     let mut writer = Buffered::new(alloc, Vec::new(alloc));
-    let merged = run_merge(alloc, &mut tables, &mut expected, &mut writer);
+    let merged = run_merge(alloc, false, &mut tables, &mut expected, &mut writer);
     let is_written = !writer.into_inner().is_empty();
     assert_is(rt, is_written, merged.is_ok(), "what is written");
     let failed = tables[0].failed() || tables[1].failed();
@@ -75,7 +76,7 @@ fn failing_reads_are_told(rt: HostRuntime) {
 }
 
 /// The fault of an engine's writer alone.
-fn plain(merged: Result<bool, MergeFault>) -> Result<(), Fault> {
+fn plain(merged: Result<Merged, MergeFault>) -> Result<(), Fault> {
     match merged {
         Ok(_) => Ok(()),
         Err(
@@ -98,7 +99,7 @@ fn failing_writes_are_told(rt: HostRuntime) {
         assert_tells_each_failing_call(&rt, alloc, takes_none, |writer: &mut Buffered<Sink>| {
             writer.put(&GATHERED)?;
             let mut tables = [reader_of(LATER, 10, 0)];
-            plain(run_merge(alloc, &mut tables, &mut None, writer))
+            plain(run_merge(alloc, false, &mut tables, &mut None, writer))
         });
     }
 }

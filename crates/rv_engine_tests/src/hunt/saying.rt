@@ -2,7 +2,7 @@
 use crate::assertion::assert_is;
 use crate::images::Named;
 use crate::padded::image;
-use rv_explain::block::RaceClass::{self, Counter, Flag, Kept, Ordered};
+use rv_explain::block::RaceClass::{self, Atomic, Counter, Flag, Kept, Ordered, Unwatched};
 use rv_explain::symbol_table::SymbolTable;
 use rv_hunt::orders::OrderTable;
 use rv_hunt::row::RaceRow;
@@ -31,9 +31,9 @@ fn row(first: u32, class: RaceClass, address: u32) -> (Key, RaceRow) {
     (key, row)
 }
 
-/// Rows, and the places at which they are told: those kept first, then counters, flags and ordered ones, and none of those named.
+/// Rows, and the places at which they are told: those kept first, then counters, unwatched ones, flags, ordered ones and those of atomics, and none of those named.
 /// Of a class those of one variable stand together, in the order of the table: of `two`, of `one`, and of the word without a name.
-const ROWS: [(u32, RaceClass, u32); 10] = [
+const ROWS: [(u32, RaceClass, u32); 12] = [
     (0x10000, Ordered, 0x20000),
     (0x10004, RaceClass::Named, 0x20000),
     (0x10008, Flag, 0x20000),
@@ -44,10 +44,13 @@ const ROWS: [(u32, RaceClass, u32); 10] = [
     (0x1001c, Kept, 0x20020),
     (0x10020, Kept, 0x20004),
     (0x10024, Kept, 0x20020),
+    (0x10028, Atomic, 0x20000),
+    (0x1002c, Unwatched, 0x20000),
 ];
 
-const ORDER: [u32; 9] = [
-    0x10010, 0x10020, 0x10014, 0x1001c, 0x10024, 0x1000c, 0x10008, 0x10000, 0x10018,
+const ORDER: [u32; 11] = [
+    0x10010, 0x10020, 0x10014, 0x1001c, 0x10024, 0x1000c, 0x1002c, 0x10008, 0x10000, 0x10018,
+    0x10028,
 ];
 
 #[test]

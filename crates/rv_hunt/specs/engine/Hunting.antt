@@ -1,11 +1,12 @@
 -- What `hunt` makes of the bytes of an image and its options.
-use Rattle.std.specs.Prelude.{◌≡◌, ⊤, ℕ, Bool, false, ◌||◌, Option, Some, None, option_and_then, option_map, Result, Ok, if◌then◌else◌, List, [], filter, length, take}
+use Rattle.std.specs.Prelude.{◌≡◌, ⊤, ℕ, Bool, false, ◌||◌, Option, Some, None, option_and_then, option_map, Result, Ok, if◌then◌else◌, nat_lt, List, [], ◌∷◌, ◌++◌, filter, length, take}
 use Rattle.std.specs.Map.{keys_of}
 use Rattle.std.specs.Option.{option_map_or}
 use Rattle.rv_elf.specs.Contents.{Contents}
 use Rattle.rv_hunt.specs.HuntText.{table_text}
 use Rattle.rv_hunt.specs.Hunt.{Hunt}
 use Rattle.rv_hunt.specs.Hunted.{IsHunted}
+use Rattle.rv_hunt.specs.Origin.{Origin, image_digits, last_line, stretch_on}
 use Rattle.rv_hunt.specs.Outcome.{Outcome}
 use Rattle.rv_hunt.specs.PageFacts.{page_facts}
 use Rattle.rv_hunt.specs.RightEnds.{has_wrong_end, right_codes}
@@ -34,8 +35,10 @@ use Rattle.rv_hunt.specs.declared.engine.options.HuntOptions.{HuntOptions}
 use Rattle.rv_hunt.specs.declared.engine.options.Shows.{Shows}
 use Rattle.rv_hunt.specs.declared.engine.options.Shows.TheVariants.{Text, Table}
 use Rattle.rv_hunt.specs.merge.Ignore.{aimed_in, ignores_of, is_ignored, is_told}
-use Rattle.rv_hunt.specs.merge.Merge.{bytes_if, is_unexpected}
-use Rattle.rv_hunt.specs.merge.TableFiles.{expected_table}
+use Rattle.rv_hunt.specs.merge.Known.{has_gone, known_of, new_races}
+use Rattle.rv_hunt.specs.merge.Listing.{list_text}
+use Rattle.rv_hunt.specs.merge.Merge.{bytes_if}
+use Rattle.rv_hunt.specs.declared.merge.known.Known.{Known}
 use Rattle.rv_hunt.specs.declared.merge.fault.FileFault.{FileFault}
 use Rattle.rv_hunt.specs.declared.merge.ignore.Line.{Line}
 use Rattle.rv_markup.specs.declared.markup.Fact.{Fact}
@@ -55,7 +58,7 @@ hunt_of asked bytes = do
 
 -- ---- the files
 
--- the bytes of the image, of the list of races to be ignored, and of the table of expected ones, where they are given
+-- the bytes of the image, of the list of races to be ignored, and of the table or list of expected ones, where they are given
 pub record Files : Type 0 where
   pub image : List ℕ
   pub ignored : Option (List ℕ)
@@ -79,17 +82,18 @@ abbrev pub ignored_in : Contents → Option (List ℕ) → Result (List Line) Fi
 ignored_in image None = Ok []
 ignored_in image (Some bytes) = ignores_of image bytes
 
--- the table of the races that are expected, or why it is refused
-abbrev pub expected_in : Option (List ℕ) → Result (Option (List (Key × RaceRow))) FileFault
+-- the races that are expected, by a table or a list, or why it is refused
+abbrev pub expected_in : Option (List ℕ) → Result (Option Known) FileFault
 expected_in None = Ok None
-expected_in (Some bytes) = expected_table bytes >>= λ table. Ok (Some table)
+expected_in (Some bytes) = known_of bytes >>= λ known. Ok (Some known)
 
--- What is hunted, which races are counted and not told, which are expected, what is aimed at, which exit codes are right, and what the image
--- was built with.
+-- What is hunted, the digits of its image's file, which races are counted and not told, which are expected, what is aimed at, which exit codes are
+-- right, and what the image was built with.
 pub record Hunting : Type 0 where
   pub hunt : Hunt
+  pub digits : List ℕ
   pub ignored : List Line
-  pub expected : Option (List (Key × RaceRow))
+  pub expected : Option Known
   pub aim : List Line
   pub right : List ℕ
   pub built : Built
@@ -97,6 +101,7 @@ pub record Hunting : Type 0 where
 -- the files and the options ask for it
 pub record IsHuntingOf (asked : Asked) (files : Files) (hunting : Hunting) : Type 0 where
   pub hunt_is : hunt_of asked files.image ≡ Ok hunting.hunt
+  pub digits_are : hunting.digits ≡ image_digits files.image
   pub ignored_is : ignored_in hunting.hunt.source.image files.ignored ≡ Ok hunting.ignored
   pub expected_is : expected_in files.expected ≡ Ok hunting.expected
   pub aim_is : aimed_in hunting.hunt.source.image asked.aim ≡ Ok hunting.aim
@@ -107,10 +112,10 @@ pub record IsHuntingOf (asked : Asked) (files : Files) (hunting : Hunting) : Typ
 
 -- the rows of the races that no line of the list fits, and of the others
 abbrev pub told_in : Hunting → Hunted → List (Key × RaceRow)
-told_in hunting saw = filter (λ (row : Key × RaceRow). is_told hunting.hunt.source.image hunting.ignored row.0) saw.table
+told_in hunting saw = filter (is_told hunting.hunt.source.image hunting.ignored) saw.table
 
 abbrev pub ignored_by : Hunting → Hunted → List (Key × RaceRow)
-ignored_by hunting saw = filter (λ (row : Key × RaceRow). is_ignored hunting.hunt.source.image hunting.ignored row.0) saw.table
+ignored_by hunting saw = filter (is_ignored hunting.hunt.source.image hunting.ignored) saw.table
 
 -- what a hunt came to
 abbrev pub outcome : Hunting → Hunted → Outcome
@@ -120,8 +125,13 @@ outcome hunting saw = record {
   saw = saw;
   rows = told_in hunting saw;
   ignored = ignored_by hunting saw;
+  gone = has_gone hunting.hunt.source.image hunting.expected;
   built = hunting.built;
 }
+
+-- the rows of races that may be bugs and are not expected
+abbrev pub new_in : Hunting → Hunted → List (Key × RaceRow)
+new_in hunting saw = new_races hunting.hunt.source.image hunting.expected (told_in hunting saw)
 
 -- The text for the standard output, and the notes for the standard error.
 pub record Texts : Type 0 where
@@ -135,35 +145,53 @@ full_of Table files blocks = if files then blocks else 0
 
 -- how many races may be a bug, how many are likely benign, whether one that may be a bug is not expected, and how many stuck ends are
 -- shown; whether a hart ended as it should not, and whether that there is no race would mean nothing
-abbrev pub found_in : Option (List (Key × RaceRow)) → List (Key × RaceRow) → ℕ → Bool → Bool → Found
-found_in expected rows stuck wrong void = record {
+abbrev pub found_in : List (Key × RaceRow) → List (Key × RaceRow) → ℕ → Bool → Bool → Found
+found_in unexpected rows stuck wrong void = record {
   bugs = bugs rows;
   benign = benign rows;
-  is_unexpected = is_unexpected expected rows;
+  is_unexpected = nat_lt 0 (length unexpected);
   stuck = stuck;
   has_wrong_end = wrong;
   is_void = void;
 }
 
 abbrev pub found_of : Hunting → Hunted → ℕ → Bool → Found
-found_of hunting saw stuck wrong = found_in hunting.expected (told_in hunting saw) stuck wrong (is_void (outcome hunting saw))
+found_of hunting saw stuck wrong = found_in (new_in hunting saw) (told_in hunting saw) stuck wrong (is_void (outcome hunting saw))
 
--- what the standard output gets, and how many races are shown in full
+-- what the standard output gets, how many races are shown in full, the version of the program, and what was given of the runs
 pub record Showing : Type 0 where
   pub shows : Shows
   pub full : ℕ
+  pub version : List ℕ
+  pub given : List ℕ
 
 -- the same by the options, where a folder or a page is given
 abbrev pub showing_of : HuntOptions → Bool → Bool → Showing
-showing_of options folder page = record { shows = options.shows; full = full_of options.shows (folder || page) options.blocks }
+showing_of options folder page = record {
+  shows = options.shows;
+  full = full_of options.shows (folder || page) options.blocks;
+  version = options.line.version.now;
+  given = options.line.given.now;
+}
 
--- of the table the text is the table
-abbrev pub IsTable : Shows → List (Key × RaceRow) → List ℕ → Type 0
-IsTable Text rows text = ⊤
-IsTable Table rows text = text ≡ table_text rows
+-- what the rows of a hunt are of
+abbrev pub origin_of : Showing → Hunting → Hunted → Origin
+origin_of way hunting saw = record {
+  image = hunting.digits;
+  version = way.version;
+  seed = hunting.hunt.source.seed;
+  stretches = stretch_on hunting.hunt.first saw.tally.runs ∷ [];
+  given = way.given;
+}
 
--- What is made of a hunt: its runs, what they saw, and the races with their orders and the stuck ends that are shown in full.
-pub record IsMade (way : Showing) (hunting : Hunting) (Saves : ℕ → List ℕ → Type 0) (Pages : List Fact → Type 0) (found : Found) (texts : Texts) : Type 0 where
+-- of the table the text is the table, and the line of what it is of
+abbrev pub IsTable : Shows → List (Key × RaceRow) → Origin → List ℕ → Type 0
+IsTable Text rows origin text = ⊤
+IsTable Table rows origin text = text ≡ table_text rows ++ last_line (Some origin)
+
+-- What is made of a hunt: its runs, what they saw, the races with their orders and the stuck ends that are shown in full, the page, and the list
+-- of the races.
+pub record IsMade (way : Showing) (hunting : Hunting) (Saves : ℕ → List ℕ → Type 0) (Pages : List Fact → Type 0) (Lists : List ℕ → Type 0) (found : Found) (texts : Texts) : Type 0 where
   pub saw : Hunted
   pub hunted : IsHunted hunting.hunt saw
   pub told : List (Key × RaceRow)
@@ -172,16 +200,17 @@ pub record IsMade (way : Showing) (hunting : Hunting) (Saves : ℕ → List ℕ 
   pub are_shown : AreShown hunting.hunt Saves (take way.full told) shown
   pub orders : List ShownOrder
   pub are_ordered : AreOrdersShown hunting.hunt saw.orders (keys_of (take way.full told)) orders
-  pub is_table : IsTable way.shows (told_in hunting saw) texts.text
+  pub is_table : IsTable way.shows (told_in hunting saw) (origin_of way hunting saw) texts.text
   pub paged : Pages (page_facts (outcome hunting saw) told (length shown))
+  pub listed : Lists (list_text hunting.hunt.source.image (told_in hunting saw))
   pub stuck : List ShownStuck
   pub are_stuck : AreStuckShown hunting.hunt stuck
   pub found_is : found ≡ found_of hunting saw (length stuck) (has_wrong_end hunting.right hunted.so_far.runs)
 
 -- The runs of the hunt are made; what they saw is shown and counted, the runs of the races that are shown in full are saved,
--- and the page is made.
-pub record IsTold (way : Showing) (hunting : Hunting) (found : Found) (Writes Notes : List ℕ → Type 0) (Saves : ℕ → List ℕ → Type 0) (Pages : List Fact → Type 0) : Type 0 where
+-- and the page and the list of the races are made.
+pub record IsTold (way : Showing) (hunting : Hunting) (found : Found) (Writes Notes : List ℕ → Type 0) (Saves : ℕ → List ℕ → Type 0) (Pages : List Fact → Type 0) (Lists : List ℕ → Type 0) : Type 0 where
   pub texts : Texts
-  pub made : IsMade way hunting Saves Pages found texts
+  pub made : IsMade way hunting Saves Pages Lists found texts
   pub written : Writes texts.text
   pub noted : Notes texts.notes

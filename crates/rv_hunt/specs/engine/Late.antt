@@ -20,3 +20,7 @@ pub record IsPage (Holds : List ℕ → Type 0) (facts : List Fact) : Type 0 whe
 -- a page is made, unless making it has failed
 abbrev pub IfPaged : {F : Type 0} → (F → Bool) → (F → List ℕ → Type 0) → Option F → List Fact → Type 0
 IfPaged has_failed Holds page facts = IfSome page (λ file. has_failed file ≡ false → IsPage (Holds file) facts)
+
+-- a list with these bytes is made, unless making it has failed
+abbrev pub IfListed : {F : Type 0} → (F → Bool) → (F → List ℕ → Type 0) → Option F → List ℕ → Type 0
+IfListed has_failed Holds list bytes = IfSome list (λ file. has_failed file ≡ false → Holds file bytes)

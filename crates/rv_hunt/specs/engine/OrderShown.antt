@@ -1,11 +1,10 @@
 -- The trials that are shown of the orders of races, each of the run that it names, made again.
-use Rattle.std.specs.Prelude.{◌≡◌, ℕ, All, Contains, IfSome, Option, Some, List, length, map}
-use Rattle.rv_collide.specs.Verdict.{endings}
+use Rattle.std.specs.Prelude.{◌≡◌, ℕ, All, Contains, IfSome, Option, Some, List, map}
 use Rattle.rv_collide.specs.declared.collider.Finished.{Finished}
 use Rattle.rv_explain.specs.BlockOf.{race_shown}
 use Rattle.rv_explain.specs.Blocks.{shown_of}
 use Rattle.rv_explain.specs.Order.{IsOrder}
-use Rattle.rv_explain.specs.Races.{Run, reports_of}
+use Rattle.rv_explain.specs.Races.{Run, reports}
 use Rattle.rv_explain.specs.declared.order.TrialNumbers.{TrialNumbers}
 use Rattle.rv_hunt.specs.Hunt.{Hunt}
 use Rattle.rv_hunt.specs.Keyed.{row_at}
@@ -26,7 +25,7 @@ one_trial number = record { first = number; count = 1 }
 -- A report of the race in a run is told, and the trial of that number was made from the state before its second access.
 pub record IsTrialIn (run : Run) (ranges : List (ℕ × ℕ)) (key : Key) (number : ℕ) (made : MadeTrial) : Type 0 where
   pub race : Race
-  pub is_report : Contains (reports_of run.image ranges (endings run.start run.entries) (length (endings run.start run.entries))) race.told
+  pub is_report : Contains (reports run ranges) race.told
   pub key_is : race.told.key ≡ key
   pub block_is : shown_of made.block ≡ race_shown run 0 race
   pub order_is : IsOrder run.start run.entries made.block.second (one_trial number) made.block.other.hart made.block.paused.hart made.order

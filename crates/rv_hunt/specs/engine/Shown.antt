@@ -2,7 +2,6 @@
 use Rattle.std.specs.Prelude.{◌≡◌, ℕ, ◌+◌, true, false, Some, List, length, slice_get}
 use Rattle.rv_collide.specs.Grammar.{schedule_text}
 use Rattle.rv_collide.specs.Numbers.{numbers}
-use Rattle.rv_collide.specs.Verdict.{endings}
 use Rattle.rv_collide.specs.declared.collider.Finished.{Finished}
 use Rattle.rv_debug.specs.Placed.{placed}
 use Rattle.rv_elf.specs.Contents.{Contents}
@@ -41,7 +40,7 @@ run_told image run = run_of (placed image (numbers run.plan) run.entries.items 0
 -- This is shown of a row's race in a run of so many harts: its block, as values.
 pub record IsRaceShown (ranges : List (ℕ × ℕ)) (harts : ℕ) (row : Key × RaceRow) (run : Run) (shown : ShownRace) : Type 0 where
   pub race : Race
-  pub is_race : race_in run.image ranges row (endings run.start run.entries) ≡ Some race
+  pub is_race : race_in run ranges row ≡ Some race
   pub block_is : shown_of shown.block ≡ race_shown run AROUND race
   pub harts_are : shown.harts ≡ harts
 

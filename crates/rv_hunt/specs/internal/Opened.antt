@@ -36,9 +36,9 @@ hunt_by asked image lists = record {
 abbrev pub hunt_in : Asked → Opened → Hunt
 hunt_in asked opened = hunt_by asked opened.image opened.lists
 
--- the same with the exit codes that are right, and the lists of files
-abbrev pub hunting_with : Hunt → List ℕ → Lists → Hunting
-hunting_with hunt right lists = record { hunt = hunt; ignored = lists.ignored; expected = lists.expected; aim = lists.aim; right = right; built = lists.built }
+-- the same with the digits of the image's file, the exit codes that are right, and the lists of files
+abbrev pub hunting_with : Hunt → List ℕ → List ℕ → Lists → Hunting
+hunting_with hunt digits right lists = record { hunt = hunt; digits = digits; ignored = lists.ignored; expected = lists.expected; aim = lists.aim; right = right; built = lists.built }
 
 abbrev pub texts_in : Made → Texts
 texts_in made = record { text = made.text.items; notes = made.notes.items }

@@ -1,8 +1,7 @@
 -- What is shown of the orders of races, while their trials are made again.
-use Rattle.std.specs.Prelude.{◌≡◌, ℕ, All, None, Some, List, Vec, length, slice_get}
+use Rattle.std.specs.Prelude.{◌≡◌, ℕ, All, None, Some, List, Vec, slice_get}
 use Rattle.std.specs.declared.alloc.Global.{Global}
-use Rattle.rv_collide.specs.Verdict.{endings}
-use Rattle.rv_explain.specs.Races.{Run, reports_of as reports_among}
+use Rattle.rv_explain.specs.Races.{Run, reports}
 use Rattle.rv_races.specs.declared.races.Report.{Report}
 use Rattle.rv_hunt.specs.Hunt.{Hunt}
 use Rattle.rv_hunt.specs.Keyed.{row_at}
@@ -20,8 +19,7 @@ use Rattle.rv_report.specs.declared.key.Key.{Key}
 
 -- the reports of a run
 abbrev pub reports_of : Again → Run → List Report
-reports_of again run =
-    reports_among run.image again.hunt.now.ranges (endings run.start run.entries) (length (endings run.start run.entries))
+reports_of again run = reports run again.hunt.now.ranges
 
 -- it is one of those that are to be made again
 pub record IsPlaced (again : Again) (trial : PlacedTrial) : Type 0 where

@@ -1,11 +1,10 @@
 -- What is shown of the races of one run.
-use Rattle.std.specs.Prelude.{◌≡◌, ℕ, ◌+◌, All, Option, Some, List, Vec, length, slice_get}
+use Rattle.std.specs.Prelude.{◌≡◌, ℕ, ◌+◌, All, Option, Some, List, Vec, slice_get}
 use Rattle.std.specs.declared.alloc.Global.{Global}
 use Rattle.rv_collide.specs.Grammar.{schedule_text}
 use Rattle.rv_collide.specs.Numbers.{numbers}
-use Rattle.rv_collide.specs.Verdict.{endings}
 use Rattle.rv_collide.specs.declared.collider.Finished.{Finished}
-use Rattle.rv_explain.specs.Races.{Run, reports_of as reports_among}
+use Rattle.rv_explain.specs.Races.{Run, reports}
 use Rattle.rv_races.specs.declared.races.Report.{Report}
 use Rattle.rv_hunt.specs.declared.engine.shown.InFull.{InFull}
 use Rattle.rv_hunt.specs.declared.engine.shown.ShownRace.{ShownRace}
@@ -17,8 +16,7 @@ use Rattle.rv_report.specs.declared.key.Key.{Key}
 
 -- the reports of a run
 abbrev pub reports_of : InFull → Run → List Report
-reports_of full run =
-    reports_among run.image full.hunt.now.ranges (endings run.start run.entries) (length (endings run.start run.entries))
+reports_of full run = reports run full.hunt.now.ranges
 
 -- the race of the row at a place, in a run of so many harts
 pub record IsOfRow (full : InFull) (run : Run) (harts place : ℕ) (shown : ShownRace) : Type 0 where

@@ -9,10 +9,12 @@ use Rattle.rv_hunt.specs.declared.merge.ignore.Names.{Names}
 use Rattle.rv_hunt.specs.declared.merge.ignore.Side.{Side}
 use Rattle.rv_hunt.specs.declared.merge.ignore.Side.TheVariants as side
 use Rattle.rv_hunt.specs.declared.merge.sought.Instruction.{Instruction}
+use Rattle.rv_hunt.specs.declared.merge.sought.RacePlaces.{RacePlaces}
 use Rattle.rv_hunt.specs.declared.merge.sought.SoughtLine.{SoughtLine}
 use Rattle.rv_hunt.specs.declared.merge.sought.SoughtSide.{SoughtSide}
 use Rattle.rv_hunt.specs.declared.merge.sought.SoughtSide.TheVariants.{Any, Address, Word}
 use Rattle.rv_hunt.specs.declared.merge.words.Words.{Words}
+use Rattle.rv_report.specs.declared.key.Key.{Key}
 use Rattle.rv_hunt.specs.internal.Words.{AreMarksAt, AreNumbered, count, named_by, number_of}
 
 -- a number is below how many words there are
@@ -22,7 +24,7 @@ IsWithin number (Address address) = ⊤
 IsWithin number (Word word) = word < number
 
 abbrev pub LineIsWithin : ℕ → SoughtLine → Type 0
-LineIsWithin number line = IsWithin number line.one × IsWithin number line.other
+LineIsWithin number line = IsWithin number line.one × IsWithin number line.other × IsWithin number line.on
 
 abbrev pub is_known : List Bool → SoughtSide → Bool
 is_known known Any = true
@@ -30,7 +32,7 @@ is_known known (Address address) = true
 is_known known (Word word) = get_or known word false
 
 abbrev pub line_is_known : List Bool → SoughtLine → Bool
-line_is_known known line = is_known known line.one && is_known known line.other
+line_is_known known line = is_known known line.one && is_known known line.other && is_known known line.on
 
 abbrev pub first_unknown : List Bool → List SoughtLine → Option ℕ
 first_unknown known [] = None
@@ -41,8 +43,9 @@ fits instruction Any = true
 fits instruction (Address address) = option_map_or (λ at. at == address) instruction.at false
 fits instruction (Word word) = get_or instruction.marks.items word false
 
-abbrev pub line_fits : Instruction → Instruction → SoughtLine → Bool
-line_fits first second line = (fits first line.one && fits second line.other) || (fits second line.one && fits first line.other)
+abbrev pub line_fits : RacePlaces → SoughtLine → Bool
+line_fits race line =
+    ((fits race.first line.one && fits race.second line.other) || (fits race.second line.one && fits race.first line.other)) && fits race.on line.on
 
 -- a side by the number of its word
 abbrev pub sought_side : Words → Side → Option SoughtSide
@@ -53,6 +56,7 @@ sought_side words (side.Name word) = option_map Word (number_of words word)
 abbrev pub IsSought : Words → ListedLine → SoughtLine → Type 0
 IsSought words listed line =
     (line.at ≡ listed.at) × (sought_side words listed.line.one ≡ Some line.one) × (sought_side words listed.line.other ≡ Some line.other)
+    × (sought_side words listed.line.on ≡ Some line.on)
 
 abbrev pub lines_in : List ListedLine → List Line
 lines_in listed = map (λ (l : ListedLine). l.line) listed
@@ -70,8 +74,14 @@ pub record AreNames (names : Names) (image : Contents) (listed : List ListedLine
 abbrev pub AreTheNames : Names → Contents → List Line → Type 0
 AreTheNames names image lines = (listed : List ListedLine) × (lines ≡ lines_in listed) × AreNames names image listed
 
--- the instruction, with the names there
+-- the instruction or the data, with the names there
 pub record IsInstruction (names : Names) (image : Contents) (at : Option ℕ) (instruction : Instruction) : Type 0 where
   pub at_is : instruction.at ≡ at
   pub count : length instruction.marks.items ≡ count names.words
   pub marks : AreMarksAt names.words image at instruction.marks.items
+
+-- the places of a race
+pub record ArePlaces (names : Names) (image : Contents) (key : Key) (on : Option ℕ) (places : RacePlaces) : Type 0 where
+  pub first_is : IsInstruction names image (Some key.first) places.first
+  pub second_is : IsInstruction names image key.second places.second
+  pub on_is : IsInstruction names image on places.on

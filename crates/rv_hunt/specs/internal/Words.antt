@@ -6,11 +6,10 @@ use Rattle.std.specs.List.{list_any}
 use Rattle.std.specs.Option.{option_and_then, option_map_or}
 use Rattle.std.specs.Ordering.{nat_cmp}
 use Rattle.rv_elf.specs.Contents.{Contents, Named}
-use Rattle.rv_explain.specs.Names.{escaped}
 use Rattle.rv_explain.specs.Symbols.{symbol_of}
 use Rattle.rv_hunt.specs.declared.merge.words.NamedSymbol.{NamedSymbol}
 use Rattle.rv_hunt.specs.declared.merge.words.Words.{Words}
-use Rattle.rv_hunt.specs.merge.Ignore.{is_at_name}
+use Rattle.rv_hunt.specs.merge.Ignore.{is_at_name, spelled}
 
 abbrev pub number_of : Words → List ℕ → Option ℕ
 number_of words word = get_by (λ key. slice_cmp nat_cmp word key.now) words.numbers
@@ -32,7 +31,7 @@ abbrev pub named : Named → Option ℕ → Option NamedSymbol
 named symbol word = option_map (λ number. record { word = number; value = symbol.value; size = symbol.size }) word
 
 abbrev pub named_by : Words → Named → Option NamedSymbol
-named_by words symbol = named symbol (number_of words (escaped symbol.name))
+named_by words symbol = named symbol (number_of words (spelled symbol.name))
 
 abbrev pub holds : ℕ → NamedSymbol → Bool
 holds address symbol = nat_le symbol.value address && nat_lt address (symbol.value + symbol.size)
@@ -42,7 +41,7 @@ abbrev pub AreMarks : List NamedSymbol → List Bool → Type 0
 AreMarks symbols marks = (number : ℕ) → get_or marks number false ≡ list_any (λ symbol. symbol.word == number) symbols
 
 abbrev pub told_word : Words → Contents → ℕ → Option ℕ
-told_word words image address = option_and_then (λ symbol. number_of words (escaped symbol.name)) (symbol_of image address)
+told_word words image address = option_and_then (λ symbol. number_of words (spelled symbol.name)) (symbol_of image address)
 
 -- one more is marked, where there is one
 abbrev pub MarksMore : Option ℕ → List Bool → List Bool → Type 0

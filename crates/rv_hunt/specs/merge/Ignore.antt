@@ -1,7 +1,7 @@
 -- Races that are to be ignored: what a list of them says, and which races it fits.
-use Rattle.std.specs.Prelude.{ℕ, ◌+◌, ◌-◌, Bool, true, false, not, ◌&&◌, ◌||◌, ◌==◌, nat_le, nat_lt, if◌then◌else◌, Option, Some, None, option_map, Result, Ok, Err, List, [], ◌∷◌, ◌++◌, length, codes, filter, slice_get, take}
-use Rattle.std.specs.List.{list_any}
-use Rattle.std.specs.Option.{option_map_or, unwrap_or}
+use Rattle.std.specs.Prelude.{ℕ, ◌+◌, ◌-◌, Bool, true, false, not, ◌&&◌, ◌||◌, ◌==◌, nat_le, nat_lt, if◌then◌else◌, Option, Some, None, option_map, is_some, Result, Ok, Err, List, [], ◌∷◌, ◌++◌, length, codes, filter, slice_get, take}
+use Rattle.std.specs.List.{list_any, take_while}
+use Rattle.std.specs.Option.{option_map_or}
 use Rattle.std.specs.Str.{bytes_eq}
 use Rattle.rv_elf.specs.Contents.{Contents, Named}
 use Rattle.rv_explain.specs.Names.{escaped}
@@ -18,15 +18,36 @@ use Rattle.rv_hunt.specs.declared.merge.ignore.Line.{Line}
 use Rattle.rv_hunt.specs.declared.merge.ignore.Side.{Side}
 use Rattle.rv_hunt.specs.declared.merge.ignore.TheConstants.{LONGEST_WORD}
 use Rattle.rv_hunt.specs.declared.merge.ignore.Side.TheVariants.{Any, Address, Name}
+use Rattle.rv_hunt.specs.declared.row.RaceRow.{RaceRow}
 use Rattle.rv_report.specs.declared.key.Key.{Key}
-use Rattle.rv_text.specs.Hexadecimal.{word_of}
+use Rattle.rv_text.specs.Hexadecimal.{byte_digits, word_of}
 use Rattle.rv_text.specs.Pieces.{pieces_of}
 
 -- ---- a name
 
--- the word is the symbol's name, as `explain` shows it
+-- a `#` (35) begins a comment where it begins a word
+abbrev pub begins_comment : List ℕ → Bool
+begins_comment word = option_map_or (λ byte. byte == 35) (slice_get word 0) false
+
+-- the word says something else than a name: it begins a comment, it means any instruction, or it is an address
+abbrev pub says_other : List ℕ → Bool
+says_other word = begins_comment word || bytes_eq word (codes "*") || is_some (word_of word)
+
+-- the first byte is `\xNN`
+abbrev pub first_escaped : List ℕ → List ℕ
+first_escaped [] = []
+first_escaped (byte ∷ rest) = codes "\\x" ++ (byte_digits byte ++ rest)
+
+abbrev pub as_name : List ℕ → List ℕ
+as_name word = if says_other word then first_escaped word else word
+
+-- A name as a list has it: as `explain` shows it, but that the first byte of one that would say something else is `\xNN`.
+unfoldable pub spelled : List ℕ → List ℕ
+spelled name = as_name (escaped name)
+
+-- the word is the symbol's name
 abbrev pub is_spelled : List ℕ → Named → Bool
-is_spelled word symbol = bytes_eq (escaped symbol.name) word
+is_spelled word symbol = bytes_eq (spelled symbol.name) word
 
 -- a symbol of the image has the name
 abbrev pub has_name : Contents → List ℕ → Bool
@@ -39,10 +60,6 @@ is_known image (Name word) = has_name image word
 
 -- ---- a line
 
--- the line up to its comment, which the first `#` (35) begins
-abbrev pub uncommented : List ℕ → List ℕ
-uncommented line = unwrap_or (slice_get (pieces_of 35 line) 0) []
-
 abbrev pub has_bytes : List ℕ → Bool
 has_bytes word = nat_lt 0 (length word)
 
@@ -53,9 +70,13 @@ ends_in_return line = option_map_or (λ byte. byte == 13) (slice_get line (lengt
 abbrev pub without_return : List ℕ → List ℕ
 without_return line = if ends_in_return line then take (length line - 1) line else line
 
--- the words of a line; blanks (32) stand between them
+-- the words of these pieces up to the comment
+abbrev pub said_words : List (List ℕ) → List (List ℕ)
+said_words pieces = take_while (λ word. not (begins_comment word)) (filter has_bytes pieces)
+
+-- the words of a line up to its comment; blanks (32) stand between them
 abbrev pub words_of : List ℕ → List (List ℕ)
-words_of line = filter has_bytes (pieces_of 32 (uncommented (without_return line)))
+words_of line = said_words (pieces_of 32 (without_return line))
 
 -- what has eight hexadecimal digits is an address
 abbrev pub side_of : List ℕ → Side
@@ -65,25 +86,44 @@ side_of word = if bytes_eq word (codes "*") then Any else option_map_or Address 
 abbrev pub is_short : List ℕ → Bool
 is_short word = nat_le (length word) LONGEST_WORD
 
--- the two words of a line, or none where it has no words
-abbrev pub words_in : List (List ℕ) → Result (Option (List ℕ × List ℕ)) IgnoreKind
+-- the words of a line that say something: those of its two sides, and that of the data
+pub record Said : Type 0 where
+  pub one : List ℕ
+  pub other : List ℕ
+  pub on : List ℕ
+
+abbrev pub are_short : Said → Bool
+are_short said = is_short said.one && is_short said.other && is_short said.on
+
+abbrev pub said_if : Bool → Said → Result (Option Said) IgnoreKind
+said_if true said = Ok (Some said)
+said_if false said = Err Shape
+
+-- `A B`, or `A B on DATA`: without it the data may be any
+abbrev pub words_in : List (List ℕ) → Result (Option Said) IgnoreKind
 words_in [] = Ok None
 words_in (word ∷ []) = Err Shape
-words_in (one ∷ other ∷ []) = if is_short one && is_short other then Ok (Some (one, other)) else Err Shape
-words_in (one ∷ other ∷ next ∷ words) = Err Shape
+words_in (one ∷ other ∷ []) = let said : Said = record { one = one; other = other; on = codes "*" } in said_if (are_short said) said
+words_in (one ∷ other ∷ word ∷ []) = Err Shape
+words_in (one ∷ other ∷ word ∷ place ∷ []) = let said : Said = record { one = one; other = other; on = place } in said_if (bytes_eq word (codes "on") && are_short said) said
+words_in (one ∷ other ∷ word ∷ place ∷ next ∷ words) = Err Shape
 
-abbrev pub sides_of : List ℕ × List ℕ → Line
-sides_of pair = record { one = side_of pair.0; other = side_of pair.1 }
+abbrev pub sides_of : Said → Line
+sides_of said = record { one = side_of said.one; other = side_of said.other; on = side_of said.on }
 
 abbrev pub are_known : Contents → Line → Bool
-are_known image line = is_known image line.one && is_known image line.other
+are_known image line = is_known image line.one && is_known image line.other && is_known image line.on
 
--- what a line says: its shape is tested first
-unfoldable pub line_of : Contents → List ℕ → Result (Option Line) IgnoreKind
-line_of image text = do
-  pair ← words_in (words_of text)
-  _ ← want (option_map_or (λ words. are_known image (sides_of words)) pair true) Unknown
-  Ok (option_map sides_of pair)
+-- What a line says: its shape is tested first. The test is whether its names are known.
+unfoldable pub line_of : (Line → Bool) → List ℕ → Result (Option Line) IgnoreKind
+line_of known text = do
+  said ← words_in (words_of text)
+  _ ← want (option_map_or (λ words. known (sides_of words)) said true) Unknown
+  Ok (option_map sides_of said)
+
+-- a line has a name that no symbol of the image has
+abbrev pub has_unknown : Contents → List Line → Bool
+has_unknown image lines = list_any (λ line. not (are_known image line)) lines
 
 -- ---- the lines
 
@@ -97,25 +137,29 @@ listed None = []
 listed (Some line) = line ∷ []
 
 -- what lines say, the first of which has this number, or the first of them with a fault
-unfoldable pub lines_from : Contents → ℕ → List (List ℕ) → Result (List Line) IgnoreFault
-lines_from image number [] = Ok []
-lines_from image number (text ∷ later) = do
-  said ← at_line number (line_of image text)
-  lines ← lines_from image (number + 1) later
+unfoldable pub lines_from : (Line → Bool) → ℕ → List (List ℕ) → Result (List Line) IgnoreFault
+lines_from known number [] = Ok []
+lines_from known number (text ∷ later) = do
+  said ← at_line number (line_of known text)
+  lines ← lines_from known (number + 1) later
   Ok (listed said ++ lines)
 
 -- what a file says, or why its bytes are refused: they are too many, and else the first line with a fault
 unfoldable pub ignores_of : Contents → List ℕ → Result (List Line) FileFault
 ignores_of image bytes = do
   text ← plainly (unless_long bytes)
-  told_ignore (lines_from image 1 (pieces_of 10 text))
+  told_ignore (lines_from (are_known image) 1 (pieces_of 10 text))
 
 -- ---- what is aimed at
+
+-- two sides, of any data
+abbrev pub aimed_at : List ℕ × List ℕ → Said
+aimed_at pair = record { one = pair.0; other = pair.1; on = codes "*" }
 
 -- the line that two sides are, or why they are refused; none is, where nothing is aimed at
 abbrev pub aimed_in : Contents → Option (List ℕ × List ℕ) → Result (List Line) FileFault
 aimed_in image None = Ok []
-aimed_in image (Some pair) = if are_known image (sides_of pair) then Ok (sides_of pair ∷ []) else Err fault.Aim
+aimed_in image (Some pair) = if are_known image (sides_of (aimed_at pair)) then Ok (sides_of (aimed_at pair) ∷ []) else Err fault.Aim
 
 -- ---- which race a line fits
 
@@ -133,21 +177,28 @@ is_told_by_name image word address = option_map_or (is_spelled word) (symbol_of 
 abbrev pub is_at_name : Contents → List ℕ → ℕ → Bool
 is_at_name image word address = is_in_name image word address || is_told_by_name image word address
 
--- The side fits an instruction. Where a race is known by one instruction, the other may be any: only `*` fits it.
+-- The side fits an instruction, or a place in data. One that isn't known may be any: only `*` fits it.
 abbrev pub fits_side : Contents → Side → Option ℕ → Bool
 fits_side image Any instruction = true
 fits_side image (Address address) instruction = option_map_or (λ at. at == address) instruction false
 fits_side image (Name word) instruction = option_map_or (is_at_name image word) instruction false
 
--- the line fits the race: its sides stand in either order
-abbrev pub fits : Contents → Key → Line → Bool
-fits image key line =
+-- the line's sides fit the race's instructions, in either order
+abbrev pub fits_sides : Contents → Key → Line → Bool
+fits_sides image key line =
     (fits_side image line.one (Some key.first) && fits_side image line.other key.second) || (fits_side image line.one key.second && fits_side image line.other (Some key.first))
 
--- one of the lines fits the race
-abbrev pub is_ignored : Contents → List Line → Key → Bool
-is_ignored image lines key = list_any (fits image key) lines
+-- The line fits a race of this data: its sides do, and so does what it says of the data.
+abbrev pub fits : Contents → Key → Option ℕ → Line → Bool
+fits image key on line = fits_sides image key line && fits_side image line.on on
+
+abbrev pub any_fits : Contents → List Line → Key → Option ℕ → Bool
+any_fits image lines key on = list_any (fits image key on) lines
+
+-- One of the lines fits the race. Its data is that of the report that it is shown by.
+abbrev pub is_ignored : Contents → List Line → Key × RaceRow → Bool
+is_ignored image lines race = any_fits image lines race.0 race.1.address
 
 -- none of the lines fits the race
-abbrev pub is_told : Contents → List Line → Key → Bool
-is_told image lines key = not (is_ignored image lines key)
+abbrev pub is_told : Contents → List Line → Key × RaceRow → Bool
+is_told image lines race = not (is_ignored image lines race)

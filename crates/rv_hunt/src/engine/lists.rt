@@ -11,8 +11,7 @@ ghost use Rattle.rv_hunt.specs.merge.Merge as merge;
 use crate::engine::options::HuntOptions;
 use crate::merge::fault::FileFault;
 use crate::merge::ignore::{Ignores, aimed, read_ignores};
-use crate::merge::table_file::read_expected;
-use crate::table::HuntTable;
+use crate::merge::known::{self, Known};
 use rv_elf::Image;
 use rv_engines::built::Built;
 use rv_memory::flagged::Flagged;
@@ -24,7 +23,7 @@ use std::io::Read;
 #[derive(Drop)]
 pub(crate) struct Lists {
     pub(crate) ignored: Ignores,
-    pub(crate) expected: Option<HuntTable>,
+    pub(crate) expected: Option<Known>,
     pub(crate) aim: Ignores,
     pub(crate) built: Built,
 }
@@ -49,11 +48,11 @@ pub(crate) fn read_ignored<R: Read>(
     }
 }
 
-/// Reads the table of the races that are expected, where one is given.
+/// Reads the table or the list of the races that are expected, where one is given.
 pub(crate) fn read_known<R: Read>(
     alloc: Global,
     table: &mut Option<Flagged<R>>,
-) -> Result<Option<HuntTable>, FileFault>
+) -> Result<Option<Known>, FileFault>
     ensures ok { IfOk result (λ known. IfSome (merge.bytes_if R.remaining table.old) (λ bytes.
         spec.expected_in bytes ≡ Ok known)) }
     ensures err { IfErr result (λ fault. IfSome (merge.bytes_if R.remaining table.old) (λ bytes.
@@ -64,7 +63,7 @@ pub(crate) fn read_known<R: Read>(
 {
     match table {
         None => Ok(None),
-        Some(reader) => match read_expected(alloc, reader) {
+        Some(reader) => match known::read_known(alloc, reader) {
             Ok(known) => Ok(Some(known)),
             Err(fault) => Err(fault),
         },

@@ -1,11 +1,12 @@
 //! The runs of a hunt, and the texts and the files of what they saw.
-ghost use Rattle.std.specs.Prelude.{[], ◌≡◌, ◌≤◌, ◌||◌, IfOk, OnOk, is_err, is_some, length, take, true};
+ghost use Rattle.std.specs.Prelude.{◌≡◌, ◌≤◌, ◌∷◌, ◌||◌, [], IfOk, OnOk, is_err, is_some, length, take, true};
 ghost use Rattle.rv_engines.specs.Campaigns.{passes};
 ghost use Rattle.rv_hunt.specs.Hunted.{IsNoted};
 ghost use Rattle.rv_hunt.specs.engine.Asked.{AreLegal, asked};
 ghost use Rattle.rv_hunt.specs.engine.FolderFault as looking;
 ghost use Rattle.rv_hunt.specs.engine.Hunting as spec;
-ghost use Rattle.rv_hunt.specs.engine.Late.{IfPaged, IfSaved};
+ghost use Rattle.rv_hunt.specs.engine.Late.{IfListed, IfPaged, IfSaved};
+ghost use Rattle.rv_hunt.specs.merge.Listing.{list_text};
 ghost use Rattle.rv_hunt.specs.RightEnds.{right_codes};
 ghost use Rattle.rv_hunt.specs.internal.MakeFault.{fails_by_write};
 ghost use Rattle.rv_hunt.specs.internal.Opened.{hunt_in, hunting_with, texts_in};
@@ -24,17 +25,19 @@ use crate::engine::options::{HuntOptions, LineParts, Shows};
 use crate::engine::orders::{ShownOrder, shown_orders};
 use crate::engine::shown::{InFull, ShownRace};
 use crate::engine::stuck_ends::{ShownStuck, stuck_ends};
-use crate::engine::texts::{hunt_text, table_notes, table_of};
-use crate::expected::is_unexpected;
+use crate::engine::texts::{heading_of, hunt_text, stretch_of, table_notes, table_of};
 use crate::hunt::{Hunt, Watch};
 use crate::hunted::Hunted;
+use crate::merge::known::{gone, new_races};
+use crate::merge::listing::list_of;
 use crate::merge::parted::{Parted, part_rows};
 use crate::noted::Noted;
+use crate::origin::{Heading, Stretch};
 use crate::page::page_text;
 use crate::page::parts::Outcome;
 use crate::row::RaceRow;
 use crate::saying::order::{benign, bugs, told_rows};
-use crate::saying::warnings::{is_void, warnings_text};
+use crate::saying::warnings::{first_notes, is_void};
 use rv_campaign::PoolFault;
 use rv_engines::new_file::NewFile;
 use rv_explain::symbol_table::SymbolTable;
@@ -63,19 +66,27 @@ fn texts_of(
     line: &LineParts<'_>,
     symbols: &SymbolTable,
     outcome: &Outcome,
+    heading: &Heading<'_>,
+    stretch: Stretch,
     told: &[(Key, RaceRow)],
     shown: &[ShownRace],
     orders: &[ShownOrder],
 ) -> Result<(Vec<u8>, Vec<u8>), NoMemory>
-    ensures { IfOk result (λ texts. spec.IsTable shows outcome.now.rows texts.0.items) }
+    ensures { IfOk result (λ texts. spec.IsTable shows outcome.now.rows (record {
+      image = heading.entry.now.image.now;
+      version = heading.entry.now.version.now;
+      seed = heading.entry.now.seed;
+      stretches = stretch ∷ [];
+      given = heading.entry.now.given.now;
+    }) texts.0.items) }
 {
     match shows {
         Shows::Text => {
             let text = hunt_text(alloc, line, symbols, outcome, told, shown, orders)?;
-            Ok((text, warnings_text(alloc, symbols, outcome)?))
+            Ok((text, first_notes(alloc, symbols, outcome)?))
         }
         Shows::Table => {
-            let text = table_of(alloc, outcome.rows)?;
+            let text = table_of(alloc, outcome.rows, heading, stretch)?;
             Ok((text, table_notes(alloc, line, symbols, outcome)?))
         }
     }
@@ -90,27 +101,27 @@ fn parted_rows(
     saw: &Hunted,
 ) -> Result<Parted, NoMemory>
     requires { symbols.now ≡ hunt.now.source.image }
-    ensures told { IfOk result (λ parted. parted.told.items ≡ spec.told_in (hunting_with hunt.now [] lists.now) saw.now) }
-    ensures ignored { IfOk result (λ parted. parted.ignored.items ≡ spec.ignored_by (hunting_with hunt.now [] lists.now) saw.now) }
+    ensures told { IfOk result (λ parted. parted.told.items ≡ spec.told_in (hunting_with hunt.now [] [] lists.now) saw.now) }
+    ensures ignored { IfOk result (λ parted. parted.ignored.items ≡ spec.ignored_by (hunting_with hunt.now [] [] lists.now) saw.now) }
 {
     let rows = saw.table.rows(alloc)?;
     part_rows(alloc, symbols, &lists.ignored, &rows)
 }
 
-/// What was found, by the rows of the races that are told, the stuck ends that are shown, how harts ended, and the warnings.
+/// What was found, by the rows of the races that are new, those of all that are told, the stuck ends that are shown, how harts ended, and the warnings.
 fn found_in(
-    lists: &Lists,
+    unexpected: &[(Key, RaceRow)],
     rows: &[(Key, RaceRow)],
     stuck: &[ShownStuck],
     has_wrong_end: bool,
     is_void: bool,
 ) -> Found
-    ensures { result ≡ spec.found_in lists.now.expected rows.now (length stuck.now) has_wrong_end is_void }
+    ensures { result ≡ spec.found_in unexpected.now rows.now (length stuck.now) has_wrong_end is_void }
 {
     Found {
         bugs: bugs(rows),
         benign: benign(rows),
-        is_unexpected: is_unexpected(&lists.expected, rows),
+        is_unexpected: !unexpected.is_empty(),
         stuck: stuck.len() as u64,
         has_wrong_end,
         is_void,
@@ -158,8 +169,25 @@ fn make_page<F: NewFile>(
     Ok(())
 }
 
+/// Makes the list of the races that are told, where one is wanted. Where it can't be made the file has that noted.
+fn make_list<F: NewFile>(
+    alloc: Global,
+    symbols: &SymbolTable,
+    rows: &[(Key, RaceRow)],
+    list: &mut Option<F>,
+) -> Result<(), NoMemory>
+    ensures listed { OnOk result (IfListed F.has_failed F.Holds list.new (list_text symbols.now rows.now)) }
+    ensures wanted { is_some list.new ≡ is_some list.old }
+{
+    if let Some(file) = list {
+        let text = list_of(alloc, symbols, rows)?;
+        let _ = file.make(&text);
+    }
+    Ok(())
+}
+
 /// What a hunt shows of all that its runs saw. The schedules of stuck ends and of how harts ended are saved first, those of the races in full
-/// while these are made again, and the page is made last: what wants memory comes before it. Where a file can't be made that is noted, and the others
+/// while these are made again, and the page and the list are made last: what wants memory comes before it. Where a file can't be made that is noted, and the others
 /// are.
 fn made_of<R: Threads + Wait, D: Folder, F: NewFile, P: Watch>(
     rt: &R,
@@ -167,26 +195,30 @@ fn made_of<R: Threads + Wait, D: Folder, F: NewFile, P: Watch>(
     hunt: &Hunt,
     options: &HuntOptions<'_, '_>,
     lists: &Lists,
+    digits: &[u8],
     symbols: &SymbolTable,
     saw: &Hunted,
     noted: &Noted,
     folder: &mut Option<D>,
     page: &mut Option<F>,
+    list: &mut Option<F>,
     watch: &mut P,
 ) -> Result<Made, PoolFault>
     requires legal { AreLegal options.now }
     requires symbols { symbols.now ≡ hunt.now.source.image }
     requires noted { IsNoted hunt.now saw.now noted.now.ends }
     ensures made { IfOk result (λ made. spec.IsMade
-        (spec.showing_of options.now (is_some folder.old) (is_some page.old)) (hunting_with hunt.now noted.now.ends.right lists.now)
-        (IfSaved D.has_failed D.Holds folder.new) (IfPaged F.has_failed F.Holds page.new) made.found (texts_in made)) }
-    ensures wanted { (is_some folder.new ≡ is_some folder.old) × (is_some page.new ≡ is_some page.old) }
+        (spec.showing_of options.now (is_some folder.old) (is_some page.old)) (hunting_with hunt.now digits.now noted.now.ends.right lists.now)
+        (IfSaved D.has_failed D.Holds folder.new) (IfPaged F.has_failed F.Holds page.new)
+        (IfListed F.has_failed F.Holds list.new) made.found (texts_in made)) }
+    ensures wanted { (is_some folder.new ≡ is_some folder.old) × (is_some page.new ≡ is_some page.old) × (is_some list.new ≡ is_some list.old) }
 {
     let code = code_seen(alloc, symbols, hunt.code, &noted.words)?;
     let stuck = stuck_ends(alloc, hunt, symbols, &noted.stuck, folder)?;
     save_ends(alloc, hunt, saw.tally.ended(), &noted.ends, folder)?;
     let parted = parted_rows(alloc, hunt, symbols, lists, saw)?;
     let told = told_rows(alloc, symbols, &saw.orders, &parted.told)?;
+    let unexpected = new_races(alloc, symbols, &lists.expected, &parted.told)?;
     let outcome = Outcome {
         sites: hunt.sampler.len() as u64,
         mix: hunt.plans.mix(),
@@ -196,6 +228,8 @@ fn made_of<R: Threads + Wait, D: Folder, F: NewFile, P: Watch>(
         stuck: &stuck,
         rows: &parted.told,
         ignored: &parted.ignored,
+        new: &unexpected,
+        gone: gone(alloc, symbols.image(), &lists.expected)?,
         built: lists.built,
     };
     let most = full_of(
@@ -211,12 +245,16 @@ fn made_of<R: Threads + Wait, D: Folder, F: NewFile, P: Watch>(
     };
     let orders = shown_orders(rt, alloc, &full, options.workers, &saw.orders, folder)?;
     let shown = full.show(rt, alloc, options.workers, folder, watch)?;
+    let heading = heading_of(hunt, &options.line, digits);
+    let stretch = stretch_of(hunt, saw);
     let (text, notes) = texts_of(
         alloc,
         options.shows,
         &options.line,
         symbols,
         &outcome,
+        &heading,
+        stretch,
         &told,
         &shown,
         &orders,
@@ -231,9 +269,10 @@ fn made_of<R: Threads + Wait, D: Folder, F: NewFile, P: Watch>(
         &orders,
         page,
     )?;
+    make_list(alloc, symbols, &parted.told, list)?;
     Ok(Made {
         found: found_in(
-            lists,
+            &unexpected,
             &parted.told,
             &stuck.shown,
             noted.ends.is_wrong(),
@@ -256,8 +295,8 @@ fn look<D: Folder>(folder: &mut Option<D>) -> Result<(), FolderFault>
     }
 }
 
-/// Looks whether the page can be made, where one is given.
-fn look_at_page<F: NewFile>(page: &mut Option<F>) -> Result<(), WriteFault>
+/// Looks whether a file can be made, where one is given.
+fn look_at_file<F: NewFile>(page: &mut Option<F>) -> Result<(), WriteFault>
     ensures made { passes F.is_made page.new ≡ passes F.is_made page.old }
     ensures wanted { is_some page.new ≡ is_some page.old }
     ensures failed { passes F.has_failed page.new ≡ (passes F.has_failed page.old || is_err result) }
@@ -268,8 +307,8 @@ fn look_at_page<F: NewFile>(page: &mut Option<F>) -> Result<(), WriteFault>
     }
 }
 
-/// Looks at the folder and the page, and makes the runs of a hunt of what was opened, the schedules of the races that are shown in
-/// full, the page, and the texts of what the runs saw.
+/// Looks at the folder, the page and the list, and makes the runs of a hunt of what was opened, the schedules of the races that are shown in
+/// full, the page, the list, and the texts of what the runs saw.
 pub(crate) fn make_hunt<T: Threads + Wait + Sync, P: Watch, D: Folder, F: NewFile>(
     rt: &T,
     alloc: Global,
@@ -278,19 +317,22 @@ pub(crate) fn make_hunt<T: Threads + Wait + Sync, P: Watch, D: Folder, F: NewFil
     lists: &Lists,
     folder: &mut Option<D>,
     page: &mut Option<F>,
+    list: &mut Option<F>,
     watch: &mut P,
 ) -> Result<Made, MakeFault>
     requires { AreLegal options.now }
     ensures made { IfOk result (λ made. spec.IsMade
         (spec.showing_of options.now (is_some folder.old) (is_some page.old))
-        (hunting_with (hunt_in (asked options.now) opened.now) (right_codes (asked options.now).right) lists.now)
-        (IfSaved D.has_failed D.Holds folder.new) (IfPaged F.has_failed F.Holds page.new) made.found (texts_in made)) }
-    ensures wanted { (is_some folder.new ≡ is_some folder.old) × (is_some page.new ≡ is_some page.old) }
+        (hunting_with (hunt_in (asked options.now) opened.now) opened.now.digits.items (right_codes (asked options.now).right) lists.now)
+        (IfSaved D.has_failed D.Holds folder.new) (IfPaged F.has_failed F.Holds page.new)
+        (IfListed F.has_failed F.Holds list.new) made.found (texts_in made)) }
+    ensures wanted { (is_some folder.new ≡ is_some folder.old) × (is_some page.new ≡ is_some page.old) × (is_some list.new ≡ is_some list.old) }
     ensures failed { fails_by_write result ≡ true
-        → (passes D.has_failed folder.new || passes F.has_failed page.new) ≡ true }
+        → (passes D.has_failed folder.new || passes F.has_failed page.new || passes F.has_failed list.new) ≡ true }
 {
     look(folder)?;
-    look_at_page(page)?;
+    look_at_file(page)?;
+    look_at_file(list)?;
     let sampler = Sampler::sites(alloc, &opened.image, &opened.lists.excluded)?;
     let sites = Sites::of(alloc, &sampler)?;
     let code = Code::of(alloc, &opened.image)?;
@@ -314,7 +356,19 @@ pub(crate) fn make_hunt<T: Threads + Wait + Sync, P: Watch, D: Folder, F: NewFil
     };
     let saw = hunt.hunted(rt, alloc, options.workers, &mut noted, watch)?;
     let made = made_of(
-        rt, alloc, &hunt, options, lists, &symbols, &saw, &noted, folder, page, watch,
+        rt,
+        alloc,
+        &hunt,
+        options,
+        lists,
+        &opened.digits,
+        &symbols,
+        &saw,
+        &noted,
+        folder,
+        page,
+        list,
+        watch,
     );
     // It has many parts, which are let go by one call.
     drop(saw);

@@ -3,17 +3,22 @@ ghost use Rattle.std.specs.Prelude.{◌≡◌, ◌||◌, false, Ok, IfOk, IfErr,
 ghost use Rattle.rv_memory.specs.Flagged as flag;
 ghost use Rattle.rv_engines.specs.Built.{built_of};
 ghost use Rattle.rv_engines.specs.CommandFault.{IsTold, refusal, fails_by, is_read, is_thread, is_write};
+ghost use Rattle.rv_engines.specs.Fault as plain;
+ghost use Rattle.rv_engines.specs.Images.{image_of};
+ghost use Rattle.rv_hunt.specs.Origin.{image_digits};
 ghost use Rattle.rv_hunt.specs.engine.Asked.{asked};
 ghost use Rattle.rv_hunt.specs.engine.Hunting.{hunt_of};
 ghost use Rattle.rv_hunt.specs.internal.Opened.{hunt_by, hunt_in, hunt_with};
 
 use crate::engine::options::HuntOptions;
+use crate::origin::image_digits;
 use rv_elf::Image;
-use rv_engines::built::Built;
-use rv_engines::image::read_built;
+use rv_engines::built::{Built, built_of};
+use rv_engines::fault::Fault;
+use rv_engines::image::image_of;
 use rv_engines::run::fault::CommandFault;
 use rv_engines::run::lists::{read_named, read_skipped};
-use rv_memory::flagged::Flagged;
+use rv_memory::flagged::{Flagged, INPUT_LIMIT, read_whole};
 use rv_prune::named_bytes::NamedBytes;
 use std::alloc::Global;
 use std::io::Read;
@@ -26,10 +31,11 @@ pub struct Listed {
     pub idle: NamedBytes,
 }
 
-/// An image, the lists of the line, and what the image was built with.
+/// An image, the digits of its file, the lists of the line, and what the image was built with.
 #[derive(Drop)]
 pub struct Opened {
     pub image: Image,
+    pub digits: Vec<u8>,
     pub lists: Listed,
     pub built: Built,
 }
@@ -64,6 +70,38 @@ fn read_lists<'a>(
     }
 }
 
+/// What the bytes of an image's file say.
+#[derive(Drop)]
+struct FileRead {
+    image: Image,
+    digits: Vec<u8>,
+    built: Built,
+}
+
+/// Reads the file of an image.
+#[tactic(auto, unfolding(rv_engines::specs::Images::image_of))]
+fn read_file<R: Read>(alloc: Global, reader: &mut Flagged<R>) -> Result<FileRead, Fault>
+    ensures image { IfOk result (λ read. IfSome (R.remaining (flag.device reader.old)) (λ bytes.
+        image_of bytes ≡ Ok read.image)) }
+    ensures digits { IfOk result (λ read. IfSome (R.remaining (flag.device reader.old)) (λ bytes.
+        read.digits.items ≡ image_digits bytes)) }
+    ensures built { IfOk result (λ read. IfSome (R.remaining (flag.device reader.old)) (λ bytes.
+        read.built ≡ built_of bytes)) }
+    ensures err { IfErr result (λ fault. IfSome (R.remaining (flag.device reader.old)) (λ bytes.
+        plain.IsToldFault (image_of bytes) fault)) }
+    ensures reader { flag.has_failed reader.new ≡ (flag.has_failed reader.old || plain.fails_by plain.is_read result) }
+    ensures writer { plain.fails_by plain.is_write result ≡ false }
+{
+    let bytes = read_whole(alloc, reader, INPUT_LIMIT)?;
+    let digits = image_digits(alloc, &bytes)?;
+    let built = built_of(&bytes);
+    Ok(FileRead {
+        image: image_of(alloc, &bytes)?,
+        digits,
+        built,
+    })
+}
+
 /// Reads an image, and then the lists.
 pub fn open<'a, R: Read>(
     alloc: Global,
@@ -73,21 +111,24 @@ pub fn open<'a, R: Read>(
     ensures ok { IfOk result (λ opened. IfSome (R.remaining (flag.device image.old)) (λ bytes.
         hunt_of (asked options.now) bytes ≡ Ok (hunt_in (asked options.now) opened))) }
     ensures built { IfOk result (λ opened. IfSome (R.remaining (flag.device image.old)) (λ bytes. opened.built ≡ built_of bytes)) }
+    ensures digits { IfOk result (λ opened. IfSome (R.remaining (flag.device image.old)) (λ bytes.
+        opened.digits.items ≡ image_digits bytes)) }
     ensures err { IfErr result (λ fault. IfSome (R.remaining (flag.device image.old)) (λ bytes.
         IsTold (hunt_of (asked options.now) bytes) (refusal fault))) }
     ensures reader { flag.has_failed image.new ≡ (flag.has_failed image.old || fails_by is_read result) }
     ensures writer { fails_by is_write result ≡ false }
     ensures thread { fails_by is_thread result ≡ false }
 {
-    let (image, built) = match read_built(alloc, image) {
+    let read = match read_file(alloc, image) {
         Ok(read) => read,
         Err(fault) => return Err(CommandFault::Plain(fault)),
     };
-    match read_lists(alloc, options, &image) {
+    match read_lists(alloc, options, &read.image) {
         Ok(lists) => Ok(Opened {
-            image,
+            image: read.image,
+            digits: read.digits,
             lists,
-            built,
+            built: read.built,
         }),
         Err(fault) => Err(fault),
     }

@@ -30,6 +30,10 @@ pub struct LineParts<'a> {
     pub options: &'a str,
     /// The folder for schedules, within such quotes, where one is given.
     pub folder: Option<&'a str>,
+    /// The version of the program.
+    pub version: &'a str,
+    /// What was given of the runs, as a table's last line has it: a blank before each word.
+    pub given: &'a str,
 }
 
 /// Two sides of a race, each the name of a symbol or an address, as a line of an ignore list has them.

@@ -29,7 +29,7 @@ use rv_debug::session::Session;
 use rv_explain::block::Block;
 use rv_explain::order::{OrderTrials, TrialNumbers, order_of};
 use rv_explain::race_block::race_block;
-use rv_explain::races::{Race, Report, reports_of};
+use rv_explain::races::{Race, Report, reports_in};
 use rv_explain::symbol_table::SymbolTable;
 use rv_hart::machine::{MOST_HARTS, Machine};
 use rv_memory::paged::Paged;
@@ -172,7 +172,7 @@ impl Again<'_, '_, '_> {
         let Ok(mut session) = Session::new(alloc, image, left.plan, left.entries) else {
             return Err(NoMemory);
         };
-        let reports = reports_of(alloc, image, hunt.ranges, session.endings())?;
+        let reports = reports_in(alloc, image, &session, hunt.ranges)?;
         for number in 0..self.wanted.len() {
             let WantedTrial { place, key, at } = self.wanted[number];
             if !is_of(&at, of) {

@@ -27,7 +27,7 @@ use rv_debug::session::Session;
 use rv_explain::block::Block;
 use rv_explain::classes::rank;
 use rv_explain::race_block::race_block;
-use rv_explain::races::{Race, Report, reports_of};
+use rv_explain::races::{Race, Report, reports_in};
 use rv_explain::symbol_table::SymbolTable;
 use rv_hart::machine::Machine;
 use rv_memory::flagged::Flagged;
@@ -264,7 +264,7 @@ impl InFull<'_, '_, '_> {
         let Ok(mut session) = Session::new(alloc, image, run.plan, run.entries) else {
             return Err(NoMemory);
         };
-        let reports = reports_of(alloc, image, hunt.ranges, session.endings())?;
+        let reports = reports_in(alloc, image, &session, hunt.ranges)?;
         let races = self.races(alloc, &mut session, &reports, harts, of)?;
         Ok(ShownPart { races, schedule })
     }

@@ -1,24 +1,31 @@
 //! The texts of what a hunt came to. All of it is made before a byte is written.
-ghost use Rattle.std.specs.Prelude.{◌≡◌, IfOk};
+ghost use Rattle.std.specs.Prelude.{◌≡◌, ◌∷◌, ◌++◌, ◌||◌, [], Some, is_err, IfOk, OnOk};
+ghost use Rattle.std.specs.Io.KnownBytes.{Appends};
 ghost use Rattle.rv_hunt.specs.HuntText as table;
+ghost use Rattle.rv_hunt.specs.Origin.{last_line, stretch_on};
 
 use crate::engine::onward::{push_gdb_line, push_keep_line, push_stuck_gdb_line};
 use crate::engine::options::LineParts;
 use crate::engine::orders::ShownOrder;
 use crate::engine::shown::ShownRace;
 use crate::engine::stuck_ends::ShownStuck;
+use crate::hunt::Hunt;
+use crate::hunted::Hunted;
+use crate::origin::{Heading, Stretch, stretch_on, write_line};
 use crate::page::parts::Outcome;
 use crate::row::RaceRow;
 use crate::saying::index::push_index;
 use crate::saying::lines::{push_behind, summary_line};
 use crate::saying::orders::shown_rows;
 use crate::saying::stuck::stuck_block_lines;
-use crate::saying::warnings::warnings_text;
+use crate::saying::unexpected::{is_among, mark};
+use crate::saying::warnings::first_notes;
 use crate::table::write_table;
 use crate::tally::Tally;
 use rv_explain::blocks::ordered_text;
 use rv_explain::symbol_table::SymbolTable;
-use rv_memory::flagged::Flagged;
+use rv_memory::flagged::{Flagged, WriteFault};
+use rv_memory::output::Output;
 use rv_memory::store::NoMemory;
 use rv_report::key::Key;
 use std::alloc::Global;
@@ -30,14 +37,16 @@ pub(crate) fn race_text(
     symbols: &SymbolTable,
     number: u64,
     row: &RaceRow,
+    is_new: bool,
     shown: &ShownRace,
     order: &ShownOrder,
 ) -> Result<Vec<u8>, NoMemory> {
+    let mark = mark(is_new);
     let run = row.run;
     let harts = shown.harts;
     let words = match row.part {
-        0 => format!(in alloc; ", first in run {run}, {harts} harts")?,
-        part => format!(in alloc; ", first in run {run}, probe {part}, {harts} harts")?,
+        0 => format!(in alloc; "{mark}, first in run {run}, {harts} harts")?,
+        part => format!(in alloc; "{mark}, first in run {run}, probe {part}, {harts} harts")?,
     };
     let rows = shown_rows(alloc, symbols, order)?;
     let mut text = ordered_text(
@@ -107,11 +116,22 @@ pub(crate) fn hunt_text(
     let mut text = Vec::new(alloc);
     text.extend_from_slice(summary_line(alloc, outcome)?.as_bytes())?;
     let table = &outcome.saw.orders;
-    push_index(alloc, &mut text, symbols, table, shown.len(), told)?;
-    for (n, (((_, row), race), order)) in told.iter().zip(shown).zip(orders).enumerate() {
+    push_index(
+        alloc,
+        &mut text,
+        symbols,
+        table,
+        shown.len(),
+        told,
+        outcome.new,
+    )?;
+    for (n, (((key, row), race), order)) in told.iter().zip(shown).zip(orders).enumerate() {
         let number = n as u64 + 1;
         text.push(b'\n')?;
-        text.extend_from_slice(&race_text(alloc, line, symbols, number, row, race, order)?)?;
+        let is_new = is_among(outcome.new, key);
+        text.extend_from_slice(&race_text(
+            alloc, line, symbols, number, row, is_new, race, order,
+        )?)?;
     }
     push_stuck(alloc, &mut text, symbols, outcome, line)?;
     text.push(b'\n')?;
@@ -120,26 +140,84 @@ pub(crate) fn hunt_text(
     Ok(text)
 }
 
-/// The warnings, the stuck ends, the lines behind the blocks, and how a run is kept.
+/// The warnings, the races that are new, the stuck ends, the lines behind the blocks, and how a run is kept.
 pub(crate) fn table_notes(
     alloc: Global,
     line: &LineParts<'_>,
     symbols: &SymbolTable,
     outcome: &Outcome,
 ) -> Result<Vec<u8>, NoMemory> {
-    let mut notes = warnings_text(alloc, symbols, outcome)?;
+    let mut notes = first_notes(alloc, symbols, outcome)?;
     push_stuck(alloc, &mut notes, symbols, outcome, line)?;
     push_behind(alloc, &mut notes, symbols, outcome)?;
     push_keep_line(alloc, &mut notes, line)?;
     Ok(notes)
 }
 
-/// The text of a hunt table of these rows.
-pub(crate) fn table_of(alloc: Global, rows: &[(Key, RaceRow)]) -> Result<Vec<u8>, NoMemory>
-    ensures { IfOk result (λ text. text.items ≡ table.table_text rows.now) }
+/// What the tables of a hunt are of, but for their runs.
+pub(crate) fn heading_of<'a>(
+    hunt: &Hunt<'_>,
+    line: &'a LineParts<'_>,
+    digits: &'a [u8],
+) -> Heading<'a>
+    ensures image { result.image.now ≡ digits.entry.now }
+    ensures version { result.version.now ≡ line.entry.now.version.now }
+    ensures seed { result.seed ≡ hunt.now.source.seed }
+    ensures given { result.given.now ≡ line.entry.now.given.now }
+{
+    Heading {
+        image: digits,
+        version: line.version.as_bytes(),
+        seed: u64::from(hunt.seed),
+        given: line.given.as_bytes(),
+    }
+}
+
+/// The runs of a hunt that were made.
+pub(crate) fn stretch_of(hunt: &Hunt<'_>, saw: &Hunted) -> Stretch
+    ensures { result ≡ stretch_on hunt.now.first saw.now.tally.runs }
+{
+    stretch_on(u64::from(hunt.first), saw.tally.runs())
+}
+
+/// Writes a hunt table of these rows, and the line of what it is of.
+fn write_all<O: Output>(
+    writer: &mut O,
+    rows: &[(Key, RaceRow)],
+    heading: &Heading<'_>,
+    stretch: Stretch,
+) -> Result<(), WriteFault>
+    ensures ok { OnOk result (Appends (O.written writer.old) (O.written writer.new)
+        (table.table_text rows.now ++ last_line (Some (record {
+          image = heading.entry.now.image.now;
+          version = heading.entry.now.version.now;
+          seed = heading.entry.now.seed;
+          stretches = stretch ∷ [];
+          given = heading.entry.now.given.now;
+        })))) }
+    ensures failed { O.has_failed writer.new ≡ (O.has_failed writer.old || is_err result) }
+{
+    write_table(writer, rows)?;
+    write_line(writer, heading, &[stretch])
+}
+
+/// The text of a hunt table of these rows, and the line of what it is of.
+pub(crate) fn table_of(
+    alloc: Global,
+    rows: &[(Key, RaceRow)],
+    heading: &Heading<'_>,
+    stretch: Stretch,
+) -> Result<Vec<u8>, NoMemory>
+    ensures { IfOk result (λ text. text.items ≡ table.table_text rows.now ++ last_line (Some (record {
+      image = heading.entry.now.image.now;
+      version = heading.entry.now.version.now;
+      seed = heading.entry.now.seed;
+      stretches = stretch ∷ [];
+      given = heading.entry.now.given.now;
+    }))) }
 {
     let mut writer = Flagged::new(Vec::new(alloc));
-    match write_table(&mut writer, rows) {
+    match write_all(&mut writer, rows, heading, stretch) {
         Ok(()) => Ok(writer.into_inner()),
         // Only want of memory refuses a byte.
         Err(_) => Err(NoMemory),

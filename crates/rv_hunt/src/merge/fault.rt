@@ -124,6 +124,11 @@ fn table_kind_name(kind: TableKind) -> &'static str
         TableKind::Range => "Range",
         TableKind::Twice => "Twice",
         TableKind::End => "End",
+        TableKind::Image => "Image",
+        TableKind::Version => "Version",
+        TableKind::Options => "Options",
+        TableKind::Overlap => "Overlap",
+        TableKind::Gap => "Gap",
     }
 }
 
@@ -157,6 +162,15 @@ fn table_sentence(kind: TableKind) -> &'static str
         TableKind::Twice => "the race has a row already: use merge to add tables",
         TableKind::End =>
             "there are not as many rows as the first line says: was the file cut off?",
+        TableKind::Image => "the table is of another image than the first one",
+        TableKind::Version =>
+            "the table was made by another version of rvcollide than the first one",
+        TableKind::Options =>
+            "the runs of the table had another seed or other options than those of the first one",
+        TableKind::Overlap =>
+            "the table has runs that another table has, or that come before the last of another: leave one out",
+        TableKind::Gap =>
+            "runs are missing before those of the table: add their table, or allow it by --gaps",
     }
 }
 
@@ -165,7 +179,7 @@ fn ignore_sentence(kind: IgnoreKind) -> &'static str
 {
     match kind {
         IgnoreKind::Shape =>
-            "a line is two sides, each an address of eight hexadecimal digits, a symbol's name or *",
+            "a line is two sides, each an address of eight hexadecimal digits, a symbol's name or *; on NAME may follow",
         IgnoreKind::Unknown => "the image has no symbol with this name",
     }
 }

@@ -2,10 +2,10 @@
 //!
 //! A list and an image may both be long. So the words of a list have numbers, and one pass over the symbols of the image
 //! finds those of every name.
-ghost use Rattle.std.specs.Prelude.{◌≡◌, ◌≤◌, ◌||◌, ◌++◌, false, Some, Ok, Err, IfOk, IfErr, IfSome, OnOk, [], length, filter, drop, slice_get, map, option_map};
+ghost use Rattle.std.specs.Prelude.{◌≡◌, ◌≤◌, ◌&&◌, ◌||◌, ◌++◌, ◌∷◌, Bool, false, true, None, Some, Ok, Err, IfOk, IfErr, IfSome, OnOk, [], is_some, length, filter, drop, slice_get, map, option_map};
 ghost use Rattle.std.specs.List.{AllZip};
 ghost use Rattle.std.specs.Option.{option_copied};
-ghost use Rattle.rv_elf.specs.Contents.{Contents};
+ghost use Rattle.rv_hunt.specs.declared.merge.ignore.Line.{Line};
 ghost use Rattle.rv_memory.specs.Flagged as flag;
 ghost use Rattle.rv_text.specs.Pieces.{pieces_of};
 ghost use Rattle.rv_hunt.specs.merge.FileFault.{IsTold, fails_by, is_read, is_write, told_ignore};
@@ -15,8 +15,10 @@ ghost use Rattle.rv_hunt.specs.internal.Words as numbers;
 ghost use Rattle.rv_hunt.specs.merge.Ignore as spec;
 
 use crate::merge::fault::{FileFault, IgnoreFault, IgnoreKind};
-use crate::merge::sought::{Instruction, SoughtLine, SoughtSide, any_fits, first_unknown};
-use crate::merge::words::{NamedSymbol, Words, marks_at, marks_of, named_symbols};
+use crate::merge::sought::{
+    Instruction, RacePlaces, SoughtLine, SoughtSide, any_fits, first_unknown,
+};
+use crate::merge::words::{NamedSymbol, Words, begins_comment, marks_at, marks_of, named_symbols};
 use rv_elf::Image;
 use rv_explain::symbol_table::SymbolTable;
 use rv_memory::flagged::{Flagged, INPUT_LIMIT, read_whole};
@@ -45,7 +47,7 @@ impl Model for SymbolName {
     ghost view = { λ n. n.bytes.items };
 }
 
-/// A side of a race as a line says it: any instruction, the one at an address, or one in a symbol of a name.
+/// A side of a race as a line says it: any instruction, the one at an address, or one in a symbol of a name. The same of its data.
 #[derive(Drop)]
 pub enum Side {
     Any,
@@ -53,11 +55,20 @@ pub enum Side {
     Name(SymbolName),
 }
 
-/// The two sides that a line says.
+/// The two sides that a line says, and the data.
 #[derive(Drop)]
 pub struct Line {
     pub one: Side,
     pub other: Side,
+    pub on: Side,
+}
+
+/// The words of a line that say something: those of its two sides, and that of the data.
+#[derive(Clone, Copy)]
+struct SaidWords<'a> {
+    one: &'a [u8],
+    other: &'a [u8],
+    on: &'a [u8],
 }
 
 /// A line of a list, and its number in the file.
@@ -137,12 +148,13 @@ impl Side {
 }
 
 impl Line {
-    fn of(alloc: Global, one: &[u8], other: &[u8]) -> Result<Line, NoMemory>
-        ensures { IfOk result (λ line. line ≡ spec.sides_of (one.now, other.now)) }
+    fn of(alloc: Global, said: SaidWords<'_>) -> Result<Line, NoMemory>
+        ensures { IfOk result (λ line. line ≡ spec.sides_of (shape.said_by said.entry)) }
     {
-        let one = Side::of(alloc, one)?;
-        let other = Side::of(alloc, other)?;
-        Ok(Line { one, other })
+        let one = Side::of(alloc, said.one)?;
+        let other = Side::of(alloc, said.other)?;
+        let on = Side::of(alloc, said.on)?;
+        Ok(Line { one, other, on })
     }
 }
 
@@ -156,8 +168,9 @@ impl ListedLine {
     {
         let one = self.line.one.sought(words)?;
         let other = self.line.other.sought(words)?;
+        let on = self.line.on.sought(words)?;
         let at = self.at;
-        Ok(SoughtLine { at, one, other })
+        Ok(SoughtLine { at, one, other, on })
     }
 }
 
@@ -193,7 +206,7 @@ impl<'a> Names<'a> {
         })
     }
 
-    /// An instruction, or one that is not known, with the names there.
+    /// An instruction or a place in data, or one that is not known, with the names there.
     fn instruction(
         &self,
         alloc: Global,
@@ -205,6 +218,23 @@ impl<'a> Names<'a> {
     {
         let marks = marks_at(alloc, &self.words, &self.symbols, symbols, at)?;
         Ok(Instruction { at, marks })
+    }
+
+    /// The places of a race, with the names there.
+    fn places(
+        &self,
+        alloc: Global,
+        symbols: &SymbolTable,
+        key: &Key,
+        on: Option<u32>,
+    ) -> Result<RacePlaces, NoMemory>
+        requires { by_number.AreNamesOf self.now symbols.now }
+        ensures { IfOk result (λ places. by_number.ArePlaces self.now symbols.now key.now on places) }
+    {
+        let first = self.instruction(alloc, symbols, Some(key.first))?;
+        let second = self.instruction(alloc, symbols, key.second)?;
+        let on = self.instruction(alloc, symbols, on)?;
+        Ok(RacePlaces { first, second, on })
     }
 }
 
@@ -225,40 +255,37 @@ impl Ignores {
         Names::of(alloc, image, &self.lines)
     }
 
-    /// Whether a line fits the race.
+    /// Whether a line fits a race of this data.
     pub fn fits(
         &self,
         alloc: Global,
         symbols: &SymbolTable,
         names: &Names,
         key: &Key,
+        on: Option<u32>,
     ) -> Result<bool, NoMemory>
         requires { by_number.AreTheNames names.now symbols.now self.now }
-        ensures { IfOk result (λ fits. fits ≡ spec.is_ignored symbols.now self.now key.now) }
+        ensures { IfOk result (λ fits. fits ≡ spec.any_fits symbols.now self.now key.now on) }
     {
-        let first = names.instruction(alloc, symbols, Some(key.first))?;
-        let second = names.instruction(alloc, symbols, key.second)?;
-        Ok(any_fits(&names.lines, &first, &second))
+        let places = names.places(alloc, symbols, key, on)?;
+        Ok(any_fits(&names.lines, &places))
+    }
+
+    /// The number of the first line with a name that no symbol of the image has.
+    pub fn unknown(&self, alloc: Global, image: &Image) -> Result<Option<u64>, NoMemory>
+        ensures { IfOk result (λ line. is_some line ≡ spec.has_unknown image.now self.now) }
+    {
+        unknown_in(alloc, image, &self.lines)
     }
 }
 
 /// The number of the first line with a name that no symbol of the image has.
 fn unknown_in(alloc: Global, image: &Image, lines: &[ListedLine]) -> Result<Option<u64>, NoMemory>
-    ensures { IfOk result (λ line. line ≡ shape.unknown_in image.now lines.now) }
+    ensures { IfOk result (λ line. line ≡ shape.unknown_in (spec.are_known image.now) lines.now) }
 {
     let names = Names::of(alloc, image, lines)?;
     let known = marks_of(alloc, names.words.count(), &names.symbols)?;
     Ok(first_unknown(&names.lines, &known))
-}
-
-/// The line up to its comment.
-fn uncommented(line: &[u8]) -> &[u8]
-    ensures { result.now ≡ spec.uncommented line.now }
-{
-    match Pieces::of(line, b'#').next_piece() {
-        Some(text) => text,
-        None => &[],
-    }
 }
 
 /// The line without the CR of a line end of two bytes.
@@ -291,22 +318,67 @@ fn is_short(word: &[u8]) -> bool
     word.len() <= LONGEST_WORD
 }
 
-/// The two words of a line, or none where it has no words.
-fn words_of(line: &[u8]) -> Result<Option<(&[u8], &[u8])>, IgnoreKind>
-    ensures ok { IfOk result (λ found. spec.words_in (spec.words_of line.now) ≡ Ok (option_map (λ pair. (pair.0.now, pair.1.now)) found)) }
-    ensures err { IfErr result (λ kind. spec.words_in (spec.words_of line.now) ≡ Err kind) }
+/// Takes the next word, unless it begins a comment.
+#[tactic(auto, using(crate::proofs::SaidLemmas::none_said, crate::proofs::SaidLemmas::comment_said, crate::proofs::SaidLemmas::word_said))]
+fn next_said<'a>(pieces: &mut Pieces<'a>) -> Option<&'a [u8]>
+    ensures none { result ≡ None → spec.said_words pieces.old ≡ [] }
+    ensures some { IfSome result (λ word. spec.said_words pieces.old ≡ word.now ∷ spec.said_words pieces.new) }
 {
-    let mut words = Pieces::of(uncommented(without_return(line)), b' ');
-    let Some(one) = next_word(&mut words) else {
-        return Ok(None);
+    let word = next_word(pieces)?;
+    if begins_comment(word) {
+        None
+    } else {
+        Some(word)
+    }
+}
+
+/// The words, where none is too long.
+fn said_if(is_line: bool, said: SaidWords<'_>) -> Result<Option<SaidWords<'_>>, IgnoreKind>
+    ensures ok { IfOk result (λ found. spec.said_if (is_line && spec.are_short (shape.said_by said.entry)) (shape.said_by said.entry) ≡ Ok (option_map shape.said_by found)) }
+    ensures err { IfErr result (λ kind. spec.said_if (is_line && spec.are_short (shape.said_by said.entry)) (shape.said_by said.entry) ≡ Err kind) }
+{
+    if is_line && is_short(said.one) && is_short(said.other) && is_short(said.on) {
+        Ok(Some(said))
+    } else {
+        Err(IgnoreKind::Shape)
+    }
+}
+
+/// The words of the data behind those of two sides, or the one that means any.
+fn data_words<'a>(
+    words: &mut Pieces<'a>,
+    one: &'a [u8],
+    other: &'a [u8],
+) -> Result<Option<SaidWords<'a>>, IgnoreKind>
+    ensures ok { IfOk result (λ found. spec.words_in (one.entry.now ∷ other.entry.now ∷ spec.said_words words.old) ≡ Ok (option_map shape.said_by found)) }
+    ensures err { IfErr result (λ kind. spec.words_in (one.entry.now ∷ other.entry.now ∷ spec.said_words words.old) ≡ Err kind) }
+{
+    let Some(word) = next_said(words) else {
+        let on = b"*".as_slice();
+        return said_if(true, SaidWords { one, other, on });
     };
-    let Some(other) = next_word(&mut words) else {
+    let Some(on) = next_said(words) else {
         return Err(IgnoreKind::Shape);
     };
-    match next_word(&mut words) {
-        None if is_short(one) && is_short(other) => Ok(Some((one, other))),
-        None | Some(_) => Err(IgnoreKind::Shape),
+    if next_said(words).is_some() {
+        return Err(IgnoreKind::Shape);
     }
+    said_if(word == b"on".as_slice(), SaidWords { one, other, on })
+}
+
+/// The words of a line, or none where it has no words.
+fn words_of(line: &[u8]) -> Result<Option<SaidWords<'_>>, IgnoreKind>
+    ensures ok { IfOk result (λ found. spec.words_in (spec.words_of line.now) ≡ Ok (option_map shape.said_by found)) }
+    ensures err { IfErr result (λ kind. spec.words_in (spec.words_of line.now) ≡ Err kind) }
+{
+    let mut words = Pieces::of(without_return(line), b' ');
+    let Some(one) = next_said(&mut words) else {
+        return Ok(None);
+    };
+    let Some(other) = next_said(&mut words) else {
+        return Err(IgnoreKind::Shape);
+    };
+    data_words(&mut words, one, other)
 }
 
 /// The lines of a text up to the first that has not the shape of a line, and its fault.
@@ -321,13 +393,12 @@ fn add_line(
     alloc: Global,
     lines: &mut Vec<ListedLine>,
     at: u64,
-    words: Option<(&[u8], &[u8])>,
+    words: Option<SaidWords<'_>>,
 ) -> Result<(), NoMemory>
-    ensures { OnOk result (lines.new.items ≡ lines.old.items
-        ++ shape.listed_at at (option_map (λ pair. (pair.0.now, pair.1.now)) words.entry)) }
+    ensures { OnOk result (lines.new.items ≡ lines.old.items ++ shape.listed_at at (option_map shape.said_by words.entry)) }
 {
-    if let Some((one, other)) = words {
-        let line = Line::of(alloc, one, other)?;
+    if let Some(said) = words {
+        let line = Line::of(alloc, said)?;
         lines.push(ListedLine { at, line })?;
     }
     Ok(())
@@ -341,7 +412,8 @@ pub fn aimed(alloc: Global, image: &Image, one: &[u8], other: &[u8]) -> Result<I
     ensures writer { fails_by is_write result ≡ false }
 {
     let mut lines = Vec::new(alloc);
-    add_line(alloc, &mut lines, 1, Some((one, other)))?;
+    let on = b"*".as_slice();
+    add_line(alloc, &mut lines, 1, Some(SaidWords { one, other, on }))?;
     match unknown_in(alloc, image, &lines)? {
         Some(_) => Err(FileFault::Aim),
         None => Ok(Ignores { lines }),
@@ -351,8 +423,8 @@ pub fn aimed(alloc: Global, image: &Image, one: &[u8], other: &[u8]) -> Result<I
 /// The lines of a text, whose names are not looked for yet.
 fn shaped_lines(alloc: Global, text: &[u8]) -> Result<Shaped, NoMemory>
     requires { length text.now ≤ INPUT_LIMIT }
-    ensures { IfOk result (λ shaped. (image : Contents) → spec.lines_from image 1 (pieces_of 10 text.now)
-        ≡ shape.judged image shaped.lines.items (shape.ended shaped.fault)) }
+    ensures { IfOk result (λ shaped. (known : Line → Bool) → spec.lines_from known 1 (pieces_of 10 text.now)
+        ≡ shape.judged known shaped.lines.items (shape.ended shaped.fault)) }
 {
     let mut lines = Vec::new(alloc);
     let mut pieces = Pieces::of(text, b'\n');
@@ -373,8 +445,8 @@ fn shaped_lines(alloc: Global, text: &[u8]) -> Result<Shaped, NoMemory>
 /// What the lines of a text say.
 fn read_lines(alloc: Global, image: &Image, text: &[u8]) -> Result<Ignores, FileFault>
     requires { length text.now ≤ INPUT_LIMIT }
-    ensures ok { IfOk result (λ lines. spec.lines_from image.now 1 (pieces_of 10 text.now) ≡ Ok lines) }
-    ensures err { IfErr result (IsTold (told_ignore (spec.lines_from image.now 1 (pieces_of 10 text.now)))) }
+    ensures ok { IfOk result (λ lines. spec.lines_from (spec.are_known image.now) 1 (pieces_of 10 text.now) ≡ Ok lines) }
+    ensures err { IfErr result (IsTold (told_ignore (spec.lines_from (spec.are_known image.now) 1 (pieces_of 10 text.now)))) }
     ensures reader { fails_by is_read result ≡ false }
     ensures writer { fails_by is_write result ≡ false }
 {
@@ -405,4 +477,19 @@ pub fn read_ignores<R: Read>(
 {
     let bytes = read_whole(alloc, reader, INPUT_LIMIT)?;
     read_lines(alloc, image, &bytes)
+}
+
+/// What the lines of a text say, whatever names the image has.
+pub(crate) fn lines_of(alloc: Global, text: &[u8]) -> Result<Ignores, FileFault>
+    requires { length text.now ≤ INPUT_LIMIT }
+    ensures ok { IfOk result (λ lines. spec.lines_from (λ line. true) 1 (pieces_of 10 text.now) ≡ Ok lines) }
+    ensures err { IfErr result (IsTold (told_ignore (spec.lines_from (λ line. true) 1 (pieces_of 10 text.now)))) }
+    ensures reader { fails_by is_read result ≡ false }
+    ensures writer { fails_by is_write result ≡ false }
+{
+    let Shaped { lines, fault } = shaped_lines(alloc, text)?;
+    match fault {
+        Some(fault) => Err(FileFault::Ignore(fault)),
+        None => Ok(Ignores { lines }),
+    }
 }

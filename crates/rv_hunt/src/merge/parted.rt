@@ -39,9 +39,9 @@ pub fn part_rows(
     rows: &[(Key, RaceRow)],
 ) -> Result<Parted, NoMemory>
     ensures told { IfOk result (λ parted.
-        parted.told.items ≡ filter (λ row. spec.is_told symbols.now ignores.now row.0) rows.now) }
+        parted.told.items ≡ filter (spec.is_told symbols.now ignores.now) rows.now) }
     ensures ignored { IfOk result (λ parted.
-        parted.ignored.items ≡ filter (λ row. spec.is_ignored symbols.now ignores.now row.0) rows.now) }
+        parted.ignored.items ≡ filter (spec.is_ignored symbols.now ignores.now) rows.now) }
 {
     let mut parted = Parted {
         told: Vec::new(alloc),
@@ -49,7 +49,7 @@ pub fn part_rows(
     };
     let names = ignores.names(alloc, symbols.image())?;
     for row in rows {
-        let is_ignored = ignores.fits(alloc, symbols, &names, &row.0)?;
+        let is_ignored = ignores.fits(alloc, symbols, &names, &row.0, row.1.address)?;
         add(&mut parted, *row, is_ignored)?;
     }
     Ok(parted)

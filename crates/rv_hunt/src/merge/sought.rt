@@ -17,13 +17,22 @@ pub(crate) struct SoughtLine {
     pub(crate) at: u64,
     pub(crate) one: SoughtSide,
     pub(crate) other: SoughtSide,
+    pub(crate) on: SoughtSide,
 }
 
-/// An instruction, or one that is not known, with the words marked that are names there.
+/// An instruction or a place in data, or one that is not known, with the words marked that are names there.
 #[derive(Drop)]
 pub(crate) struct Instruction {
     pub(crate) at: Option<u32>,
     pub(crate) marks: Vec<bool>,
+}
+
+/// The instructions of a race, and its data.
+#[derive(Drop)]
+pub(crate) struct RacePlaces {
+    pub(crate) first: Instruction,
+    pub(crate) second: Instruction,
+    pub(crate) on: Instruction,
 }
 
 impl SoughtSide {
@@ -55,17 +64,19 @@ impl SoughtLine {
         requires { spec.LineIsWithin (length known.now) self.now }
         ensures { result ≡ spec.line_is_known known.now self.now }
     {
-        self.one.is_known(known) && self.other.is_known(known)
+        self.one.is_known(known) && self.other.is_known(known) && self.on.is_known(known)
     }
 
-    /// Whether its sides fit the two instructions, in either order.
-    fn fits(&self, first: &Instruction, second: &Instruction) -> bool
-        requires first { spec.LineIsWithin (length first.now.marks.items) self.now }
-        requires second { spec.LineIsWithin (length second.now.marks.items) self.now }
-        ensures { result ≡ spec.line_fits first.now second.now self.now }
+    /// Whether its sides fit the race's instructions, in either order, and the data too.
+    fn fits(&self, race: &RacePlaces) -> bool
+        requires first { spec.LineIsWithin (length race.now.first.marks.items) self.now }
+        requires second { spec.LineIsWithin (length race.now.second.marks.items) self.now }
+        requires on { spec.LineIsWithin (length race.now.on.marks.items) self.now }
+        ensures { result ≡ spec.line_fits race.now self.now }
     {
-        self.one.fits(first) && self.other.fits(second)
-            || self.one.fits(second) && self.other.fits(first)
+        (self.one.fits(&race.first) && self.other.fits(&race.second)
+            || self.one.fits(&race.second) && self.other.fits(&race.first))
+            && self.on.fits(&race.on)
     }
 }
 
@@ -82,14 +93,15 @@ pub(crate) fn first_unknown(lines: &[SoughtLine], known: &[bool]) -> Option<u64>
     None
 }
 
-/// Whether a line fits the two instructions.
-pub(crate) fn any_fits(lines: &[SoughtLine], first: &Instruction, second: &Instruction) -> bool
-    requires first { All (spec.LineIsWithin (length first.now.marks.items)) lines.now }
-    requires second { All (spec.LineIsWithin (length second.now.marks.items)) lines.now }
-    ensures { result ≡ list_any (spec.line_fits first.now second.now) lines.now }
+/// Whether a line fits the race.
+pub(crate) fn any_fits(lines: &[SoughtLine], race: &RacePlaces) -> bool
+    requires first { All (spec.LineIsWithin (length race.now.first.marks.items)) lines.now }
+    requires second { All (spec.LineIsWithin (length race.now.second.marks.items)) lines.now }
+    requires on { All (spec.LineIsWithin (length race.now.on.marks.items)) lines.now }
+    ensures { result ≡ list_any (spec.line_fits race.now) lines.now }
 {
     for line in lines {
-        if line.fits(first, second) {
+        if line.fits(race) {
             return true;
         }
     }

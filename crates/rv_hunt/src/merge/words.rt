@@ -2,12 +2,13 @@
 ghost use Rattle.std.specs.Prelude.{◌≡◌, ◌<◌, ◌++◌, Some, All, IfOk, IfSome, OnOk, length, filter, filter_map};
 ghost use Rattle.std.specs.Option.{option_to_list};
 ghost use Rattle.rv_explain.specs.Names.{escaped, escaped_byte, is_hidden};
+ghost use Rattle.rv_hunt.specs.merge.Ignore.{begins_comment, first_escaped, says_other, spelled};
 ghost use Rattle.rv_hunt.specs.internal.Words as spec;
 
 use rv_elf::{Image, Symbol};
 use rv_explain::symbol_table::SymbolTable;
 use rv_memory::store::NoMemory;
-use rv_text::hexadecimal::byte_digits;
+use rv_text::hexadecimal::{byte_digits, read_word};
 use std::alloc::{AllocError, Global};
 use std::collections::BTreeMap;
 
@@ -70,14 +71,19 @@ impl<'a> Words<'a> {
 
     /// The number of the word that is the symbol's name. The text is room to write it in. A name that is longer than each
     /// word is not written, since there are names of megabytes.
-    fn name_of(&self, text: &mut Vec<u8>, symbol: &Symbol) -> Result<Option<usize>, NoMemory>
+    fn name_of(
+        &self,
+        alloc: Global,
+        text: &mut Vec<u8>,
+        symbol: &Symbol,
+    ) -> Result<Option<usize>, NoMemory>
         requires { spec.AreNumbered self.now }
-        ensures { IfOk result (λ word. word ≡ spec.number_of self.now (escaped symbol.now.name)) }
+        ensures { IfOk result (λ word. word ≡ spec.number_of self.now (spelled symbol.now.name)) }
     {
         if symbol.name.len() > self.longest {
             return Ok(None);
         }
-        write_shown(text, symbol.name.as_bytes())?;
+        write_spelled(alloc, text, symbol.name.as_bytes())?;
         Ok(self.numbers.get(text.as_slice()).copied())
     }
 }
@@ -114,6 +120,45 @@ fn write_shown(text: &mut Vec<u8>, name: &[u8]) -> Result<(), NoMemory>
     Ok(())
 }
 
+/// Whether a word begins a comment.
+pub(crate) fn begins_comment(word: &[u8]) -> bool
+    ensures { result ≡ begins_comment word.now }
+{
+    word.first() == Some(&b'#')
+}
+
+/// Whether a word says something else than a name.
+fn says_other(word: &[u8]) -> bool
+    ensures { result ≡ says_other word.now }
+{
+    begins_comment(word) || word == b"*".as_slice() || read_word(word).is_some()
+}
+
+/// The word with its first byte as `\xNN`.
+fn first_escaped(alloc: Global, word: &[u8]) -> Result<Vec<u8>, NoMemory>
+    ensures { IfOk result (λ made. made.items ≡ first_escaped word.now) }
+{
+    let mut made = Vec::new(alloc);
+    if let [first, rest @ ..] = word {
+        made.extend_from_slice(b"\\x")?;
+        made.extend_from_slice(&byte_digits(*first))?;
+        made.extend_from_slice(rest)?;
+    }
+    Ok(made)
+}
+
+/// Writes a name, as a list has it, over a text.
+#[tactic(auto, unfolding(crate::specs::merge::Ignore::spelled))]
+pub(crate) fn write_spelled(alloc: Global, text: &mut Vec<u8>, name: &[u8]) -> Result<(), NoMemory>
+    ensures { OnOk result (text.new.items ≡ spelled name.now) }
+{
+    write_shown(text, name)?;
+    if says_other(text) {
+        *text = first_escaped(alloc, text)?;
+    }
+    Ok(())
+}
+
 /// Adds a symbol whose name is the word, where there is one.
 fn add_named(
     named: &mut Vec<NamedSymbol>,
@@ -142,7 +187,7 @@ pub(crate) fn named_symbols(
     let mut text = Vec::new(alloc);
     let mut named = Vec::new(alloc);
     for symbol in image.symbols() {
-        let word = words.name_of(&mut text, symbol)?;
+        let word = words.name_of(alloc, &mut text, symbol)?;
         add_named(&mut named, word, symbol)?;
     }
     Ok(named)
@@ -191,7 +236,7 @@ fn told_word(
     ensures { IfOk result (λ word. word ≡ spec.told_word words.now symbols.now address) }
 {
     match symbols.symbol_of(address) {
-        Some(symbol) => words.name_of(&mut Vec::new(alloc), symbol),
+        Some(symbol) => words.name_of(alloc, &mut Vec::new(alloc), symbol),
         None => Ok(None),
     }
 }

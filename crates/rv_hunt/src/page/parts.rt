@@ -10,7 +10,8 @@ use rv_tally::plans::Mix;
 use std::marker::Model;
 
 /// What a hunt came to: how many sites there are, what its runs are, what they saw, how much of the code they executed, in which
-/// runs harts first ended in each way, the stuck ends, the rows of its races, those that are ignored, and what the image was built with.
+/// runs harts first ended in each way, the stuck ends, the rows of its races, those that are ignored, those that may be bugs and are not
+/// expected, the first line of the list of expected ones with a name that the image lacks, and what the image was built with.
 #[derive(Drop)]
 pub struct Outcome<'a> {
     pub sites: u64,
@@ -21,13 +22,16 @@ pub struct Outcome<'a> {
     pub stuck: &'a StuckEnds,
     pub rows: &'a [(Key, RaceRow)],
     pub ignored: &'a [(Key, RaceRow)],
+    pub new: &'a [(Key, RaceRow)],
+    pub gone: Option<u64>,
     pub built: Built,
 }
 
 impl<'a> Model for Outcome<'a> {
+    ghost use Rattle.std.specs.Prelude.{is_some};
     ghost use Rattle.rv_hunt.specs.Outcome.{Outcome as Came};
 
     ghost Value = { Came };
 
-    ghost view = { λ o. record { sites = o.sites; mix = o.mix; saw = o.saw.now; rows = o.rows.now; ignored = o.ignored.now; built = o.built } };
+    ghost view = { λ o. record { sites = o.sites; mix = o.mix; saw = o.saw.now; rows = o.rows.now; ignored = o.ignored.now; gone = is_some o.gone; built = o.built } };
 }

@@ -16,6 +16,8 @@ use crate::page::elements::{
 use crate::page::orders::order_part;
 use crate::row::RaceRow;
 use crate::saying::index::names_of;
+use crate::saying::unexpected::{is_among, mark};
+use rv_explain::block::RaceClass;
 use rv_explain::blocks::class_word;
 use rv_explain::picture::draw_picture;
 use rv_explain::symbol_table::SymbolTable;
@@ -40,6 +42,14 @@ fn link_cell(page: Markup, is_full: bool, number: u64) -> Result<Markup, NoMemor
     page.text(b"race ")?.number(number)?.end()?.end()
 }
 
+/// The class of a race, and whether it is new.
+fn class_cell(page: Markup, class: RaceClass, is_new: bool) -> Result<Markup, NoMemory>
+    ensures { IfOk result (λ more. more ≡ page) }
+{
+    let page = page.begin(TD, &[])?.text(class_word(class))?;
+    page.text(mark(is_new).as_bytes())?.end()
+}
+
 /// The row of a race.
 fn race_row(
     page: Markup,
@@ -48,6 +58,7 @@ fn race_row(
     full: usize,
     number: u64,
     race: &(Key, RaceRow),
+    is_new: bool,
 ) -> Result<Markup, NoMemory>
     ensures { IfOk result (λ more. more ≡ record page { facts = spec.race_row_facts full number race.now page.facts }) }
 {
@@ -55,7 +66,7 @@ fn race_row(
     let names = names_of(alloc, symbols, key)?;
     let page = link_cell(begin_row(page)?, number <= full as u64, number)?;
     let page = code(page.begin(TD, &[])?, &names)?.end()?;
-    let page = cell(page, class_word(row.class))?;
+    let page = class_cell(page, row.class, is_new)?;
     let page = number_cell(page, row.count)?;
     end_line(number_cell(page, u64::from(row.run))?)
 }
@@ -67,12 +78,14 @@ fn race_rows(
     symbols: &SymbolTable,
     full: usize,
     told: &[(Key, RaceRow)],
+    unexpected: &[(Key, RaceRow)],
 ) -> Result<Markup, NoMemory>
     ensures { IfOk result (λ more. more ≡ record page { facts = spec.race_rows_facts full told.now page.facts }) }
 {
     let mut page = page;
     for (n, race) in told.iter().enumerate() {
-        page = race_row(page, alloc, symbols, full, n as u64 + 1, race)?;
+        let is_new = is_among(unexpected, &race.0);
+        page = race_row(page, alloc, symbols, full, n as u64 + 1, race, is_new)?;
     }
     Ok(page)
 }
@@ -84,6 +97,7 @@ fn races_table(
     symbols: &SymbolTable,
     full: usize,
     told: &[(Key, RaceRow)],
+    unexpected: &[(Key, RaceRow)],
 ) -> Result<Markup, NoMemory>
     ensures { IfOk result (λ more. more ≡ record page { facts = spec.race_rows_facts full told.now page.facts }) }
 {
@@ -91,7 +105,7 @@ fn races_table(
     let page = column(column(page, b"instructions")?, b"class")?;
     let page = number_column(number_column(page, b"reports")?, b"run")?;
     let page = begin_rows(end_line(page)?)?;
-    end_table(race_rows(page, alloc, symbols, full, told)?)
+    end_table(race_rows(page, alloc, symbols, full, told, unexpected)?)
 }
 
 /// The part with that table, or which says that there is no race. So many of the races are shown in full.
@@ -101,6 +115,7 @@ pub(crate) fn races_part(
     symbols: &SymbolTable,
     full: usize,
     told: &[(Key, RaceRow)],
+    unexpected: &[(Key, RaceRow)],
 ) -> Result<Markup, NoMemory>
     ensures { IfOk result (λ more. more ≡ record page { facts = spec.races_facts full told.now page.facts }) }
 {
@@ -109,7 +124,7 @@ pub(crate) fn races_part(
         let page = page.begin(P, &[])?.text(b"There is no race to show.")?;
         return end_line(end_line(page)?);
     }
-    end_line(races_table(page, alloc, symbols, full, told)?)
+    end_line(races_table(page, alloc, symbols, full, told, unexpected)?)
 }
 
 /// A block as text.
@@ -127,12 +142,13 @@ fn content_of(
     symbols: &SymbolTable,
     number: u64,
     row: &RaceRow,
+    is_new: bool,
     shown: &ShownRace,
     order: &ShownOrder,
 ) -> Result<Markup, NoMemory>
     ensures { IfOk result (λ more. more ≡ page) }
 {
-    let block = race_text(alloc, line, symbols, number, row, shown, order)?;
+    let block = race_text(alloc, line, symbols, number, row, is_new, shown, order)?;
     let page = order_part(page, alloc, symbols, order)?;
     if number > MOST_PICTURES {
         return block_element(page, &block);
@@ -169,6 +185,7 @@ fn race_shown(
     symbols: &SymbolTable,
     number: u64,
     race: &(Key, RaceRow),
+    is_new: bool,
     shown: &ShownRace,
     order: &ShownOrder,
 ) -> Result<Markup, NoMemory>
@@ -185,7 +202,9 @@ fn race_shown(
     } else {
         open_title(page.begin_at(SECTION, &[], place)?.text(b"\n")?, number)?
     };
-    end_line(content_of(page, alloc, line, symbols, number, row, shown, order)?)
+    end_line(content_of(
+        page, alloc, line, symbols, number, row, is_new, shown, order,
+    )?)
 }
 
 /// The races that are shown in full, one by one: the first of those that are told.
@@ -195,6 +214,7 @@ pub(crate) fn races_shown(
     line: &LineParts<'_>,
     symbols: &SymbolTable,
     told: &[(Key, RaceRow)],
+    unexpected: &[(Key, RaceRow)],
     shown: &[ShownRace],
     orders: &[ShownOrder],
 ) -> Result<Markup, NoMemory>
@@ -211,6 +231,7 @@ pub(crate) fn races_shown(
             symbols,
             n as u64 + 1,
             &told[n],
+            is_among(unexpected, &told[n].0),
             &shown[n],
             &orders[n],
         )?;

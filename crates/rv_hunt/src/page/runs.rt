@@ -33,14 +33,14 @@ fn warning_rows(
     page: Markup,
     alloc: Global,
     symbols: &SymbolTable,
-    saw: &Hunted,
+    outcome: &Outcome,
     warnings: &[Warning],
 ) -> Result<Markup, NoMemory>
     ensures { IfOk result (λ more. more ≡ page) }
 {
     let mut page = page;
     for warning in warnings {
-        let words = warning_words(alloc, symbols, saw, *warning)?;
+        let words = warning_words(alloc, symbols, outcome, *warning)?;
         page = end_line(cell(begin_row(page)?, words.as_bytes())?)?;
     }
     Ok(page)
@@ -61,7 +61,7 @@ pub(crate) fn warnings_part(
     }
     let page = begin_part(page, Place::Warnings, b"Warnings")?;
     let page = begin_rows(begin_table(page)?)?;
-    let page = warning_rows(page, alloc, symbols, outcome.saw, &warnings)?;
+    let page = warning_rows(page, alloc, symbols, outcome, &warnings)?;
     end_line(end_table(page)?)
 }
 

@@ -3,6 +3,7 @@ use crate::orders::OrderTable;
 use crate::row::RaceRow;
 use crate::saying::lines::counted;
 use crate::saying::orders::order_word;
+use crate::saying::unexpected::{is_among, mark};
 use rv_explain::blocks::class_word;
 use rv_explain::names::name_text;
 use rv_explain::pieces::joined;
@@ -51,6 +52,7 @@ fn push_line(
     orders: &OrderTable,
     number: u64,
     race: &(Key, RaceRow),
+    is_new: bool,
 ) -> Result<(), NoMemory> {
     let (key, row) = race;
     let number = Decimal::new(number);
@@ -62,6 +64,7 @@ fn push_line(
         number.as_bytes(),
         b" ",
         class,
+        mark(is_new).as_bytes(),
         b", ",
         order_word(orders.order_of(key)),
         b", ",
@@ -85,13 +88,15 @@ pub(crate) fn push_index(
     orders: &OrderTable,
     full: usize,
     told: &[(Key, RaceRow)],
+    unexpected: &[(Key, RaceRow)],
 ) -> Result<(), NoMemory> {
     if told.len() <= 1 && told.len() <= full {
         return Ok(());
     }
     text.push(b'\n')?;
     for (n, race) in told.iter().enumerate() {
-        push_line(alloc, text, symbols, orders, n as u64 + 1, race)?;
+        let is_new = is_among(unexpected, &race.0);
+        push_line(alloc, text, symbols, orders, n as u64 + 1, race, is_new)?;
     }
     Ok(())
 }

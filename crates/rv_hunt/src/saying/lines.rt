@@ -9,7 +9,7 @@ use crate::near::Fate;
 use crate::page::parts::Outcome;
 use crate::row::RaceRow;
 use crate::saying::ended::{ended_rows, ways_words};
-use crate::saying::order::{benign, bugs, of_class, reports_of};
+use crate::saying::order::{benign, bugs, of_class, reports_of, unwatched};
 use crate::saying::warnings::all_sampled;
 use crate::tally::Tally;
 use rv_explain::block::RaceClass;
@@ -23,11 +23,15 @@ pub(crate) fn summary_line(alloc: Global, outcome: &Outcome) -> Result<String, N
     let saw = &outcome.saw.tally;
     let bugs = bugs(outcome.rows);
     let benign = benign(outcome.rows);
+    let apart = match unwatched(outcome.rows) {
+        0 => String::new(alloc),
+        number => format!(in alloc; ", unwatched {number}")?,
+    };
     let reports = saw.counts().hit.saturating_add(saw.counts().changed);
     let pauses = saw.pauses();
     let runs = saw.runs();
     Ok(format!(in alloc;
-        "races {bugs}, likely benign {benign}, reports {reports} of {pauses} endings in {runs} runs\n"
+        "races {bugs}{apart}, likely benign {benign}, reports {reports} of {pauses} endings in {runs} runs\n"
     )?)
 }
 

@@ -6,6 +6,7 @@ use crate::hunted::Hunted;
 use crate::near::Fate;
 use crate::page::parts::Outcome;
 use crate::saying::ended::{Ways, ways_words};
+use crate::saying::unexpected::push_unexpected;
 use rv_explain::symbol_table::SymbolTable;
 use rv_memory::store::NoMemory;
 use rv_tally::plans::Mix;
@@ -38,10 +39,12 @@ pub enum Warning {
     WalkedInVain,
     /// In most of the longest runs no hart exited.
     NoExit,
+    /// A line of the list of expected races has a name that the image lacks.
+    Gone,
 }
 
 /// All of them, in the order in which they are told.
-const WARNINGS: [Warning; 12] = [
+const WARNINGS: [Warning; 13] = [
     Warning::Compressed,
     Warning::Floating,
     Warning::NoSite,
@@ -54,6 +57,7 @@ const WARNINGS: [Warning; 12] = [
     Warning::ManyUntried,
     Warning::WalkedInVain,
     Warning::NoExit,
+    Warning::Gone,
 ];
 
 /// Whether all runs are sampled ones.
@@ -109,6 +113,7 @@ fn holds(warning: Warning, outcome: &Outcome) -> bool
         Warning::ManyUntried => tried_few(outcome.saw),
         Warning::WalkedInVain => saw.walked_in_vain(),
         Warning::NoExit => saw.exited_nowhere(),
+        Warning::Gone => outcome.gone.is_some(),
     }
 }
 
@@ -126,7 +131,8 @@ fn voids(mix: Mix, warning: Warning) -> bool
         | Warning::FewArmed
         | Warning::ManyUntried
         | Warning::WalkedInVain
-        | Warning::NoExit => false,
+        | Warning::NoExit
+        | Warning::Gone => false,
     }
 }
 
@@ -159,13 +165,22 @@ fn first_stop(alloc: Global, symbols: &SymbolTable, saw: &Hunted) -> Result<Stri
     Ok(format!(in alloc; ", the first {words}")?)
 }
 
+/// The words of the warning that a name has gone.
+fn gone_words(alloc: Global, outcome: &Outcome) -> Result<String, NoMemory> {
+    let line = outcome.gone.unwrap_or(0);
+    Ok(format!(in alloc;
+        "line {line} of the list of --expect names what the image lacks, and fits no race: was it renamed?"
+    )?)
+}
+
 /// The words of a warning.
 pub(crate) fn warning_words(
     alloc: Global,
     symbols: &SymbolTable,
-    saw: &Hunted,
+    outcome: &Outcome,
     warning: Warning,
 ) -> Result<String, NoMemory> {
+    let saw = outcome.saw;
     let words = match warning {
         Warning::Compressed => {
             "built with compressed instructions (-march=..c): none of it runs here"
@@ -209,21 +224,23 @@ pub(crate) fn warning_words(
         Warning::NoExit => {
             "in most of the longest runs no hart exited: if the program ends, take more steps by --plan"
         }
+        Warning::Gone => return gone_words(alloc, outcome),
     };
     Ok(format!(in alloc; "{words}")?)
 }
 
-/// A line of each warning that holds.
-pub(crate) fn warnings_text(
+/// A line of each warning that holds, and of each race that may be a bug and is not expected.
+pub(crate) fn first_notes(
     alloc: Global,
     symbols: &SymbolTable,
     outcome: &Outcome,
 ) -> Result<Vec<u8>, NoMemory> {
     let mut text = Vec::new(alloc);
     for warning in &warnings_of(alloc, outcome)? {
-        let words = warning_words(alloc, symbols, outcome.saw, *warning)?;
+        let words = warning_words(alloc, symbols, outcome, *warning)?;
         let line = format!(in alloc; "rvcollide: warning: {words}\n")?;
         text.extend_from_slice(line.as_bytes())?;
     }
+    push_unexpected(alloc, &mut text, symbols, outcome.new)?;
     Ok(text)
 }

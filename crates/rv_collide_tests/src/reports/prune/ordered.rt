@@ -1,6 +1,6 @@
 //! Each part that an access has in an order, just met and just missed. The words are the manual's own encodings.
 use super::*;
-use rv_prune::ordered::{is_ordered, role_at};
+use rv_prune::ordered::{is_atomic, is_ordered, role_at};
 use rv_prune::role::Role;
 use std::alloc::AllocError;
 use std::test::Fail;
@@ -217,24 +217,30 @@ fn a_fence_that_is_farther_away_and_a_loop_that_waits(rt: HostRuntime) -> Result
 /// A release at 00010004, an acquire at 00010008, an AMO at 00010010, plain accesses at 00010014 and 00010018.
 const PROGRAM: [u32; 7] = [FENCE_RW_W, SW, LW, FENCE_R_RW, SWAP, SW, LW];
 
-/// The two instructions whose accesses met, and whether they are ordered.
-static PAIRS: [(u32, u32, bool); 9] = [
-    (0x10004, 0x10008, true),
-    (0x10008, 0x10004, true),
-    (0x10004, 0x10010, true),
-    (0x10010, 0x10018, true),
-    (0x10018, 0x10010, true),
-    (0x10010, 0x10014, false),
-    (0x10004, 0x10018, false),
-    (0x10014, 0x10008, false),
-    (0x10014, 0x10018, false),
+/// The two instructions whose accesses met, whether they are ordered, and whether they are an atomic and a plain load.
+static PAIRS: [(u32, u32, bool, bool); 10] = [
+    (0x10004, 0x10008, true, false),
+    (0x10008, 0x10004, true, false),
+    (0x10004, 0x10010, true, false),
+    (0x10010, 0x10008, true, false),
+    (0x10010, 0x10018, false, true),
+    (0x10018, 0x10010, false, true),
+    (0x10010, 0x10014, false, false),
+    (0x10004, 0x10018, false, false),
+    (0x10014, 0x10008, false, false),
+    (0x10014, 0x10018, false, false),
 ];
 
 fn assert_pairs(rt: &impl Abort, image: &Image) {
-    for (paused, met, wanted) in &PAIRS {
+    for (paused, met, ordered, atomic) in &PAIRS {
         let ending = hit(loads(*paused, 4), *met, 0, 1);
-        let found = (paused, met, is_ordered(image, &ending));
-        assert_is(rt, found, (paused, met, *wanted), "the pair");
+        let found = (
+            paused,
+            met,
+            is_ordered(image, &ending),
+            is_atomic(image, &ending),
+        );
+        assert_is(rt, found, (paused, met, *ordered, *atomic), "the pair");
     }
     let changed = Ending {
         verdict: Verdict::Changed,

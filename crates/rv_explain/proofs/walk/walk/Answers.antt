@@ -1,7 +1,7 @@
 use Rattle.std.proofs.Common.{◌≡◌, ◌+◌, ◌≤◌, arith}
 use Rattle.rv_collide.specs.Entries.{between}
 use Rattle.rv_collide.specs.Pause.{within}
-use Rattle.rv_explain.specs.BlockOf.{last_store, seen_within}
+use Rattle.rv_races.specs.Judged.{last_store, seen_within}
 use Rattle.rv_explain.proofs.BlockLemmas.{before_passed, last_passed, meets_passed}
 use Rattle.rv_explain.proofs.walk.walk.Goals as goal
 

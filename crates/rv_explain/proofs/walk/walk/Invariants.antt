@@ -4,7 +4,8 @@ use Rattle.std.specs.Prelude.{IfSome, filter_map}
 use Rattle.std.specs.List.{fold, range_with_len}
 use Rattle.rv_collide.specs.First.{seen_at}
 use Rattle.rv_debug.specs.Placed.{moved}
-use Rattle.rv_explain.specs.BlockOf.{meets_at, store_or}
+use Rattle.rv_explain.specs.BlockOf.{meets_at}
+use Rattle.rv_races.specs.Judged.{store_or}
 use Rattle.rv_races.specs.Races.{run_of}
 use Rattle.rv_explain.proofs.walk.walk.Given as goal
 

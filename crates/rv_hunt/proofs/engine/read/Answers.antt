@@ -37,7 +37,7 @@ returns-in-Err-read_aim-clause-readers g c =
 pub returns-clause-ok : goal.returns-clause-ok
 returns-clause-ok g c =
     hunting_known (g.R.Read.remaining (flag.device c.args.inputs.now.image)) (merge.bytes_if g.R.Read.remaining c.args.inputs.now.ignored) (merge.bytes_if g.R.Read.remaining c.args.inputs.now.expected) (asked c.args.options.now)
-    _ c.in_ok-opened.ensures.ok c.in-Ok.ensures.ok c.in-Ok-read_known.ensures.ok c.in-Ok-read_aim.ensures.ok refl c.in_ok-opened.ensures.built
+    _ c.in_ok-opened.ensures.ok c.in_ok-opened.ensures.digits c.in-Ok.ensures.ok c.in-Ok-read_known.ensures.ok c.in-Ok-read_aim.ensures.ok refl c.in_ok-opened.ensures.built
 
 pub returns-clause-readers : goal.returns-clause-readers
 returns-clause-readers g c =

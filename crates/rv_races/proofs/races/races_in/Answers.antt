@@ -10,4 +10,4 @@ returns-clause-found c = search rules
 pub returns-clause-told : goal.returns-clause-told
 unfolding races reports
 returns-clause-told c =
-    rw (c.in_ok-races.ensures, c.deref.ensures.value, c.in_ok-reports.ensures, c.endings.ensures, ← c.requires) (told_races (run_of c.args.session.now) c.args.ranges.now)
+    rw (c.in_ok-races.ensures, c.deref.ensures.value, c.in_ok-reports.ensures) (told_races (run_of c.args.session.now) c.args.ranges.now)

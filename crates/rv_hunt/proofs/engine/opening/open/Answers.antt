@@ -9,8 +9,8 @@ returns-in-Err-clause-err g c = image_refused (g.R.Read.remaining (flag.device c
 
 pub returns-in-Ok-read_lists-clause-ok : goal.returns-in-Ok-read_lists-clause-ok
 returns-in-Ok-read_lists-clause-ok g c =
-    hunt_known (g.R.Read.remaining (flag.device c.args.image.now)) (asked c.args.options.now) c.in-Ok.read.0 _ c.in-Ok.ensures.ok c.in-Ok-read_lists.ensures.ok
+    hunt_known (g.R.Read.remaining (flag.device c.args.image.now)) (asked c.args.options.now) c.in-Ok.read.image _ c.in-Ok.ensures.image c.in-Ok-read_lists.ensures.ok
 
 pub returns-clause-err : goal.returns-clause-err
 returns-clause-err g c =
-    list_refused (g.R.Read.remaining (flag.device c.args.image.now)) (asked c.args.options.now) c.in-Ok.read.0 (refusal c.in-Err-read_lists.fault) c.in-Ok.ensures.ok c.in-Err-read_lists.ensures.err
+    list_refused (g.R.Read.remaining (flag.device c.args.image.now)) (asked c.args.options.now) c.in-Ok.read.image (refusal c.in-Err-read_lists.fault) c.in-Ok.ensures.image c.in-Err-read_lists.ensures.err

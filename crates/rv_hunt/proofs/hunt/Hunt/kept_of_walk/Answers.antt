@@ -1,5 +1,6 @@
 use Rattle.std.proofs.Common.{◌∙◌, List, ap, get_or, length, refl, sym, ℕ}
-use Rattle.rv_hunt.proofs.WalkLemmas.{of_walk}
+use Rattle.rv_hunt.proofs.WalkLemmas.{of_walk, same_gone}
+use Rattle.rv_hunt.specs.KeptRun.{Gone, reports_of_parts}
 use Rattle.rv_hunt.specs.Summary.{counts_of_walk}
 use Rattle.rv_hunt.proofs.hunt.Hunt.kept_of_walk.Goals as goal
 
@@ -22,7 +23,7 @@ returns c =
         probes_are = c.from.ensures ∙ g.is_gathered.parts_are;
         is_walk = refl;
       };
-      reports_are = g.is_gathered.reports_are;
+      reports_are = g.is_gathered.reports_are ∙ ap (λ (gone : Gone). reports_of_parts c.args.self.now gone 1 g.parts) (same_gone (sym w.is_walk.start_is) w.left.harts_are);
       near_are = g.is_gathered.near_are;
       tried_are = g.is_gathered.tried_are;
     }

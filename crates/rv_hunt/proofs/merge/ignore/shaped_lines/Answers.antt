@@ -1,7 +1,7 @@
 use Rattle.std.proofs.Common.{◌≡◌, ◌∙◌, ◌+◌, List, ℕ, Some, None, length, option_map, refl, sym, ap, arith}
 use Rattle.std.specs.Prelude.{slice_get}
 use Rattle.rv_hunt.specs.declared.merge.ignore.ListedLine.{ListedLine}
-use Rattle.rv_hunt.specs.internal.Shaped.{judged}
+use Rattle.rv_hunt.specs.internal.Shaped.{judged, said_by}
 use Rattle.rv_hunt.specs.merge.Ignore.{lines_from}
 use Rattle.rv_hunt.proofs.IgnoreLemmas.{faulty, few_pieces, first_and_others, no_more, none_left, step}
 use Rattle.rv_hunt.proofs.merge.ignore.shaped_lines.Goals as goal
@@ -9,15 +9,15 @@ use Rattle.rv_hunt.proofs.merge.ignore.shaped_lines.Goals as goal
 pub loop-text-init : goal.loop-text-init
 loop-text-init c =
     let few = few_pieces c.args.text.now in
-    (rw c.of-pieces.ensures (omega arith), λ image. rw c.new-lines.ensures.items refl)
+    (rw c.of-pieces.ensures (omega arith), λ known. rw c.new-lines.ensures.items refl)
 
 pub returns-in-Err : goal.returns-in-Err
-returns-in-Err c = λ image.
+returns-in-Err c = λ known.
     let first : Some c.in-Some.text.now ≡ slice_get c.loop-text.pieces 0 = cc in
     let pieces = first_and_others c.loop-text.pieces c.next_piece.new.self c.in-Some.text.now first c.in-Some.ensures.rest in
     rw (← c.of-pieces.ensures)
-    (c.loop-text.invariant.1 image ∙ ap (λ (ps : List (List ℕ)). judged image c.loop-text.lines.items (lines_from image c.loop-text.line ps)) pieces
-    ∙ faulty image c.loop-text.line c.loop-text.lines.items c.in-Err.kind c.in-Some.text.now c.next_piece.new.self c.in-Err.ensures.err)
+    (c.loop-text.invariant.1 known ∙ ap (λ (ps : List (List ℕ)). judged known c.loop-text.lines.items (lines_from known c.loop-text.line ps)) pieces
+    ∙ faulty known c.loop-text.line c.loop-text.lines.items c.in-Err.kind c.in-Some.text.now c.next_piece.new.self c.in-Err.ensures.err)
 
 pub loop-text-preserved : goal.loop-text-preserved
 loop-text-preserved c =
@@ -25,15 +25,15 @@ loop-text-preserved c =
     let pieces = first_and_others c.loop-text.pieces c.next_piece.new.self c.in-Some.text.now first c.in-Some.ensures.rest in
     let count = ap length pieces in (
       omega arith,
-      λ image.
-          c.loop-text.invariant.1 image ∙ ap (λ (ps : List (List ℕ)). judged image c.loop-text.lines.items (lines_from image c.loop-text.line ps)) pieces
-          ∙ step image c.loop-text.line c.loop-text.lines.items (option_map (λ pair. (pair.0.now, pair.1.now)) c.in-Ok.words) c.in-Some.text.now c.next_piece.new.self c.in-Ok.ensures.ok
-          ∙ ap (λ (items : List ListedLine). judged image items (lines_from image (c.loop-text.line + 1) c.next_piece.new.self)) (sym c.in_ok-add_line-in-Ok.ensures),
+      λ known.
+          c.loop-text.invariant.1 known ∙ ap (λ (ps : List (List ℕ)). judged known c.loop-text.lines.items (lines_from known c.loop-text.line ps)) pieces
+          ∙ step known c.loop-text.line c.loop-text.lines.items (option_map said_by c.in-Ok.words) c.in-Some.text.now c.next_piece.new.self c.in-Ok.ensures.ok
+          ∙ ap (λ (items : List ListedLine). judged known items (lines_from known (c.loop-text.line + 1) c.next_piece.new.self)) (sym c.in_ok-add_line-in-Ok.ensures),
     )
 
 pub returns : goal.returns
-returns c = λ image.
+returns c = λ known.
     let none : None ≡ slice_get c.loop-text.pieces 0 = cc in
     rw (← c.of-pieces.ensures)
-    (c.loop-text.invariant.1 image ∙ ap (λ (ps : List (List ℕ)). judged image c.loop-text.lines.items (lines_from image c.loop-text.line ps)) (none_left c.loop-text.pieces none)
-    ∙ no_more image c.loop-text.line c.loop-text.lines.items)
+    (c.loop-text.invariant.1 known ∙ ap (λ (ps : List (List ℕ)). judged known c.loop-text.lines.items (lines_from known c.loop-text.line ps)) (none_left c.loop-text.pieces none)
+    ∙ no_more known c.loop-text.line c.loop-text.lines.items)

@@ -5,4 +5,4 @@ use Rattle.rv_hunt.proofs.merge.parted.part_rows.Given as goal
 
 abbrev pub invariant-loop-row : goal.invariant-loop-row
 invariant-loop-row l =
-    (l.parted.told.items ≡ filter (λ row. spec.is_told l.symbols l.ignores row.0) (take l.row-index l.rows)) × (l.parted.ignored.items ≡ filter (λ row. spec.is_ignored l.symbols l.ignores row.0) (take l.row-index l.rows))
+    (l.parted.told.items ≡ filter (spec.is_told l.symbols l.ignores) (take l.row-index l.rows)) × (l.parted.ignored.items ≡ filter (spec.is_ignored l.symbols l.ignores) (take l.row-index l.rows))

@@ -5,4 +5,4 @@ use Rattle.rv_hunt.specs.internal.Sought.{line_fits}
 use Rattle.rv_hunt.proofs.merge.sought.any_fits.Given as goal
 
 abbrev pub invariant-loop-line : goal.invariant-loop-line
-invariant-loop-line l = list_any (line_fits l.first l.second) (take l.line-index l.lines) ≡ false
+invariant-loop-line l = list_any (line_fits l.race) (take l.line-index l.lines) ≡ false

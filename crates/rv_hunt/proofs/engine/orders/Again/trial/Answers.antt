@@ -1,7 +1,6 @@
 use Rattle.std.proofs.Common.{List, ap, subst}
 use Rattle.std.specs.Prelude.{Contains}
 use Rattle.rv_collide.specs.Plan.{Numbers}
-use Rattle.rv_collide.specs.Verdict.{endings}
 use Rattle.rv_explain.specs.Races.{run_of}
 use Rattle.rv_hunt.proofs.ReportLemmas.{report_is_ending}
 use Rattle.rv_races.specs.declared.races.Report.{Report}
@@ -9,8 +8,7 @@ use Rattle.rv_hunt.proofs.engine.orders.Again.trial.Goals as goal
 
 pub race_block-requires-clause-told : goal.race_block-requires-clause-told
 race_block-requires-clause-told c =
-    let run = run_of c.args.session.now in
-    report_is_ending run.image c.args.self.now.hunt.now.ranges (endings run.start run.entries) c.in-Some.report
+    report_is_ending (run_of c.args.session.now) c.args.self.now.hunt.now.ranges c.in-Some.report
     (subst (λ (rs : List Report). Contains rs c.in-Some.report) c.requires.reports c.in-Some.ensures.0)
 
 pub returns-in-Some-2-clause-trial : goal.returns-in-Some-2-clause-trial

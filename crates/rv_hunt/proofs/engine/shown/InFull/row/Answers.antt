@@ -2,7 +2,6 @@ use Rattle.std.proofs.Common.{◌∙◌, ap, sym, refl, get_or}
 use Rattle.std.specs.Option.{option_copied}
 use Rattle.std.specs.Prelude.{find}
 use Rattle.std.proofs.lemmas.Option.{slice_get-get_or}
-use Rattle.rv_collide.specs.Verdict.{endings}
 use Rattle.rv_explain.specs.Races.{run_of}
 use Rattle.rv_hunt.proofs.ReportLemmas.{found_is_ending}
 use Rattle.rv_hunt.proofs.ShowingLemmas.{race_found}
@@ -13,7 +12,7 @@ pub race_block-requires-clause-told : goal.race_block-requires-clause-told
 race_block-requires-clause-told c =
     let run = run_of c.args.session.now in
     let found = sym c.first_told.ensures ∙ ap option_copied c.in-Some.is in
-    found_is_ending _ run.image c.args.self.now.hunt.now.ranges (endings run.start run.entries) c.in-Some.told.now (ap (find _) (sym c.requires.reports) ∙ found)
+    found_is_ending _ run c.args.self.now.hunt.now.ranges c.in-Some.told.now (ap (find _) (sym c.requires.reports) ∙ found)
 
 pub returns-clause-shown : goal.returns-clause-shown
 returns-clause-shown c =
@@ -25,7 +24,7 @@ returns-clause-shown c =
       there = slice_get-get_or c.args.self.now.rows.now c.args.place _ c.requires.place;
       is_shown = record {
         race = race_by row c.in-Some.told.now;
-        is_race = race_found run.image c.args.self.now.hunt.now.ranges row (endings run.start run.entries) c.args.reports.now c.in-Some.told.now c.requires.reports found;
+        is_race = race_found run c.args.self.now.hunt.now.ranges row c.args.reports.now c.in-Some.told.now c.requires.reports found;
         block_is = c.in_ok-block.ensures.block;
         harts_are = refl;
       };

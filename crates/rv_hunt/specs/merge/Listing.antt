@@ -1,0 +1,52 @@
+-- The list of a hunt's races, as a list of races to be ignored, or of those that are expected, has it.
+use Rattle.std.specs.Prelude.{ℕ, Bool, ◌&&◌, ◌==◌, if◌then◌else◌, Option, Some, None, option_and_then, List, [], ◌++◌, codes, map}
+use Rattle.std.specs.Fmt.{decimal}
+use Rattle.std.specs.Option.{option_map_or, unwrap_or}
+use Rattle.rv_elf.specs.Contents.{Contents, Named}
+use Rattle.rv_explain.specs.Blocks.{class_word}
+use Rattle.rv_explain.specs.Symbols.{symbol_of}
+use Rattle.rv_hunt.specs.merge.Ignore.{has_bytes, is_short, spelled}
+use Rattle.rv_hunt.specs.declared.row.RaceRow.{RaceRow}
+use Rattle.rv_report.specs.declared.key.Key.{Key}
+use Rattle.rv_text.specs.Hexadecimal.{word_digits}
+use Rattle.rv_text.specs.Lines.{text_of_lines}
+
+-- a line can have the word
+abbrev pub is_word : List ℕ → Bool
+is_word word = has_bytes word && is_short word
+
+abbrev pub word_if : List ℕ → Option (List ℕ)
+word_if word = if is_word word then Some word else None
+
+-- the name by which `explain` tells an address, where a line can have it
+abbrev pub name_at : Contents → ℕ → Option (List ℕ)
+name_at image address = option_and_then (λ (symbol : Named). word_if (spelled symbol.name)) (symbol_of image address)
+
+-- an instruction by its function, or else by its address
+abbrev pub side_text : Contents → ℕ → List ℕ
+side_text image address = unwrap_or (name_at image address) (word_digits address)
+
+-- the same of one that may not be known
+abbrev pub other_text : Contents → Option ℕ → List ℕ
+other_text image None = codes "*"
+other_text image (Some address) = side_text image address
+
+-- the variable, where it has a name
+abbrev pub on_text : Contents → Option ℕ → List ℕ
+on_text image address = option_map_or (λ name. codes " on " ++ name) (option_and_then (name_at image) address) []
+
+abbrev pub reports_word : ℕ → List ℕ
+reports_word count = if count == 1 then codes " report" else codes " reports"
+
+-- `# CLASS, N reports`
+abbrev pub comment_text : RaceRow → List ℕ
+comment_text row = codes " # " ++ (class_word row.class ++ (codes ", " ++ (decimal row.count ++ reports_word row.count)))
+
+-- `A B on VARIABLE # CLASS, N reports`
+unfoldable pub list_line : Contents → Key × RaceRow → List ℕ
+list_line image race =
+    side_text image race.0.first ++ (codes " " ++ (other_text image race.0.second ++ (on_text image race.1.address ++ comment_text race.1)))
+
+-- a line of each race of a table
+unfoldable pub list_text : Contents → List (Key × RaceRow) → List ℕ
+list_text image races = text_of_lines (map (list_line image) races)
