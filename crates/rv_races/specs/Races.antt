@@ -17,7 +17,7 @@ pub use Rattle.rv_races.specs.Run.{Run, run_of}
 -- ---- reports
 
 abbrev pub with_key : Contents → List (ℕ × ℕ) → ℕ → Judged → Key → Report
-with_key image ranges n one key = record { number = n; key = key; class = class_of image ranges one; ending = one.ending }
+with_key image ranges n one key = record { number = n; key = key; class = class_of image ranges one; ending = one.ending; judged = one.verdict }
 
 -- Ending n is a report where it is no quiet one. The ranges are those of the listed names.
 abbrev pub report_of : Contents → List (ℕ × ℕ) → ℕ → Judged → Option Report

@@ -5,7 +5,7 @@ ghost use Rattle.rv_races.specs.Races as spec;
 
 use crate::classes::{RaceClass, class_of, rank};
 use crate::judged::{Judged, judged_in};
-use rv_collide::ending::Ending;
+use rv_collide::ending::{Ending, Verdict};
 use rv_debug::session::Session;
 use rv_elf::Image;
 use rv_memory::store::NoMemory;
@@ -13,13 +13,15 @@ use rv_prune::named_bytes::NamedBytes;
 use rv_report::key::{Key, key_of};
 use std::alloc::Global;
 
-/// An ending that is a report: its number among the endings of its run, what it is about, and what it counts as.
+/// An ending that is a report: its number among the endings of its run, what it is about, what it counts as, and the verdict that it
+/// is judged by.
 #[derive(Clone, Copy, Debug)]
 pub struct Report {
     pub number: u32,
     pub key: Key,
     pub class: RaceClass,
     pub ending: Ending,
+    pub judged: Verdict,
 }
 
 /// A race: how many reports it has, and the one that it is told by, the first of those with the strongest class.
@@ -114,6 +116,7 @@ fn report_of(image: &Image, ranges: &NamedBytes, n: u32, one: &Judged) -> Option
         key,
         class: class_of(image, ranges, one),
         ending: one.ending,
+        judged: one.verdict,
     })
 }
 
