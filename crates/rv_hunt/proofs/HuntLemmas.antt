@@ -6,16 +6,19 @@ use Rattle.std.proofs.lemmas.Bool.{and_parts, cases_eq}
 use Rattle.std.proofs.lemmas.Bool.Decides.{nat_tests}
 use Rattle.std.proofs.lemmas.List.{map-append, take-append-le, take_all, length-map}
 use Rattle.std.proofs.lemmas.List.Concat.{flat_map-append}
+use Rattle.std.proofs.lemmas.List.Elements.{filter_map-append}
 use Rattle.std.proofs.Math.Bool.{or-false}
 use Rattle.std.proofs.lemmas.List.Folds.{list_any-append}
 use Rattle.std.proofs.lemmas.List.Sums.{fold-append}
+use Rattle.rv_hunt.specs.Changed as changed
 use Rattle.rv_hunt.specs.Hunt.{AreNumbers, Hunt, IsHunt}
 use Rattle.rv_hunt.specs.RightEnds.{EndsSeen, ends_wrong, has_wrong_end}
-use Rattle.rv_hunt.specs.Hunted.{AreRuns, IsNoted, IsNotedSoFar, IsSoFar, is_due, near_in, rows_from, rows_of, seen_in, summed, tried_from, tried_of}
+use Rattle.rv_hunt.specs.Hunted.{AreRuns, IsNoted, IsNotedSoFar, IsSoFar, changed_from, changed_rows, is_due, near_in, rows_from, rows_of, seen_in, summed, tried_from, tried_of}
 use Rattle.rv_hunt.specs.KeptRun.{IsOfRun}
 use Rattle.rv_hunt.specs.Near as near
 use Rattle.rv_hunt.specs.Orders as orders
 use Rattle.rv_hunt.specs.Rows as rows
+use Rattle.rv_hunt.specs.declared.changed.ChangedKey.{ChangedKey}
 use Rattle.rv_hunt.specs.declared.hunted.Hunted.{Hunted}
 use Rattle.rv_hunt.specs.declared.kept_run.KeptRun.{KeptRun}
 use Rattle.rv_hunt.specs.declared.near.NearRow.{NearRow}
@@ -78,6 +81,23 @@ table_next first runs kept =
     ap (fold rows.added []) (rows_next first runs kept)
     ∙ fold-append rows.added [] (rows_from first runs) (rows_of (first + length runs) kept)
 
+changed_rows_next : (first : ℕ) (runs : List KeptRun) (kept : KeptRun) → changed_from first (runs ++ kept ∷ []) ≡ changed_from first runs ++ changed_rows (first + length runs) kept
+unfolding changed_from
+changed_rows_next first [] kept = append-nil (changed_rows first kept) ∙ ap (λ (n : ℕ). changed_rows n kept) (omega arith)
+changed_rows_next first (one ∷ runs) kept =
+    ap (λ (rs : List (ChangedKey × RaceRow)). changed_rows first one ++ rs) (changed_rows_next (first + 1) runs kept)
+    ∙ ap (λ (n : ℕ). changed_rows first one ++ (changed_from (first + 1) runs ++ changed_rows n kept)) place
+    ∙ sym (append_assoc (changed_rows first one) (changed_from (first + 1) runs) (changed_rows (first + suc (length runs)) kept))
+  where
+    place : first + 1 + length runs ≡ first + suc (length runs)
+    place = omega arith
+
+changed_next : (first : ℕ) (runs : List KeptRun) (kept : KeptRun) → changed.changed_of (changed_from first (runs ++ kept ∷ [])) ≡ fold changed.added (changed.changed_of (changed_from first runs)) (changed_rows (first + length runs) kept)
+unfolding changed.changed_of
+changed_next first runs kept =
+    ap (fold changed.added []) (changed_rows_next first runs kept)
+    ∙ fold-append changed.added [] (changed_from first runs) (changed_rows (first + length runs) kept)
+
 near_next : (runs : List KeptRun) (kept : KeptRun) → near.near_of (near_in (runs ++ kept ∷ [])) ≡ fold near.added (near.near_of (near_in runs)) kept.near.items
 unfolding near.near_of
 near_next runs kept =
@@ -102,15 +122,15 @@ orders_next first runs kept =
     ap (fold orders.added []) (tried_next first runs kept)
     ∙ fold-append orders.added [] (tried_from first runs) (tried_of (first + length runs) kept)
 
-abbrev pub hunted_of : Tally → List (Key × RaceRow) → List (Addresses × NearRow) → List (Key × OrderRow) → Hunted
-hunted_of tally rs pairs tried = record { tally = tally; table = rs; near = pairs; orders = tried }
+abbrev pub hunted_of : Tally → List (Key × RaceRow) → List (ChangedKey × RaceRow) → List (Addresses × NearRow) → List (Key × OrderRow) → Hunted
+hunted_of tally rs cs pairs tried = record { tally = tally; table = rs; changed = cs; near = pairs; orders = tried }
 
-pub same_hunted : {t t' : Tally} {rs rs' : List (Key × RaceRow)} {ps ps' : List (Addresses × NearRow)} {os os' : List (Key × OrderRow)} → t ≡ t' → rs ≡ rs' → ps ≡ ps' → os ≡ os' → hunted_of t rs ps os ≡ hunted_of t' rs' ps' os'
-same_hunted tallies tables pairs tried = cc
+pub same_hunted : {t t' : Tally} {rs rs' : List (Key × RaceRow)} {cs cs' : List (ChangedKey × RaceRow)} {ps ps' : List (Addresses × NearRow)} {os os' : List (Key × OrderRow)} → t ≡ t' → rs ≡ rs' → cs ≡ cs' → ps ≡ ps' → os ≡ os' → hunted_of t rs cs ps os ≡ hunted_of t' rs' cs' ps' os'
+same_hunted tallies tables changes pairs tried = cc
 
 pub seen_next : (first : ℕ) (runs : List KeptRun) (kept : KeptRun) → seen_in first (runs ++ kept ∷ []) ≡ with_run (seen_in first runs) (first + length runs) kept
 unfolding seen_in with_run
-seen_next first runs kept = same_hunted (summed_next runs kept) (table_next first runs kept) (near_next runs kept) (orders_next first runs kept)
+seen_next first runs kept = same_hunted (summed_next runs kept) (table_next first runs kept) (changed_next first runs kept) (near_next runs kept) (orders_next first runs kept)
 
 -- ---- which runs are made
 
@@ -214,8 +234,8 @@ there_is [] n within = absurd (omega (arith, within))
 there_is (x ∷ xs) zero within = (x, refl)
 there_is (x ∷ xs) (suc n) within = there_is xs n (omega (arith, within))
 
-none_yet : (hunt : Hunt) (hunted : Hunted) → hunted ≡ record { tally = summed []; table = []; near = near.near_of []; orders = orders.orders_of [] } → IsSoFar hunt hunted
-unfolding seen_in rows_from tried_from rows.table_of near.near_of orders.orders_of
+none_yet : (hunt : Hunt) (hunted : Hunted) → hunted ≡ record { tally = summed []; table = []; changed = changed.changed_of []; near = near.near_of []; orders = orders.orders_of [] } → IsSoFar hunt hunted
+unfolding seen_in rows_from tried_from changed_from rows.table_of changed.changed_of near.near_of orders.orders_of
 none_yet hunt hunted is = record {
   runs = [];
   are_runs = record {
@@ -225,6 +245,6 @@ none_yet hunt hunted is = record {
   seen = is;
 }
 
-pub none_noted : (hunt : Hunt) (hunted : Hunted) (ends : EndsSeen) → hunted ≡ record { tally = summed []; table = []; near = near.near_of []; orders = orders.orders_of [] } → ends.is_wrong ≡ false → IsNotedSoFar hunt hunted ends
+pub none_noted : (hunt : Hunt) (hunted : Hunted) (ends : EndsSeen) → hunted ≡ record { tally = summed []; table = []; changed = changed.changed_of []; near = near.near_of []; orders = orders.orders_of [] } → ends.is_wrong ≡ false → IsNotedSoFar hunt hunted ends
 unfolding has_wrong_end none_yet
 none_noted hunt hunted ends is none = record { so_far = none_yet hunt hunted is; wrong = none }

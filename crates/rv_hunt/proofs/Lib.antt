@@ -1,4 +1,6 @@
 pub mod BoolLemmas
+pub mod ChangedLemmas
+pub mod CountedLemmas
 pub mod PageLemmas
 pub mod EngineLemmas
 pub mod FileLemmas
@@ -29,7 +31,9 @@ pub mod Rows
 pub mod ShowingLemmas
 pub mod ShownLemmas
 pub mod SoughtLemmas
+pub mod SumLemmas
 pub mod SummaryLemmas
+pub mod ShownRowLemmas
 pub mod WordLemmas
 pub mod WalkLemmas
 pub mod WholeLemmas

@@ -11,6 +11,7 @@ use Rattle.rv_hunt.specs.RightEnds.{EndsSeen, has_wrong_end}
 use Rattle.rv_hunt.specs.Warnings.{is_void}
 use Rattle.rv_hunt.specs.Outcome.{Outcome}
 use Rattle.rv_hunt.specs.PageFacts.{page_facts}
+use Rattle.rv_hunt.specs.ShownRows.{shown_rows}
 use Rattle.rv_hunt.specs.ToldOrder.{AreInOrder}
 use Rattle.rv_hunt.specs.declared.engine.found.Found.{Found}
 use Rattle.rv_hunt.specs.declared.engine.orders.ShownOrder.{ShownOrder}
@@ -18,7 +19,7 @@ use Rattle.rv_hunt.specs.declared.engine.shown.ShownRace.{ShownRace}
 use Rattle.rv_hunt.specs.declared.hunted.Hunted.{Hunted}
 use Rattle.rv_hunt.specs.declared.merge.known.Known.{Known}
 use Rattle.rv_hunt.specs.declared.row.RaceRow.{RaceRow}
-use Rattle.rv_hunt.specs.engine.Hunting.{Hunting, IsMade, IsTable, Showing, Texts, found_in, ignored_by, new_in, origin_of, outcome, told_in}
+use Rattle.rv_hunt.specs.engine.Hunting.{Hunting, IsMade, IsTable, Showing, Texts, found_in, ignored_by, new_in, origin_of, outcome, shown_in, told_in}
 use Rattle.rv_hunt.specs.merge.Known.{has_gone, new_races}
 use Rattle.rv_hunt.specs.merge.Listing.{list_text}
 use Rattle.rv_hunt.specs.engine.OrderShown.{AreOrdersShown}
@@ -33,20 +34,20 @@ use Rattle.rv_tally.specs.declared.plans.Mix.{Mix}
 abbrev Row : Type 0
 Row = Key × RaceRow
 
-pub outcome_is : (hunting : Hunting) (saw : Hunted) (n : ℕ) (mix : Mix) (rows ignored : List Row) (gone : Bool) (built : Built) → n ≡ length hunting.hunt.source.sites → mix ≡ hunting.hunt.given.mix → rows ≡ told_in hunting saw → ignored ≡ ignored_by hunting saw → gone ≡ has_gone hunting.hunt.source.image hunting.expected → built ≡ hunting.built
-    → record { sites = n; mix = mix; saw = saw; rows = rows; ignored = ignored; gone = gone; built = built } ≡ outcome hunting saw
-outcome_is hunting saw n mix rows ignored gone built a b c d f e = rw (a, b, c, d, f, e)
+pub outcome_is : (hunting : Hunting) (saw : Hunted) (n : ℕ) (mix : Mix) (rows races ignored : List Row) (gone : Bool) (built : Built) → n ≡ length hunting.hunt.source.sites → mix ≡ hunting.hunt.given.mix → rows ≡ told_in hunting saw → races ≡ shown_in hunting saw → ignored ≡ ignored_by hunting saw → gone ≡ has_gone hunting.hunt.source.image hunting.expected → built ≡ hunting.built
+    → record { sites = n; mix = mix; saw = saw; rows = rows; races = races; ignored = ignored; gone = gone; built = built } ≡ outcome hunting saw
+outcome_is hunting saw n mix rows races ignored gone built a b c s d f e = rw (a, b, c, s, d, f, e)
 
-pub made_is : (way : Showing) (hunting : Hunting) (saw : Hunted) (Saves : ℕ → List ℕ → Type 0) (Pages : List Fact → Type 0) (Lists : List ℕ → Type 0) (rows told full unexpected : List Row) (o : Outcome) (paged_told : List Row) (paged_shown : List ShownRace) (listed_image : Contents) (listed_rows : List Row) (shown : List ShownRace) (orders : List ShownOrder) (stuck : List ShownStuck) (ends : EndsSeen) (wrong : Bool) (found : Found) (texts : Texts) → IsNoted hunting.hunt saw ends → ends.right ≡ hunting.right → wrong ≡ ends.is_wrong
-    → rows ≡ told_in hunting saw → AreInOrder hunting.hunt.source.image saw.orders rows told → full ≡ take way.full told → o ≡ outcome hunting saw → AreShown hunting.hunt Saves full shown → AreOrdersShown hunting.hunt saw.orders (keys_of full) orders
+pub made_is : (way : Showing) (hunting : Hunting) (saw : Hunted) (Saves : ℕ → List ℕ → Type 0) (Pages : List Fact → Type 0) (Lists : List ℕ → Type 0) (rows races told full unexpected : List Row) (o : Outcome) (paged_told : List Row) (paged_shown : List ShownRace) (listed_image : Contents) (listed_rows : List Row) (shown : List ShownRace) (orders : List ShownOrder) (stuck : List ShownStuck) (ends : EndsSeen) (wrong : Bool) (found : Found) (texts : Texts) → IsNoted hunting.hunt saw ends → ends.right ≡ hunting.right → wrong ≡ ends.is_wrong
+    → rows ≡ told_in hunting saw → races ≡ shown_in hunting saw → AreInOrder hunting.hunt.source.image saw.orders races told → full ≡ take way.full told → o ≡ outcome hunting saw → AreShown hunting.hunt Saves full shown → AreOrdersShown hunting.hunt saw.orders (keys_of full) orders
     → IsTable way.shows o.rows (origin_of way hunting saw) texts.text → paged_told ≡ told → paged_shown ≡ shown → Pages (page_facts o paged_told (length paged_shown)) → AreStuckShown hunting.hunt stuck
-    → listed_image ≡ hunting.hunt.source.image → listed_rows ≡ rows → Lists (list_text listed_image listed_rows) → unexpected ≡ new_races hunting.hunt.source.image hunting.expected rows → found ≡ found_in unexpected rows (length stuck) wrong (is_void o)
+    → listed_image ≡ hunting.hunt.source.image → listed_rows ≡ rows → Lists (list_text listed_image listed_rows) → unexpected ≡ new_races hunting.hunt.source.image hunting.expected rows → found ≡ found_in unexpected races (length stuck) wrong (is_void o)
     → IsMade way hunting Saves Pages Lists found texts
-made_is way hunting saw Saves Pages Lists rows told full unexpected o paged_told paged_shown listed_image listed_rows shown orders stuck ends wrong found texts noted right is_wrong are order first came are_shown ordered table same_told same_shown paged are_stuck same_image same_rows listed new_is found_is = record {
+made_is way hunting saw Saves Pages Lists rows races told full unexpected o paged_told paged_shown listed_image listed_rows shown orders stuck ends wrong found texts noted right is_wrong are shows order first came are_shown ordered table same_told same_shown paged are_stuck same_image same_rows listed new_is found_is = record {
   saw = saw;
   hunted = noted.hunted_is;
   told = told;
-  order = subst (λ (rs : List Row). AreInOrder hunting.hunt.source.image saw.orders rs told) are order;
+  order = subst (λ (rs : List Row). AreInOrder hunting.hunt.source.image saw.orders rs told) shows order;
   shown = shown;
   are_shown = subst (λ (rs : List Row). AreShown hunting.hunt Saves rs shown) first are_shown;
   orders = orders;
@@ -62,12 +63,17 @@ made_is way hunting saw Saves Pages Lists rows told full unexpected o paged_told
   stuck = stuck;
   are_stuck = are_stuck;
   found_is =
-      found_is ∙ ap (λ (rs : List Row). found_in rs rows (length stuck) wrong (is_void o)) new_is
-      ∙ ap (λ (rs : List Row). found_in (new_races hunting.hunt.source.image hunting.expected rs) rs (length stuck) wrong (is_void o)) are
-      ∙ ap (λ (x : Outcome). found_in (new_in hunting saw) (told_in hunting saw) (length stuck) wrong (is_void x)) came
-      ∙ ap (λ (w : Bool). found_in (new_in hunting saw) (told_in hunting saw) (length stuck) w (is_void (outcome hunting saw)))
+      found_is ∙ ap (λ (rs : List Row). found_in rs races (length stuck) wrong (is_void o)) new_is
+      ∙ ap (λ (rs : List Row). found_in (new_races hunting.hunt.source.image hunting.expected rs) races (length stuck) wrong (is_void o)) are
+      ∙ ap (λ (rs : List Row). found_in (new_in hunting saw) rs (length stuck) wrong (is_void o)) shows
+      ∙ ap (λ (x : Outcome). found_in (new_in hunting saw) (shown_in hunting saw) (length stuck) wrong (is_void x)) came
+      ∙ ap (λ (w : Bool). found_in (new_in hunting saw) (shown_in hunting saw) (length stuck) w (is_void (outcome hunting saw)))
       (is_wrong ∙ noted.wrong ∙ ap (λ (codes : List ℕ). has_wrong_end codes noted.hunted_is.so_far.runs) right);
 }
+
+-- the races as they are shown, of the rows that are told
+pub races_from : (hunting : Hunting) (saw : Hunted) (rows those races : List Row) → those ≡ rows → rows ≡ told_in hunting saw → races ≡ shown_rows those saw.changed → races ≡ shown_in hunting saw
+races_from hunting saw rows those races same are shown = shown ∙ ap (λ (rs : List Row). shown_rows rs saw.changed) (same ∙ are)
 
 -- the same of rows that are the same
 pub new_from : (image that : Contents) (known : Option Known) (rows those found : List Row) → image ≡ that → rows ≡ those → found ≡ new_races image known rows → found ≡ new_races that known those

@@ -137,7 +137,7 @@ has_now es s key same = has-added es s key ∙ or_true (has_race key es) (same_k
 
 -- ---- the races of a table are different
 
-abbrev AreApart : List Row → Type 0
+abbrev pub AreApart : List Row → Type 0
 AreApart [] = Unit {0}
 AreApart (e ∷ es) = (has_race e.0 es ≡ false) × AreApart es
 
@@ -148,7 +148,7 @@ apart-step e s es false is apart rest =
     let none : has_race e.0 (added es s) ≡ false = has-added es s e.0 ∙ rw (apart.0, differ) refl in
     rw is (none, rest)
 
-apart-added : (es : List Row) (s : Row) → AreApart es → AreApart (added es s)
+pub apart-added : (es : List Row) (s : Row) → AreApart es → AreApart (added es s)
 apart-added [] s apart = (refl, tt)
 apart-added (e ∷ es) s apart = apart-step e s es (same_key s.0 e.0) refl apart (apart-added es s apart.1)
 
@@ -163,7 +163,7 @@ past (e ∷ es) table r has none =
     past es (added table e) r (has_still table e r.0 has) both.1
     ∙ ap (λ (rows : List Row). fold added rows es) (added-swap table e r differ has)
 
-none_alike : (key other : Key) (es : List Row) → same_key key other ≡ true → has_race other es ≡ false → has_race key es ≡ false
+pub none_alike : (key other : Key) (es : List Row) → same_key key other ≡ true → has_race other es ≡ false → has_race key es ≡ false
 none_alike key other [] same none = refl
 none_alike key other (e ∷ es) same none =
     let both = or_parts (same_key other e.0) (has_race other es) none in

@@ -1,5 +1,5 @@
 -- A hunt has one result, and those of its pieces make it.
-use Rattle.std.proofs.Common.{◌≡◌, ℕ, zero, suc, ◌+◌, ◌-◌, ◌<◌, ◌≤◌, ◌^◌, ◌⊎◌, inl, inr, true, false, List, [], ◌∷◌, ◌++◌, length, length-append, map, take, Bool, Option, Some, refl, sym, ap, subst, ◌∙◌, arith, append_assoc}
+use Rattle.std.proofs.Common.{◌≡◌, ℕ, zero, suc, ◌+◌, ◌-◌, ◌<◌, ◌≤◌, ◌^◌, ◌⊎◌, inl, inr, true, false, List, [], ◌∷◌, ◌++◌, length, length-append, filter_map, map, take, Bool, Option, Some, refl, sym, ap, subst, ◌∙◌, arith, append_assoc}
 use Rattle.std.specs.Prelude.{is_some, slice_get, nat_le, nat_lt, ◌==◌}
 use Rattle.std.specs.List.{fold}
 use Rattle.std.proofs.lemmas.Bool.{cases_lt}
@@ -18,6 +18,7 @@ use Rattle.rv_drive.specs.Sampling.{sampling_of}
 use Rattle.rv_hart.specs.State.{State}
 use Rattle.rv_hunt.proofs.HuntLemmas.{how_many, same_hunted, seen_next, there_is}
 use Rattle.rv_hunt.proofs.MergeLemmas.{two_merged}
+use Rattle.rv_hunt.specs.Changed as changed
 use Rattle.rv_hunt.specs.Hunt.{Hunt, IsSampledRun}
 use Rattle.rv_hunt.specs.Hunted.{AreRuns, IsHunted, is_due, rows_from, rows_of, seen_in, summed}
 use Rattle.rv_hunt.specs.HuntedLaws.{OneResult, PiecesAreWhole, piece}
@@ -107,8 +108,10 @@ same_run once hunt hunted run one other sampled a b =
     let x = a.sampled is in
     let y = b.sampled is in
     let same = alike_runs once hunt run x.left y.left x.is_run y.is_run in
+    let reported = x.reports_are ∙ ap (λ (es : List Entry). reports_of_sampled hunt (begin hunt run) es x.left.endings.items) same.entries ∙ ap (reports_of_sampled hunt (begin hunt run) y.left.entries.items) same.endings ∙ sym y.reports_are in
     same_hunted (same_added hunted.tally _ x.left y.left one.summary other.summary same x.summary y.summary)
-    (ap (λ reports. fold rows.added hunted.table (map (rows.row_of run) reports)) (x.reports_are ∙ ap (λ (es : List Entry). reports_of_sampled hunt (begin hunt run) es x.left.endings.items) same.entries ∙ ap (reports_of_sampled hunt (begin hunt run) y.left.entries.items) same.endings ∙ sym y.reports_are))
+    (ap (λ reports. fold rows.added hunted.table (map (rows.row_of run) reports)) reported)
+    (ap (λ reports. fold changed.added hunted.changed (filter_map (changed.row_if run) reports)) reported)
     (ap (fold near.added hunted.near) (x.near_are ∙ sym y.near_are))
     (ap (λ tried. fold orders.added hunted.orders (map (orders.row_of run) tried)) (x.tried_are ∙ sym y.tried_are))
 

@@ -15,7 +15,6 @@ use Rattle.rv_hunt.specs.declared.orders.OrderRow.{OrderRow}
 use Rattle.rv_hunt.specs.declared.row.RaceRow.{RaceRow}
 use Rattle.rv_hunt.specs.declared.saying.order.Group.{Group}
 use Rattle.rv_hunt.specs.declared.saying.order.Standing.{Standing}
-use Rattle.rv_hunt.specs.merge.Ignore.{is_ignored, is_told}
 use Rattle.rv_report.specs.declared.key.Key.{Key}
 
 abbrev Row : Type 0
@@ -69,17 +68,15 @@ by_class Ordered = refl
 by_class Atomic = refl
 by_class Named = refl
 
-twice : (b : Bool) → b ≡ not (not b)
+pub twice : (b : Bool) → b ≡ not (not b)
 twice true = refl
 twice false = refl
 
 pub each_is_shown_once : EachIsShownOnce
-each_is_shown_once image lines orders rows told weight order =
-    let kept = filter (is_told image lines) rows in
-    let groups = map (group_of image orders) kept in
-    let shown = told_sum weight kept told order.stand order.are in
-    let moved = sum_by-IsPermutation (at weight kept) (standings groups) order.stand order.all in
-    let all = stood image orders weight kept groups 0 kept (λ n row there. ap (λ m. slice_get kept m) (omega arith) ∙ there) in
-    let named = sum_by-filter_both is_shown (is_of Named) (λ row. by_class row.1.class) weight kept in
-    let ignored = sum_by-filter_both (is_told image lines) (is_ignored image lines) (λ row. twice (is_ignored image lines row)) weight rows in
-    omega (arith, shown, moved, all, named, ignored)
+each_is_shown_once image orders races told weight order =
+    let groups = map (group_of image orders) races in
+    let shown = told_sum weight races told order.stand order.are in
+    let moved = sum_by-IsPermutation (at weight races) (standings groups) order.stand order.all in
+    let all = stood image orders weight races groups 0 races (λ n row there. ap (λ m. slice_get races m) (omega arith) ∙ there) in
+    let named = sum_by-filter_both is_shown (is_of Named) (λ row. by_class row.1.class) weight races in
+    omega (arith, shown, moved, all, named)

@@ -1,6 +1,7 @@
 -- What the runs of a hunt saw, and which runs it makes.
-use Rattle.std.specs.Prelude.{◌≡◌, ℕ, Bool, ◌+◌, ◌<◌, true, false, List, [], ◌∷◌, ◌++◌, Some, length, map, slice_get, take}
+use Rattle.std.specs.Prelude.{◌≡◌, ℕ, Bool, ◌+◌, ◌<◌, true, false, List, [], ◌∷◌, ◌++◌, Some, filter_map, length, map, slice_get, take}
 use Rattle.std.specs.List.{flat_map}
+use Rattle.rv_hunt.specs.Changed.{changed_of, row_if}
 use Rattle.rv_hunt.specs.Hunt.{Hunt}
 use Rattle.rv_hunt.specs.KeptRun.{IsOfRun}
 use Rattle.rv_hunt.specs.Near.{near_of}
@@ -8,6 +9,7 @@ use Rattle.rv_hunt.specs.Orders as orders
 use Rattle.rv_hunt.specs.RightEnds.{EndsSeen, has_wrong_end}
 use Rattle.rv_hunt.specs.Rows.{row_of, table_of}
 use Rattle.rv_hunt.specs.Tally.{Tally, reached, tally_of}
+use Rattle.rv_hunt.specs.declared.changed.ChangedKey.{ChangedKey}
 use Rattle.rv_hunt.specs.declared.hunted.Hunted.{Hunted}
 use Rattle.rv_hunt.specs.declared.kept_run.KeptRun.{KeptRun}
 use Rattle.rv_hunt.specs.declared.near.NearRow.{NearRow}
@@ -31,6 +33,15 @@ unfoldable pub rows_from : ℕ → List KeptRun → List (Key × RaceRow)
 rows_from first [] = []
 rows_from first (kept ∷ later) = rows_of first kept ++ rows_from (first + 1) later
 
+-- a row for each changed report of the run of that number
+abbrev pub changed_rows : ℕ → KeptRun → List (ChangedKey × RaceRow)
+changed_rows run kept = filter_map (row_if run) kept.reports.items
+
+-- those of runs from that number on
+unfoldable pub changed_from : ℕ → List KeptRun → List (ChangedKey × RaceRow)
+changed_from first [] = []
+changed_from first (kept ∷ later) = changed_rows first kept ++ changed_from (first + 1) later
+
 -- the near pairs of runs
 abbrev pub near_in : List KeptRun → List (Addresses × NearRow)
 near_in runs = flat_map (λ (kept : KeptRun). kept.near.items) runs
@@ -49,6 +60,7 @@ unfoldable pub seen_in : ℕ → List KeptRun → Hunted
 seen_in first runs = record {
   tally = summed runs;
   table = table_of (rows_from first runs);
+  changed = changed_of (changed_from first runs);
   near = near_of (near_in runs);
   orders = orders.orders_of (tried_from first runs);
 }

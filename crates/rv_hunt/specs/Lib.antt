@@ -1,3 +1,4 @@
+pub mod Changed
 pub mod EndedRows
 pub mod Expected
 pub mod Hunt
@@ -20,6 +21,7 @@ pub mod Remade
 pub mod RightEnds
 pub mod Rows
 pub mod ShownOnce
+pub mod ShownRows
 pub mod Summary
 pub mod Sums
 pub mod Tally

@@ -10,13 +10,14 @@ use Rattle.rv_tally.specs.declared.plans.Mix.{Mix}
 use Rattle.rv_hunt.specs.declared.row.RaceRow.{RaceRow}
 use Rattle.rv_report.specs.declared.key.Key.{Key}
 
--- How many sites the image has without those that are skipped, what its runs are, what they saw, the rows of its races, and those
--- that a line of --ignore fits; whether the list of expected races has a name that the image lacks; and what the image was built with.
+-- How many sites the image has without those that are skipped, what its runs are, what they saw, the rows of its races, these as
+-- they are shown, and those that a line of --ignore fits; whether the list of expected races has a name that the image lacks; and what the image was built with.
 pub record Outcome : Type 0 where
   pub sites : ℕ
   pub mix : Mix
   pub saw : Hunted
   pub rows : List (Key × RaceRow)
+  pub races : List (Key × RaceRow)
   pub ignored : List (Key × RaceRow)
   pub gone : Bool
   pub built : Built

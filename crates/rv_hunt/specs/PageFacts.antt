@@ -69,7 +69,7 @@ aside_row_facts rows facts = if length rows == 0 then facts else Number (length 
 
 abbrev pub aside_facts : Outcome → List Fact → List Fact
 aside_facts outcome facts =
-    let named = of_class Named outcome.rows in
+    let named = of_class Named outcome.races in
     if length named == 0 && length outcome.ignored == 0 then facts else aside_row_facts outcome.ignored (aside_row_facts named (Target Aside ∷ facts))
 
 abbrev pub ended_row_facts : List EndedRow → List Fact → List Fact

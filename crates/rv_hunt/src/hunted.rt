@@ -1,12 +1,14 @@
 //! What the runs of a hunt saw.
 ghost use Rattle.std.specs.Prelude.{◌≡◌, OnOk, map, [], length};
 ghost use Rattle.std.specs.List.{fold};
+ghost use Rattle.rv_hunt.specs.Changed as changed;
 ghost use Rattle.rv_hunt.specs.Hunted as spec;
 ghost use Rattle.rv_hunt.specs.Near as near;
 ghost use Rattle.rv_hunt.specs.Orders as orders;
 ghost use Rattle.rv_hunt.specs.Rows as rows;
 ghost use Rattle.rv_hunt.specs.internal.Lots as internal;
 
+use crate::changed::ChangedTable;
 use crate::kept_run::{KeptRun, PartReport};
 use crate::near::NearTable;
 use crate::orders::OrderTable;
@@ -16,12 +18,13 @@ use crate::tally::Tally;
 use rv_memory::store::NoMemory;
 use std::alloc::Global;
 
-/// What runs saw: the sums over all of them, a row for each race, the near pairs of their walks, and the trials of orders. A row's run is the one that made
+/// What runs saw: the sums over all of them, a row for each race, rows of the changed reports by their pairs, the near pairs of their walks, and the trials of orders. A row's run is the one that made
 /// the report that the race is told by, and its entry the place of that report's pause.
 #[derive(Drop)]
 pub struct Hunted {
     pub tally: Tally,
     pub table: HuntTable,
+    pub changed: ChangedTable,
     pub near: NearTable,
     pub orders: OrderTable,
 }
@@ -39,13 +42,14 @@ fn add_reports(table: &mut HuntTable, run: u32, reports: &[PartReport]) -> Resul
 
 impl Hunted {
     /// What no run has seen.
-    #[tactic(auto, unfolding(crate::specs::Tally::tally_of, crate::specs::Near::near_of, crate::specs::Orders::orders_of))]
+    #[tactic(auto, unfolding(crate::specs::Tally::tally_of, crate::specs::Changed::changed_of, crate::specs::Near::near_of, crate::specs::Orders::orders_of))]
     pub(crate) fn new(alloc: Global) -> Hunted
-        ensures { result ≡ record { tally = spec.summed []; table = []; near = near.near_of []; orders = orders.orders_of [] } }
+        ensures { result ≡ record { tally = spec.summed []; table = []; changed = changed.changed_of []; near = near.near_of []; orders = orders.orders_of [] } }
     {
         Hunted {
             tally: Tally::new(alloc),
             table: HuntTable::new(alloc),
+            changed: ChangedTable::new(alloc),
             near: NearTable::new(alloc),
             orders: OrderTable::new(alloc),
         }
@@ -58,6 +62,7 @@ impl Hunted {
     {
         self.tally.add(&kept.summary)?;
         add_reports(&mut self.table, run, &kept.reports)?;
+        self.changed.add_all(run, &kept.reports)?;
         self.near.add_all(&kept.near)?;
         self.orders.add_all(run, &kept.tried)
     }

@@ -2,7 +2,7 @@
 ghost use Rattle.rv_hunt.specs.HuntLaws.{OriginsAreJoined, PiecesAreMerged, TableIsKept, TwoAreMerged};
 ghost use Rattle.rv_hunt.specs.HuntReadLaws.{TablesAreReadBack};
 ghost use Rattle.rv_hunt.specs.HuntedLaws.{OneResult, PiecesAreWhole, RowsAreTold};
-ghost use Rattle.rv_hunt.specs.ShownOnce.{EachIsShownOnce};
+ghost use Rattle.rv_hunt.specs.ShownOnce.{EachIsCountedOnce, EachIsShownOnce};
 ghost use Rattle.rv_hunt.specs.merge.KnownLaws.{TablesAreExpectedAlike};
 
 use rv_drive::driver_laws::seeded_runs;
@@ -33,9 +33,11 @@ pub fn hunts_have_one_result()
     seeded_runs();
 }
 
-/// Each race that a hunt saw is counted once: it is shown, or it is of class named, or a line of `--ignore` fits it.
+/// Each race as it is shown is shown one by one, or is of class named. Each report that a hunt saw is counted once: with such a race, or
+/// with a row that a line of `--ignore` fits.
 pub fn each_race_is_shown_once()
-    ensures { EachIsShownOnce }
+    ensures shown { EachIsShownOnce }
+    ensures counted { EachIsCountedOnce }
 {}
 
 /// What is expected by a table is the same to `hunt` and to `merge`.

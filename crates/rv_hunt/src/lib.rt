@@ -11,6 +11,7 @@
 #![tactic(auto)]
 
 pub mod aim;
+pub mod changed;
 pub mod code_seen;
 pub mod end_runs;
 pub mod engine;
@@ -35,6 +36,7 @@ pub mod reading;
 pub mod row;
 mod run_walk;
 pub mod saying;
+pub mod shown_rows;
 pub mod stuck;
 pub mod summary;
 pub mod table;

@@ -10,6 +10,7 @@ use Rattle.rv_hunt.specs.Origin.{Origin, image_digits, last_line, stretch_on}
 use Rattle.rv_hunt.specs.Outcome.{Outcome}
 use Rattle.rv_hunt.specs.PageFacts.{page_facts}
 use Rattle.rv_hunt.specs.RightEnds.{has_wrong_end, right_codes}
+use Rattle.rv_hunt.specs.ShownRows.{shown_rows}
 use Rattle.rv_hunt.specs.ToldOrder.{AreInOrder, benign, bugs}
 use Rattle.rv_hunt.specs.Warnings.{is_void}
 use Rattle.rv_hunt.specs.declared.hunted.Hunted.{Hunted}
@@ -117,6 +118,10 @@ told_in hunting saw = filter (is_told hunting.hunt.source.image hunting.ignored)
 abbrev pub ignored_by : Hunting → Hunted → List (Key × RaceRow)
 ignored_by hunting saw = filter (is_ignored hunting.hunt.source.image hunting.ignored) saw.table
 
+-- the races as they are shown
+abbrev pub shown_in : Hunting → Hunted → List (Key × RaceRow)
+shown_in hunting saw = shown_rows (told_in hunting saw) saw.changed
+
 -- what a hunt came to
 abbrev pub outcome : Hunting → Hunted → Outcome
 outcome hunting saw = record {
@@ -124,6 +129,7 @@ outcome hunting saw = record {
   mix = hunting.hunt.given.mix;
   saw = saw;
   rows = told_in hunting saw;
+  races = shown_in hunting saw;
   ignored = ignored_by hunting saw;
   gone = has_gone hunting.hunt.source.image hunting.expected;
   built = hunting.built;
@@ -146,9 +152,9 @@ full_of Table files blocks = if files then blocks else 0
 -- how many races may be a bug, how many are likely benign, whether one that may be a bug is not expected, and how many stuck ends are
 -- shown; whether a hart ended as it should not, and whether that there is no race would mean nothing
 abbrev pub found_in : List (Key × RaceRow) → List (Key × RaceRow) → ℕ → Bool → Bool → Found
-found_in unexpected rows stuck wrong void = record {
-  bugs = bugs rows;
-  benign = benign rows;
+found_in unexpected races stuck wrong void = record {
+  bugs = bugs races;
+  benign = benign races;
   is_unexpected = nat_lt 0 (length unexpected);
   stuck = stuck;
   has_wrong_end = wrong;
@@ -156,7 +162,7 @@ found_in unexpected rows stuck wrong void = record {
 }
 
 abbrev pub found_of : Hunting → Hunted → ℕ → Bool → Found
-found_of hunting saw stuck wrong = found_in (new_in hunting saw) (told_in hunting saw) stuck wrong (is_void (outcome hunting saw))
+found_of hunting saw stuck wrong = found_in (new_in hunting saw) (shown_in hunting saw) stuck wrong (is_void (outcome hunting saw))
 
 -- what the standard output gets, how many races are shown in full, the version of the program, and what was given of the runs
 pub record Showing : Type 0 where
@@ -195,7 +201,7 @@ pub record IsMade (way : Showing) (hunting : Hunting) (Saves : ℕ → List ℕ 
   pub saw : Hunted
   pub hunted : IsHunted hunting.hunt saw
   pub told : List (Key × RaceRow)
-  pub order : AreInOrder hunting.hunt.source.image saw.orders (told_in hunting saw) told
+  pub order : AreInOrder hunting.hunt.source.image saw.orders (shown_in hunting saw) told
   pub shown : List ShownRace
   pub are_shown : AreShown hunting.hunt Saves (take way.full told) shown
   pub orders : List ShownOrder

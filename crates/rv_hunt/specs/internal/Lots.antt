@@ -1,8 +1,9 @@
 -- Runs that are made together, before what they saw is added up.
 use Rattle.std.specs.Prelude.{◌≡◌, ℕ, ◌+◌, List, Some, slice_get}
 use Rattle.std.specs.List.{fold}
+use Rattle.rv_hunt.specs.Changed as changed
 use Rattle.rv_hunt.specs.Hunt.{Hunt}
-use Rattle.rv_hunt.specs.Hunted.{rows_of, tried_of}
+use Rattle.rv_hunt.specs.Hunted.{changed_rows, rows_of, tried_of}
 use Rattle.rv_hunt.specs.KeptRun.{IsOfRun}
 use Rattle.rv_hunt.specs.Near as near
 use Rattle.rv_hunt.specs.Orders as orders
@@ -26,6 +27,7 @@ unfoldable pub with_run : Hunted → ℕ → KeptRun → Hunted
 with_run hunted run kept = record {
   tally = tally.added hunted.tally kept.summary;
   table = fold added hunted.table (rows_of run kept);
+  changed = fold changed.added hunted.changed (changed_rows run kept);
   near = fold near.added hunted.near kept.near.items;
   orders = fold orders.added hunted.orders (tried_of run kept);
 }

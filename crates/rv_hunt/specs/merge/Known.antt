@@ -10,6 +10,7 @@ use Rattle.rv_hunt.specs.Rows.{has_race}
 use Rattle.rv_hunt.specs.declared.row.RaceRow.{RaceRow}
 use Rattle.rv_hunt.specs.merge.FileFault.{plainly, told_ignore}
 use Rattle.rv_hunt.specs.merge.Ignore.{has_unknown, is_ignored, lines_from}
+use Rattle.rv_hunt.specs.merge.TableFiles.{expected_rows}
 use Rattle.rv_hunt.specs.declared.merge.fault.FileFault.{FileFault}
 use Rattle.rv_hunt.specs.declared.merge.known.Known.{Known}
 use Rattle.rv_hunt.specs.declared.merge.known.Known.TheVariants.{Table, Lines}

@@ -11,6 +11,7 @@ ghost use Rattle.rv_hunt.specs.RightEnds.{right_codes};
 ghost use Rattle.rv_hunt.specs.internal.MakeFault.{fails_by_write};
 ghost use Rattle.rv_hunt.specs.internal.Opened.{hunt_in, hunting_with, texts_in};
 ghost use Rattle.rv_hunt.specs.PageFacts.{page_facts};
+ghost use Rattle.rv_hunt.specs.ShownRows.{shown_rows};
 
 use crate::aim::Aim;
 use crate::code_seen::code_seen;
@@ -38,6 +39,7 @@ use crate::page::parts::Outcome;
 use crate::row::RaceRow;
 use crate::saying::order::{benign, bugs, told_rows};
 use crate::saying::warnings::{first_notes, is_void};
+use crate::shown_rows::shown_rows;
 use rv_campaign::PoolFault;
 use rv_engines::new_file::NewFile;
 use rv_explain::symbol_table::SymbolTable;
@@ -92,6 +94,18 @@ fn texts_of(
     }
 }
 
+/// The races of what a hunt saw as they are shown, of the rows that are told.
+fn shown_of(
+    alloc: Global,
+    saw: &Hunted,
+    told: &[(Key, RaceRow)],
+) -> Result<Vec<(Key, RaceRow)>, NoMemory>
+    ensures { IfOk result (λ races. races.items ≡ shown_rows told.now saw.now.changed) }
+{
+    let changed = saw.changed.rows(alloc)?;
+    shown_rows(alloc, told, &changed)
+}
+
 /// The rows of what a hunt saw: those that are told, and those that are ignored.
 fn parted_rows(
     alloc: Global,
@@ -108,19 +122,19 @@ fn parted_rows(
     part_rows(alloc, symbols, &lists.ignored, &rows)
 }
 
-/// What was found, by the rows of the races that are new, those of all that are told, the stuck ends that are shown, how harts ended, and the warnings.
+/// What was found, by the rows of the races that are new, the races as they are shown, the stuck ends that are shown, how harts ended, and the warnings.
 fn found_in(
     unexpected: &[(Key, RaceRow)],
-    rows: &[(Key, RaceRow)],
+    races: &[(Key, RaceRow)],
     stuck: &[ShownStuck],
     has_wrong_end: bool,
     is_void: bool,
 ) -> Found
-    ensures { result ≡ spec.found_in unexpected.now rows.now (length stuck.now) has_wrong_end is_void }
+    ensures { result ≡ spec.found_in unexpected.now races.now (length stuck.now) has_wrong_end is_void }
 {
     Found {
-        bugs: bugs(rows),
-        benign: benign(rows),
+        bugs: bugs(races),
+        benign: benign(races),
         is_unexpected: !unexpected.is_empty(),
         stuck: stuck.len() as u64,
         has_wrong_end,
@@ -217,7 +231,8 @@ fn made_of<R: Threads + Wait, D: Folder, F: NewFile, P: Watch>(
     let stuck = stuck_ends(alloc, hunt, symbols, &noted.stuck, folder)?;
     save_ends(alloc, hunt, saw.tally.ended(), &noted.ends, folder)?;
     let parted = parted_rows(alloc, hunt, symbols, lists, saw)?;
-    let told = told_rows(alloc, symbols, &saw.orders, &parted.told)?;
+    let races = shown_of(alloc, saw, &parted.told)?;
+    let told = told_rows(alloc, symbols, &saw.orders, &races)?;
     let unexpected = new_races(alloc, symbols, &lists.expected, &parted.told)?;
     let outcome = Outcome {
         sites: hunt.sampler.len() as u64,
@@ -227,6 +242,7 @@ fn made_of<R: Threads + Wait, D: Folder, F: NewFile, P: Watch>(
         ends: &noted.ends,
         stuck: &stuck,
         rows: &parted.told,
+        races: &races,
         ignored: &parted.ignored,
         new: &unexpected,
         gone: gone(alloc, symbols.image(), &lists.expected)?,
@@ -273,7 +289,7 @@ fn made_of<R: Threads + Wait, D: Folder, F: NewFile, P: Watch>(
     Ok(Made {
         found: found_in(
             &unexpected,
-            &parted.told,
+            &races,
             &stuck.shown,
             noted.ends.is_wrong(),
             is_void(&outcome),

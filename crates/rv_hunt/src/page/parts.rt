@@ -10,8 +10,8 @@ use rv_tally::plans::Mix;
 use std::marker::Model;
 
 /// What a hunt came to: how many sites there are, what its runs are, what they saw, how much of the code they executed, in which
-/// runs harts first ended in each way, the stuck ends, the rows of its races, those that are ignored, those that may be bugs and are not
-/// expected, the first line of the list of expected ones with a name that the image lacks, and what the image was built with.
+/// runs harts first ended in each way, the stuck ends, the rows of its races, the races as they are shown, the rows that are ignored, those
+/// that may be bugs and are not expected, the first line of the list of expected ones with a name that the image lacks, and what the image was built with.
 #[derive(Drop)]
 pub struct Outcome<'a> {
     pub sites: u64,
@@ -21,6 +21,7 @@ pub struct Outcome<'a> {
     pub ends: &'a EndRuns,
     pub stuck: &'a StuckEnds,
     pub rows: &'a [(Key, RaceRow)],
+    pub races: &'a [(Key, RaceRow)],
     pub ignored: &'a [(Key, RaceRow)],
     pub new: &'a [(Key, RaceRow)],
     pub gone: Option<u64>,
@@ -33,5 +34,5 @@ impl<'a> Model for Outcome<'a> {
 
     ghost Value = { Came };
 
-    ghost view = { λ o. record { sites = o.sites; mix = o.mix; saw = o.saw.now; rows = o.rows.now; ignored = o.ignored.now; gone = is_some o.gone; built = o.built } };
+    ghost view = { λ o. record { sites = o.sites; mix = o.mix; saw = o.saw.now; rows = o.rows.now; races = o.races.now; ignored = o.ignored.now; gone = is_some o.gone; built = o.built } };
 }

@@ -81,7 +81,7 @@ fn aside_row(page: Markup, word: &[u8], rows: &[(Key, RaceRow)]) -> Result<Marku
 pub(crate) fn aside_part(page: Markup, alloc: Global, outcome: &Outcome) -> Result<Markup, NoMemory>
     ensures { IfOk result (λ more. more ≡ record page { facts = spec.aside_facts outcome.now page.facts }) }
 {
-    let named = of_class(alloc, outcome.rows, RaceClass::Named)?;
+    let named = of_class(alloc, outcome.races, RaceClass::Named)?;
     if named.is_empty() && outcome.ignored.is_empty() {
         return Ok(page);
     }

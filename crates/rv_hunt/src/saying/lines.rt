@@ -21,9 +21,9 @@ use std::alloc::Global;
 /// The first line.
 pub(crate) fn summary_line(alloc: Global, outcome: &Outcome) -> Result<String, NoMemory> {
     let saw = &outcome.saw.tally;
-    let bugs = bugs(outcome.rows);
-    let benign = benign(outcome.rows);
-    let apart = match unwatched(outcome.rows) {
+    let bugs = bugs(outcome.races);
+    let benign = benign(outcome.races);
+    let apart = match unwatched(outcome.races) {
         0 => String::new(alloc),
         number => format!(in alloc; ", unwatched {number}")?,
     };
@@ -270,7 +270,7 @@ pub(crate) fn push_behind(
     symbols: &SymbolTable,
     outcome: &Outcome,
 ) -> Result<(), NoMemory> {
-    let named = of_class(alloc, outcome.rows, RaceClass::Named)?;
+    let named = of_class(alloc, outcome.races, RaceClass::Named)?;
     push_apart(alloc, text, "named", &named)?;
     push_apart(alloc, text, "ignored", outcome.ignored)?;
     push_ended(alloc, text, symbols, outcome)?;
