@@ -1,5 +1,6 @@
 pub mod Both
 pub mod CodeLemmas
+pub mod CopyLemmas
 pub mod Frame
 pub mod InPages
 pub mod Lie

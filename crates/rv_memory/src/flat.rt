@@ -6,6 +6,7 @@ ghost use Rattle.rv_memory.specs.internal.Code.{IsCode};
 ghost use Rattle.rv_memory.specs.internal.Index.{Skips};
 
 use crate::code::Code;
+use crate::copies::{AT_ONCE, add_copies};
 use crate::fit::fault_of_both;
 use crate::index::{first_of, index_of};
 use crate::region::Region;
@@ -275,7 +276,7 @@ fn fill(alloc: Global, region: &Region) -> Result<Region, NoMemory>
     let len = region.len as usize;
     let mut bytes = Vec::with_capacity(alloc, len)?;
     bytes.extend_from_slice(&region.bytes)?;
-    bytes.resize(len, 0)?;
+    add_copies(&mut bytes, &[0; AT_ONCE], 0, len - region.bytes.len())?;
     Ok(Region {
         start: region.start,
         bytes,

@@ -11,6 +11,7 @@
 
 pub mod buffered;
 mod code;
+mod copies;
 mod fit;
 pub mod flagged;
 pub mod flat;
