@@ -160,10 +160,11 @@ memory_refused (Some i) (Some s) draws wanted told is = subst (λ (t : Refusal).
 
 -- ---- what is written
 
-pub no_writer : (file writer failed : Bool) → failed ≡ false → (file || writer) ≡ (file || writer || failed)
-no_writer true writer failed is = refl
-no_writer false true failed is = refl
-no_writer false false failed is = sym is
+pub no_writer : (file other writer failed : Bool) → failed ≡ false → (file || other || writer) ≡ (file || other || writer || failed)
+no_writer true other writer failed is = refl
+no_writer false true writer failed is = refl
+no_writer false false true failed is = refl
+no_writer false false false failed is = sym is
 
 -- the same where what is wanted is known by a test
 pub refused_by : (image schedule : Option (List ℕ)) (draws tested : Bool) (wanted : Asking) (told : Refusal) → draws ≡ tested → IfKnown image schedule (λ i s. IsExplainRefusal draws wanted i s told)

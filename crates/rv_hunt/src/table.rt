@@ -52,7 +52,7 @@ impl HuntTable {
     }
 
     /// The row of a race, where there is one.
-    fn row(&self, key: &Key) -> Option<RaceRow>
+    pub(crate) fn row(&self, key: &Key) -> Option<RaceRow>
         ensures { result ≡ keyed.row_at same_key self.now key.now }
     {
         self.rows.get(key).copied()

@@ -18,7 +18,7 @@ returns-in_err-blocks-clause-refused g c =
 pub returns-in_err-blocks-clause-writers : goal.returns-in_err-blocks-clause-writers
 returns-in_err-blocks-clause-writers g c =
     let p = err_from_is_err_and c.from_residual-in_err-blocks.result c.from_residual-in_err-blocks.ensures.1 in
-    rw (p.1, p.2) (no_writer (passes g.F.NewFile.has_failed c.args.picture.now) (buffer.has_failed c.args.writer.now) _ c.in_err-blocks.ensures.writer)
+    rw (p.1, p.2) (no_writer (passes g.F.NewFile.has_failed c.args.picture.now) (passes g.F.NewFile.has_failed c.args.json.now) (buffer.has_failed c.args.writer.now) _ c.in_err-blocks.ensures.writer)
 
 pub returns-in_err-symbols-clause-refused : goal.returns-in_err-symbols-clause-refused
 returns-in_err-symbols-clause-refused g c =
@@ -28,7 +28,7 @@ returns-in_err-symbols-clause-refused g c =
 pub returns-in_err-symbols-clause-writers : goal.returns-in_err-symbols-clause-writers
 returns-in_err-symbols-clause-writers g c =
     let p = err_from_is_err_and c.from_residual-in_err-symbols.result c.from_residual-in_err-symbols.ensures.1 in
-    rw p.1 (no_writer (passes g.F.NewFile.has_failed c.args.picture.now) (buffer.has_failed c.args.writer.now) _ (ap is_write p.2))
+    rw p.1 (no_writer (passes g.F.NewFile.has_failed c.args.picture.now) (passes g.F.NewFile.has_failed c.args.json.now) (buffer.has_failed c.args.writer.now) _ (ap is_write p.2))
 
 pub returns-in_err-texts-clause-refused : goal.returns-in_err-texts-clause-refused
 returns-in_err-texts-clause-refused g c =
@@ -38,7 +38,7 @@ returns-in_err-texts-clause-refused g c =
 pub returns-in_err-texts-clause-writers : goal.returns-in_err-texts-clause-writers
 returns-in_err-texts-clause-writers g c =
     let p = err_from_is_err_and c.from_residual-in_err-texts.result c.from_residual-in_err-texts.ensures.1 in
-    rw p.1 (no_writer (passes g.F.NewFile.has_failed c.args.picture.now) (buffer.has_failed c.args.writer.now) _ (ap is_write p.2))
+    rw p.1 (no_writer (passes g.F.NewFile.has_failed c.args.picture.now) (passes g.F.NewFile.has_failed c.args.json.now) (buffer.has_failed c.args.writer.now) _ (ap is_write p.2))
 
 pub returns-in-Ok-clause-told : goal.returns-in-Ok-clause-told
 returns-in-Ok-clause-told g c =
