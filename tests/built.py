@@ -20,12 +20,13 @@ TABLE_SENTENCES = {
     "Shape": "the line is not the row of a race: is this a table of hunt?",
     "Range": "a number or an address of the row is out of range",
     "Twice": "the race has a row already: use merge to add tables",
-    "End": "there are not as many rows as the first line says: was the file cut off?",
-    "Image": "the table is of another image than the first one",
-    "Version": "the table was made by another version of rvcollide than the first one",
+    "End": "there are not as many rows as the first line says, or no last line says what they are of: was it cut off?",
+    "Image": "the table is of another image than the one that is given, or than the first table",
+    "Version": "the table was made by another version of rvcollide than this one, or than the first table",
     "Options": "the runs of the table had another seed or other options than those of the first one",
     "Overlap": "the table has runs that another table has, or that come before the last of another: leave one out",
     "Gap": "runs are missing before those of the table: add their table, or allow it by --gaps",
+    "NotMet": "the run of the row makes no such report: was the table edited?",
 }
 
 # What `merge` warns of where a table doesn't say what it is of.

@@ -1,7 +1,10 @@
 #!/usr/bin/env bash
-# A hunt in pieces by Slurm: an array job of the pieces, and a job that merges their tables when all have ended well.
-#   slurm.sh IMAGE RUNS PIECES [OPTION ..]      then the table is in IMAGE.pieces/table, on a file system that the nodes share
-# RUNS is how many runs there are in all, a multiple of PIECES. The options are those of `hunt`. rvcollide is on the nodes' path.
+# A hunt in pieces by Slurm: an array job of the pieces, and a job that merges their tables when all have ended well and shows the races.
+#   slurm.sh IMAGE RUNS PIECES KNOWN [OPTION ..]
+# RUNS is how many runs there are in all, a multiple of PIECES. KNOWN is a table or a list of the races that are known, an empty file where
+# none are. The options are those of `hunt` that change its runs. rvcollide is on the nodes' path.
+# In IMAGE.pieces, on a file system that the nodes share, are then: table, races (the text), races.html and saved (the schedules). The status of
+# the last job is that of `show`: 5 if a race is new.
 # Slurm starts a piece again whose node fails (--requeue); one that fails or is killed asks for that itself, four times at most.
 set -eu
 if [ "${SLURM_ARRAY_TASK_ID-}" ]; then
@@ -13,13 +16,18 @@ if [ "${SLURM_ARRAY_TASK_ID-}" ]; then
     fi
     exec mv "$table.new" "$table"
 fi
-if [ $# -lt 3 ]; then
-    sed -n 's/^# //; 2,5p' "$0" >&2
+if [ $# -lt 4 ]; then
+    sed -n 's/^# //; 2,8p' "$0" >&2
     exit 2
 fi
-image=$1 runs=$2 pieces=$3
-shift 3
-mkdir -p "$image.pieces"
-tables=$(seq -f "$image.pieces/%g.table" 0 $((pieces - 1)) | tr '\n' ' ')
-job=$(sbatch --parsable --requeue --open-mode=append --array=0-$((pieces - 1)) --output="$image.pieces/%a.seen" "$0" "$image" $((runs / pieces)) "$@")
-sbatch --dependency=afterok:"$job" --output="$image.pieces/merged" --wrap="rvcollide merge $tables > $image.pieces/table"
+image=$1 runs=$2 pieces=$3 known=$4
+shift 4
+folder=$image.pieces
+mkdir -p "$folder"
+tables=$(seq -f "$folder/%g.table" 0 $((pieces - 1)) | tr '\n' ' ')
+job=$(sbatch --parsable --requeue --open-mode=append --array=0-$((pieces - 1)) --output="$folder/%a.seen" "$0" "$image" $((runs / pieces)) "$@")
+sbatch --dependency=afterok:"$job" --output="$folder/merged" --wrap="set -e
+rvcollide merge $tables > $folder/table
+rm -rf $folder/saved
+mkdir $folder/saved
+rvcollide show $image $folder/table --expect $known --page $folder/races.html --save-to $folder/saved > $folder/races"

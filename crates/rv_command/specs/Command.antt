@@ -12,6 +12,7 @@ use Rattle.rv_command.specs.ExplainLine.{asking_at}
 use Rattle.rv_command.specs.HuntLine.{Hunting, hunting, hunting_at}
 use Rattle.rv_command.specs.MergeLine.{are_tables, expected_first, gaps_at, option_last, tables_before}
 use Rattle.rv_command.specs.RunLine.{plan_at, request_at}
+use Rattle.rv_command.specs.ShowLine.{Showing, showing, showing_at}
 use Rattle.rv_command.specs.Values.{number_at}
 use Rattle.rv_command.specs.declared.command.Job.{Job}
 use Rattle.rv_command.specs.declared.command.exhibit.TheConstants.{MOST_ENDING}
@@ -32,10 +33,11 @@ pub data Asked : Type 0 where
   Run : (image : Text) → (wanted : Request) → (save : Option Text) → Asked
   Threads : (image : Text) → (plan : Numbers) → (seed : ℕ) → (save : Option Text) → Asked
   Exhibit : (image schedule : Text) → (number : ℕ) → Asked
-  Explain : (image schedule : Text) → (wanted : Asking) → (picture : Option Text) → Asked
+  Explain : (image schedule : Text) → (wanted : Asking) → (picture json : Option Text) → Asked
   Gdb : (image schedule : Text) → Asked
   Hunt : (image : Text) → (wanted : Hunting) → Asked
   Merge : (tables : List Text) → (expected : Option Text) → (gaps : Bool) → Asked
+  Show : (image table : Text) → (wanted : Showing) → Asked
 
 -- what a job asks for: each of its paths in its own role
 abbrev pub asked : Job → Asked
@@ -47,10 +49,11 @@ asked (job.Debug image schedule) = Debug image.0.now schedule.0.now
 asked (job.Run image options save) = Run image.0.now (request options) (option_map (λ path. path.0.now) save)
 asked (job.Threads image plan seed save) = Threads image.0.now (numbers plan) seed (option_map (λ path. path.0.now) save)
 asked (job.Exhibit image schedule number) = Exhibit image.0.now schedule.0.now number
-asked (job.Explain image schedule options picture) = Explain image.0.now schedule.0.now (asking options) (option_map (λ path. path.0.now) picture)
+asked (job.Explain image schedule options picture json) = Explain image.0.now schedule.0.now (asking options) (option_map (λ path. path.0.now) picture) (option_map (λ path. path.0.now) json)
 asked (job.Gdb image schedule) = Gdb image.0.now schedule.0.now
 asked (job.Hunt image line) = Hunt image.0.now (hunting line)
 asked (job.Merge tables expected gaps) = Merge (texts tables.0.now) (option_map (λ path. path.0.now) expected) gaps
+asked (job.Show image table line) = Show image.0.now table.0.now (showing line)
 
 -- ---- what the arguments of each command mean, in what `clap` finds
 
@@ -84,10 +87,13 @@ threads_at rows = option_and_then (λ image. option_and_then (λ plan. option_ma
     (number_at (codes "seed") 0 MOST_SEED rows)) (plan_at rows)) (first_of (codes "IMAGE") rows)
 
 abbrev pub explain_at : List Row → Option Asked
-explain_at rows = option_and_then (λ saved. option_map (λ wanted. Explain saved.0 saved.1 wanted (first_of (codes "picture") rows)) (asking_at rows)) (saved_at rows)
+explain_at rows = option_and_then (λ saved. option_map (λ wanted. Explain saved.0 saved.1 wanted (first_of (codes "picture") rows) (first_of (codes "json") rows)) (asking_at rows)) (saved_at rows)
 
 abbrev pub hunt_at : List Row → Option Asked
 hunt_at rows = option_and_then (λ image. option_map (λ wanted. Hunt image wanted) (hunting_at rows)) (first_of (codes "IMAGE") rows)
+
+abbrev pub show_at : List Row → Option Asked
+show_at rows = option_and_then (λ image. option_and_then (λ table. option_map (λ wanted. Show image table wanted) (showing_at rows)) (first_of (codes "TABLE") rows)) (first_of (codes "IMAGE") rows)
 
 -- `merge` with the option before the tables
 abbrev pub option_first : Bool → List Text → Option Asked
@@ -118,7 +124,8 @@ job_at command rows =
     else (if bytes_eq command (codes "exhibit") then exhibit_at rows
     else (if bytes_eq command (codes "explain") then explain_at rows
     else (if bytes_eq command (codes "hunt") then hunt_at rows
-    else None))))))))))
+    else (if bytes_eq command (codes "show") then show_at rows
+    else None)))))))))))
 
 abbrev pub found_job : Text → Text × List Row → Option Asked
 found_job command found = job_at command found.1

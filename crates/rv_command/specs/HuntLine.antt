@@ -36,6 +36,8 @@ pub record Hunting : Type 0 where
   pub save_to : Option Text
   pub page : Option Text
   pub list : Option Text
+  pub table_to : Option Text
+  pub json : Option Text
   pub blocks : ℕ
   pub shows_table : Bool
   pub checks : Bool
@@ -69,6 +71,8 @@ hunting line = record {
   save_to = option_map (λ path. path.0.now) line.save_to;
   page = option_map (λ path. path.0.now) line.page;
   list = option_map (λ path. path.0.now) line.list;
+  table_to = option_map (λ path. path.0.now) line.table_to;
+  json = option_map (λ path. path.0.now) line.json;
   blocks = line.blocks;
   shows_table = line.shows_table;
   checks = line.checks;
@@ -165,6 +169,8 @@ hunting_at rows =
       save_to = first_of (codes "save-to") rows;
       page = first_of (codes "page") rows;
       list = first_of (codes "list") rows;
+      table_to = first_of (codes "table-to") rows;
+      json = first_of (codes "json") rows;
       blocks = blocks;
       shows_table = flag_at (codes "table") rows;
       checks = flag_at (codes "check") rows;

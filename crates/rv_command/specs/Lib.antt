@@ -6,6 +6,7 @@ pub mod HuntLine
 pub mod MergeLine
 pub mod Notice
 pub mod RunLine
+pub mod ShowLine
 pub mod Status
 pub mod Values
 pub mod internal

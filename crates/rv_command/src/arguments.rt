@@ -28,6 +28,14 @@ pub struct PagePath<'a>(pub &'a str);
 #[derive(Clone, Copy, Debug, PartialEq, Eq)]
 pub struct ListPath<'a>(pub &'a str);
 
+/// The path of a file for a table of races.
+#[derive(Clone, Copy, Debug, PartialEq, Eq)]
+pub struct TableToPath<'a>(pub &'a str);
+
+/// The path of a file for what was found as JSON.
+#[derive(Clone, Copy, Debug, PartialEq, Eq)]
+pub struct JsonPath<'a>(pub &'a str);
+
 /// The path of a folder for schedules.
 #[derive(Clone, Copy, Debug, PartialEq, Eq)]
 pub struct FolderPath<'a>(pub &'a str);

@@ -25,11 +25,12 @@ pub mod merge;
 pub mod number;
 pub mod paths;
 pub mod run;
+pub mod show;
 pub mod subcommand;
 pub mod threads;
 
 use crate::arguments::{
-    ImagePath, PicturePath, SavePath, SchedulePath, SourcePath, TablePath, TablePaths,
+    ImagePath, JsonPath, PicturePath, SavePath, SchedulePath, SourcePath, TablePath, TablePaths,
 };
 use crate::command::commands::COMMANDS;
 use crate::command::complaint::Complaint;
@@ -40,6 +41,7 @@ use crate::command::hunt::{HuntLine, hunt_of};
 use crate::command::merge::merge_of;
 use crate::command::paths::{asm_of, debug_of, gdb_of, list_of, replay_of};
 use crate::command::run::run_of;
+use crate::command::show::{ShowLine, show_of};
 use crate::command::subcommand::with_subcommands;
 use crate::command::threads::threads_of;
 use clap::error::ErrorKind;
@@ -102,6 +104,7 @@ pub enum Job<'a> {
         schedule: SchedulePath<'a>,
         options: ExplainOptions<'a>,
         picture: Option<PicturePath<'a>>,
+        json: Option<JsonPath<'a>>,
     },
     /// `gdb IMAGE SCHEDULE`: serve a schedule to GDB.
     Gdb {
@@ -118,6 +121,12 @@ pub enum Job<'a> {
         tables: TablePaths<'a>,
         expected: Option<TablePath<'a>>,
         gaps: bool,
+    },
+    /// `show IMAGE TABLE` with its options: make the runs of a table's rows again, and tell each race for a person.
+    Show {
+        image: ImagePath<'a>,
+        table: TablePath<'a>,
+        line: ShowLine<'a>,
     },
 }
 
@@ -349,6 +358,7 @@ fn job_at<'a>(command: &str, given: &ArgMatches<'a>) -> Result<Job<'a>, Complain
         "exhibit" => exhibit_of(given),
         "explain" => explain_of(given),
         "hunt" => hunt_of(given),
+        "show" => show_of(given),
         // Its tables do not stand together, or it were a job before `clap` read it.
         "merge" => Err(Complaint::Tables),
         _ => path_job_at(command, given).ok_or(Complaint::Words),
@@ -362,6 +372,7 @@ fn path_job_at<'a>(command: &str, given: &ArgMatches<'a>) -> Option<Job<'a>>
     requires exhibit { bytes_eq command.now (codes "exhibit") ≡ false }
     requires explain { bytes_eq command.now (codes "explain") ≡ false }
     requires hunt { bytes_eq command.now (codes "hunt") ≡ false }
+    requires show { bytes_eq command.now (codes "show") ≡ false }
     ensures { option_map spec.asked result ≡ spec.job_at command.now (rows_of (found_of given.now)) }
 {
     match command {

@@ -4,7 +4,7 @@ use crate::exhibit::{HIT, ILLEGAL, NO_PLAN, P, QUIET, STORES, long_schedule};
 use crate::images::file_of;
 use crate::kept::Kept;
 use rv_engines::explain::engine::run_explain;
-use rv_engines::explain::options::ExplainOptions;
+use rv_engines::explain::options::{About, ExplainOptions};
 use rv_engines::fault::Fault;
 use rv_engines::run::fault::CommandFault;
 use rv_engines::sentences::{FaultLine, Paths};
@@ -29,6 +29,11 @@ const PLAIN: ExplainOptions<'static> = ExplainOptions {
     race: None,
 };
 
+const ABOUT: About<'static> = About {
+    path: "a.elf",
+    version: "0.1.0",
+};
+
 /// The bytes of these listed ranges.
 fn bytes_of(rt: &impl Abort, alloc: Global, ranges: &[(u32, u32)]) -> NamedBytes {
     let listed = ranges.to_vec(alloc).expect(rt, "ranges");
@@ -44,12 +49,15 @@ fn told<'a, W: Write>(
     picture: &mut Option<Kept>,
     writer: &mut Buffered<W>,
 ) -> Result<(), CommandFault<'a>> {
+    let mut none: Option<Kept> = None;
     run_explain(
         alloc,
         options,
+        &ABOUT,
         &mut Flagged::new(image),
         &mut Flagged::new(schedule),
         picture,
+        &mut none,
         writer,
     )
 }
@@ -270,7 +278,17 @@ fn read_by<I: Read, S: Read>(
 ) -> Result<(), Fault> {
     let mut writer = Buffered::new(alloc, Vec::new(alloc));
     let mut none: Option<Kept> = None;
-    plain(run_explain(alloc, &PLAIN, image, schedule, &mut none, &mut writer))
+    let mut object: Option<Kept> = None;
+    plain(run_explain(
+        alloc,
+        &PLAIN,
+        &ABOUT,
+        image,
+        schedule,
+        &mut none,
+        &mut object,
+        &mut writer,
+    ))
 }
 
 #[test]

@@ -1,6 +1,6 @@
 -- What two files and the options of `explain` come to, and why they are refused.
-use Rattle.std.proofs.Common.{◌≡◌, ℕ, Bool, true, false, true≢false, List, length, Option, Some, None, Ok, Err, refl, sym, ap, subst, ◌∙◌}
-use Rattle.std.specs.Prelude.{◌==◌, ◌||◌, ◌&&◌, if◌then◌else◌, find}
+use Rattle.std.proofs.Common.{◌≡◌, ℕ, Bool, true, false, true≢false, List, [], length, Option, Some, None, Ok, Err, refl, sym, ap, subst, ◌∙◌}
+use Rattle.std.specs.Prelude.{◌==◌, ◌||◌, ◌&&◌, IfSome, if◌then◌else◌, find, is_some}
 use Rattle.std.specs.Result.{IsOk}
 use Rattle.rv_collide.specs.Legal.{IsLegal}
 use Rattle.rv_collide.specs.Plan.{Numbers}
@@ -14,13 +14,14 @@ use Rattle.rv_explain.specs.Blocks.{RaceShown}
 use Rattle.rv_explain.specs.Explained.{blocks_asked}
 use Rattle.rv_explain.specs.Races.{AreTold, Found, Run, found, found_of, run_of as placed_run}
 use Rattle.rv_races.specs.declared.races.Race.{Race}
+use Rattle.rv_markup.specs.Markup.{IsDocument}
 use Rattle.rv_memory.specs.Chain.{◌>>=◌}
 use Rattle.rv_prune.specs.Ranges.{is_unknown, ranges}
 use Rattle.rv_engines.proofs.ReplayLemmas.{entry_told}
 use Rattle.rv_engines.specs.Asking.{Asking}
-use Rattle.rv_engines.specs.Campaigns.{elements, listed, unless_some}
+use Rattle.rv_engines.specs.Campaigns.{IfWanted, elements, listed, unless_some}
 use Rattle.rv_engines.specs.CommandFault.{Refusal, Plain, Name, NoThread, NoRace, IsTold, is_thread, plainly}
-use Rattle.rv_engines.specs.Explains.{IsExplainRefusal, IsOfLegal, explain_of, if_drawn, run_in, shown_in, shown_in_run, unless_none}
+use Rattle.rv_engines.specs.Explains.{IsAnObject, IsDrawn, IsExplainRefusal, IsObjected, IsOfLegal, explain_of, if_drawn, run_in, shown_in, shown_in_run, unless_none}
 use Rattle.rv_engines.specs.Fault.{fault_of_replay}
 use Rattle.rv_engines.specs.Replay.{IfKnown, IsReplayRefusal, run_of}
 use Rattle.rv_engines.specs.declared.explain.opening.Opened.{Opened}
@@ -160,10 +161,11 @@ memory_refused (Some i) (Some s) draws wanted told is = subst (λ (t : Refusal).
 
 -- ---- what is written
 
-pub no_writer : (file writer failed : Bool) → failed ≡ false → (file || writer) ≡ (file || writer || failed)
-no_writer true writer failed is = refl
-no_writer false true failed is = refl
-no_writer false false failed is = sym is
+pub no_writer : (file other writer failed : Bool) → failed ≡ false → (file || other || writer) ≡ (file || other || writer || failed)
+no_writer true other writer failed is = refl
+no_writer false true writer failed is = refl
+no_writer false false true failed is = refl
+no_writer false false false failed is = sym is
 
 -- the same where what is wanted is known by a test
 pub refused_by : (image schedule : Option (List ℕ)) (draws tested : Bool) (wanted : Asking) (told : Refusal) → draws ≡ tested → IfKnown image schedule (λ i s. IsExplainRefusal draws wanted i s told)
@@ -173,3 +175,19 @@ refused_by image schedule draws tested wanted told same h = subst (λ (b : Bool)
 pub shown_by : (image schedule : Option (List ℕ)) (draws tested : Bool) (wanted : Asking) → draws ≡ tested → IfKnown image schedule (λ i s. IsOfLegal i s × IsOk (explain_of draws wanted i s))
     → IfKnown image schedule (λ i s. IsOfLegal i s × IsOk (explain_of tested wanted i s))
 shown_by image schedule draws tested wanted same h = subst (λ (b : Bool). IfKnown image schedule (λ i s. IsOfLegal i s × IsOk (explain_of b wanted i s))) same h
+
+-- ---- what is made
+
+-- a picture that is wanted is made, and there
+pub drawn_there : {F V : Type 0} (items : V → List ℕ) (Holds : F → List ℕ → Type 0) (made : Option V) (file : Option F) → is_some made ≡ is_some file
+    → IfSome made (λ text. IfWanted Holds file (items text)) → IfSome made (λ text. IsDocument (items text) []) → IfSome file (λ f. IsDrawn (Holds f))
+drawn_there items Holds made None same held is = tt
+drawn_there items Holds None (Some f) same held is = absurd (true≢false (sym same))
+drawn_there items Holds (Some text) (Some f) same held is = record { drawn = items text; is_markup = is; held = held }
+
+-- and so is an object
+pub object_there : {F V : Type 0} (items : V → List ℕ) (Holds : F → List ℕ → Type 0) (made : Option V) (file : Option F) → is_some made ≡ is_some file
+    → IfSome made (λ text. IfWanted Holds file (items text)) → IfSome made (λ text. IsAnObject (items text)) → IfSome file (λ f. IsObjected (Holds f))
+object_there items Holds made None same held is = tt
+object_there items Holds None (Some f) same held is = absurd (true≢false (sym same))
+object_there items Holds (Some text) (Some f) same held is = record { text = items text; is_object = is; held = held }

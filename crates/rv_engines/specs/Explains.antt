@@ -6,6 +6,7 @@ use Rattle.rv_debug.specs.Placed.{placed}
 use Rattle.rv_explain.specs.Blocks.{RaceShown}
 use Rattle.rv_explain.specs.Explained.{blocks_asked}
 use Rattle.rv_explain.specs.Races.{Found, Run, found, run_of as placed_run}
+use Rattle.rv_json.specs.Object.{IsObject, Member}
 use Rattle.rv_markup.specs.Markup.{IsDocument}
 use Rattle.rv_memory.specs.Chain.{◌>>=◌}
 use Rattle.rv_engines.specs.Asking.{Asking}
@@ -43,6 +44,17 @@ pub record IsDrawn (Holds : List ℕ → Type 0) : Type 0 where
   pub drawn : List ℕ
   pub is_markup : IsDocument drawn []
   pub held : Holds drawn
+
+-- a text is an object whose tokens read back
+pub record IsAnObject (text : List ℕ) : Type 0 where
+  pub facts : List Member
+  pub is_object : IsObject text facts
+
+-- such a text is there
+pub record IsObjected (Holds : List ℕ → Type 0) : Type 0 where
+  pub text : List ℕ
+  pub is_object : IsAnObject text
+  pub held : Holds text
 
 -- the files say a run, and its schedule is legal
 abbrev pub IsOfLegal : List ℕ → List ℕ → Type 0

@@ -1,4 +1,5 @@
 //! The command `explain`: a schedule's races, told for a person.
 pub mod engine;
+mod object;
 pub mod opening;
 pub mod options;

@@ -7,6 +7,7 @@
 pub mod asm;
 pub mod built;
 pub mod debug;
+pub mod digest;
 pub mod exhibit;
 pub mod explain;
 pub mod fault;

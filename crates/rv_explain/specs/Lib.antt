@@ -7,6 +7,7 @@ pub mod Meeting
 pub mod Names
 pub mod Order
 pub mod Pieces
+pub mod RaceObject
 pub mod SecondLaws
 pub mod Stuck
 pub mod StuckReads

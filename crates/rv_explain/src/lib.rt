@@ -20,6 +20,7 @@ pub mod laws;
 mod lines;
 mod meeting;
 pub mod names;
+pub mod object;
 pub mod order;
 pub mod picture;
 pub mod pieces;

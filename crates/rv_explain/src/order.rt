@@ -20,7 +20,7 @@ use std::alloc::Global;
 
 mod text;
 
-pub use text::{CopyText, cause_words, copies_of, counted_rows, order_rows};
+pub use text::{CopyText, cause_words, copies_of, copy_line, counted_rows, order_rows};
 
 /// The numbers of trials: so many from one on, of 32 bits.
 #[derive(Clone, Copy)]

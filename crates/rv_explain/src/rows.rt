@@ -29,7 +29,7 @@ fn step_mark(block: &Block, row: &Row) -> &'static str {
 }
 
 /// What happened at an entry.
-fn mark_of(alloc: Global, block: &Block, row: &Row) -> Result<String, NoMemory> {
+pub(crate) fn mark_of(alloc: Global, block: &Block, row: &Row) -> Result<String, NoMemory> {
     let mark = match row.entry {
         Entry::Paused(_, Some(slot)) => return Ok(format!(in alloc; "paused {slot}")?),
         Entry::Paused(_, None) => "unwatched",
@@ -41,21 +41,35 @@ fn mark_of(alloc: Global, block: &Block, row: &Row) -> Result<String, NoMemory> 
     Ok(String::from_str(alloc, mark)?)
 }
 
-fn hart_of(alloc: Global, entry: Entry) -> Result<String, NoMemory> {
+/// The hart of an entry.
+pub(crate) fn hart_shown(entry: Entry) -> Option<u8> {
     match entry {
-        Entry::Stepped(hart) | Entry::Paused(hart, _) | Entry::Resumed(hart) => {
-            Ok(format!(in alloc; "{hart}")?)
-        }
-        Entry::Armed(_) | Entry::Disarmed(_) => Ok(String::new(alloc)),
+        Entry::Stepped(hart) | Entry::Paused(hart, _) | Entry::Resumed(hart) => Some(hart),
+        Entry::Armed(_) | Entry::Disarmed(_) => None,
+    }
+}
+
+fn hart_of(alloc: Global, entry: Entry) -> Result<String, NoMemory> {
+    match hart_shown(entry) {
+        Some(hart) => Ok(format!(in alloc; "{hart}")?),
+        None => Ok(String::new(alloc)),
+    }
+}
+
+/// The report's bytes, where the entry wrote one of them.
+pub(crate) fn bytes_shown(block: &Block, row: &Row) -> Option<u32> {
+    if wrote(&block.ending.access, &row.access) {
+        Some(row.bytes)
+    } else {
+        None
     }
 }
 
 fn bytes_of(alloc: Global, block: &Block, row: &Row) -> Result<String, NoMemory> {
-    if !wrote(&block.ending.access, &row.access) {
-        return Ok(String::new(alloc));
+    match bytes_shown(block, row) {
+        Some(bytes) => Ok(format!(in alloc; "{bytes:08x}")?),
+        None => Ok(String::new(alloc)),
     }
-    let bytes = row.bytes;
-    Ok(format!(in alloc; "{bytes:08x}")?)
 }
 
 /// The instruction, or the site that was armed.

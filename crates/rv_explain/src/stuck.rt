@@ -14,6 +14,7 @@ use called::caller_of;
 use reads::{RoundReads, find_writers, reads_of};
 use rv_collide::collider::machine_of;
 use rv_collide::entry::Entry;
+use rv_hart::hart::Status;
 use rv_hart::machine::{MOST_HARTS, Machine, OUTPUT_LIMIT};
 use rv_memory::paged::Paged;
 use rv_memory::store::NoMemory;
@@ -26,6 +27,7 @@ mod called;
 mod reads;
 mod text;
 
+pub(crate) use called::least_pc;
 pub use text::{stuck_lines, stuck_text};
 
 /// A step that wrote: its hart, its place among the schedule's entries, and its instruction's address.
@@ -63,10 +65,18 @@ pub enum StuckHart {
     Waits(Waiting),
 }
 
-/// What is shown of a stuck end: what each hart does, in the order of the harts, and after how many steps.
+/// How a hart is at a stuck end: whether it runs, and the address of its next instruction.
+#[derive(Clone, Copy)]
+pub struct HartLeft {
+    pub status: Status,
+    pub pc: u32,
+}
+
+/// What is shown of a stuck end: what each hart does and how it is left, in the order of the harts, and after how many steps.
 #[derive(Drop)]
 pub struct StuckBlock {
     pub harts: Vec<StuckHart>,
+    pub left: Vec<HartLeft>,
     pub steps: u32,
 }
 
@@ -132,10 +142,24 @@ fn block_of(
     let mut reads = reads_of(alloc, machine, &acts_of(alloc, end)?)?;
     let mut again = machine_of(alloc, symbols.image(), harts, OUTPUT_LIMIT)?;
     find_writers(&mut again, entries, &mut reads)?;
+    let left = left_of(alloc, machine)?;
     Ok(StuckBlock {
         harts: harts_of(alloc, symbols, machine, end, &reads)?,
+        left,
         steps: count_steps(entries),
     })
+}
+
+/// How each hart is.
+fn left_of(alloc: Global, machine: &Machine<Paged>) -> Result<Vec<HartLeft>, NoMemory> {
+    let mut left = Vec::new(alloc);
+    for h in 0..machine.harts() {
+        left.push(HartLeft {
+            status: machine.status(h),
+            pc: machine.pc(h),
+        })?;
+    }
+    Ok(left)
 }
 
 /// How many entries are steps, as far as a number of 32 bits says it.

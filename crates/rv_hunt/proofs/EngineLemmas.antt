@@ -12,6 +12,7 @@ use Rattle.rv_hunt.specs.declared.engine.fault.HuntFault.TheVariants.{Command}
 use Rattle.rv_hunt.specs.declared.engine.fault.MakeFault.{MakeFault}
 use Rattle.rv_hunt.specs.declared.engine.fault.MakeFault.TheVariants.{NoMemory, NoThread, Write}
 use Rattle.rv_hunt.specs.internal.MakeFault.{as_command, is_write}
+use Rattle.rv_json.specs.Object.{Member}
 use Rattle.rv_markup.specs.declared.markup.Fact.{Fact}
 
 never : {P : Type 0} → true ≡ false → P
@@ -32,17 +33,17 @@ write_same NoMemory = refl
 write_same NoThread = refl
 write_same Write = refl
 
-pub made_known : (known : Option Files) (asked : Asked) (way : Showing) (hunting : Hunting) (Saves : ℕ → List ℕ → Type 0) (Pages : List Fact → Type 0) (Lists : List ℕ → Type 0) (found : Found) (texts : Texts)
-    → IfSome known (λ files. IsHuntingOf asked files hunting) → IsMade way hunting Saves Pages Lists found texts
-    → IfSome known (λ files. (x : Hunting) × IsHuntingOf asked files x × IsMade way x Saves Pages Lists found texts)
-made_known None asked way hunting Saves Pages Lists found texts is all = tt
-made_known (Some files) asked way hunting Saves Pages Lists found texts is all = (hunting, is, all)
+pub made_known : (known : Option Files) (asked : Asked) (way : Showing) (hunting : Hunting) (Saves : ℕ → List ℕ → Type 0) (Pages : List Fact → Type 0) (Lists : List ℕ → Type 0) (Objects : List Member → Type 0) (found : Found) (texts : Texts)
+    → IfSome known (λ files. IsHuntingOf asked files hunting) → IsMade way hunting Saves Pages Lists Objects found texts
+    → IfSome known (λ files. (x : Hunting) × IsHuntingOf asked files x × IsMade way x Saves Pages Lists Objects found texts)
+made_known None asked way hunting Saves Pages Lists Objects found texts is all = tt
+made_known (Some files) asked way hunting Saves Pages Lists Objects found texts is all = (hunting, is, all)
 
-pub told_known : (known : Option Files) (asked : Asked) (way : Showing) (Writes Notes : List ℕ → Type 0) (Saves : ℕ → List ℕ → Type 0) (Pages : List Fact → Type 0) (Lists : List ℕ → Type 0) (found : Found) (texts : Texts)
-    → IfSome known (λ files. (x : Hunting) × IsHuntingOf asked files x × IsMade way x Saves Pages Lists found texts) → Writes texts.text → Notes texts.notes
-    → IfSome known (λ files. (x : Hunting) × IsHuntingOf asked files x × IsTold way x found Writes Notes Saves Pages Lists)
-told_known None asked way Writes Notes Saves Pages Lists found texts is written noted = tt
-told_known (Some files) asked way Writes Notes Saves Pages Lists found texts (hunting, is, all) written noted = (
+pub told_known : (known : Option Files) (asked : Asked) (way : Showing) (Writes Notes : List ℕ → Type 0) (Saves : ℕ → List ℕ → Type 0) (Pages : List Fact → Type 0) (Lists : List ℕ → Type 0) (Objects : List Member → Type 0) (found : Found) (texts : Texts)
+    → IfSome known (λ files. (x : Hunting) × IsHuntingOf asked files x × IsMade way x Saves Pages Lists Objects found texts) → Writes texts.text → Notes texts.notes
+    → IfSome known (λ files. (x : Hunting) × IsHuntingOf asked files x × IsTold way x found Writes Notes Saves Pages Lists Objects)
+told_known None asked way Writes Notes Saves Pages Lists Objects found texts is written noted = tt
+told_known (Some files) asked way Writes Notes Saves Pages Lists Objects found texts (hunting, is, all) written noted = (
   hunting,
   is,
   record { texts = texts; made = all; written = written; noted = noted },

@@ -32,7 +32,7 @@ hunting_known (Some i) (Some l) (Some t) asked hunting h d g e a r b = record { 
 never : {P : Type 0} → true ≡ false → P
 never h = cc
 
-and_ok : {A B : Type 0} (r : Result A B) (a : A) (Fact : A → Type 0) → r ≡ Ok a → Fact a → IsOkAnd r Fact
+pub and_ok : {A B : Type 0} (r : Result A B) (a : A) (Fact : A → Type 0) → r ≡ Ok a → Fact a → IsOkAnd r Fact
 and_ok {A = A} {B = B} r a Fact is fact = subst (λ (o : Result A B). IsOkAnd o Fact) (sym is) fact
 
 pub ignored_told : (image : Option (List ℕ)) (ignored expected : Option (Option (List ℕ))) (asked : Asked) (hunt : Hunt) (fault : FileFault) → IfSome image (λ bytes. hunt_of asked bytes ≡ Ok hunt)

@@ -5,6 +5,7 @@ pub mod PageLemmas
 pub mod EngineLemmas
 pub mod FileLemmas
 pub mod FoldLemmas
+pub mod GivenLemmas
 pub mod HuntLemmas
 pub mod IgnoreLemmas
 pub mod JudgedLemmas
@@ -15,6 +16,7 @@ pub mod MadeLemmas
 pub mod MergeLemmas
 pub mod MergedFileLemmas
 pub mod NumberLemmas
+pub mod ObjectLemmas
 pub mod OpenLemmas
 pub mod OrderLemmas
 pub mod OrderRowLemmas
@@ -34,6 +36,7 @@ pub mod SoughtLemmas
 pub mod SumLemmas
 pub mod SummaryLemmas
 pub mod ShownRowLemmas
+pub mod TableLemmas
 pub mod WordLemmas
 pub mod WalkLemmas
 pub mod WholeLemmas

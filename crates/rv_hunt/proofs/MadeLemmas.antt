@@ -1,5 +1,5 @@
 -- What is made of a hunt.
-use Rattle.std.proofs.Common.{◌≡◌, ℕ, Bool, Option, List, length, ap, subst, ◌∙◌, take, true, false}
+use Rattle.std.proofs.Common.{◌≡◌, ℕ, Bool, Option, Result, Ok, Err, IfOk, List, [], ◌∷◌, length, ap, subst, ◌∙◌, take, true, false}
 use Rattle.std.specs.Map.{keys_of}
 use Rattle.rv_elf.specs.Contents.{Contents}
 use Rattle.rv_campaign.specs.declared.pool.PoolFault.{PoolFault}
@@ -9,13 +9,16 @@ use Rattle.rv_hunt.specs.internal.MakeFault.{is_write, of_pool}
 use Rattle.rv_hunt.specs.Hunted.{IsNoted}
 use Rattle.rv_hunt.specs.RightEnds.{EndsSeen, has_wrong_end}
 use Rattle.rv_hunt.specs.Warnings.{is_void}
+use Rattle.rv_hunt.specs.HuntObject.{hunt_facts}
 use Rattle.rv_hunt.specs.Outcome.{Outcome}
 use Rattle.rv_hunt.specs.PageFacts.{page_facts}
 use Rattle.rv_hunt.specs.ShownRows.{shown_rows}
 use Rattle.rv_hunt.specs.ToldOrder.{AreInOrder}
 use Rattle.rv_hunt.specs.declared.engine.found.Found.{Found}
 use Rattle.rv_hunt.specs.declared.engine.orders.ShownOrder.{ShownOrder}
+use Rattle.rv_hunt.specs.declared.engine.options.Shows.{Shows}
 use Rattle.rv_hunt.specs.declared.engine.shown.ShownRace.{ShownRace}
+use Rattle.rv_hunt.specs.declared.origin.Stretch.{Stretch}
 use Rattle.rv_hunt.specs.declared.hunted.Hunted.{Hunted}
 use Rattle.rv_hunt.specs.declared.merge.known.Known.{Known}
 use Rattle.rv_hunt.specs.declared.row.RaceRow.{RaceRow}
@@ -27,6 +30,7 @@ use Rattle.rv_hunt.specs.engine.Shown.{AreShown}
 use Rattle.rv_hunt.specs.engine.StuckShown.{AreStuckShown}
 use Rattle.rv_hunt.specs.declared.engine.stuck_ends.ShownStuck.{ShownStuck}
 use Rattle.rv_engines.specs.declared.built.Built.{Built}
+use Rattle.rv_json.specs.Object.{Member}
 use Rattle.rv_markup.specs.declared.markup.Fact.{Fact}
 use Rattle.rv_report.specs.declared.key.Key.{Key}
 use Rattle.rv_tally.specs.declared.plans.Mix.{Mix}
@@ -38,12 +42,12 @@ pub outcome_is : (hunting : Hunting) (saw : Hunted) (n : ℕ) (mix : Mix) (rows 
     → record { sites = n; mix = mix; saw = saw; rows = rows; races = races; ignored = ignored; gone = gone; built = built } ≡ outcome hunting saw
 outcome_is hunting saw n mix rows races ignored gone built a b c s d f e = rw (a, b, c, s, d, f, e)
 
-pub made_is : (way : Showing) (hunting : Hunting) (saw : Hunted) (Saves : ℕ → List ℕ → Type 0) (Pages : List Fact → Type 0) (Lists : List ℕ → Type 0) (rows races told full unexpected : List Row) (o : Outcome) (paged_told : List Row) (paged_shown : List ShownRace) (listed_image : Contents) (listed_rows : List Row) (shown : List ShownRace) (orders : List ShownOrder) (stuck : List ShownStuck) (ends : EndsSeen) (wrong : Bool) (found : Found) (texts : Texts) → IsNoted hunting.hunt saw ends → ends.right ≡ hunting.right → wrong ≡ ends.is_wrong
+pub made_is : (way : Showing) (hunting : Hunting) (saw : Hunted) (Saves : ℕ → List ℕ → Type 0) (Pages : List Fact → Type 0) (Lists : List ℕ → Type 0) (Objects : List Member → Type 0) (rows races told full unexpected : List Row) (o : Outcome) (paged_told : List Row) (paged_shown : List ShownRace) (object_told : List Row) (listed_image : Contents) (listed_rows : List Row) (shown : List ShownRace) (orders : List ShownOrder) (stuck : List ShownStuck) (ends : EndsSeen) (wrong : Bool) (found : Found) (texts : Texts) → IsNoted hunting.hunt saw ends → ends.right ≡ hunting.right → wrong ≡ ends.is_wrong
     → rows ≡ told_in hunting saw → races ≡ shown_in hunting saw → AreInOrder hunting.hunt.source.image saw.orders races told → full ≡ take way.full told → o ≡ outcome hunting saw → AreShown hunting.hunt Saves full shown → AreOrdersShown hunting.hunt saw.orders (keys_of full) orders
-    → IsTable way.shows o.rows (origin_of way hunting saw) texts.text → paged_told ≡ told → paged_shown ≡ shown → Pages (page_facts o paged_told (length paged_shown)) → AreStuckShown hunting.hunt stuck
+    → IsTable way.shows o.rows (origin_of way hunting saw) texts.text → paged_told ≡ told → paged_shown ≡ shown → Pages (page_facts o paged_told (length paged_shown)) → object_told ≡ told → Objects (hunt_facts o object_told) → AreStuckShown hunting.hunt stuck
     → listed_image ≡ hunting.hunt.source.image → listed_rows ≡ rows → Lists (list_text listed_image listed_rows) → unexpected ≡ new_races hunting.hunt.source.image hunting.expected rows → found ≡ found_in unexpected races (length stuck) wrong (is_void o)
-    → IsMade way hunting Saves Pages Lists found texts
-made_is way hunting saw Saves Pages Lists rows races told full unexpected o paged_told paged_shown listed_image listed_rows shown orders stuck ends wrong found texts noted right is_wrong are shows order first came are_shown ordered table same_told same_shown paged are_stuck same_image same_rows listed new_is found_is = record {
+    → IsMade way hunting Saves Pages Lists Objects found texts
+made_is way hunting saw Saves Pages Lists Objects rows races told full unexpected o paged_told paged_shown object_told listed_image listed_rows shown orders stuck ends wrong found texts noted right is_wrong are shows order first came are_shown ordered table same_told same_shown paged same_object objected are_stuck same_image same_rows listed new_is found_is = record {
   saw = saw;
   hunted = noted.hunted_is;
   told = told;
@@ -57,6 +61,9 @@ made_is way hunting saw Saves Pages Lists rows races told full unexpected o page
       subst (λ (x : Outcome). Pages (page_facts x told (length shown))) came
       (subst (λ (those : List ShownRace). Pages (page_facts o told (length those))) same_shown
       (subst (λ (rs : List Row). Pages (page_facts o rs (length paged_shown))) same_told paged));
+  objected =
+      subst (λ (x : Outcome). Objects (hunt_facts x told)) came
+      (subst (λ (rs : List Row). Objects (hunt_facts o rs)) same_object objected);
   listed =
       subst (λ (rs : List Row). Lists (list_text hunting.hunt.source.image rs)) (same_rows ∙ are)
       (subst (λ (image : Contents). Lists (list_text image listed_rows)) same_image listed);
@@ -75,6 +82,17 @@ made_is way hunting saw Saves Pages Lists rows races told full unexpected o page
 pub races_from : (hunting : Hunting) (saw : Hunted) (rows those races : List Row) → those ≡ rows → rows ≡ told_in hunting saw → races ≡ shown_rows those saw.changed → races ≡ shown_in hunting saw
 races_from hunting saw rows those races same are shown = shown ∙ ap (λ (rs : List Row). shown_rows rs saw.changed) (same ∙ are)
 
+-- a text of a table, of which each value is another one that is the same
+pub table_from : (shows : Shows) (rows : List Row) (image that_image version that_version given that_given text : List ℕ) (seed that_seed : ℕ) (stretch that_stretch : Stretch) → image ≡ that_image → version ≡ that_version → seed ≡ that_seed → given ≡ that_given → stretch ≡ that_stretch
+    → IsTable shows rows (record { image = image; version = version; seed = seed; stretches = stretch ∷ []; given = given }) text
+    → IsTable shows rows (record { image = that_image; version = that_version; seed = that_seed; stretches = that_stretch ∷ []; given = that_given }) text
+table_from shows rows image that_image version that_version given that_given text seed that_seed stretch that_stretch a b c d e is =
+    subst (λ (x : Stretch). IsTable shows rows (record { image = that_image; version = that_version; seed = that_seed; stretches = x ∷ []; given = that_given }) text) e
+    (subst (λ (x : List ℕ). IsTable shows rows (record { image = that_image; version = that_version; seed = that_seed; stretches = stretch ∷ []; given = x }) text) d
+    (subst (λ (x : ℕ). IsTable shows rows (record { image = that_image; version = that_version; seed = x; stretches = stretch ∷ []; given = given }) text) c
+    (subst (λ (x : List ℕ). IsTable shows rows (record { image = that_image; version = x; seed = seed; stretches = stretch ∷ []; given = given }) text) b
+    (subst (λ (x : List ℕ). IsTable shows rows (record { image = x; version = version; seed = seed; stretches = stretch ∷ []; given = given }) text) a is))))
+
 -- the same of rows that are the same
 pub new_from : (image that : Contents) (known : Option Known) (rows those found : List Row) → image ≡ that → rows ≡ those → found ≡ new_races image known rows → found ≡ new_races that known those
 new_from image that known rows those found a b is = is ∙ ap (λ (i : Contents). new_races i known rows) a ∙ ap (λ (rs : List Row). new_races that known rs) b
@@ -86,6 +104,11 @@ found_from unexpected new_ones rows those stuck ends wrong void is_so found a b 
 
 never : {P : Type 0} → false ≡ true → P
 never h = cc
+
+-- of what was refused nothing is said
+pub not_ok : {A E : Type 0} (r : Result A E) (e : E) (Fact : A → Type 0) → r ≡ Err e → IfOk r Fact
+not_ok (Ok a) e Fact is = cc
+not_ok (Err x) e Fact is = tt
 
 -- no fault of a pool is that of a file
 pub no_write : {P : Type 0} (fault : PoolFault) (made : MakeFault) → made ≡ of_pool fault → is_write made ≡ true → P

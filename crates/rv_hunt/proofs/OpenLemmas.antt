@@ -29,7 +29,7 @@ told_then r next (Plain NoMemory) other h = tt
 told_then r next NoThread other h = never other
 told_then r next told other h = err_then r next told h
 
-plainly_told : {A : Type 0} (r : Result A Fault) (fault : Fault) → IsToldFault r fault → IsTold (plainly r) (Plain fault)
+pub plainly_told : {A : Type 0} (r : Result A Fault) (fault : Fault) → IsToldFault r fault → IsTold (plainly r) (Plain fault)
 plainly_told r Read h = tt
 plainly_told r Write h = tt
 plainly_told r NoMemory h = tt
@@ -37,7 +37,7 @@ plainly_told r fault h = ap plainly h
 
 -- ---- where the bytes of the image are known
 
-of_image : (asked : Asked) (bytes : List ℕ) (image : Contents) → image_of bytes ≡ Ok image → hunt_of asked bytes ≡ hunt_with asked image
+pub of_image : (asked : Asked) (bytes : List ℕ) (image : Contents) → image_of bytes ≡ Ok image → hunt_of asked bytes ≡ hunt_with asked image
 unfolding hunt_of
 of_image asked bytes image is = ap (λ o. plainly o >>= hunt_with asked) is
 

@@ -128,7 +128,7 @@ row_within said =
     option_then (between 1 64 said.counts.count) (λ count.
     option_then (between 0 32 said.counts.run) (λ run.
     option_then (between 0 32 said.counts.entry) (λ entry.
-    if is_pair said.key then Some (said.key, record { count = count; class = said.class; run = run; part = 0; entry = entry; old = said.values.old; new = said.values.new; address = None }) else None)))
+    if is_pair said.key then Some (said.key, record { count = count; class = said.class; run = run; part = 0; entry = entry; old = said.values.old; new = said.values.new; address = None; accesses = None }) else None)))
 
 -- what the line of a row says: its shape is tested first
 unfoldable pub row_of_line : TableFormat → List ℕ → Result (Key × RaceRow) TableKind

@@ -33,7 +33,7 @@ pub record AreRows (rows : List (Key × RaceRow)) : Type 0 where
 
 -- a row as its line says it: what stands in no line is not known
 abbrev pub said : Key × RaceRow → Key × RaceRow
-said row = (row.0, record row.1 { part = 0; address = None })
+said row = (row.0, record row.1 { part = 0; address = None; accesses = None })
 
 -- So the rows that a merge reads are those that were written, and `PiecesAreMerged` is of the files too: it is of the text before a table's
 -- last line.

@@ -1,8 +1,10 @@
 pub mod Changed
 pub mod EndedRows
 pub mod Expected
+pub mod GivenRuns
 pub mod Hunt
 pub mod HuntLaws
+pub mod HuntObject
 pub mod HuntRead
 pub mod HuntReadLaws
 pub mod HuntText

@@ -6,7 +6,7 @@ use Rattle.std.specs.Option.{option_map_or}
 use Rattle.std.specs.Str.{bytes_eq}
 use Rattle.sha2.specs.Sha256.{sha256}
 use Rattle.rv_collide.specs.Counts.{saturated}
-use Rattle.rv_collide.specs.ScheduleRead.{named}
+use Rattle.rv_collide.specs.ScheduleRead.{named, words_of}
 use Rattle.rv_hunt.specs.HuntRead.{option_then, sized}
 use Rattle.rv_hunt.specs.declared.fault.TableKind.{TableKind}
 use Rattle.rv_hunt.specs.declared.fault.TableKind.TheVariants as kind
@@ -141,3 +141,20 @@ first_run stretches = option_map_or (λ stretch. stretch.first) (slice_get stret
 -- runs that so many more follow
 abbrev pub stretch_on : ℕ → ℕ → Stretch
 stretch_on first runs = record { first = first; end = saturated (first + runs) }
+
+-- ---- one that is shown
+
+-- the table is of another image than the one with these digits, or by another version
+unfoldable pub other_than : List ℕ → List ℕ → Origin → Option TableKind
+other_than image version origin =
+    if not (bytes_eq origin.image image) then Some kind.Image
+    else if not (bytes_eq origin.version version) then Some kind.Version
+    else None
+
+-- how many runs there are; it stays at the largest number of 64 bits once there
+abbrev pub runs_of : List Stretch → ℕ
+runs_of stretches = fold (λ n (stretch : Stretch). saturated (n + (stretch.end - stretch.first))) 0 stretches
+
+-- the words of a text that has a blank (32) before each
+abbrev pub words_in : List ℕ → List (List ℕ)
+words_in text = drop 1 (words_of text)

@@ -67,10 +67,13 @@ all_shown_facts (suc n) facts = shown_facts (n + 1) (all_shown_facts n facts)
 abbrev pub aside_row_facts : List (Key × RaceRow) → List Fact → List Fact
 aside_row_facts rows facts = if length rows == 0 then facts else Number (length rows) ∷ Number (reports_of rows) ∷ facts
 
+abbrev pub apart_facts : List (Key × RaceRow) → List (Key × RaceRow) → List Fact → List Fact
+apart_facts rows ignored facts =
+    let named = of_class Named rows in
+    if length named == 0 && length ignored == 0 then facts else aside_row_facts ignored (aside_row_facts named (Target Aside ∷ facts))
+
 abbrev pub aside_facts : Outcome → List Fact → List Fact
-aside_facts outcome facts =
-    let named = of_class Named outcome.races in
-    if length named == 0 && length outcome.ignored == 0 then facts else aside_row_facts outcome.ignored (aside_row_facts named (Target Aside ∷ facts))
+aside_facts outcome facts = apart_facts outcome.races outcome.ignored facts
 
 abbrev pub ended_row_facts : List EndedRow → List Fact → List Fact
 ended_row_facts rows facts = fold (λ shown (row : EndedRow). Number row.harts ∷ shown) facts rows
@@ -116,3 +119,17 @@ told_facts told full facts = all_shown_facts full (races_facts full told facts)
 -- The page of what a hunt came to.
 abbrev pub page_facts : Outcome → List (Key × RaceRow) → ℕ → List Fact
 page_facts outcome told full = runs_facts outcome (told_facts told full (warnings_facts outcome (links_facts [])))
+
+-- ---- the page of a table
+
+abbrev pub link_to_races : List Fact → List Fact
+link_to_races facts = Link Races ∷ facts
+
+-- the warning that a name has gone has a part
+abbrev pub gone_facts : Bool → List Fact → List Fact
+gone_facts gone facts = if gone then Target Warnings ∷ facts else facts
+
+-- The page of what is told of a table: whether a name has gone, its rows, and those that are ignored; of the races that are told so many
+-- are shown in full.
+abbrev pub table_facts : Bool → List (Key × RaceRow) → List (Key × RaceRow) → List (Key × RaceRow) → ℕ → List Fact
+table_facts gone rows ignored told full = apart_facts rows ignored (told_facts told full (gone_facts gone (link_to_races [])))

@@ -1,5 +1,6 @@
 -- What the engine of `hunt` makes: its text, its files and its page, and why it makes none.
 pub mod Asked
+pub mod Checks
 pub mod FolderFault
 pub mod HuntFault
 pub mod Hunting
@@ -7,3 +8,4 @@ pub mod Late
 pub mod OrderShown
 pub mod Shown
 pub mod StuckShown
+pub mod TableShown

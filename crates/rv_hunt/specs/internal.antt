@@ -6,6 +6,7 @@ pub mod Lots
 pub mod MakeFault
 pub mod Opened
 pub mod OrderShowing
+pub mod Remaking
 pub mod RunWalk
 pub mod Shaped
 pub mod Showing

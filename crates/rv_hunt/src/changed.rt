@@ -6,6 +6,7 @@ ghost use Rattle.rv_hunt.specs.Changed as spec;
 ghost use Rattle.rv_hunt.specs.Keyed as keyed;
 ghost use Rattle.rv_hunt.specs.Rows as rows;
 
+use crate::entries::entries_of;
 use crate::kept_run::PartReport;
 use crate::row::{RaceRow, joined, row_of};
 use indexmap::IndexMap;
@@ -123,7 +124,6 @@ impl ChangedTable {
     pub fn rows(&self, alloc: Global) -> Result<Vec<(ChangedKey, RaceRow)>, NoMemory>
         ensures { IfOk result (λ rows. rows.items ≡ self.now) }
     {
-        let rows = self.rows.iter().map(|(key, row)| (*key, *row));
-        Ok(rows.collect(alloc)?)
+        entries_of(alloc, &self.rows)
     }
 }

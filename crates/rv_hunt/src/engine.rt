@@ -9,7 +9,7 @@ ghost use Rattle.rv_engines.specs.Campaigns.{passes};
 ghost use Rattle.rv_hunt.specs.engine.Asked.{AreLegal, asked};
 ghost use Rattle.rv_hunt.specs.engine.HuntFault.{IsTold, fails_by, is_of_files, is_read, is_write};
 ghost use Rattle.rv_hunt.specs.engine.Hunting as spec;
-ghost use Rattle.rv_hunt.specs.engine.Late.{IfListed, IfPaged, IfSaved};
+ghost use Rattle.rv_hunt.specs.engine.Late.{IfListed, IfPaged, IfSaved, IfWritten};
 ghost use Rattle.rv_hunt.specs.RightEnds.{right_codes};
 ghost use Rattle.rv_hunt.specs.internal.Opened.{hunt_in, hunting_with, texts_in};
 
@@ -32,19 +32,24 @@ use std::sync::Wait;
 use std::thread::Threads;
 
 mod beside;
+mod early;
 pub mod fault;
 pub mod folder;
 pub mod found;
 pub mod inputs;
+mod keeping;
 mod lists;
 mod making;
 mod onward;
 mod opening;
 pub mod options;
 pub mod orders;
+pub mod remaking;
+pub mod show;
 mod showing;
 pub mod shown;
 pub mod stuck_ends;
+mod tabled;
 pub(crate) mod texts;
 
 /// Writes the notes to their last byte, and then the text.
@@ -101,7 +106,7 @@ fn read<'a, R: Read>(
 }
 
 /// Reads the image and the lists, looks at the folder, and makes the runs of a hunt, the schedules of the races that are told,
-/// the page, the list of the races, and the texts of what the runs saw.
+/// the page, the list of the races, what was found as JSON, and the texts of what the runs saw.
 fn make<'a, T: Threads + Wait + Sync, R: Read, D: Folder, F: NewFile, P: Watch>(
     rt: &T,
     alloc: Global,
@@ -110,15 +115,16 @@ fn make<'a, T: Threads + Wait + Sync, R: Read, D: Folder, F: NewFile, P: Watch>(
     folder: &mut Option<D>,
     page: &mut Option<F>,
     list: &mut Option<F>,
+    json: &mut Option<F>,
     watch: &mut P,
 ) -> Result<Made, HuntFault<'a>>
     requires { AreLegal options.now }
     ensures made { IfOk result (λ made. IfSome (spec.files_of R.remaining inputs.old) (λ files.
         (hunting : spec.Hunting) × spec.IsHuntingOf (asked options.now) files hunting
-        × spec.IsMade (spec.showing_of options.now (is_some folder.old) (is_some page.old)) hunting
-        (IfSaved D.has_failed D.Holds folder.new) (IfPaged F.has_failed F.Holds page.new) (IfListed F.has_failed F.Holds list.new)
+        × spec.IsMade (spec.showing_of options.now (is_some folder.old) (is_some page.old || is_some json.old)) hunting
+        (IfSaved D.has_failed D.Holds folder.new) (IfPaged F.has_failed F.Holds page.new) (IfListed F.has_failed F.Holds list.new) (IfWritten F.has_failed F.Holds json.new)
         made.found (texts_in made))) }
-    ensures wanted { (is_some folder.new ≡ is_some folder.old) × (is_some page.new ≡ is_some page.old) × (is_some list.new ≡ is_some list.old) }
+    ensures wanted { (is_some folder.new ≡ is_some folder.old) × (is_some page.new ≡ is_some page.old) × (is_some list.new ≡ is_some list.old) × (is_some json.new ≡ is_some json.old) }
     ensures refused { IfErr result (λ fault. IfSome (spec.files_of R.remaining inputs.old) (λ files.
         IsTold (asked options.now) files fault)) }
     ensures no_schedules { IfErr result (λ fault. is_of_files fault ≡ true
@@ -127,16 +133,20 @@ fn make<'a, T: Threads + Wait + Sync, R: Read, D: Folder, F: NewFile, P: Watch>(
         → passes F.is_made page.new ≡ passes F.is_made page.old) }
     ensures no_list { IfErr result (λ fault. is_of_files fault ≡ true
         → passes F.is_made list.new ≡ passes F.is_made list.old) }
+    ensures no_json { IfErr result (λ fault. is_of_files fault ≡ true
+        → passes F.is_made json.new ≡ passes F.is_made json.old) }
     ensures readers { spec.any_failed inputs.new ≡ (spec.any_failed inputs.old || fails_by is_read result) }
     ensures files { fails_by is_write result ≡ true
-        → (passes D.has_failed folder.new || passes F.has_failed page.new || passes F.has_failed list.new) ≡ true }
+        → (passes D.has_failed folder.new || passes F.has_failed page.new || passes F.has_failed list.new || passes F.has_failed json.new) ≡ true }
 {
     let read = match read(alloc, options, inputs) {
         Ok(read) => read,
         Err(fault) => return Err(fault),
     };
     let (opened, lists) = &read;
-    let made = make_hunt(rt, alloc, options, opened, lists, folder, page, list, watch);
+    let made = make_hunt(
+        rt, alloc, options, opened, lists, folder, page, list, json, watch,
+    );
     // Let go here, once for both outcomes.
     drop(read);
     match made {
@@ -146,8 +156,8 @@ fn make<'a, T: Threads + Wait + Sync, R: Read, D: Folder, F: NewFile, P: Watch>(
 }
 
 /// Reads the image and the lists, looks at the folder, makes the runs of a hunt, the schedules of the races that are told,
-/// the page and the list of the races, and writes what the runs saw. `notes` is the standard error: it has got all of the notes before the first byte
-/// of the text is written. Where a file or a list is refused, or the folder, the page or the list can't be made, nothing is made or
+/// the page, the list of the races and what was found as JSON, and writes what the runs saw. `notes` is the standard error: it has got all of the notes before the first byte
+/// of the text is written. Where a file or a list is refused, or the folder, the page, the list or the JSON can't be made, nothing is made or
 /// written. A file that fails after the runs has it noted: all others are made, and the text is written.
 pub fn run_hunt<
     'a,
@@ -166,6 +176,7 @@ pub fn run_hunt<
     folder: &mut Option<D>,
     page: &mut Option<F>,
     list: &mut Option<F>,
+    json: &mut Option<F>,
     writer: &mut Buffered<W>,
     notes: &mut Buffered<E>,
     watch: &mut P,
@@ -173,11 +184,11 @@ pub fn run_hunt<
     requires { AreLegal options.now }
     ensures told { IfOk result (λ found. IfSome (spec.files_of R.remaining inputs.old) (λ files.
         (hunting : spec.Hunting) × spec.IsHuntingOf (asked options.now) files hunting
-        × spec.IsTold (spec.showing_of options.now (is_some folder.old) (is_some page.old)) hunting found
+        × spec.IsTold (spec.showing_of options.now (is_some folder.old) (is_some page.old || is_some json.old)) hunting found
         (Appends (buffer.written W.contents writer.old) (buffer.sent W.contents writer.new))
         (Appends (buffer.written E.contents notes.old) (buffer.sent E.contents notes.new))
-        (IfSaved D.has_failed D.Holds folder.new) (IfPaged F.has_failed F.Holds page.new) (IfListed F.has_failed F.Holds list.new))) }
-    ensures wanted { (is_some folder.new ≡ is_some folder.old) × (is_some page.new ≡ is_some page.old) × (is_some list.new ≡ is_some list.old) }
+        (IfSaved D.has_failed D.Holds folder.new) (IfPaged F.has_failed F.Holds page.new) (IfListed F.has_failed F.Holds list.new) (IfWritten F.has_failed F.Holds json.new))) }
+    ensures wanted { (is_some folder.new ≡ is_some folder.old) × (is_some page.new ≡ is_some page.old) × (is_some list.new ≡ is_some list.old) × (is_some json.new ≡ is_some json.old) }
     ensures refused { IfErr result (λ fault. IfSome (spec.files_of R.remaining inputs.old) (λ files.
         IsTold (asked options.now) files fault)) }
     ensures nothing { IfErr result (λ fault. is_write fault ≡ false
@@ -190,6 +201,8 @@ pub fn run_hunt<
         → passes F.is_made page.new ≡ passes F.is_made page.old) }
     ensures no_list { IfErr result (λ fault. is_of_files fault ≡ true
         → passes F.is_made list.new ≡ passes F.is_made list.old) }
+    ensures no_json { IfErr result (λ fault. is_of_files fault ≡ true
+        → passes F.is_made json.new ≡ passes F.is_made json.old) }
     ensures first { buffer.has_failed notes.old ≡ false → buffer.has_failed notes.new ≡ true
         → Keeps (buffer.sent W.contents writer.old) (buffer.sent W.contents writer.new) }
     ensures looked { fails_by is_write result ≡ true
@@ -197,13 +210,13 @@ pub fn run_hunt<
         → Keeps (buffer.sent W.contents writer.old) (buffer.sent W.contents writer.new) }
     ensures readers { spec.any_failed inputs.new ≡ (spec.any_failed inputs.old || fails_by is_read result) }
     ensures writers { fails_by is_write result ≡ true
-        → ((passes D.has_failed folder.new || passes F.has_failed page.new || passes F.has_failed list.new)
+        → ((passes D.has_failed folder.new || passes F.has_failed page.new || passes F.has_failed list.new || passes F.has_failed json.new)
         || (buffer.has_failed notes.new || buffer.has_failed writer.new)) ≡ true }
     ensures streams { (buffer.has_failed notes.old || buffer.has_failed writer.old) ≡ false
         → (buffer.has_failed notes.new || buffer.has_failed writer.new) ≡ true
         → fails_by is_write result ≡ true }
 {
-    let made = match make(rt, alloc, options, inputs, folder, page, list, watch) {
+    let made = match make(rt, alloc, options, inputs, folder, page, list, json, watch) {
         Ok(made) => made,
         Err(fault) => return Err(fault),
     };

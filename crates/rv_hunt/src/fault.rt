@@ -15,9 +15,9 @@ pub enum TableKind {
     Range,
     /// The race has a row already.
     Twice,
-    /// There are other rows than the first line says, or the last LF is missing.
+    /// There are other rows than the first line says, or the last LF is missing, or the last line of a table that is shown.
     End,
-    /// The table is of another image than the first that is merged.
+    /// The table is of another image than the first that is merged, or than the one whose races are shown.
     Image,
     /// It was made by another version of the program.
     Version,
@@ -27,6 +27,8 @@ pub enum TableKind {
     Overlap,
     /// Runs between those of the tables before and its own are missing.
     Gap,
+    /// The run of the row makes no such report.
+    NotMet,
 }
 
 /// The first line with a fault, from 1 on, and its first fault.

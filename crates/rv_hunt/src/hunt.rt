@@ -13,8 +13,9 @@ use rv_campaign::{Jobs, PoolFault, all_made};
 use rv_elf::Image;
 use rv_memory::store::NoMemory;
 use rv_prune::named_bytes::NamedBytes;
+use rv_report::key::Key;
 use rv_sample::Sampler;
-use rv_tally::limit::{Limit, next_number};
+use rv_tally::limit::{Limit, Reached, next_number};
 use rv_tally::plans::Plans;
 use rv_walk::code::{Code, Marks};
 use rv_walk::sites::Sites;
@@ -28,6 +29,13 @@ const MOST_HELD: u32 = 256;
 
 /// How many addresses these arm together at most, where there are more than one.
 const MOST_HELD_ARMS: u32 = 16_384;
+
+/// How many steps the runs that are made together count for each worker, by what runs have cost so far. What goes along with a hunt
+/// is told of them once all were made.
+const STEPS_OF_A_LOT: u64 = 4_000_000;
+
+/// In how many parts a hunt goes at least.
+const PARTS: u64 = 10;
 
 /// A hunt: the image, the seed and the sites that its runs are made of, their plans, the ranges of the listed names and of those in
 /// which a hart may wait for ever, what near pairs alone are probed, if not all, the number of its first run, and how far it goes.
@@ -68,13 +76,68 @@ impl<'a> Model for Hunt<'a> {
     ghost invariant = { λ h. h.sites.now ≡ h.sampler.now };
 }
 
-/// Is told how far a hunt has come.
+/// A text that tells what a hunt has found so far.
+#[derive(Clone, Copy)]
+pub enum Draft {
+    Page,
+    List,
+    /// The hunt table.
+    Table,
+}
+
+/// Is told how far a hunt has come, and keeps what it has found. What it can't keep while the hunt goes on is no fault of the hunt.
 pub trait Watch {
     /// One more run has been added up.
     fn saw(&mut self, hunted: &Hunted);
 
     /// Of so many races that are shown in full some have been.
     fn shows(&mut self, shown: usize, all: usize);
+
+    /// Looks, before the first run, whether what is kept can be. Where it can't the hunt ends as where memory is out, and why it
+    /// can't is told by who watches.
+    fn begins(&mut self) -> Result<(), NoMemory> {
+        Ok(())
+    }
+
+    /// Whether it keeps the schedules of races.
+    fn keeps_schedules(&self) -> bool {
+        false
+    }
+
+    /// Keeps the schedule by which a race was first reported, as what its class is now.
+    fn keep_schedule(&mut self, _: &Key, _: &[u8]) {}
+
+    /// Whether it keeps that text while the hunt goes on.
+    fn keeps(&self, _: Draft) -> bool {
+        false
+    }
+
+    /// Keeps a text in place of the one before.
+    fn keep(&mut self, _: Draft, _: &[u8]) {}
+
+    /// Whether it takes the table of the whole hunt.
+    fn takes_table(&self) -> bool {
+        false
+    }
+
+    /// Takes the table of the whole hunt, once all runs are made.
+    fn take_table(&mut self, _: &[u8]) {}
+}
+
+/// Goes along with the runs of a hunt.
+pub trait Along {
+    /// One more run has been added up.
+    fn saw(&mut self, hunted: &Hunted);
+
+    /// Some runs, which were made together, have been added up.
+    fn added<R: Threads + Wait>(
+        &mut self,
+        rt: &R,
+        alloc: Global,
+        hunt: &Hunt,
+        hunted: &Hunted,
+        noted: &Noted,
+    );
 }
 
 /// So many runs of a hunt from a number on, as jobs. The words of code that were executed in earlier ones are counted.
@@ -144,29 +207,70 @@ impl Hunt<'_> {
         u64::from(each) * u64::from(workers.max(1))
     }
 
-    /// How many runs are made together next: no more than are held, and where the budget may be spent by fewer than that, as many as
-    /// it allows by what runs have cost so far, but at least one for each worker.
+    /// How many runs of so much cost are a part of the hunt.
+    fn part_of(&self, each: u64) -> u64 {
+        match self.limit {
+            Limit::Runs(all) => all.div_ceil(PARTS),
+            Limit::Budget(steps) => steps.div_ceil(PARTS) / each.max(1),
+        }
+    }
+
+    /// How many runs of so much cost are left.
+    fn left_of(&self, reached: Reached, each: u64) -> u64 {
+        match self.limit {
+            Limit::Runs(all) => all.saturating_sub(reached.runs),
+            Limit::Budget(steps) => {
+                let left = steps.saturating_sub(reached.cost);
+                (left / each.max(1)).saturating_add(1)
+            }
+        }
+    }
+
+    /// How many of the next runs, of so many at most, keep that many workers busy to the end: the longest of them, which is begun first,
+    /// is the half of what a worker has to do at most.
+    fn balanced(&self, next: u32, most: u32, workers: u64) -> u64 {
+        let mut all = 0u64;
+        let mut longest = 0u64;
+        for n in 0..most {
+            let steps = u64::from(self.plans.plan(next.wrapping_add(n)).steps);
+            all = all.saturating_add(steps);
+            longest = longest.max(steps);
+            if all >= longest.saturating_mul(workers).saturating_mul(2) {
+                return u64::from(n) + 1;
+            }
+        }
+        u64::from(most)
+    }
+
+    /// How many of the next runs, of so many at most, are wanted together, by what runs have cost so far: few enough that what goes along
+    /// is told of them soon, and enough for the workers. Before the first it isn't known what a run costs.
+    fn wanted_of(&self, reached: Reached, next: u32, most: u32, workers: u64) -> u64 {
+        if reached.runs == 0 {
+            return self.left_of(reached, 1).min(workers);
+        }
+        let each = (reached.cost / reached.runs).max(1);
+        let together = STEPS_OF_A_LOT.saturating_mul(workers) / each;
+        let wanted = together
+            .min(self.part_of(each))
+            .max(self.balanced(next, most, workers));
+        match self.limit {
+            Limit::Runs(_) => wanted.min(self.left_of(reached, each)),
+            // Where the last ones are done all workers are to be busy.
+            Limit::Budget(_) => wanted.min(self.left_of(reached, each).max(workers)),
+        }
+    }
+
+    /// How many runs are made together next: as many as are wanted, no more than are held, and no more than there are numbers.
     fn lot_len(&self, hunted: &Hunted, next: u32, workers: u8) -> u32
         ensures some { 1 ≤ result }
         ensures numbers { next + result ≤ 2 ^ 32 }
     {
         let most = self
             .most_held(next, workers)
-            .min((1 << 32) - u64::from(next));
-        let reached = hunted.tally.reached();
-        let wanted = match self.limit {
-            Limit::Runs(all) => all.saturating_sub(reached.runs),
-            Limit::Budget(steps) => {
-                let each = reached.cost / reached.runs.max(1);
-                let left = steps.saturating_sub(reached.cost);
-                let some = u64::from(workers.max(1));
-                match reached.runs {
-                    0 => some,
-                    _ => (left / each.max(1)).saturating_add(1).max(some),
-                }
-            }
-        };
-        (wanted.min(most) as u32).max(1)
+            .min((1 << 32) - u64::from(next)) as u32;
+        let some = u64::from(workers.max(1));
+        let wanted = self.wanted_of(hunted.tally.reached(), next, most, some);
+        (wanted.min(u64::from(most)) as u32).max(1)
     }
 
     /// Some of the runs from a number on.
@@ -217,14 +321,14 @@ impl Hunt<'_> {
     }
 
     /// Adds what the next runs saw, as long as the hunt goes on.
-    fn add_lot<W: Watch>(
+    fn add_lot<A: Along>(
         &self,
         alloc: Global,
         hunted: &mut Hunted,
         noted: &mut Noted,
         next: u32,
         lot: &[KeptRun],
-        watch: &mut W,
+        along: &mut A,
     ) -> Result<(), NoMemory>
         requires so_far { spec.IsNotedSoFar self.now hunted.old noted.old.ends }
         requires goes_on { spec.is_due self.now hunted.old.tally ≡ true }
@@ -242,20 +346,20 @@ impl Hunt<'_> {
                 return Ok(());
             }
             self.add(alloc, hunted, noted, next + place as u32, &lot[place])?;
-            watch.saw(hunted);
+            along.saw(hunted);
         }
         Ok(())
     }
 
     /// Adds what the runs of the hunt see that are still to be made.
-    fn go_on<R: Threads + Wait, W: Watch>(
+    fn go_on<R: Threads + Wait, A: Along>(
         &self,
         rt: &R,
         alloc: Global,
         hunted: &mut Hunted,
         noted: &mut Noted,
         workers: u8,
-        watch: &mut W,
+        along: &mut A,
     ) -> Result<(), PoolFault>
         requires so_far { spec.IsNotedSoFar self.now hunted.old noted.old.ends }
         requires hunt { IsHunt self.now }
@@ -266,7 +370,8 @@ impl Hunt<'_> {
         while self.goes_on(hunted) {
             let next = self.next(hunted);
             let lot = self.lot(rt, alloc, hunted, &noted.words, next, workers)?;
-            self.add_lot(alloc, hunted, noted, next, &lot, watch)?;
+            self.add_lot(alloc, hunted, noted, next, &lot, along)?;
+            along.added(rt, alloc, self, hunted, noted);
         }
         Ok(())
     }
@@ -274,13 +379,13 @@ impl Hunt<'_> {
     /// What the runs of the hunt see: exactly those from the first number on that its limit allows, whatever the number
     /// of workers (1 to 16). Some runs are made together, which are then added up in the order of their numbers; what
     /// of them is behind the hunt's end is let go. What is noted is of no run before.
-    pub fn hunted<R: Threads + Wait, W: Watch>(
+    pub fn hunted<R: Threads + Wait, A: Along>(
         &self,
         rt: &R,
         alloc: Global,
         workers: u8,
         noted: &mut Noted,
-        watch: &mut W,
+        along: &mut A,
     ) -> Result<Hunted, PoolFault>
         requires hunt { IsHunt self.now }
         requires workers { workers ≤ 16 }
@@ -289,7 +394,7 @@ impl Hunt<'_> {
         ensures right { OnOk result (noted.new.ends.right ≡ noted.old.ends.right) }
     {
         let mut hunted = Hunted::new(alloc);
-        self.go_on(rt, alloc, &mut hunted, noted, workers, watch)
+        self.go_on(rt, alloc, &mut hunted, noted, workers, along)
             .and(Ok(hunted))
     }
 }

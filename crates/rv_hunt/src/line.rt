@@ -269,6 +269,7 @@ fn row_within(said: &Said) -> Option<(Key, RaceRow)>
         old: said.values.old,
         new: said.values.new,
         address: None,
+        accesses: None,
     };
     Some((said.key, row))
 }

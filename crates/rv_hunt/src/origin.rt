@@ -1,5 +1,5 @@
 //! What a hunt table is of: the image, the program, the runs, and what was given of them.
-ghost use Rattle.std.specs.Prelude.{◌≡◌, ◌+◌, ◌++◌, ◌∷◌, [], ◌||◌, is_err, Some, IfOk, OnOk};
+ghost use Rattle.std.specs.Prelude.{◌≡◌, ◌+◌, ◌++◌, ◌∷◌, [], ◌||◌, is_err, map, Some, IfOk, OnOk};
 ghost use Rattle.std.specs.List.{flat_map};
 ghost use Rattle.std.specs.Io.KnownBytes.{Appends};
 ghost use Rattle.rv_hunt.specs.Origin as spec;
@@ -10,6 +10,7 @@ use rv_memory::output::{Output, put_pieces};
 use rv_memory::store::NoMemory;
 use rv_text::decimal::Decimal;
 use rv_text::hexadecimal::byte_digits;
+use rv_text::pieces::Pieces;
 use sha2::{Digest, Sha256};
 use std::alloc::Global;
 use std::marker::Model;
@@ -159,6 +160,18 @@ fn first_run(stretches: &[Stretch]) -> u64
     }
 }
 
+/// How many runs are in the stretches together, up to 2^64 - 1.
+#[tactic(auto, using(std::proofs::lemmas::List::Sums::fold_more))]
+fn runs_in(stretches: &[Stretch]) -> u64
+    ensures { result ≡ spec.runs_of stretches.now }
+{
+    let mut runs = 0u64;
+    for stretch in stretches {
+        runs = runs.saturating_add(stretch.end.saturating_sub(stretch.first));
+    }
+    runs
+}
+
 /// So many runs from a number on.
 pub fn stretch_on(first: u64, runs: u64) -> Stretch
     ensures { result ≡ spec.stretch_on first runs }
@@ -197,6 +210,20 @@ fn add_stretches(stretches: &mut Vec<Stretch>, later: &[Stretch]) -> Result<(), 
         add_stretch(stretches, *stretch)?;
     }
     Ok(())
+}
+
+/// The words of a text that has a blank before each.
+fn words_in<'a>(alloc: Global, text: &'a [u8]) -> Result<Vec<&'a [u8]>, NoMemory>
+    ensures { IfOk result (λ words. map (λ word. word.now) words.items ≡ spec.words_in text.entry.now) }
+{
+    let mut words = Vec::new(alloc);
+    let mut pieces = Pieces::of(text, b' ');
+    // Nothing stands before the first blank.
+    let _ = pieces.next_piece();
+    while let Some(word) = pieces.next_piece() {
+        words.push(word)?;
+    }
+    Ok(words)
 }
 
 impl Origin {
@@ -255,6 +282,41 @@ impl Origin {
         ensures { result ≡ spec.first_run self.now.stretches }
     {
         first_run(&self.stretches)
+    }
+
+    /// In what a table is not of an image with these digits, or not by this version.
+    #[tactic(auto, unfolding(crate::specs::Origin::other_than))]
+    pub(crate) fn other_than(&self, image: &[u8], version: &[u8]) -> Option<TableKind>
+        ensures { result ≡ spec.other_than image.now version.now self.now }
+    {
+        if self.image.as_slice() != image {
+            Some(TableKind::Image)
+        } else if self.version.as_slice() != version {
+            Some(TableKind::Version)
+        } else {
+            None
+        }
+    }
+
+    /// The seed.
+    pub(crate) fn seed(&self) -> u64
+        ensures { result ≡ self.now.seed }
+    {
+        self.seed
+    }
+
+    /// How many runs there are.
+    pub(crate) fn runs(&self) -> u64
+        ensures { result ≡ spec.runs_of self.now.stretches }
+    {
+        runs_in(&self.stretches)
+    }
+
+    /// The words of what was given of the runs.
+    pub(crate) fn given_words(&self, alloc: Global) -> Result<Vec<&[u8]>, NoMemory>
+        ensures { IfOk result (λ words. map (λ word. word.now) words.items ≡ spec.words_in self.now.given) }
+    {
+        words_in(alloc, &self.given)
     }
 
     /// Where the runs end: the number behind the last.

@@ -37,6 +37,7 @@ mod races;
 mod runs;
 mod stuck;
 mod style;
+pub mod tabled;
 mod terms;
 
 /// What stands before the body.
@@ -75,9 +76,9 @@ fn links(page: Markup) -> Result<Markup, NoMemory>
     end_line(page.text(b"what was seen")?.end()?)
 }
 
-/// What stands above all parts of the page.
-fn begin_page(page: Markup, line: &LineParts<'_>, summary: &[u8]) -> Result<Markup, NoMemory>
-    ensures { IfOk result (λ more. more ≡ record { depth = suc (suc page.depth); facts = spec.links_facts page.facts }) }
+/// What stands above the links of a page.
+fn begin_body(page: Markup, line: &LineParts<'_>, summary: &[u8]) -> Result<Markup, NoMemory>
+    ensures { IfOk result (λ more. more ≡ record { depth = suc (suc page.depth); facts = page.facts }) }
 {
     let lang = Attribute {
         name: LANG,
@@ -87,7 +88,14 @@ fn begin_page(page: Markup, line: &LineParts<'_>, summary: &[u8]) -> Result<Mark
     let page = head(page, summary)?.begin(BODY, &[])?.text(b"\n")?;
     let page = end_line(page.begin(H1, &[])?.text(summary)?)?;
     let page = code(page.begin(P, &[])?, line.command.as_bytes())?;
-    links(end_line(page)?)
+    end_line(page)
+}
+
+/// What stands above all parts of the page.
+fn begin_page(page: Markup, line: &LineParts<'_>, summary: &[u8]) -> Result<Markup, NoMemory>
+    ensures { IfOk result (λ more. more ≡ record { depth = suc (suc page.depth); facts = spec.links_facts page.facts }) }
+{
+    links(begin_body(page, line, summary)?)
 }
 
 /// The races: their table, and the first of them in full.

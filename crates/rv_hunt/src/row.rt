@@ -3,16 +3,26 @@ ghost use Rattle.std.specs.Prelude.{◌≡◌};
 ghost use Rattle.rv_hunt.specs.Rows as spec;
 
 use crate::kept_run::PartReport;
+use rv_collide::ending::Verdict;
 use rv_explain::block::RaceClass;
 use rv_explain::classes::rank;
+use rv_explain::races::Report;
+use rv_hart::access::Access;
 use rv_report::key::Key;
 use rv_tally::strongest;
+
+/// The two accesses of a report: that of the paused hart, and the other one, of a change its last store, where there is one.
+#[derive(Clone, Copy)]
+pub struct Accesses {
+    pub paused: Access,
+    pub other: Option<Access>,
+}
 
 /// What a table keeps of a race: how many reports there were, up to 2^64 - 1, and one of them: its class, its run, the part of that,
 /// the place of its pause in the part, from the run's begin on, and its access's bytes when the pause began and ended. It is the first of
 /// those that have the strongest class. A race of two instructions is of hits, one of a single instruction of
-/// reports that found their bytes changed. `part` and `address`, which is that of the access's first byte, stand in no text of a table:
-/// part 0 and no address are read from one.
+/// reports that found their bytes changed. `part`, `address`, which is that of the access's first byte, and `accesses` stand in no text
+/// of a table: part 0, no address and no accesses are read from one.
 #[derive(Clone, Copy)]
 pub struct RaceRow {
     pub count: u64,
@@ -23,6 +33,20 @@ pub struct RaceRow {
     pub old: u32,
     pub new: u32,
     pub address: Option<u32>,
+    pub accesses: Option<Accesses>,
+}
+
+/// The accesses of a report.
+fn accesses_of(report: &Report) -> Accesses
+    ensures { result ≡ spec.accesses_of report.now }
+{
+    Accesses {
+        paused: report.ending.access,
+        other: match report.judged {
+            Verdict::Hit(seen) => Some(seen.access),
+            Verdict::Changed | Verdict::Quiet => None,
+        },
+    }
 }
 
 /// The row of a single report of a run.
@@ -39,6 +63,7 @@ pub fn row_of(run: u32, it: &PartReport) -> (Key, RaceRow)
         old: report.ending.old,
         new: report.ending.new,
         address: Some(report.ending.access.first),
+        accesses: Some(accesses_of(report)),
     };
     (report.key, row)
 }
@@ -64,5 +89,6 @@ pub(crate) fn joined(first: &RaceRow, later: &RaceRow) -> RaceRow
         old: told.old,
         new: told.new,
         address: told.address,
+        accesses: told.accesses,
     }
 }

@@ -6,6 +6,7 @@ ghost use Rattle.rv_hunt.specs.Rows as spec;
 ghost use Rattle.rv_hunt.specs.Keyed as keyed;
 ghost use Rattle.rv_report.specs.Races.{same_key};
 
+use crate::entries::entries_of;
 use crate::row::{RaceRow, joined};
 use crate::texts::write_rows;
 use indexmap::IndexMap;
@@ -52,7 +53,7 @@ impl HuntTable {
     }
 
     /// The row of a race, where there is one.
-    fn row(&self, key: &Key) -> Option<RaceRow>
+    pub(crate) fn row(&self, key: &Key) -> Option<RaceRow>
         ensures { result ≡ keyed.row_at same_key self.now key.now }
     {
         self.rows.get(key).copied()
@@ -101,8 +102,7 @@ impl HuntTable {
     pub fn rows(&self, alloc: Global) -> Result<Vec<(Key, RaceRow)>, NoMemory>
         ensures { IfOk result (λ rows. rows.items ≡ self.now) }
     {
-        let rows = self.rows.iter().map(|(key, row)| (*key, *row));
-        Ok(rows.collect(alloc)?)
+        entries_of(alloc, &self.rows)
     }
 
     /// The rows in their order, in place of the table.

@@ -1,5 +1,5 @@
 -- The exit status of a failure, and what is printed of it.
-use Rattle.std.specs.Prelude.{ℕ, Bool, true, false, if◌then◌else◌, Option, Some, None, option_map, List, [], ◌++◌, codes}
+use Rattle.std.specs.Prelude.{ℕ, ◌/◌, ◌%◌, Bool, true, false, if◌then◌else◌, Option, Some, None, option_map, List, [], ◌++◌, codes}
 use Rattle.std.specs.declared.io.ErrorKind.{ErrorKind}
 use Rattle.std.specs.declared.io.ErrorKind.TheVariants as kind
 use Rattle.rv_engines.specs.CommandFault.{refusal_output, status}
@@ -16,7 +16,7 @@ use Rattle.rv_engines.specs.declared.run.fault.CommandFault.TheVariants.{Plain}
 use Rattle.rv_engines.specs.declared.sentences.FaultLine.{FaultLine}
 use Rattle.rv_engines.specs.Sentences.{line_output}
 use Rattle.rv_engines.specs.Shown.{shown}
-use Rattle.std.specs.Fmt.{decimal}
+use Rattle.std.specs.Fmt.{decimal, radix_digits}
 use Rattle.rv_hunt.specs.merge.FileFaultText as file
 use Rattle.rv_hunt.specs.declared.merge.fault.FileFault.{FileFault}
 use Rattle.rv_hunt.specs.declared.merge.fault.FileFault.TheVariants as files
@@ -51,6 +51,8 @@ word_of saved.First = codes "race"
 word_of saved.Second = codes "race"
 word_of saved.StuckEnd = codes "stuck"
 word_of saved.Ended = codes "end"
+word_of saved.Pair = []
+word_of saved.Single = []
 
 -- what stands behind the number in them
 abbrev pub tail_of : Kind → List ℕ
@@ -59,10 +61,35 @@ tail_of saved.First = codes "-first"
 tail_of saved.Second = codes "-second"
 tail_of saved.StuckEnd = []
 tail_of saved.Ended = []
+tail_of saved.Pair = []
+tail_of saved.Single = []
+
+-- the eight digits of an address
+abbrev pub address_digits : ℕ → List ℕ
+address_digits address =
+    radix_digits 16 false (address / 0x10000000 % 16) ++ (radix_digits 16 false (address / 0x1000000 % 16) ++ (radix_digits 16 false (address / 0x100000 % 16) ++ (radix_digits 16 false (address / 0x10000 % 16)
+    ++ (radix_digits 16 false (address / 0x1000 % 16) ++ (radix_digits 16 false (address / 0x100 % 16) ++ (radix_digits 16 false (address / 0x10 % 16) ++ radix_digits 16 false (address % 16)))))))
+
+abbrev pub numbered : Kind → ℕ → List ℕ
+numbered kind number = word_of kind ++ (codes "-" ++ (decimal number ++ tail_of kind))
+
+-- a race's while the hunt goes on has its addresses, and all others a number
+abbrev pub name_by : Kind → ℕ → List ℕ
+name_by saved.Race number = numbered saved.Race number
+name_by saved.First number = numbered saved.First number
+name_by saved.Second number = numbered saved.Second number
+name_by saved.StuckEnd number = numbered saved.StuckEnd number
+name_by saved.Ended number = numbered saved.Ended number
+name_by saved.Pair number = address_digits (number / 0x100000000) ++ (codes "-" ++ address_digits (number % 0x100000000))
+name_by saved.Single number = address_digits (number % 0x100000000)
+
+-- the name of a schedule's file, but for `.schedule`
+abbrev pub name_of : Saved → List ℕ
+name_of file = name_by file.kind file.number
 
 abbrev pub schedule_file : Option Saved → List ℕ
 schedule_file None = []
-schedule_file (Some file) = codes "/" ++ (word_of file.kind ++ (codes "-" ++ (decimal file.number ++ (tail_of file.kind ++ codes ".schedule"))))
+schedule_file (Some file) = codes "/" ++ (name_of file ++ codes ".schedule")
 
 abbrev pub place_output : FilePlace → List ℕ
 place_output place = shown place.path.now ++ schedule_file place.schedule

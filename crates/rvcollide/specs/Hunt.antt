@@ -10,7 +10,7 @@ use Rattle.rv_hunt.specs.declared.engine.options.Shows.{Shows}
 use Rattle.rv_hunt.specs.declared.engine.options.Shows.TheVariants.{Table, Text}
 use Rattle.rv_tally.specs.declared.plans.Mix.{Mix}
 use Rattle.rv_tally.specs.declared.plans.Mix.TheVariants.{Mixed, Sampled, Walks}
-use Rattle.rvcollide.specs.declared.hunting.TheConstants.{SLOTS}
+use Rattle.rv_hunt.specs.declared.given.TheConstants.{SLOTS}
 
 -- what is shown
 abbrev pub shown_by : HuntLine → Shows

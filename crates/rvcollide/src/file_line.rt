@@ -21,14 +21,7 @@ impl fmt::Display for FilePlace<'_> {
 
     fn fmt<W: fmt::Write>(&self, f: &mut fmt::Formatter<W>) -> fmt::Result {
         match self.schedule {
-            Some(file) => write!(
-                f,
-                "{}/{}-{}{}.schedule",
-                Shown(self.path),
-                file.kind.word(),
-                file.number,
-                file.kind.tail()
-            ),
+            Some(file) => write!(f, "{}/{file}.schedule", Shown(self.path)),
             None => write!(f, "{}", Shown(self.path)),
         }
     }

@@ -121,18 +121,6 @@ impl<'a, R: Files> OutputFile<'a, R> {
         }
     }
 
-    /// Whether making or writing the file has failed.
-    pub fn has_failed(&self) -> bool
-        ensures { result ≡ self.now.failed }
-    {
-        self.failed
-    }
-
-    /// What the system said when that failed.
-    pub fn said(&self) -> Option<SystemSaid> {
-        self.said
-    }
-
     /// Notes a failure.
     fn note(&mut self, done: Result<(), SystemFault>) -> Result<(), WriteFault>
         ensures failed { self.new.failed ≡ (self.old.failed || is_err result) }
@@ -146,22 +134,6 @@ impl<'a, R: Files> OutputFile<'a, R> {
                 Err(WriteFault)
             }
         }
-    }
-}
-
-/// Whether a file that is made has failed, where one is.
-pub fn has_failed<R: Files>(file: &Option<OutputFile<'_, R>>) -> bool {
-    match file {
-        Some(file) => file.has_failed(),
-        None => false,
-    }
-}
-
-/// What the system said of it.
-pub fn said_by<R: Files>(file: &Option<OutputFile<'_, R>>) -> Option<SystemSaid> {
-    match file {
-        Some(file) => file.said(),
-        None => None,
     }
 }
 
@@ -195,7 +167,7 @@ pub fn said_of(failed: Option<FailedFile<'_>>, output: Option<SystemSaid>) -> Op
 }
 
 /// Makes a file of the bytes at the path, or puts them in place of those of the file that is there.
-fn write_file<R: Files>(rt: &R, path: &str, bytes: &[u8]) -> Result<(), SystemFault> {
+pub fn write_file<R: Files>(rt: &R, path: &str, bytes: &[u8]) -> Result<(), SystemFault> {
     match fs::create(rt, path) {
         Ok(file) => write_all(file, bytes),
         Err(error) => Err(SystemFault::of(&error)),
@@ -232,7 +204,7 @@ fn look_at_standing<R: Files>(rt: &R, path: &str) -> Result<(), SystemFault> {
 }
 
 /// Looks whether a file can be made at the path: one that is not there is made and taken away.
-fn look_at<R: Files>(rt: &R, path: &str) -> Result<(), SystemFault> {
+pub fn look_at<R: Files>(rt: &R, path: &str) -> Result<(), SystemFault> {
     match File::create_new(rt, path) {
         Ok(_) => match fs::remove_file(rt, path) {
             Ok(()) => Ok(()),

@@ -1,14 +1,16 @@
 //! The folder of a hunt's schedules, on the system.
-ghost use Rattle.std.specs.Prelude.{◌≡◌, ◌||◌};
+ghost use Rattle.std.specs.Prelude.{◌≡◌, ◌||◌, ◌/◌, ◌%◌, Some};
 ghost use Rattle.rv_hunt.specs.engine.FolderFault.{fails_by_write, is_write};
-ghost use Rattle.rvcollide.specs.Failure.{tail_of, word_of};
+ghost use Rattle.rvcollide.specs.Failure.{address_digits, name_of, tail_of, word_of};
 
 use crate::files::write_all;
 use crate::system::{SystemFault, SystemSaid};
 use rv_hunt::engine::folder::{Beside, Folder, FolderFault};
+use rv_report::key::Key;
 use rv_text::decimal::read_decimal;
+use rv_text::hexadecimal::read_word;
 use std::fs::{self, File};
-use std::io;
+use std::{fmt, io};
 
 /// What a schedule of the folder is of.
 #[derive(Clone, Copy, PartialEq, Eq, PartialOrd, Ord)]
@@ -19,9 +21,14 @@ pub enum Kind {
     Second,
     StuckEnd,
     Ended,
+    /// A race of two instructions while the hunt goes on, by their addresses: the first times 2^32, and the second.
+    Pair,
+    /// A race of one instruction, by its address.
+    Single,
 }
 
-const KINDS: [Kind; 5] = [
+/// The kinds whose schedules are numbered from 1.
+const NUMBERED: [Kind; 5] = [
     Kind::Race,
     Kind::First,
     Kind::Second,
@@ -38,6 +45,7 @@ impl Kind {
             Kind::Race | Kind::First | Kind::Second => "race",
             Kind::StuckEnd => "stuck",
             Kind::Ended => "end",
+            Kind::Pair | Kind::Single => "",
         }
     }
 
@@ -48,7 +56,7 @@ impl Kind {
         match self {
             Kind::First => "-first",
             Kind::Second => "-second",
-            Kind::Race | Kind::StuckEnd | Kind::Ended => "",
+            Kind::Race | Kind::StuckEnd | Kind::Ended | Kind::Pair | Kind::Single => "",
         }
     }
 }
@@ -58,6 +66,76 @@ impl Kind {
 pub struct Saved {
     pub kind: Kind,
     pub number: u64,
+}
+
+/// How many words of 32 bits there are.
+const WORDS: u64 = 0x1_0000_0000;
+
+/// The eight digits of an address.
+#[derive(Clone, Copy)]
+struct Address(u32);
+
+impl fmt::Display for Address {
+    ghost output = { λ address. Some (address_digits address.0) };
+
+    fn fmt<W: fmt::Write>(&self, f: &mut fmt::Formatter<W>) -> fmt::Result {
+        let n = self.0;
+        let (a, b, c, d) = (
+            n / 0x1000_0000 % 16,
+            n / 0x100_0000 % 16,
+            n / 0x10_0000 % 16,
+            n / 0x1_0000 % 16,
+        );
+        let (e, g, h, i) = (n / 0x1000 % 16, n / 0x100 % 16, n / 0x10 % 16, n % 16);
+        write!(f, "{a:x}{b:x}{c:x}{d:x}{e:x}{g:x}{h:x}{i:x}")
+    }
+}
+
+impl Saved {
+    /// The schedule of a race while the hunt goes on.
+    pub fn of_race(race: Key) -> Saved {
+        let first = u64::from(race.first);
+        match race.second {
+            Some(second) => Saved {
+                kind: Kind::Pair,
+                number: first * WORDS + u64::from(second),
+            },
+            None => Saved {
+                kind: Kind::Single,
+                number: first,
+            },
+        }
+    }
+
+    /// The addresses of such a schedule's race.
+    fn addresses(self) -> (Address, Address)
+        ensures first { result.0.0 ≡ self.number / 0x100000000 }
+        ensures second { result.1.0 ≡ self.number % 0x100000000 }
+    {
+        let first = self.number / WORDS;
+        let second = self.number % WORDS;
+        (Address(first as u32), Address(second as u32))
+    }
+}
+
+/// The name of its file, but for `.schedule`.
+impl fmt::Display for Saved {
+    ghost output = { λ file. Some (name_of file) };
+
+    fn fmt<W: fmt::Write>(&self, f: &mut fmt::Formatter<W>) -> fmt::Result {
+        let (first, second) = self.addresses();
+        match self.kind {
+            Kind::Pair => write!(f, "{first}-{second}"),
+            Kind::Single => write!(f, "{second}"),
+            Kind::Race | Kind::First | Kind::Second | Kind::StuckEnd | Kind::Ended => write!(
+                f,
+                "{}-{}{}",
+                self.kind.word(),
+                self.number,
+                self.kind.tail()
+            ),
+        }
+    }
 }
 
 /// The name of the file by which a folder is tried.
@@ -182,9 +260,28 @@ fn schedule_of(kind: Kind, name: &str) -> Option<Saved> {
     })
 }
 
+/// The address that eight digits write, as the names of files have it.
+fn address_of(digits: &str) -> Option<u32> {
+    let is_lower = digits.bytes().all(|digit| !digit.is_ascii_uppercase());
+    let address = read_word(digits.as_bytes())?;
+    is_lower.then_some(address)
+}
+
+/// The schedule of a race while a hunt goes on that a file of that name is: `ADDRESS-ADDRESS.schedule`, or `ADDRESS.schedule`.
+fn early_in(name: &str) -> Option<Saved> {
+    let addresses = name.strip_suffix(".schedule")?;
+    let (first, second) = match addresses.split_once('-') {
+        Some((first, second)) => (first, Some(address_of(second)?)),
+        None => (addresses, None),
+    };
+    let first = address_of(first)?;
+    Some(Saved::of_race(Key { first, second }))
+}
+
 /// The schedule that a file of that name is.
 fn schedule_in(name: &str) -> Option<Saved> {
-    KINDS.iter().find_map(|kind| schedule_of(*kind, name))
+    let numbered = NUMBERED.iter().find_map(|kind| schedule_of(*kind, name));
+    numbered.or(early_in(name))
 }
 
 /// The first of two schedules, where there are any.
@@ -231,10 +328,7 @@ fn make_file(rt: &HostRuntime, path: &str, bytes: &[u8]) -> Result<(), Refusal> 
 
 /// Makes a schedule's file in a folder.
 fn make_schedule(rt: &HostRuntime, folder: &str, file: Saved, bytes: &[u8]) -> Result<(), Refusal> {
-    let kind = file.kind.word();
-    let number = file.number;
-    let tail = file.kind.tail();
-    let Ok(path) = format!(in rt.alloc(); "{folder}/{kind}-{number}{tail}.schedule") else {
+    let Ok(path) = format!(in rt.alloc(); "{folder}/{file}.schedule") else {
         return Err(Refusal::plain(FolderFault::NoMemory));
     };
     make_file(rt, path.as_str(), bytes)
@@ -270,6 +364,10 @@ impl Folder for ScheduleFolder<'_> {
     ghost Holds = { λ folder number bytes. ⊤ };
 
     ghost has_failed = { λ folder. folder.failed };
+
+    fn is_at_fault(&self) -> bool {
+        self.failed
+    }
 
     fn look(&mut self) -> Result<(), FolderFault> {
         let (refusal, there) = match look_in(self.rt, self.path) {

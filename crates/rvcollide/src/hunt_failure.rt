@@ -2,7 +2,9 @@
 use crate::failure::Failure;
 use crate::file_line::{FileLine, FilePlace};
 use crate::folder::{Saved, ScheduleFolder};
-use crate::paths::{expect_path, folder_path, ignore_path, list_path, page_path};
+use crate::paths::{
+    expect_path, folder_path, ignore_path, json_path, list_path, page_path, table_to_path,
+};
 use crate::system::SystemSaid;
 use rv_command::arguments::ImagePath;
 use rv_command::command::hunt::HuntLine;
@@ -35,6 +37,8 @@ pub struct Failed {
     pub folder: AtFault,
     pub page: bool,
     pub list: bool,
+    pub table: bool,
+    pub json: bool,
     pub said: Said,
 }
 
@@ -47,13 +51,16 @@ pub struct Said {
     pub folder: Option<SystemSaid>,
     pub page: Option<SystemSaid>,
     pub list: Option<SystemSaid>,
+    pub table: Option<SystemSaid>,
+    pub json: Option<SystemSaid>,
     pub output: Option<SystemSaid>,
 }
 
 impl Failed {
     /// Whether a file that the hunt makes has failed.
     pub fn has_file(&self) -> bool {
-        self.page || self.list || !matches!(self.folder, AtFault::Nothing)
+        let has_text = self.page || self.list || self.table || self.json;
+        has_text || !matches!(self.folder, AtFault::Nothing)
     }
 }
 
@@ -70,7 +77,11 @@ pub fn at_fault_in(folder: &Option<ScheduleFolder<'_>>) -> AtFault {
 }
 
 /// The line of a fault of a file.
-fn of_file<'a>(path: Option<&'a str>, said: Option<SystemSaid>, fault: FileFault) -> Failure<'a> {
+pub fn of_file<'a>(
+    path: Option<&'a str>,
+    said: Option<SystemSaid>,
+    fault: FileFault,
+) -> Failure<'a> {
     let file = match path {
         Some(path) => Some(FilePlace {
             path,
@@ -157,6 +168,10 @@ fn of_command<'a>(
         AtFault::Standing(file) => of_schedule(folder_path(line.save_to), file, true, None),
         AtFault::Nothing if failed.page => of_file(page_path(line.page), failed.said.page, WRITE),
         AtFault::Nothing if failed.list => of_file(list_path(line.list), failed.said.list, WRITE),
+        AtFault::Nothing if failed.table => {
+            of_file(table_to_path(line.table_to), failed.said.table, WRITE)
+        }
+        AtFault::Nothing if failed.json => of_file(json_path(line.json), failed.said.json, WRITE),
         AtFault::Nothing => of_image(image, failed, fault),
     }
 }

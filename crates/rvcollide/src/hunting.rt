@@ -5,90 +5,35 @@ ghost use Rattle.rvcollide.specs.Ending as spec;
 ghost use Rattle.rvcollide.specs.Hunt as asked;
 
 use crate::failure::Failure;
-use crate::files::{InputFile, OutputFile, has_failed, said_by};
+use crate::files::InputFile;
 use crate::folder::ScheduleFolder;
-use crate::hunt_failure::{Failed, Said, WRITE_FAULT, at_fault_in, failure_of};
-use crate::paths::{expect_path, ignore_path, list_path, page_path};
+use crate::hunt_failure::{AtFault, Failed, Said, WRITE_FAULT, at_fault_in, failure_of};
+use crate::keeper::Keeper;
+use crate::kept_file::{KeptFile, has_failed, said_by};
+use crate::paths::{expect_path, ignore_path, json_path, list_path, page_path};
+use crate::progress::Progress;
 use crate::shown_line::ShownLine;
 use crate::system::{Stream, SystemSaid};
 use rv_collide::plan::DEFAULT_SLOTS;
 use rv_command::arguments::{FolderPath, ImagePath};
 use rv_command::command::hunt::HuntLine;
-use rv_hunt::engine::found::Found;
+use rv_engines::fault::Fault;
+use rv_engines::run::fault::CommandFault;
+use rv_hunt::engine::fault::HuntFault;
+use rv_hunt::engine::found::{Checks, Found};
 use rv_hunt::engine::inputs::Inputs;
 use rv_hunt::engine::options::{HuntOptions, LineParts, MOST_WORKERS, Shows, Sides};
 use rv_hunt::engine::run_hunt;
-use rv_hunt::hunt::Watch;
-use rv_hunt::hunted::Hunted;
+use rv_hunt::given::SLOTS;
 use rv_memory::buffered::Buffered;
 use rv_memory::flagged::Flagged;
-use rv_tally::limit::Limit;
 use rv_tally::plans::{Mix, Plans};
 use std::io::IsTerminal;
 use std::sync::Wait;
 use std::thread::{Threads, available_parallelism};
 
-/// How many slots the runs of a hunt have, where not all are sampled ones: in contended programs many harts are paused at once.
-const SLOTS: u8 = 8;
-
-/// How many lines of progress there are at most.
-const LINES: u64 = 100;
-
-/// Tells a person at a terminal how far a hunt has come, once for each hundredth of its budget.
-#[derive(Drop)]
-struct Progress<'a> {
-    rt: &'a HostRuntime,
-    limit: Limit,
-    is_shown: bool,
-    hundredths: u64,
-}
-
-impl Progress<'_> {
-    /// How many hundredths of what was asked for are done.
-    fn hundredths_of(&self, hunted: &Hunted) -> u64 {
-        let (done, all) = match self.limit {
-            Limit::Runs(runs) => (hunted.tally.runs(), runs),
-            Limit::Budget(steps) => (hunted.tally.reached().cost, steps),
-        };
-        (done / all.div_ceil(LINES).max(1)).min(LINES)
-    }
-
-    fn tell(&self, hunted: &Hunted) {
-        let (runs, races) = (hunted.tally.runs(), hunted.table.len());
-        let probes = hunted.tally.probes();
-        // Where the standard error fails there is nothing left to tell it to.
-        let _ = match self.limit {
-            Limit::Runs(all) => eprintln!(self.rt;
-                "runs {runs} of {all}, probes {probes}, races {races}"
-            ),
-            Limit::Budget(all) => {
-                let spent = hunted.tally.reached().cost.min(all);
-                eprintln!(self.rt;
-                    "runs {runs}, probes {probes}, races {races}, {spent} of {all} steps"
-                )
-            }
-        };
-    }
-}
-
-impl Watch for Progress<'_> {
-    fn saw(&mut self, hunted: &Hunted) {
-        let hundredths = self.hundredths_of(hunted);
-        if self.is_shown && self.hundredths < hundredths {
-            self.hundredths = hundredths;
-            self.tell(hunted);
-        }
-    }
-
-    fn shows(&mut self, shown: usize, all: usize) {
-        if self.is_shown && shown > 0 {
-            let _ = eprintln!(self.rt; "races shown {shown} of {all}");
-        }
-    }
-}
-
 /// How many threads make the runs: as many as are asked for, else as many as the machine has processors.
-fn workers_of(rt: &impl Threads, line: &HuntLine) -> u8 {
+pub fn workers_of(rt: &impl Threads, line: &HuntLine) -> u8 {
     match (line.workers, available_parallelism(rt)) {
         (Some(workers), _) => workers,
         (None, Ok(count)) => count.get().min(usize::from(MOST_WORKERS)) as u8,
@@ -111,7 +56,7 @@ fn mix_of(line: &HuntLine) -> Mix
 }
 
 /// How many slots there are, where the line doesn't say.
-fn slots_of(line: &HuntLine) -> u8
+pub fn slots_of(line: &HuntLine) -> u8
     ensures { result ≡ asked.slots_of line.now }
 {
     if line.sampled { DEFAULT_SLOTS } else { SLOTS }
@@ -142,6 +87,7 @@ fn options_of<'a, 'b>(
         blocks: line.blocks,
         line: parts,
         orders: !line.no_orders,
+        checks: checks_of(line),
     };
     if options.is_legal() {
         Some(options)
@@ -172,30 +118,25 @@ fn shown_by(line: &HuntLine) -> Shows
     }
 }
 
-/// Whether what was found is what the line asks to be told by the exit status.
-fn is_asked(line: &HuntLine, found: Found) -> bool
-    ensures { result ≡ spec.is_asked line.now found }
+/// What the line asks to be told by the exit status.
+pub fn checks_of(line: &HuntLine) -> Checks
+    ensures { result ≡ spec.checks_of line.now }
 {
-    let has_bug = (line.checks || line.checks_all) && 0 < found.bugs;
-    let has_benign = line.checks_all && 0 < found.benign;
-    let has_end = line.check_ends && (0 < found.stuck || found.has_wrong_end);
-    has_bug || has_benign || has_end || found.is_unexpected
-}
-
-/// Whether the line asks for races that may be bugs, there is none, and a warning says that this means nothing.
-fn is_void(line: &HuntLine, found: Found) -> bool
-    ensures { result ≡ spec.is_void line.now found }
-{
-    line.checks && found.bugs == 0 && found.is_void
+    Checks {
+        races: line.checks,
+        all_races: line.checks_all,
+        ends: line.check_ends,
+    }
 }
 
 /// How the program ends where all was written: what was found goes before that nothing could be found.
-fn ending_of<'a>(line: &HuntLine, found: Found) -> Result<(), Failure<'a>>
+pub fn ending_of<'a>(line: &HuntLine, found: Found) -> Result<(), Failure<'a>>
     ensures { result ≡ spec.ending_of line.now found }
 {
-    if is_asked(line, found) {
+    let checks = checks_of(line);
+    if checks.are_met(found) {
         Err(Failure::Found)
-    } else if is_void(line, found) {
+    } else if checks.are_void(found) {
         Err(Failure::Void)
     } else {
         Ok(())
@@ -203,7 +144,7 @@ fn ending_of<'a>(line: &HuntLine, found: Found) -> Result<(), Failure<'a>>
 }
 
 /// The file of a path, where one is given. It is opened when it is first read.
-fn file_if<'a>(
+pub fn file_if<'a>(
     rt: &'a HostRuntime,
     path: Option<&'a str>,
 ) -> Option<Flagged<InputFile<'a, HostRuntime>>> {
@@ -212,15 +153,18 @@ fn file_if<'a>(
 }
 
 /// The folder of a path, where one is given.
-fn folder_if<'a>(rt: &'a HostRuntime, path: Option<FolderPath<'a>>) -> Option<ScheduleFolder<'a>> {
+pub fn folder_if<'a>(
+    rt: &'a HostRuntime,
+    path: Option<FolderPath<'a>>,
+) -> Option<ScheduleFolder<'a>> {
     let path = path?;
     Some(ScheduleFolder::new(rt, path.0))
 }
 
 /// The file that is made at a path, where one is given.
-fn made_if<'a>(rt: &'a HostRuntime, path: Option<&'a str>) -> Option<OutputFile<'a, HostRuntime>> {
+pub fn made_if<'a>(rt: &'a HostRuntime, path: Option<&'a str>) -> Option<KeptFile<'a>> {
     let path = path?;
-    Some(OutputFile::new(rt, path))
+    Some(KeptFile::new(rt, path))
 }
 
 /// What the system said of a file, where one is given.
@@ -229,10 +173,19 @@ pub fn said_of(file: Option<Flagged<InputFile<'_, HostRuntime>>>) -> Option<Syst
     file.into_inner().said()
 }
 
-fn folder_said(folder: &Option<ScheduleFolder<'_>>) -> Option<SystemSaid> {
+pub fn folder_said(folder: &Option<ScheduleFolder<'_>>) -> Option<SystemSaid> {
     match folder {
         Some(folder) => folder.said(),
         None => None,
+    }
+}
+
+/// Whether a hunt came to its end, so that each race that is shown in full has a schedule: then only a text can't have been written.
+fn is_over(hunted: &Result<Found, HuntFault<'_>>) -> bool {
+    match hunted {
+        Ok(_) => true,
+        Err(HuntFault::Command(CommandFault::Plain(Fault::Write))) => true,
+        Err(_) => false,
     }
 }
 
@@ -269,14 +222,16 @@ fn hunt_by<'a>(
     let mut folder = folder_if(rt, line.save_to);
     let mut page = made_if(rt, page_path(line.page));
     let mut list = made_if(rt, list_path(line.list));
+    let mut json = made_if(rt, json_path(line.json));
     let mut writer = Buffered::new(alloc, Stream::new(rt.stdout()));
     let mut notes = Buffered::new(alloc, rt.stderr());
-    let mut progress = Progress {
+    let progress = Progress {
         rt,
         limit: line.limit,
         is_shown: !line.is_quiet && rt.stderr().is_terminal(),
         hundredths: 0,
     };
+    let mut keeper = Keeper::new(alloc, progress, line);
     let hunted = run_hunt(
         threads,
         alloc,
@@ -285,9 +240,10 @@ fn hunt_by<'a>(
         &mut folder,
         &mut page,
         &mut list,
+        &mut json,
         &mut writer,
         &mut notes,
-        &mut progress,
+        &mut keeper,
     );
     let Inputs {
         image: image_file,
@@ -299,6 +255,8 @@ fn hunt_by<'a>(
         folder: at_fault_in(&folder),
         page: has_failed(&page),
         list: has_failed(&list),
+        table: keeper.table_failed(),
+        json: has_failed(&json),
         said: Said {
             image: image_file.into_inner().said(),
             ignored: said_of(ignored),
@@ -306,9 +264,14 @@ fn hunt_by<'a>(
             folder: folder_said(&folder),
             page: said_by(&page),
             list: said_by(&list),
+            table: keeper.table_said(),
+            json: said_by(&json),
             output: writer.into_inner().said(),
         },
     };
+    if is_over(&hunted) && matches!(failed.folder, AtFault::Nothing) {
+        keeper.take_away();
+    }
     match hunted {
         // What a file's fault left is written by now.
         Ok(_) if failed.has_file() => Err(failure_of(image, line, failed, WRITE_FAULT)),

@@ -6,14 +6,19 @@ ghost use Rattle.std.specs.Prelude.{◌≡◌};
 ghost use Rattle.std.specs.Process.{exit_status};
 ghost use Rattle.rvcollide.specs.Failure.{status_of};
 
+mod early_folder;
 pub mod failure;
 pub mod file_line;
 pub mod files;
 pub mod folder;
 pub mod hunt_failure;
 mod hunting;
+mod keeper;
+mod kept_file;
 mod merging;
 mod paths;
+mod progress;
+mod showing;
 mod shown_line;
 pub mod system;
 
@@ -22,15 +27,17 @@ use crate::files::{InputFile, OutputFile, failed_input, failed_output, path_of, 
 use crate::hunt_failure::{filed, filed_line};
 use crate::hunting::hunt_file;
 use crate::merging::merge_files;
+use crate::paths::json_path;
+use crate::showing::show_file;
 use crate::system::Stream;
 use rv_collide::plan::Plan;
-use rv_command::arguments::{ImagePath, PicturePath, SavePath, SchedulePath, SourcePath};
-use rv_command::command::{Job, LineFault, Notice, command_of, notice_of};
+use rv_command::arguments::{ImagePath, JsonPath, PicturePath, SavePath, SchedulePath, SourcePath};
+use rv_command::command::{Job, LineFault, Notice, VERSION, command_of, notice_of};
 use rv_engines::asm::run_asm;
 use rv_engines::debug::engine::run_debug;
 use rv_engines::exhibit::engine::run_exhibit;
 use rv_engines::explain::engine::run_explain;
-use rv_engines::explain::options::ExplainOptions;
+use rv_engines::explain::options::{About, ExplainOptions};
 use rv_engines::fault::Fault;
 use rv_engines::list::run_list;
 use rv_engines::replay::engine::run_replay;
@@ -118,6 +125,7 @@ fn run_job<'a>(
             expected,
             gaps,
         } => merge_files(rt, tables, expected, gaps),
+        Job::Show { image, table, line } => show_file(rt, threads, words, image, table, &line),
         Job::Run {
             image,
             options,
@@ -128,7 +136,8 @@ fn run_job<'a>(
             schedule,
             options,
             picture,
-        } => explain_files(rt, image, schedule, &options, picture),
+            json,
+        } => explain_files(rt, image, schedule, &options, picture, json),
         Job::Threads {
             image,
             plan,
@@ -249,25 +258,33 @@ fn explain_files<'a>(
     schedule: SchedulePath<'a>,
     options: &ExplainOptions<'a>,
     picture: Option<PicturePath<'a>>,
+    json: Option<JsonPath<'a>>,
 ) -> Result<(), Failure<'a>> {
     let alloc = rt.alloc();
     let mut image_file = Flagged::new(InputFile::new(rt, image.0));
     let mut schedule_file = Flagged::new(InputFile::new(rt, schedule.0));
-    let mut made = made_file(rt, picture);
+    let mut made = made_file(rt, picture_path(picture));
+    let mut object = made_file(rt, json_path(json));
+    let about = About {
+        path: image.0,
+        version: VERSION,
+    };
     let mut writer = Buffered::new(alloc, Stream::new(rt.stdout()));
     let told = run_explain(
         alloc,
         options,
+        &about,
         &mut image_file,
         &mut schedule_file,
         &mut made,
+        &mut object,
         &mut writer,
     );
     let Err(fault) = told else {
         return Ok(());
     };
     let failed = failed_input(image_file).or(failed_input(schedule_file));
-    let failed = failed.or(failed_output(made));
+    let failed = failed.or(failed_output(made)).or(failed_output(object));
     let said = said_of(failed, writer.into_inner().said());
     let paths = Paths {
         image: image.0,
@@ -308,13 +325,19 @@ fn gdb_files<'a>(
     Err(filed_line(fault.line(paths), said))
 }
 
-/// The file that is made of a picture, where one is wanted.
+/// The file that is made at a path, where one is given.
 fn made_file<'a>(
     rt: &'a HostRuntime,
-    picture: Option<PicturePath<'a>>,
+    path: Option<&'a str>,
 ) -> Option<OutputFile<'a, HostRuntime>> {
-    let path = picture?;
-    Some(OutputFile::new(rt, path.0))
+    let path = path?;
+    Some(OutputFile::new(rt, path))
+}
+
+/// The path of the picture.
+fn picture_path<'a>(path: Option<PicturePath<'a>>) -> Option<&'a str> {
+    let path = path?;
+    Some(path.0)
 }
 
 /// Writes why the words give no job, or the help that they ask for.

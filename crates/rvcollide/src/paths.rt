@@ -1,5 +1,7 @@
 //! The paths of a line of `hunt`.
-use rv_command::arguments::{FolderPath, IgnorePath, ListPath, PagePath, TablePath};
+use rv_command::arguments::{
+    FolderPath, IgnorePath, JsonPath, ListPath, PagePath, TablePath, TableToPath,
+};
 
 /// The path of the list of races that are to be ignored.
 pub fn ignore_path<'a>(path: Option<IgnorePath<'a>>) -> Option<&'a str> {
@@ -27,6 +29,18 @@ pub fn page_path<'a>(path: Option<PagePath<'a>>) -> Option<&'a str> {
 
 /// The path of the list of the races.
 pub fn list_path<'a>(path: Option<ListPath<'a>>) -> Option<&'a str> {
+    let path = path?;
+    Some(path.0)
+}
+
+/// The path of the table.
+pub fn table_to_path<'a>(path: Option<TableToPath<'a>>) -> Option<&'a str> {
+    let path = path?;
+    Some(path.0)
+}
+
+/// The path of the file for what was found as JSON.
+pub fn json_path<'a>(path: Option<JsonPath<'a>>) -> Option<&'a str> {
     let path = path?;
     Some(path.0)
 }

@@ -1,31 +1,45 @@
 //! What a hunt's text tells of its command line.
-use crate::paths::ignore_path;
+use crate::hunting::slots_of;
+use crate::paths::{expect_path, ignore_path};
 use rv_command::arguments::{Aim, FolderPath, ImagePath};
 use rv_command::command::VERSION;
 use rv_command::command::hunt::{DEFAULT_SEED, HuntLine};
 use rv_engines::shown::Shown;
-use rv_hunt::engine::options::LineParts;
+use rv_hunt::engine::options::{LineParts, SaidOptions};
 use rv_tally::plans::Lengths;
 use std::alloc::{AllocError, Global};
 
 /// Parts of a line, as messages show them.
 #[derive(Drop)]
-pub struct ShownLine {
+pub struct ShownLine<'a> {
     command: String,
     image: String,
     nested_image: String,
     options: String,
     folder: Option<String>,
     given: String,
+    path: &'a str,
+    said: SaidOptions<'a>,
 }
 
-impl ShownLine {
+/// Options of the line that other programs are told.
+fn said_of<'a>(line: &HuntLine<'a>) -> SaidOptions<'a> {
+    SaidOptions {
+        harts: line.harts,
+        slots: line.slots.unwrap_or(slots_of(line)),
+        lengths: line.lengths,
+        ignore: ignore_path(line.ignore),
+        expect: expect_path(line.expect),
+    }
+}
+
+impl<'a> ShownLine<'a> {
     pub fn of(
         alloc: Global,
         words: &[&str],
-        image: ImagePath<'_>,
-        line: &HuntLine<'_>,
-    ) -> Result<ShownLine, AllocError> {
+        image: ImagePath<'a>,
+        line: &HuntLine<'a>,
+    ) -> Result<ShownLine<'a>, AllocError> {
         Ok(ShownLine {
             command: command_of(alloc, words)?,
             image: shell_word(alloc, image.0)?,
@@ -33,6 +47,8 @@ impl ShownLine {
             options: options_of(alloc, line)?,
             folder: folder_of(alloc, line.save_to)?,
             given: given_of(alloc, line)?,
+            path: image.0,
+            said: said_of(line),
         })
     }
 
@@ -46,6 +62,8 @@ impl ShownLine {
             folder: self.folder.as_deref(),
             version: VERSION,
             given: self.given.as_str(),
+            path: self.path,
+            said: self.said,
         }
     }
 }

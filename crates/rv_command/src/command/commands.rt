@@ -3,7 +3,7 @@
 use crate::command::subcommand::{Argument, Subcommand};
 use crate::status::Asks;
 
-pub const COMMANDS: [Subcommand; 12] = [
+pub const COMMANDS: [Subcommand; 13] = [
     Subcommand {
         name: "words",
         about: "Run instruction words from the standard input",
@@ -153,6 +153,11 @@ pub const COMMANDS: [Subcommand; 12] = [
                 value: "FILE",
                 help: "SVG file to write, with a picture of the first race or that of --race",
             },
+            Argument::Optional {
+                name: "json",
+                value: "FILE",
+                help: "JSON file to write, with what is shown, for other programs",
+            },
         ],
     },
     Subcommand {
@@ -240,31 +245,17 @@ pub const COMMANDS: [Subcommand; 12] = [
                 value: "LIST",
                 help: "Functions in which harts may wait for ever, separated by commas",
             },
+            IGNORE,
+            SAVE_TO,
+            PAGE,
+            LIST,
             Argument::Optional {
-                name: "ignore",
+                name: "table-to",
                 value: "FILE",
-                help: "List of known races that are counted, not reported: two functions or addresses a line",
+                help: "File to write with the table of the races, as --table prints it",
             },
-            Argument::Optional {
-                name: "save-to",
-                value: "DIR",
-                help: "Folder for the schedule of each reported race: race-1.schedule, and so on",
-            },
-            Argument::Optional {
-                name: "page",
-                value: "FILE",
-                help: "HTML file to write, with the reports and a picture of each race",
-            },
-            Argument::Optional {
-                name: "list",
-                value: "FILE",
-                help: "List of the races to write, for --ignore and --expect of later builds",
-            },
-            Argument::Optional {
-                name: "blocks",
-                value: "N",
-                help: "Races shown in full, 0 to 10000; the others by a line each [default: 50]",
-            },
+            JSON,
+            BLOCKS,
             Argument::Flag {
                 name: "table",
                 help: "Print the table of the races, and what was seen on the standard error",
@@ -273,10 +264,7 @@ pub const COMMANDS: [Subcommand; 12] = [
                 name: "check",
                 help: "Exit with status 5 if there is a race that may be a bug, 6 if none means nothing",
             },
-            Argument::Flag {
-                name: "check-all",
-                help: "Exit with status 5 if there is a race, also a likely benign one",
-            },
+            CHECK_ALL,
             Argument::Flag {
                 name: "check-ends",
                 help: "Exit with status 5 if harts wait for ever, a trap stopped one, or one exited with a wrong code",
@@ -286,15 +274,8 @@ pub const COMMANDS: [Subcommand; 12] = [
                 value: "CODES",
                 help: "Exit codes that are right, separated by commas [default: 0]",
             },
-            Argument::Optional {
-                name: "expect",
-                value: "FILE",
-                help: "Table or list of known races: exit with status 5 if one that may be a bug is not in it",
-            },
-            Argument::Flag {
-                name: "quiet",
-                help: "Print no progress; warnings are still printed",
-            },
+            EXPECT,
+            QUIET,
         ],
     },
     Subcommand {
@@ -319,6 +300,40 @@ pub const COMMANDS: [Subcommand; 12] = [
                 name: "gaps",
                 help: "Allow that runs between those of two tables are missing",
             },
+        ],
+    },
+    Subcommand {
+        name: "show",
+        about: "Report the races of a hunt's table with names, instructions and values",
+        after: SHOW,
+        asks: Some(Asks {
+            found: "--check, --check-all or --expect",
+            void: None,
+        }),
+        arguments: &[
+            IMAGE,
+            Argument::Word {
+                name: "TABLE",
+                help: "File that hunt --table or merge wrote",
+            },
+            IGNORE,
+            SAVE_TO,
+            PAGE,
+            LIST,
+            JSON,
+            BLOCKS,
+            Argument::Optional {
+                name: "workers",
+                value: "W",
+                help: "Threads that make the runs again, 1 to 16 [default: one for each processor]",
+            },
+            Argument::Flag {
+                name: "check",
+                help: "Exit with status 5 if there is a race that may be a bug",
+            },
+            CHECK_ALL,
+            EXPECT,
+            QUIET,
         ],
     },
 ];
@@ -362,6 +377,58 @@ const SLOTS: Argument = Argument::Optional {
 const SEED: Argument = Argument::Required {
     name: "seed",
     help: "Seed of the random choices, 0 to 4294967295",
+};
+
+const IGNORE: Argument = Argument::Optional {
+    name: "ignore",
+    value: "FILE",
+    help: "List of known races that are counted, not reported: two functions or addresses a line",
+};
+
+const SAVE_TO: Argument = Argument::Optional {
+    name: "save-to",
+    value: "DIR",
+    help: "Folder for the schedule of each reported race: race-1.schedule, and so on",
+};
+
+const PAGE: Argument = Argument::Optional {
+    name: "page",
+    value: "FILE",
+    help: "HTML file to write, with the reports and a picture of each race",
+};
+
+const LIST: Argument = Argument::Optional {
+    name: "list",
+    value: "FILE",
+    help: "List of the races to write, for --ignore and --expect of later builds",
+};
+
+const JSON: Argument = Argument::Optional {
+    name: "json",
+    value: "FILE",
+    help: "JSON file to write, with what was found, for other programs",
+};
+
+const BLOCKS: Argument = Argument::Optional {
+    name: "blocks",
+    value: "N",
+    help: "Races shown in full, 0 to 10000; the others by a line each [default: 50]",
+};
+
+const CHECK_ALL: Argument = Argument::Flag {
+    name: "check-all",
+    help: "Exit with status 5 if there is a race, also a likely benign one",
+};
+
+const EXPECT: Argument = Argument::Optional {
+    name: "expect",
+    value: "FILE",
+    help: "Table or list of known races: exit with status 5 if one that may be a bug is not in it",
+};
+
+const QUIET: Argument = Argument::Flag {
+    name: "quiet",
+    help: "Print no progress; warnings are still printed",
 };
 
 /// What the help of `words` says after its options.
@@ -543,3 +610,17 @@ A fault is told with its file and what is wrong, as in b.table: table line 2 Sha
 
 Example:
   rvcollide merge a.table b.table --expect known.table";
+
+/// What the help of `show` says after its arguments.
+const SHOW: &str = "\
+The last line of the table says how its runs are made: with which seed, harts, plan, slots and lists. show makes
+the run of each row again and writes of the races what hunt writes: an index, a report of each, a page and
+schedules. It tries no orders, and how harts ended is in no table. The output begins with a line such as
+  races 1, likely benign 0, reports 13 in 3 runs
+A table of another image, or of another version of rvcollide, is refused. Files of --ignore, --expect and
+--list are as rvcollide hunt --help says.
+
+A fault is told with its file and what is wrong, as in all.table: table line 2 NotMet.
+
+Example:
+  rvcollide show guest.elf all.table --page races.html --expect known.list";

@@ -35,6 +35,7 @@ Find races:
   run      Make many runs from a seed and print the table of the races they found
   threads  Make one run with a real thread for each hart
   merge    Add up the tables of a hunt that was made in pieces
+  show     Report the races of such a table, with a page and schedules
 
 Look at a run that was saved:
   explain  Report its races with names, instructions and values, or draw one
@@ -60,8 +61,9 @@ To find and read a first race:
 
 The exit status is 0 if all went well, 1 if an input was refused, 2 if the command line was, 3 if a file
 or stream could not be read or written, 4 if there was not enough memory, 5 if a hunt with --check,
---check-all, --check-ends or --expect, or a merge with --expect, found what these ask for, and 6 if a
-hunt with --check found no race, but a warning says that this means nothing.
+--check-all, --check-ends or --expect, or a merge with --expect, or show with --check, --check-all or
+--expect, found what these ask for, and 6 if a hunt with --check found no race, but a warning says that
+this means nothing.
 ";
 
 /// What `help faults` writes: for each fault's name the sentence that `sentence` gives.
@@ -140,12 +142,13 @@ table line N NAME, of a table of hunt or run:
   Shape: the line is not the row of a race: is this a table of hunt?
   Range: a number or an address of the row is out of range
   Twice: the race has a row already: use merge to add tables
-  End: there are not as many rows as the first line says: was the file cut off?
-  Image: the table is of another image than the first one
-  Version: the table was made by another version of rvcollide than the first one
+  End: there are not as many rows as the first line says, or no last line says what they are of: was it cut off?
+  Image: the table is of another image than the one that is given, or than the first table
+  Version: the table was made by another version of rvcollide than this one, or than the first table
   Options: the runs of the table had another seed or other options than those of the first one
   Overlap: the table has runs that another table has, or that come before the last of another: leave one out
   Gap: runs are missing before those of the table: add their table, or allow it by --gaps
+  NotMet: the run of the row makes no such report: was the table edited?
 
 ignore line N NAME, of a list of --ignore, or of --expect:
   Shape: a line is two sides, each an address of eight hexadecimal digits, a symbol's name or *; on NAME may follow

@@ -9,7 +9,9 @@ use super::complaint::{Complaint, NumberOption};
 use super::number::{flag_of, number_between, number_if, number_or};
 use super::run::{HARTS, SEED, SLOTS, WORKERS};
 use super::{Job, text_of};
-use crate::arguments::{Aim, FolderPath, IgnorePath, ImagePath, ListPath, PagePath, TablePath};
+use crate::arguments::{
+    Aim, FolderPath, IgnorePath, ImagePath, JsonPath, ListPath, PagePath, TablePath, TableToPath,
+};
 use clap::ArgMatches;
 use rv_collide::plan::{MOST_ARMS, MOST_PAUSE, MOST_STEPS};
 use rv_tally::limit::{Limit, MOST_BUDGET};
@@ -85,6 +87,10 @@ pub struct HuntLine<'a> {
     pub page: Option<PagePath<'a>>,
     /// The file for the list of the races.
     pub list: Option<ListPath<'a>>,
+    /// The file for the table.
+    pub table_to: Option<TableToPath<'a>>,
+    /// The file for what was found as JSON.
+    pub json: Option<JsonPath<'a>>,
     /// How many races are shown in full.
     pub blocks: u32,
     /// The standard output is the table alone.
@@ -149,6 +155,8 @@ fn line_of<'a>(given: &ArgMatches<'a>) -> Result<HuntLine<'a>, Complaint<'a>>
         save_to: folder_of(given),
         page: page_of(given),
         list: list_of(given),
+        table_to: table_to_of(given),
+        json: json_of(given),
         blocks: blocks as u32,
         shows_table: flag_of(given, "table"),
         checks: flag_of(given, "check"),
@@ -162,35 +170,49 @@ fn line_of<'a>(given: &ArgMatches<'a>) -> Result<HuntLine<'a>, Complaint<'a>>
 }
 
 /// The list of races that are to be ignored.
-fn ignore_of<'a>(given: &ArgMatches<'a>) -> Option<IgnorePath<'a>>
+pub fn ignore_of<'a>(given: &ArgMatches<'a>) -> Option<IgnorePath<'a>>
     ensures { option_map (λ path. path.0.now) result ≡ first_of (codes "ignore") (rows_of (found_of given.now)) }
 {
     text_of(given, "ignore").map(|path| IgnorePath(path))
 }
 
 /// The folder for schedules.
-fn folder_of<'a>(given: &ArgMatches<'a>) -> Option<FolderPath<'a>>
+pub fn folder_of<'a>(given: &ArgMatches<'a>) -> Option<FolderPath<'a>>
     ensures { option_map (λ path. path.0.now) result ≡ first_of (codes "save-to") (rows_of (found_of given.now)) }
 {
     text_of(given, "save-to").map(|path| FolderPath(path))
 }
 
 /// The file for the page.
-fn page_of<'a>(given: &ArgMatches<'a>) -> Option<PagePath<'a>>
+pub fn page_of<'a>(given: &ArgMatches<'a>) -> Option<PagePath<'a>>
     ensures { option_map (λ path. path.0.now) result ≡ first_of (codes "page") (rows_of (found_of given.now)) }
 {
     text_of(given, "page").map(|path| PagePath(path))
 }
 
 /// The file for the list of the races.
-fn list_of<'a>(given: &ArgMatches<'a>) -> Option<ListPath<'a>>
+pub fn list_of<'a>(given: &ArgMatches<'a>) -> Option<ListPath<'a>>
     ensures { option_map (λ path. path.0.now) result ≡ first_of (codes "list") (rows_of (found_of given.now)) }
 {
     text_of(given, "list").map(|path| ListPath(path))
 }
 
+/// The file for the table.
+fn table_to_of<'a>(given: &ArgMatches<'a>) -> Option<TableToPath<'a>>
+    ensures { option_map (λ path. path.0.now) result ≡ first_of (codes "table-to") (rows_of (found_of given.now)) }
+{
+    text_of(given, "table-to").map(|path| TableToPath(path))
+}
+
+/// The file for what was found as JSON.
+pub(super) fn json_of<'a>(given: &ArgMatches<'a>) -> Option<JsonPath<'a>>
+    ensures { option_map (λ path. path.0.now) result ≡ first_of (codes "json") (rows_of (found_of given.now)) }
+{
+    text_of(given, "json").map(|path| JsonPath(path))
+}
+
 /// The table or the list of the races that are expected.
-fn expect_of<'a>(given: &ArgMatches<'a>) -> Option<TablePath<'a>>
+pub fn expect_of<'a>(given: &ArgMatches<'a>) -> Option<TablePath<'a>>
     ensures { option_map (λ path. path.0.now) result ≡ first_of (codes "expect") (rows_of (found_of given.now)) }
 {
     text_of(given, "expect").map(|path| TablePath(path))

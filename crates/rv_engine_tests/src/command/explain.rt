@@ -53,6 +53,7 @@ fn assert_explains(rt: &impl Abort, alloc: Global, row: &Asks) {
         schedule: SchedulePath("s.txt"),
         options,
         picture,
+        json: None,
     };
     assert_asks(rt, alloc, line, Some(job));
 }

@@ -1,5 +1,6 @@
 use crate::assertion::assert_is;
-use rv_command::arguments::{ImagePath, SchedulePath, SourcePath};
+use rv_command::arguments::{FolderPath, ImagePath, SchedulePath, SourcePath, TablePath};
+use rv_command::command::show::ShowLine;
 use rv_command::command::{Job, LineFault, Notice, command_of, notice_of};
 
 const ASM: Job = Job::Asm {
@@ -32,13 +33,47 @@ const EXHIBIT: Job<'static> = Job::Exhibit {
     number: 7,
 };
 
+/// What a line of `show` asks for without options.
+const PLAIN: ShowLine<'static> = ShowLine {
+    workers: None,
+    ignore: None,
+    save_to: None,
+    page: None,
+    list: None,
+    json: None,
+    blocks: 50,
+    checks: false,
+    checks_all: false,
+    expect: None,
+    is_quiet: false,
+};
+
+const SHOW: Job<'static> = Job::Show {
+    image: ImagePath("a.elf"),
+    table: TablePath("a.table"),
+    line: PLAIN,
+};
+
+const SHOW_ALL: Job<'static> = Job::Show {
+    image: ImagePath("a.elf"),
+    table: TablePath("a.table"),
+    line: ShowLine {
+        workers: Some(3),
+        save_to: Some(FolderPath("saved")),
+        blocks: 7,
+        checks_all: true,
+        expect: Some(TablePath("known")),
+        ..PLAIN
+    },
+};
+
 const ODD: Job<'static> = Job::Replay {
     image: ImagePath("-"),
     schedule: SchedulePath(""),
 };
 
 /// Lines and their jobs: each command, with the first two hyphens at each place, and with paths that look like other words.
-const EACH: [(&[&str], Job<'static>); 14] = [
+const EACH: [(&[&str], Job<'static>); 16] = [
     (&["rvcollide", "words"], Job::Words),
     (&["rvcollide", "asm", "a.s", "a.elf"], ASM),
     (&["rvcollide", "list", "a.elf"], LIST),
@@ -48,6 +83,24 @@ const EACH: [(&[&str], Job<'static>); 14] = [
     (&["", "gdb", "--", "a.elf", "a.txt"], GDB),
     (&["rvcollide", "exhibit", "a.elf", "a.txt", "7"], EXHIBIT),
     (&["", "exhibit", "a.elf", "--", "a.txt", "007"], EXHIBIT),
+    (&["rvcollide", "show", "a.elf", "a.table"], SHOW),
+    (
+        &[
+            "",
+            "show",
+            "--check-all",
+            "a.elf",
+            "--blocks=7",
+            "--expect",
+            "known",
+            "a.table",
+            "--save-to",
+            "saved",
+            "--workers",
+            "3",
+        ],
+        SHOW_ALL,
+    ),
     (&["", "words", "--"], Job::Words),
     (&["", "asm", "--", "a.s", "a.elf"], ASM),
     (&["", "asm", "a.s", "--", "a.elf"], ASM),

@@ -14,6 +14,10 @@ impl Folder for NoFolder {
 
     ghost has_failed = { λ folder. true };
 
+    fn is_at_fault(&self) -> bool {
+        true
+    }
+
     fn look(&mut self) -> Result<(), FolderFault> {
         Err(FolderFault::Write)
     }

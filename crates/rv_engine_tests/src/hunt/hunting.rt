@@ -8,8 +8,9 @@ use crate::padded::file_of;
 use rv_engines::fault::Fault;
 use rv_engines::run::fault::CommandFault;
 use rv_hunt::engine::fault::HuntFault;
+use rv_hunt::engine::found::Checks;
 use rv_hunt::engine::inputs::Inputs;
-use rv_hunt::engine::options::{HuntOptions, LineParts, Shows};
+use rv_hunt::engine::options::{HuntOptions, LineParts, SaidOptions, Shows};
 use rv_hunt::engine::run_hunt;
 use rv_hunt::hunt::Watch;
 use rv_hunt::hunted::Hunted;
@@ -69,8 +70,21 @@ fn options(rt: &impl Abort) -> HuntOptions<'static, 'static> {
             folder: None,
             version: "0.1.0",
             given: "",
+            path: "a.elf",
+            said: SaidOptions {
+                harts: Some(3),
+                slots: 4,
+                lengths: Some(LENGTHS),
+                ignore: None,
+                expect: None,
+            },
         },
         orders: true,
+        checks: Checks {
+            races: false,
+            all_races: false,
+            ends: false,
+        },
     }
 }
 
@@ -101,6 +115,7 @@ fn told<R: Read, W: Write, E: Write>(
     let mut folder: Option<NoFolder> = None;
     let mut page: Option<Kept> = None;
     let mut list: Option<Kept> = None;
+    let mut json: Option<Kept> = None;
     let outcome = run_hunt(
         rt,
         alloc,
@@ -109,12 +124,14 @@ fn told<R: Read, W: Write, E: Write>(
         &mut folder,
         &mut page,
         &mut list,
+        &mut json,
         writer,
         notes,
         &mut Unseen,
     );
     drop(page);
     drop(list);
+    drop(json);
     match outcome {
         Ok(_) => Ok(()),
         Err(fault) => Err(of_device(fault)),

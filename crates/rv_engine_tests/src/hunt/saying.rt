@@ -27,6 +27,7 @@ fn row(first: u32, class: RaceClass, address: u32) -> (Key, RaceRow) {
         old: 0,
         new: 1,
         address: Some(address),
+        accesses: None,
     };
     (key, row)
 }

@@ -9,7 +9,7 @@ ghost use Rattle.rv_engines.specs.Fault.{fails_by, is_read, is_write};
 ghost use Rattle.rv_engines.specs.Replay as spec;
 
 use crate::fault::Fault;
-use crate::image::read_image;
+use crate::image::read_digested;
 use crate::replay::input::read_entries;
 use rv_collide::plan::Plan;
 use rv_debug::session::Session;
@@ -18,10 +18,11 @@ use rv_memory::flagged::Flagged;
 use std::alloc::Global;
 use std::io::Read;
 
-/// An image, and a session of a schedule of it.
+/// An image with the digest of its file, and a session of a schedule of it.
 #[derive(Drop)]
 pub struct Files {
     pub image: Image,
+    pub digest: String,
     pub plan: Plan,
     pub session: Session,
 }
@@ -46,13 +47,14 @@ pub fn read_files<R: Read, Q: Read>(
         ≡ (flag.has_failed image.old || flag.has_failed schedule.old || fails_by is_read result) }
     ensures writer { fails_by is_write result ≡ false }
 {
-    let contents = read_image(alloc, image)?;
+    let (contents, digest) = read_digested(alloc, image)?;
     let (plan, entries) = read_entries(alloc, schedule)?;
     match Session::new(alloc, &contents, plan, entries) {
         Ok(session) => {
             session.facts();
             Ok(Files {
                 image: contents,
+                digest,
                 plan,
                 session,
             })

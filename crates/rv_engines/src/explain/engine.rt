@@ -14,8 +14,9 @@ ghost use Rattle.rv_engines.specs.Explains as spec;
 ghost use Rattle.rv_engines.specs.Fault as plain;
 ghost use Rattle.rv_engines.specs.Replay.{IfKnown};
 
+use crate::explain::object::{Explained, object_text};
 use crate::explain::opening::open_run;
-use crate::explain::options::ExplainOptions;
+use crate::explain::options::{About, ExplainOptions};
 use crate::fault::Fault;
 use crate::new_file::NewFile;
 use crate::run::fault::CommandFault;
@@ -23,10 +24,10 @@ use rv_debug::session::Session;
 use rv_explain::block::Block;
 use rv_explain::blocks::{ordered_text, totals_text};
 use rv_explain::explain::blocks_asked;
-use rv_explain::order::{EIGHT_TRIALS, order_of, order_rows};
+use rv_explain::order::{EIGHT_TRIALS, OrderTrials, order_of, order_rows};
 use rv_explain::picture::picture_text;
 use rv_explain::races::RunRaces;
-use rv_explain::stuck::{stuck_block, stuck_text};
+use rv_explain::stuck::{StuckBlock, stuck_block, stuck_text};
 use rv_explain::symbol_table::SymbolTable;
 use rv_memory::buffered::Buffered;
 use rv_memory::flagged::Flagged;
@@ -35,11 +36,12 @@ use rv_memory::store::NoMemory;
 use std::alloc::Global;
 use std::io::{Read, Write};
 
-/// What is told: the text, and the picture where one is wanted.
+/// What is told: the text, and the picture and the object where they are wanted.
 #[derive(Drop)]
 struct Texts {
     text: Vec<u8>,
     picture: Option<Vec<u8>>,
+    object: Option<Vec<u8>>,
 }
 
 /// The blocks that are asked for. A picture is of the first of them, so where one is wanted there must be one.
@@ -78,25 +80,75 @@ fn first_number(options: &ExplainOptions) -> u64 {
     options.race.unwrap_or(1)
 }
 
+/// What is told beside the blocks: what difference the order of the two accesses of each makes, and the schedule's end, where harts wait
+/// for ever there for what they read.
+#[derive(Drop)]
+struct BesideBlocks {
+    orders: Vec<Option<OrderTrials>>,
+    stuck: Option<StuckBlock>,
+}
+
+/// What difference the orders of the blocks' accesses make.
+fn orders_of(
+    alloc: Global,
+    symbols: &SymbolTable,
+    session: &Session,
+    blocks: &[Block],
+) -> Result<Vec<Option<OrderTrials>>, NoMemory> {
+    let harts = session.machine().harts();
+    let mut orders = Vec::new(alloc);
+    for block in blocks {
+        orders.push(order_of(
+            alloc,
+            symbols,
+            harts,
+            session.entries(),
+            block,
+            EIGHT_TRIALS,
+        )?)?;
+    }
+    Ok(orders)
+}
+
+/// The end of the schedule, where harts wait for ever there for what they read.
+fn polling_end(
+    alloc: Global,
+    symbols: &SymbolTable,
+    session: &Session,
+) -> Result<Option<StuckBlock>, NoMemory> {
+    let harts = session.machine().harts();
+    match stuck_block(alloc, symbols, harts, session.entries())? {
+        Some(block) if block.polls() => Ok(Some(block)),
+        _ => Ok(None),
+    }
+}
+
+/// What is told beside the blocks. Where a single race is asked for the schedule's end isn't.
+fn beside_blocks(
+    alloc: Global,
+    symbols: &SymbolTable,
+    session: &Session,
+    options: &ExplainOptions,
+    blocks: &[Block],
+) -> Result<BesideBlocks, NoMemory> {
+    let orders = orders_of(alloc, symbols, session, blocks)?;
+    let stuck = match options.race {
+        None => polling_end(alloc, symbols, session)?,
+        Some(_) => None,
+    };
+    Ok(BesideBlocks { orders, stuck })
+}
+
 /// Adds the block of a race, with what difference the order of its two accesses makes.
 fn add_block(
     alloc: Global,
     text: &mut Vec<u8>,
     symbols: &SymbolTable,
-    session: &Session,
     number: u64,
     block: &Block,
+    order: Option<&OrderTrials>,
 ) -> Result<(), NoMemory> {
-    let harts = session.machine().harts();
-    let order = order_of(
-        alloc,
-        symbols,
-        harts,
-        session.entries(),
-        block,
-        EIGHT_TRIALS,
-    )?;
-    let rows = order_rows(alloc, symbols, block, order.as_ref())?;
+    let rows = order_rows(alloc, symbols, block, order)?;
     let block = ordered_text(alloc, symbols, b"", number, block, &rows)?;
     text.push(b'\n')?;
     text.extend_from_slice(&block)?;
@@ -108,46 +160,85 @@ fn add_stuck(
     alloc: Global,
     text: &mut Vec<u8>,
     symbols: &SymbolTable,
-    session: &Session,
+    block: &StuckBlock,
 ) -> Result<(), NoMemory> {
-    let harts = session.machine().harts();
-    let Some(block) = stuck_block(alloc, symbols, harts, session.entries())? else {
-        return Ok(());
-    };
-    if !block.polls() {
-        return Ok(());
-    }
     let steps = block.steps;
     let ending = if steps == 1 { "" } else { "s" };
     let words = format!(in alloc; ", after {steps} step{ending}")?;
-    let block = stuck_text(alloc, symbols, words.as_bytes(), 1, &block)?;
+    let block = stuck_text(alloc, symbols, words.as_bytes(), 1, block)?;
     text.push(b'\n')?;
     text.extend_from_slice(&block)?;
     Ok(())
 }
 
-/// The text of the blocks that are asked for. Where no single one is, the schedule's end is told too.
+/// The text of the blocks that are asked for, and of the schedule's end.
 fn text_of(
     alloc: Global,
     symbols: &SymbolTable,
-    session: &Session,
     found: &RunRaces,
     options: &ExplainOptions,
     blocks: &[Block],
+    beside: &BesideBlocks,
 ) -> Result<Vec<u8>, NoMemory> {
     let races = found.races.len() as u64;
     let mut text = totals_text(alloc, races, found.reports, found.endings)?;
-    for (n, block) in blocks.iter().enumerate() {
+    for (n, (block, order)) in blocks.iter().zip(&beside.orders).enumerate() {
         let number = first_number(options).saturating_add(n as u64);
-        add_block(alloc, &mut text, symbols, session, number, block)?;
+        add_block(alloc, &mut text, symbols, number, block, order.as_ref())?;
     }
-    if options.race.is_none() {
-        add_stuck(alloc, &mut text, symbols, session)?;
+    if let Some(block) = &beside.stuck {
+        add_stuck(alloc, &mut text, symbols, block)?;
     }
     Ok(text)
 }
 
-/// What is told of a run: the text, and the picture of the first block where one is wanted.
+/// What an object is asked to say, and of which file.
+#[derive(Clone, Copy)]
+struct Wanted<'a> {
+    about: About<'a>,
+    digest: &'a str,
+}
+
+/// What an object is asked to say, where one is wanted.
+fn wanted_if<'a>(is_wanted: bool, about: About<'a>, digest: &'a str) -> Option<Wanted<'a>>
+    ensures { is_some result ≡ is_wanted }
+{
+    if is_wanted {
+        Some(Wanted { about, digest })
+    } else {
+        None
+    }
+}
+
+/// The object of what is shown, where one is wanted.
+fn object_if(
+    alloc: Global,
+    symbols: &SymbolTable,
+    found: &RunRaces,
+    options: &ExplainOptions,
+    blocks: &[Block],
+    beside: &BesideBlocks,
+    harts: u8,
+    wanted: Option<Wanted<'_>>,
+) -> Result<Option<Vec<u8>>, NoMemory>
+    ensures wanted { IfOk result (λ made. is_some made ≡ is_some wanted.entry) }
+    ensures object { IfOk result (λ made. IfSome made (λ text. spec.IsAnObject text.items)) }
+{
+    let Some(Wanted { about, digest }) = wanted else {
+        return Ok(None);
+    };
+    let of = Explained {
+        found,
+        blocks,
+        orders: &beside.orders,
+        first: first_number(options),
+        harts,
+        stuck: beside.stuck.as_ref(),
+    };
+    Ok(Some(object_text(alloc, symbols, &about, digest, &of)?))
+}
+
+/// What is told of a run: the text, the picture of the first block where one is wanted, and the object where that is.
 fn texts_of(
     alloc: Global,
     symbols: &SymbolTable,
@@ -156,72 +247,103 @@ fn texts_of(
     options: &ExplainOptions,
     blocks: &[Block],
     draws: bool,
+    wanted: Option<Wanted<'_>>,
 ) -> Result<Texts, NoMemory>
     requires { draws ≡ true → 0 < length blocks.now }
     ensures drawn { IfOk result (λ texts. is_some texts.picture ≡ draws) }
     ensures markup { IfOk result (λ texts. IfSome texts.picture (λ drawn. IsDocument drawn.items [])) }
+    ensures wanted { IfOk result (λ texts. is_some texts.object ≡ is_some wanted.entry) }
+    ensures object { IfOk result (λ texts. IfSome texts.object (λ text. spec.IsAnObject text.items)) }
 {
-    let text = text_of(alloc, symbols, session, found, options, blocks)?;
+    let beside = beside_blocks(alloc, symbols, session, options, blocks)?;
+    let text = text_of(alloc, symbols, found, options, blocks, &beside)?;
+    let harts = session.machine().harts();
+    let object = object_if(
+        alloc, symbols, found, options, blocks, &beside, harts, wanted,
+    )?;
     let first = first_number(options);
     let picture = match blocks.first() {
         Some(block) if draws => Some(picture_text(alloc, symbols, first, block)?),
         _ => None,
     };
-    Ok(Texts { text, picture })
+    Ok(Texts {
+        text,
+        picture,
+        object,
+    })
 }
 
-/// Makes the file of the picture, where one is wanted, and then writes the text, to its last byte.
+/// Makes the file of a text, where one is wanted.
+fn make_if<F: NewFile>(text: &Option<Vec<u8>>, file: &mut Option<F>) -> Result<(), Fault>
+    ensures made { OnOk result (IfSome text.now (λ made. IfWanted F.Holds file.new made.items)) }
+    ensures wanted { is_some file.new ≡ is_some file.old }
+    ensures refused { IfErr result (λ fault. fault ≡ Fault.Write) }
+    ensures failed { passes F.has_failed file.new ≡ (passes F.has_failed file.old || plain.fails_by plain.is_write result) }
+{
+    if let (Some(file), Some(made)) = (file.as_mut(), text) {
+        file.make(made)?;
+    }
+    Ok(())
+}
+
+/// Makes the files of the picture and of the object, where they are wanted, and then writes the text, to its last byte.
 fn publish<F: NewFile, W: Write>(
     texts: &Texts,
     picture: &mut Option<F>,
+    json: &mut Option<F>,
     writer: &mut Buffered<W>,
 ) -> Result<(), Fault>
     ensures drawn { OnOk result (IfSome texts.now.picture (λ drawn. IfWanted F.Holds picture.new drawn.items)) }
-    ensures wanted { is_some picture.new ≡ is_some picture.old }
+    ensures object { OnOk result (IfSome texts.now.object (λ made. IfWanted F.Holds json.new made.items)) }
+    ensures wanted { (is_some picture.new ≡ is_some picture.old) × (is_some json.new ≡ is_some json.old) }
     ensures text { OnOk result (Appends (buffer.written W.contents writer.old) (buffer.sent W.contents writer.new) texts.now.text.items) }
     ensures refused { IfErr result (λ fault. fault ≡ Fault.Write) }
-    ensures first { passes F.has_failed picture.old ≡ false → passes F.has_failed picture.new ≡ true
+    ensures first { (passes F.has_failed picture.old || passes F.has_failed json.old) ≡ false
+        → (passes F.has_failed picture.new || passes F.has_failed json.new) ≡ true
         → Keeps (buffer.sent W.contents writer.old) (buffer.sent W.contents writer.new) }
-    ensures writers { (passes F.has_failed picture.new || buffer.has_failed writer.new)
-        ≡ (passes F.has_failed picture.old || buffer.has_failed writer.old || plain.fails_by plain.is_write result) }
+    ensures writers { (passes F.has_failed picture.new || passes F.has_failed json.new || buffer.has_failed writer.new)
+        ≡ (passes F.has_failed picture.old || passes F.has_failed json.old || buffer.has_failed writer.old || plain.fails_by plain.is_write result) }
 {
-    if let (Some(file), Some(drawn)) = (picture.as_mut(), &texts.picture) {
-        file.make(drawn)?;
-    }
+    make_if(&texts.picture, picture)?;
+    make_if(&texts.object, json)?;
     writer.put(&texts.text)?;
     writer.finish()?;
     Ok(())
 }
 
 /// Reads an image and then a schedule, and tells the schedule's races, or the one that is asked for. Where a picture is
-/// wanted its file is made first. Where one of the files or the list of names is refused, an entry is not what its call
+/// or an object is wanted its file is made first. Where one of the files or the list of names is refused, an entry is not what its call
 /// adds, or there is no such race, nothing is written and no file is made.
 pub fn run_explain<'a, R: Read, Q: Read, F: NewFile, W: Write>(
     alloc: Global,
     options: &ExplainOptions<'a>,
+    about: &About<'_>,
     image: &mut Flagged<R>,
     schedule: &mut Flagged<Q>,
     picture: &mut Option<F>,
+    json: &mut Option<F>,
     writer: &mut Buffered<W>,
 ) -> Result<(), CommandFault<'a>>
     ensures told { OnOk result (
         IfKnown (R.remaining (flag.device image.old)) (Q.remaining (flag.device schedule.old)) (λ i s.
         spec.IsOfLegal i s × IsOk (spec.explain_of (is_some picture.old) (asking options.now) i s))) }
     ensures drawn { OnOk result (IfSome picture.new (λ file. spec.IsDrawn (F.Holds file))) }
-    ensures wanted { is_some picture.new ≡ is_some picture.old }
+    ensures object { OnOk result (IfSome json.new (λ file. spec.IsObjected (F.Holds file))) }
+    ensures wanted { (is_some picture.new ≡ is_some picture.old) × (is_some json.new ≡ is_some json.old) }
     ensures refused { IfErr result (λ fault.
         IfKnown (R.remaining (flag.device image.old)) (Q.remaining (flag.device schedule.old)) (λ i s.
         spec.IsExplainRefusal (is_some picture.old) (asking options.now) i s (refusal fault))) }
     ensures nothing { IfErr result (λ fault. is_write (refusal fault) ≡ false
         → Keeps (buffer.sent W.contents writer.old) (buffer.sent W.contents writer.new)) }
     ensures none { IfErr result (λ fault. is_write (refusal fault) ≡ false
-        → passes F.is_made picture.new ≡ passes F.is_made picture.old) }
-    ensures first { passes F.has_failed picture.old ≡ false → passes F.has_failed picture.new ≡ true
+        → (passes F.is_made picture.new ≡ passes F.is_made picture.old) × (passes F.is_made json.new ≡ passes F.is_made json.old)) }
+    ensures first { (passes F.has_failed picture.old || passes F.has_failed json.old) ≡ false
+        → (passes F.has_failed picture.new || passes F.has_failed json.new) ≡ true
         → Keeps (buffer.sent W.contents writer.old) (buffer.sent W.contents writer.new) }
     ensures readers { (flag.has_failed image.new || flag.has_failed schedule.new)
         ≡ (flag.has_failed image.old || flag.has_failed schedule.old || fails_by is_read result) }
-    ensures writers { (passes F.has_failed picture.new || buffer.has_failed writer.new)
-        ≡ (passes F.has_failed picture.old || buffer.has_failed writer.old || fails_by is_write result) }
+    ensures writers { (passes F.has_failed picture.new || passes F.has_failed json.new || buffer.has_failed writer.new)
+        ≡ (passes F.has_failed picture.old || passes F.has_failed json.old || buffer.has_failed writer.old || fails_by is_write result) }
 {
     let draws = picture.is_some();
     let mut opened = open_run(alloc, options, draws, image, schedule)?;
@@ -230,8 +352,11 @@ pub fn run_explain<'a, R: Read, Q: Read, F: NewFile, W: Write>(
     let found = &run.found;
     let blocks = blocks_of(alloc, &mut run.session, &symbols, found, options, draws)?;
     let session = &run.session;
-    let texts = texts_of(alloc, &symbols, session, found, options, &blocks, draws)?;
-    match publish(&texts, picture, writer) {
+    let wanted = wanted_if(json.is_some(), *about, run.digest.as_str());
+    let texts = texts_of(
+        alloc, &symbols, session, found, options, &blocks, draws, wanted,
+    )?;
+    match publish(&texts, picture, json, writer) {
         Ok(()) => Ok(()),
         Err(fault) => Err(CommandFault::from(fault)),
     }

@@ -24,10 +24,11 @@ use rv_memory::store::NoMemory;
 use std::alloc::Global;
 use std::io::Read;
 
-/// An image, a session of a schedule of it, and the races of the schedule.
+/// An image with the digest of its file, a session of a schedule of it, and the races of the schedule.
 #[derive(Drop)]
 pub struct Opened {
     pub image: Image,
+    pub digest: String,
     pub session: Session,
     pub found: RunRaces,
 }
@@ -59,6 +60,7 @@ pub fn open_run<'a, R: Read, Q: Read>(
     match races_in(alloc, &files.image, &files.session, &ranges) {
         Ok(found) => Ok(Opened {
             image: files.image,
+            digest: files.digest,
             session: files.session,
             found,
         }),

@@ -1,3 +1,10 @@
+/// What an object says of the line: the path of the image as it was given, and the version of the program.
+#[derive(Clone, Copy)]
+pub struct About<'a> {
+    pub path: &'a str,
+    pub version: &'a str,
+}
+
 /// The options of `explain`.
 #[derive(Clone, Copy, Debug, PartialEq, Eq)]
 pub struct ExplainOptions<'a> {

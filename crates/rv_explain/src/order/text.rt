@@ -129,14 +129,20 @@ pub fn copies_of(
     both_copies(alloc, &Names { symbols, most }, block, order)
 }
 
+/// The line of a copy, without indent.
+pub fn copy_line(alloc: Global, copy: &CopyText) -> Result<Vec<u8>, NoMemory> {
+    let mut line = Vec::from_slice(alloc, &copy.title)?;
+    for (n, end) in copy.ends.iter().enumerate() {
+        line.extend_from_slice(if n == 0 { b": " } else { b", " })?;
+        line.extend_from_slice(end)?;
+    }
+    Ok(line)
+}
+
 /// The row of a copy.
 fn copy_row(alloc: Global, copy: &CopyText) -> Result<Vec<u8>, NoMemory> {
     let mut row = Vec::from_slice(alloc, b"    ")?;
-    row.extend_from_slice(&copy.title)?;
-    for (n, end) in copy.ends.iter().enumerate() {
-        row.extend_from_slice(if n == 0 { b": " } else { b", " })?;
-        row.extend_from_slice(end)?;
-    }
+    row.extend_from_slice(&copy_line(alloc, copy)?)?;
     Ok(row)
 }
 

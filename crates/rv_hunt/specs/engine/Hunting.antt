@@ -3,6 +3,7 @@ use Rattle.std.specs.Prelude.{◌≡◌, ⊤, ℕ, Bool, false, ◌||◌, Option
 use Rattle.std.specs.Map.{keys_of}
 use Rattle.std.specs.Option.{option_map_or}
 use Rattle.rv_elf.specs.Contents.{Contents}
+use Rattle.rv_hunt.specs.HuntObject.{hunt_facts}
 use Rattle.rv_hunt.specs.HuntText.{table_text}
 use Rattle.rv_hunt.specs.Hunt.{Hunt}
 use Rattle.rv_hunt.specs.Hunted.{IsHunted}
@@ -42,6 +43,7 @@ use Rattle.rv_hunt.specs.merge.Merge.{bytes_if}
 use Rattle.rv_hunt.specs.declared.merge.known.Known.{Known}
 use Rattle.rv_hunt.specs.declared.merge.fault.FileFault.{FileFault}
 use Rattle.rv_hunt.specs.declared.merge.ignore.Line.{Line}
+use Rattle.rv_json.specs.Object.{Member}
 use Rattle.rv_markup.specs.declared.markup.Fact.{Fact}
 use Rattle.rv_report.specs.declared.key.Key.{Key}
 
@@ -195,9 +197,9 @@ abbrev pub IsTable : Shows → List (Key × RaceRow) → Origin → List ℕ →
 IsTable Text rows origin text = ⊤
 IsTable Table rows origin text = text ≡ table_text rows ++ last_line (Some origin)
 
--- What is made of a hunt: its runs, what they saw, the races with their orders and the stuck ends that are shown in full, the page, and the list
--- of the races.
-pub record IsMade (way : Showing) (hunting : Hunting) (Saves : ℕ → List ℕ → Type 0) (Pages : List Fact → Type 0) (Lists : List ℕ → Type 0) (found : Found) (texts : Texts) : Type 0 where
+-- What is made of a hunt: its runs, what they saw, the races with their orders and the stuck ends that are shown in full, the page, the list
+-- of the races, and what was found as JSON.
+pub record IsMade (way : Showing) (hunting : Hunting) (Saves : ℕ → List ℕ → Type 0) (Pages : List Fact → Type 0) (Lists : List ℕ → Type 0) (Objects : List Member → Type 0) (found : Found) (texts : Texts) : Type 0 where
   pub saw : Hunted
   pub hunted : IsHunted hunting.hunt saw
   pub told : List (Key × RaceRow)
@@ -209,14 +211,15 @@ pub record IsMade (way : Showing) (hunting : Hunting) (Saves : ℕ → List ℕ 
   pub is_table : IsTable way.shows (told_in hunting saw) (origin_of way hunting saw) texts.text
   pub paged : Pages (page_facts (outcome hunting saw) told (length shown))
   pub listed : Lists (list_text hunting.hunt.source.image (told_in hunting saw))
+  pub objected : Objects (hunt_facts (outcome hunting saw) told)
   pub stuck : List ShownStuck
   pub are_stuck : AreStuckShown hunting.hunt stuck
   pub found_is : found ≡ found_of hunting saw (length stuck) (has_wrong_end hunting.right hunted.so_far.runs)
 
 -- The runs of the hunt are made; what they saw is shown and counted, the runs of the races that are shown in full are saved,
--- and the page and the list of the races are made.
-pub record IsTold (way : Showing) (hunting : Hunting) (found : Found) (Writes Notes : List ℕ → Type 0) (Saves : ℕ → List ℕ → Type 0) (Pages : List Fact → Type 0) (Lists : List ℕ → Type 0) : Type 0 where
+-- and the page, the list of the races and what was found as JSON are made.
+pub record IsTold (way : Showing) (hunting : Hunting) (found : Found) (Writes Notes : List ℕ → Type 0) (Saves : ℕ → List ℕ → Type 0) (Pages : List Fact → Type 0) (Lists : List ℕ → Type 0) (Objects : List Member → Type 0) : Type 0 where
   pub texts : Texts
-  pub made : IsMade way hunting Saves Pages Lists found texts
+  pub made : IsMade way hunting Saves Pages Lists Objects found texts
   pub written : Writes texts.text
   pub noted : Notes texts.notes

@@ -20,6 +20,7 @@ table_kind_name table.Version = codes "Version"
 table_kind_name table.Options = codes "Options"
 table_kind_name table.Overlap = codes "Overlap"
 table_kind_name table.Gap = codes "Gap"
+table_kind_name table.NotMet = codes "NotMet"
 
 abbrev pub ignore_kind_name : IgnoreKind → List ℕ
 ignore_kind_name ignore.Shape = codes "Shape"
@@ -36,12 +37,13 @@ abbrev pub table_sentence : TableKind → List ℕ
 table_sentence table.Shape = codes "the line is not the row of a race: is this a table of hunt?"
 table_sentence table.Range = codes "a number or an address of the row is out of range"
 table_sentence table.Twice = codes "the race has a row already: use merge to add tables"
-table_sentence table.End = codes "there are not as many rows as the first line says: was the file cut off?"
-table_sentence table.Image = codes "the table is of another image than the first one"
-table_sentence table.Version = codes "the table was made by another version of rvcollide than the first one"
+table_sentence table.End = codes "there are not as many rows as the first line says, or no last line says what they are of: was it cut off?"
+table_sentence table.Image = codes "the table is of another image than the one that is given, or than the first table"
+table_sentence table.Version = codes "the table was made by another version of rvcollide than this one, or than the first table"
 table_sentence table.Options = codes "the runs of the table had another seed or other options than those of the first one"
 table_sentence table.Overlap = codes "the table has runs that another table has, or that come before the last of another: leave one out"
 table_sentence table.Gap = codes "runs are missing before those of the table: add their table, or allow it by --gaps"
+table_sentence table.NotMet = codes "the run of the row makes no such report: was the table edited?"
 
 abbrev pub ignore_sentence : IgnoreKind → List ℕ
 ignore_sentence ignore.Shape = codes "a line is two sides, each an address of eight hexadecimal digits, a symbol's name or *; on NAME may follow"

@@ -37,6 +37,10 @@ pub trait Folder {
     /// Whether looking, making or writing has failed.
     ghost has_failed: { Self → Bool };
 
+    /// Whether looking, making or writing has failed.
+    fn is_at_fault(&self) -> bool
+        ensures { result ≡ has_failed self.now };
+
     /// Looks whether the folder is there and has no file that a hunt could make in it. Nothing is made.
     fn look(&mut self) -> Result<(), FolderFault>
         ensures used { is_used self.new ≡ is_used self.old }

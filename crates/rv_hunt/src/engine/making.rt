@@ -5,11 +5,12 @@ ghost use Rattle.rv_hunt.specs.Hunted.{IsNoted};
 ghost use Rattle.rv_hunt.specs.engine.Asked.{AreLegal, asked};
 ghost use Rattle.rv_hunt.specs.engine.FolderFault as looking;
 ghost use Rattle.rv_hunt.specs.engine.Hunting as spec;
-ghost use Rattle.rv_hunt.specs.engine.Late.{IfListed, IfPaged, IfSaved};
+ghost use Rattle.rv_hunt.specs.engine.Late.{IfListed, IfPaged, IfSaved, IfWritten};
 ghost use Rattle.rv_hunt.specs.merge.Listing.{list_text};
 ghost use Rattle.rv_hunt.specs.RightEnds.{right_codes};
 ghost use Rattle.rv_hunt.specs.internal.MakeFault.{fails_by_write};
 ghost use Rattle.rv_hunt.specs.internal.Opened.{hunt_in, hunting_with, texts_in};
+ghost use Rattle.rv_hunt.specs.HuntObject.{hunt_facts};
 ghost use Rattle.rv_hunt.specs.PageFacts.{page_facts};
 ghost use Rattle.rv_hunt.specs.ShownRows.{shown_rows};
 
@@ -19,7 +20,8 @@ use crate::end_runs::RightCodes;
 use crate::engine::beside::save_ends;
 use crate::engine::fault::MakeFault;
 use crate::engine::folder::{Folder, FolderFault};
-use crate::engine::found::Found;
+use crate::engine::found::{Checks, Found};
+use crate::engine::keeping::{Given, hunted};
 use crate::engine::lists::Lists;
 use crate::engine::opening::Opened;
 use crate::engine::options::{HuntOptions, LineParts, Shows};
@@ -33,6 +35,7 @@ use crate::merge::known::{gone, new_races};
 use crate::merge::listing::list_of;
 use crate::merge::parted::{Parted, part_rows};
 use crate::noted::Noted;
+use crate::object::{Beside, object_text};
 use crate::origin::{Heading, Stretch};
 use crate::page::page_text;
 use crate::page::parts::Outcome;
@@ -41,6 +44,7 @@ use crate::saying::order::{benign, bugs, told_rows};
 use crate::saying::warnings::{first_notes, is_void};
 use crate::shown_rows::shown_rows;
 use rv_campaign::PoolFault;
+use rv_engines::fault::Fault;
 use rv_engines::new_file::NewFile;
 use rv_explain::symbol_table::SymbolTable;
 use rv_memory::flagged::WriteFault;
@@ -95,7 +99,7 @@ fn texts_of(
 }
 
 /// The races of what a hunt saw as they are shown, of the rows that are told.
-fn shown_of(
+pub(crate) fn shown_of(
     alloc: Global,
     saw: &Hunted,
     told: &[(Key, RaceRow)],
@@ -123,7 +127,7 @@ fn parted_rows(
 }
 
 /// What was found, by the rows of the races that are new, the races as they are shown, the stuck ends that are shown, how harts ended, and the warnings.
-fn found_in(
+pub(crate) fn found_in(
     unexpected: &[(Key, RaceRow)],
     races: &[(Key, RaceRow)],
     stuck: &[ShownStuck],
@@ -153,7 +157,7 @@ fn full_of(shows: Shows, has_folder: bool, has_page: bool, blocks: u32) -> usize
 }
 
 /// The first rows, at most so many.
-fn first_of(rows: &[(Key, RaceRow)], most: usize) -> &[(Key, RaceRow)]
+pub(crate) fn first_of(rows: &[(Key, RaceRow)], most: usize) -> &[(Key, RaceRow)]
     ensures { result.now ≡ take most rows.now }
 {
     &rows[..rows.len().min(most)]
@@ -183,6 +187,35 @@ fn make_page<F: NewFile>(
     Ok(())
 }
 
+/// The exit status, if all that isn't written yet is taken: a folder that took no schedule has another one.
+pub(crate) fn status_of<D: Folder>(folder: &Option<D>, checks: Checks, found: Found) -> u8 {
+    match folder {
+        Some(folder) if folder.is_at_fault() => Fault::Write.status(),
+        _ => checks.status(found),
+    }
+}
+
+/// Makes the object of what was found, where one is wanted. Where it can't be made the file has that noted.
+fn make_json<F: NewFile>(
+    alloc: Global,
+    symbols: &SymbolTable,
+    outcome: &Outcome,
+    beside: &Beside<'_, '_, '_>,
+    told: &[(Key, RaceRow)],
+    shown: &[ShownRace],
+    orders: &[ShownOrder],
+    json: &mut Option<F>,
+) -> Result<(), NoMemory>
+    ensures written { OnOk result (IfWritten F.has_failed F.Holds json.new (hunt_facts outcome.now told.now)) }
+    ensures wanted { is_some json.new ≡ is_some json.old }
+{
+    if let Some(file) = json {
+        let text = object_text(alloc, symbols, outcome, beside, told, shown, orders)?;
+        let _ = file.make(&text);
+    }
+    Ok(())
+}
+
 /// Makes the list of the races that are told, where one is wanted. Where it can't be made the file has that noted.
 fn make_list<F: NewFile>(
     alloc: Global,
@@ -200,9 +233,16 @@ fn make_list<F: NewFile>(
     Ok(())
 }
 
+/// Whether the blocks of races are shown beside the text.
+fn shows_blocks<F: NewFile>(page: &Option<F>, json: &Option<F>) -> bool
+    ensures { result ≡ (is_some page.now || is_some json.now) }
+{
+    page.is_some() || json.is_some()
+}
+
 /// What a hunt shows of all that its runs saw. The schedules of stuck ends and of how harts ended are saved first, those of the races in full
-/// while these are made again, and the page and the list are made last: what wants memory comes before it. Where a file can't be made that is noted, and the others
-/// are.
+/// while these are made again, and the object, the page and the list are made last: what wants memory comes before it. Where a file can't be
+/// made that is noted, and the others are.
 fn made_of<R: Threads + Wait, D: Folder, F: NewFile, P: Watch>(
     rt: &R,
     alloc: Global,
@@ -210,22 +250,24 @@ fn made_of<R: Threads + Wait, D: Folder, F: NewFile, P: Watch>(
     options: &HuntOptions<'_, '_>,
     lists: &Lists,
     digits: &[u8],
+    digest: &str,
     symbols: &SymbolTable,
     saw: &Hunted,
     noted: &Noted,
     folder: &mut Option<D>,
     page: &mut Option<F>,
     list: &mut Option<F>,
+    json: &mut Option<F>,
     watch: &mut P,
 ) -> Result<Made, PoolFault>
     requires legal { AreLegal options.now }
     requires symbols { symbols.now ≡ hunt.now.source.image }
     requires noted { IsNoted hunt.now saw.now noted.now.ends }
     ensures made { IfOk result (λ made. spec.IsMade
-        (spec.showing_of options.now (is_some folder.old) (is_some page.old)) (hunting_with hunt.now digits.now noted.now.ends.right lists.now)
+        (spec.showing_of options.now (is_some folder.old) (is_some page.old || is_some json.old)) (hunting_with hunt.now digits.now noted.now.ends.right lists.now)
         (IfSaved D.has_failed D.Holds folder.new) (IfPaged F.has_failed F.Holds page.new)
-        (IfListed F.has_failed F.Holds list.new) made.found (texts_in made)) }
-    ensures wanted { (is_some folder.new ≡ is_some folder.old) × (is_some page.new ≡ is_some page.old) × (is_some list.new ≡ is_some list.old) }
+        (IfListed F.has_failed F.Holds list.new) (IfWritten F.has_failed F.Holds json.new) made.found (texts_in made)) }
+    ensures wanted { (is_some folder.new ≡ is_some folder.old) × (is_some page.new ≡ is_some page.old) × (is_some list.new ≡ is_some list.old) × (is_some json.new ≡ is_some json.old) }
 {
     let code = code_seen(alloc, symbols, hunt.code, &noted.words)?;
     let stuck = stuck_ends(alloc, hunt, symbols, &noted.stuck, folder)?;
@@ -251,7 +293,7 @@ fn made_of<R: Threads + Wait, D: Folder, F: NewFile, P: Watch>(
     let most = full_of(
         options.shows,
         folder.is_some(),
-        page.is_some(),
+        shows_blocks(page, json),
         options.blocks,
     );
     let full = InFull {
@@ -275,6 +317,23 @@ fn made_of<R: Threads + Wait, D: Folder, F: NewFile, P: Watch>(
         &shown,
         &orders,
     )?;
+    let found = found_in(
+        &unexpected,
+        &races,
+        &stuck.shown,
+        noted.ends.is_wrong(),
+        is_void(&outcome),
+    );
+    let beside = Beside {
+        command: "hunt",
+        options,
+        first: u64::from(options.first),
+        digest,
+        status: status_of(folder, options.checks, found),
+    };
+    make_json(
+        alloc, symbols, &outcome, &beside, &told, &shown, &orders, json,
+    )?;
     make_page(
         alloc,
         &options.line,
@@ -286,21 +345,11 @@ fn made_of<R: Threads + Wait, D: Folder, F: NewFile, P: Watch>(
         page,
     )?;
     make_list(alloc, symbols, &parted.told, list)?;
-    Ok(Made {
-        found: found_in(
-            &unexpected,
-            &races,
-            &stuck.shown,
-            noted.ends.is_wrong(),
-            is_void(&outcome),
-        ),
-        text,
-        notes,
-    })
+    Ok(Made { found, text, notes })
 }
 
 /// Looks at the folder, where one is given.
-fn look<D: Folder>(folder: &mut Option<D>) -> Result<(), FolderFault>
+pub(crate) fn look<D: Folder>(folder: &mut Option<D>) -> Result<(), FolderFault>
     ensures used { passes D.is_used folder.new ≡ passes D.is_used folder.old }
     ensures wanted { is_some folder.new ≡ is_some folder.old }
     ensures failed { passes D.has_failed folder.new ≡ (passes D.has_failed folder.old || looking.fails_by_write result) }
@@ -312,7 +361,7 @@ fn look<D: Folder>(folder: &mut Option<D>) -> Result<(), FolderFault>
 }
 
 /// Looks whether a file can be made, where one is given.
-fn look_at_file<F: NewFile>(page: &mut Option<F>) -> Result<(), WriteFault>
+pub(crate) fn look_at_file<F: NewFile>(page: &mut Option<F>) -> Result<(), WriteFault>
     ensures made { passes F.is_made page.new ≡ passes F.is_made page.old }
     ensures wanted { is_some page.new ≡ is_some page.old }
     ensures failed { passes F.has_failed page.new ≡ (passes F.has_failed page.old || is_err result) }
@@ -323,8 +372,8 @@ fn look_at_file<F: NewFile>(page: &mut Option<F>) -> Result<(), WriteFault>
     }
 }
 
-/// Looks at the folder, the page and the list, and makes the runs of a hunt of what was opened, the schedules of the races that are shown in
-/// full, the page, the list, and the texts of what the runs saw.
+/// Looks at the folder, the page, the list and the object's file, and makes the runs of a hunt of what was opened, the schedules of the races
+/// that are shown in full, the object, the page, the list, and the texts of what the runs saw.
 pub(crate) fn make_hunt<T: Threads + Wait + Sync, P: Watch, D: Folder, F: NewFile>(
     rt: &T,
     alloc: Global,
@@ -334,21 +383,23 @@ pub(crate) fn make_hunt<T: Threads + Wait + Sync, P: Watch, D: Folder, F: NewFil
     folder: &mut Option<D>,
     page: &mut Option<F>,
     list: &mut Option<F>,
+    json: &mut Option<F>,
     watch: &mut P,
 ) -> Result<Made, MakeFault>
     requires { AreLegal options.now }
     ensures made { IfOk result (λ made. spec.IsMade
-        (spec.showing_of options.now (is_some folder.old) (is_some page.old))
+        (spec.showing_of options.now (is_some folder.old) (is_some page.old || is_some json.old))
         (hunting_with (hunt_in (asked options.now) opened.now) opened.now.digits.items (right_codes (asked options.now).right) lists.now)
         (IfSaved D.has_failed D.Holds folder.new) (IfPaged F.has_failed F.Holds page.new)
-        (IfListed F.has_failed F.Holds list.new) made.found (texts_in made)) }
-    ensures wanted { (is_some folder.new ≡ is_some folder.old) × (is_some page.new ≡ is_some page.old) × (is_some list.new ≡ is_some list.old) }
+        (IfListed F.has_failed F.Holds list.new) (IfWritten F.has_failed F.Holds json.new) made.found (texts_in made)) }
+    ensures wanted { (is_some folder.new ≡ is_some folder.old) × (is_some page.new ≡ is_some page.old) × (is_some list.new ≡ is_some list.old) × (is_some json.new ≡ is_some json.old) }
     ensures failed { fails_by_write result ≡ true
-        → (passes D.has_failed folder.new || passes F.has_failed page.new || passes F.has_failed list.new) ≡ true }
+        → (passes D.has_failed folder.new || passes F.has_failed page.new || passes F.has_failed list.new || passes F.has_failed json.new) ≡ true }
 {
     look(folder)?;
     look_at_file(page)?;
     look_at_file(list)?;
+    look_at_file(json)?;
     let sampler = Sampler::sites(alloc, &opened.image, &opened.lists.excluded)?;
     let sites = Sites::of(alloc, &sampler)?;
     let code = Code::of(alloc, &opened.image)?;
@@ -370,7 +421,13 @@ pub(crate) fn make_hunt<T: Threads + Wait + Sync, P: Watch, D: Folder, F: NewFil
         limit: options.limit,
         orders: options.orders,
     };
-    let saw = hunt.hunted(rt, alloc, options.workers, &mut noted, watch)?;
+    let given = Given {
+        options,
+        lists,
+        digits: &opened.digits,
+        symbols: &symbols,
+    };
+    let saw = hunted(rt, alloc, &hunt, given, &mut noted, watch)?;
     let made = made_of(
         rt,
         alloc,
@@ -378,12 +435,14 @@ pub(crate) fn make_hunt<T: Threads + Wait + Sync, P: Watch, D: Folder, F: NewFil
         options,
         lists,
         &opened.digits,
+        opened.digest.as_str(),
         &symbols,
         &saw,
         &noted,
         folder,
         page,
         list,
+        json,
         watch,
     );
     // It has many parts, which are let go by one call.

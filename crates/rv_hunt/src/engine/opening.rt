@@ -14,6 +14,7 @@ use crate::engine::options::HuntOptions;
 use crate::origin::image_digits;
 use rv_elf::Image;
 use rv_engines::built::{Built, built_of};
+use rv_engines::digest::digest_of;
 use rv_engines::fault::Fault;
 use rv_engines::image::image_of;
 use rv_engines::run::fault::CommandFault;
@@ -31,17 +32,18 @@ pub struct Listed {
     pub idle: NamedBytes,
 }
 
-/// An image, the digits of its file, the lists of the line, and what the image was built with.
+/// An image, the first digits of its file's digest and all of them, the lists of the line, and what the image was built with.
 #[derive(Drop)]
 pub struct Opened {
     pub image: Image,
     pub digits: Vec<u8>,
+    pub digest: String,
     pub lists: Listed,
     pub built: Built,
 }
 
 /// Reads the lists.
-fn read_lists<'a>(
+pub(crate) fn read_lists<'a>(
     alloc: Global,
     options: &HuntOptions<'a, '_>,
     image: &Image,
@@ -72,15 +74,16 @@ fn read_lists<'a>(
 
 /// What the bytes of an image's file say.
 #[derive(Drop)]
-struct FileRead {
-    image: Image,
-    digits: Vec<u8>,
-    built: Built,
+pub struct FileRead {
+    pub image: Image,
+    pub digits: Vec<u8>,
+    pub digest: String,
+    pub built: Built,
 }
 
 /// Reads the file of an image.
 #[tactic(auto, unfolding(rv_engines::specs::Images::image_of))]
-fn read_file<R: Read>(alloc: Global, reader: &mut Flagged<R>) -> Result<FileRead, Fault>
+pub(crate) fn read_file<R: Read>(alloc: Global, reader: &mut Flagged<R>) -> Result<FileRead, Fault>
     ensures image { IfOk result (λ read. IfSome (R.remaining (flag.device reader.old)) (λ bytes.
         image_of bytes ≡ Ok read.image)) }
     ensures digits { IfOk result (λ read. IfSome (R.remaining (flag.device reader.old)) (λ bytes.
@@ -94,10 +97,12 @@ fn read_file<R: Read>(alloc: Global, reader: &mut Flagged<R>) -> Result<FileRead
 {
     let bytes = read_whole(alloc, reader, INPUT_LIMIT)?;
     let digits = image_digits(alloc, &bytes)?;
+    let digest = digest_of(alloc, &bytes)?;
     let built = built_of(&bytes);
     Ok(FileRead {
         image: image_of(alloc, &bytes)?,
         digits,
+        digest,
         built,
     })
 }
@@ -127,6 +132,7 @@ pub fn open<'a, R: Read>(
         Ok(lists) => Ok(Opened {
             image: read.image,
             digits: read.digits,
+            digest: read.digest,
             lists,
             built: read.built,
         }),

@@ -4,8 +4,9 @@ ghost use Rattle.rv_hunt.specs.Hunt.{AreNumbers};
 ghost use Rattle.rv_tally.specs.GoesOn.{IsLimit};
 ghost use Rattle.rv_hunt.specs.engine.Asked.{AreLegal};
 
+use crate::engine::found::Checks;
 use rv_tally::limit::{Limit, MOST_BUDGET};
-use rv_tally::plans::Plans;
+use rv_tally::plans::{Lengths, Plans};
 
 /// What a hunt writes to its standard output.
 #[derive(Clone, Copy)]
@@ -34,6 +35,20 @@ pub struct LineParts<'a> {
     pub version: &'a str,
     /// What was given of the runs, as a table's last line has it: a blank before each word.
     pub given: &'a str,
+    /// The path of the image as it was given.
+    pub path: &'a str,
+    /// What else was given, for other programs.
+    pub said: SaidOptions<'a>,
+}
+
+/// Options of a line that other programs are told: how many harts, slots and steps each run has, and the paths of lists.
+#[derive(Clone, Copy)]
+pub struct SaidOptions<'a> {
+    pub harts: Option<u8>,
+    pub slots: u8,
+    pub lengths: Option<Lengths>,
+    pub ignore: Option<&'a str>,
+    pub expect: Option<&'a str>,
 }
 
 /// Two sides of a race, each the name of a symbol or an address, as a line of an ignore list has them.
@@ -74,6 +89,8 @@ pub struct HuntOptions<'a, 'b> {
     pub line: LineParts<'b>,
     /// Whether the orders of races' accesses are tried.
     pub orders: bool,
+    /// What the exit status is asked to tell.
+    pub checks: Checks,
 }
 
 /// The most workers of a hunt.

@@ -11,11 +11,12 @@ use crate::engine::shown::ShownRace;
 use crate::engine::stuck_ends::ShownStuck;
 use crate::hunt::Hunt;
 use crate::hunted::Hunted;
+use crate::orders::OrderTable;
 use crate::origin::{Heading, Stretch, stretch_on, write_line};
-use crate::page::parts::Outcome;
+use crate::page::parts::{Outcome, Tabled};
 use crate::row::RaceRow;
 use crate::saying::index::push_index;
-use crate::saying::lines::{push_behind, summary_line};
+use crate::saying::lines::{push_behind, push_counted, summary_line, tabled_line};
 use crate::saying::orders::shown_rows;
 use crate::saying::stuck::stuck_block_lines;
 use crate::saying::unexpected::{is_among, mark};
@@ -103,6 +104,56 @@ fn push_stuck(
     Ok(())
 }
 
+/// Adds the index of the races that are told, and the blocks of the first, which are shown in full.
+fn push_races(
+    alloc: Global,
+    text: &mut Vec<u8>,
+    line: &LineParts<'_>,
+    symbols: &SymbolTable,
+    tried: &OrderTable,
+    new: &[(Key, RaceRow)],
+    told: &[(Key, RaceRow)],
+    shown: &[ShownRace],
+    orders: &[ShownOrder],
+) -> Result<(), NoMemory> {
+    push_index(alloc, text, symbols, tried, shown.len(), told, new)?;
+    for (n, (((key, row), race), order)) in told.iter().zip(shown).zip(orders).enumerate() {
+        let number = n as u64 + 1;
+        text.push(b'\n')?;
+        let is_new = is_among(new, key);
+        text.extend_from_slice(&race_text(
+            alloc, line, symbols, number, row, is_new, race, order,
+        )?)?;
+    }
+    Ok(())
+}
+
+/// The text of the races of a table. Their orders are not tried.
+pub(crate) fn tabled_text(
+    alloc: Global,
+    line: &LineParts<'_>,
+    symbols: &SymbolTable,
+    tabled: &Tabled,
+    told: &[(Key, RaceRow)],
+    shown: &[ShownRace],
+    orders: &[ShownOrder],
+) -> Result<Vec<u8>, NoMemory> {
+    let mut text = Vec::new(alloc);
+    text.extend_from_slice(tabled_line(alloc, tabled)?.as_bytes())?;
+    let untried = OrderTable::new(alloc);
+    let new = tabled.new;
+    push_races(
+        alloc, &mut text, line, symbols, &untried, new, told, shown, orders,
+    )?;
+    let mut behind = Vec::new(alloc);
+    push_counted(alloc, &mut behind, tabled.rows, tabled.ignored)?;
+    if !behind.is_empty() {
+        text.push(b'\n')?;
+        text.extend_from_slice(&behind)?;
+    }
+    Ok(text)
+}
+
 /// The text of a hunt, and how a run is kept. Of the races that are told the first are shown in full.
 pub(crate) fn hunt_text(
     alloc: Global,
@@ -115,24 +166,11 @@ pub(crate) fn hunt_text(
 ) -> Result<Vec<u8>, NoMemory> {
     let mut text = Vec::new(alloc);
     text.extend_from_slice(summary_line(alloc, outcome)?.as_bytes())?;
-    let table = &outcome.saw.orders;
-    push_index(
-        alloc,
-        &mut text,
-        symbols,
-        table,
-        shown.len(),
-        told,
-        outcome.new,
+    let tried = &outcome.saw.orders;
+    let new = outcome.new;
+    push_races(
+        alloc, &mut text, line, symbols, tried, new, told, shown, orders,
     )?;
-    for (n, (((key, row), race), order)) in told.iter().zip(shown).zip(orders).enumerate() {
-        let number = n as u64 + 1;
-        text.push(b'\n')?;
-        let is_new = is_among(outcome.new, key);
-        text.extend_from_slice(&race_text(
-            alloc, line, symbols, number, row, is_new, race, order,
-        )?)?;
-    }
     push_stuck(alloc, &mut text, symbols, outcome, line)?;
     text.push(b'\n')?;
     push_behind(alloc, &mut text, symbols, outcome)?;

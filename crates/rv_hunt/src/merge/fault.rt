@@ -129,6 +129,7 @@ fn table_kind_name(kind: TableKind) -> &'static str
         TableKind::Options => "Options",
         TableKind::Overlap => "Overlap",
         TableKind::Gap => "Gap",
+        TableKind::NotMet => "NotMet",
     }
 }
 
@@ -161,16 +162,18 @@ fn table_sentence(kind: TableKind) -> &'static str
         TableKind::Range => "a number or an address of the row is out of range",
         TableKind::Twice => "the race has a row already: use merge to add tables",
         TableKind::End =>
-            "there are not as many rows as the first line says: was the file cut off?",
-        TableKind::Image => "the table is of another image than the first one",
+            "there are not as many rows as the first line says, or no last line says what they are of: was it cut off?",
+        TableKind::Image =>
+            "the table is of another image than the one that is given, or than the first table",
         TableKind::Version =>
-            "the table was made by another version of rvcollide than the first one",
+            "the table was made by another version of rvcollide than this one, or than the first table",
         TableKind::Options =>
             "the runs of the table had another seed or other options than those of the first one",
         TableKind::Overlap =>
             "the table has runs that another table has, or that come before the last of another: leave one out",
         TableKind::Gap =>
             "runs are missing before those of the table: add their table, or allow it by --gaps",
+        TableKind::NotMet => "the run of the row makes no such report: was the table edited?",
     }
 }
 

@@ -140,6 +140,20 @@ pub(crate) fn push_line(
     Ok(())
 }
 
+/// How a list names a race: its line without the comment.
+pub(crate) fn known_as(
+    alloc: Global,
+    symbols: &SymbolTable,
+    race: &(Key, RaceRow),
+) -> Result<Vec<u8>, NoMemory> {
+    let mut text = Vec::new(alloc);
+    push_side(alloc, &mut text, symbols, race.0.first)?;
+    text.push(b' ')?;
+    push_other(alloc, &mut text, symbols, race.0.second)?;
+    push_on(alloc, &mut text, symbols, race.1.address)?;
+    Ok(text)
+}
+
 /// The list of the races of a table.
 #[tactic(auto, unfolding(crate::specs::merge::Listing::list_text))]
 pub fn list_of(

@@ -28,6 +28,17 @@ pub struct Outcome<'a> {
     pub built: Built,
 }
 
+/// What is told of the table of a hunt: how many runs it is of, the rows of its races, those that are ignored, those that may be bugs and are
+/// not expected, and the first line of the list of expected ones with a name that the image lacks.
+#[derive(Clone, Copy)]
+pub struct Tabled<'a> {
+    pub runs: u64,
+    pub rows: &'a [(Key, RaceRow)],
+    pub ignored: &'a [(Key, RaceRow)],
+    pub new: &'a [(Key, RaceRow)],
+    pub gone: Option<u64>,
+}
+
 impl<'a> Model for Outcome<'a> {
     ghost use Rattle.std.specs.Prelude.{is_some};
     ghost use Rattle.rv_hunt.specs.Outcome.{Outcome as Came};

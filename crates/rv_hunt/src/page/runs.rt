@@ -1,5 +1,5 @@
 //! What the runs saw, in tables.
-ghost use Rattle.std.specs.Prelude.{◌≡◌, ◌∷◌, IfOk};
+ghost use Rattle.std.specs.Prelude.{◌≡◌, ◌∷◌, is_some, IfOk};
 ghost use Rattle.rv_hunt.specs.Outcome.{sampled_numbers, walk_numbers};
 ghost use Rattle.rv_hunt.specs.PageFacts as spec;
 ghost use Rattle.rv_markup.specs.declared.markup.Fact.TheVariants as fact;
@@ -18,7 +18,7 @@ use crate::row::RaceRow;
 use crate::saying::ended::{EndedRow, ended_rows, ways_words};
 use crate::saying::lines::{Seen, runs_seen, sampled_numbers, walk_numbers};
 use crate::saying::order::{of_class, reports_of};
-use crate::saying::warnings::{Warning, all_sampled, warning_words, warnings_of};
+use crate::saying::warnings::{Warning, all_sampled, gone_words, warning_words, warnings_of};
 use crate::tally::Tally;
 use rv_explain::block::RaceClass;
 use rv_explain::symbol_table::SymbolTable;
@@ -65,6 +65,20 @@ pub(crate) fn warnings_part(
     end_line(end_table(page)?)
 }
 
+/// The warning that a name of the list of expected races has gone, where one has.
+pub(crate) fn gone_part(page: Markup, alloc: Global, gone: Option<u64>) -> Result<Markup, NoMemory>
+    ensures { IfOk result (λ more. more ≡ record page { facts = spec.gone_facts (is_some gone) page.facts }) }
+{
+    let Some(line) = gone else {
+        return Ok(page);
+    };
+    let words = gone_words(alloc, line)?;
+    let page = begin_part(page, Place::Warnings, b"Warnings")?;
+    let page = begin_row(begin_rows(begin_table(page)?)?)?;
+    let page = end_line(cell(page, words.as_bytes())?)?;
+    end_line(end_table(page)?)
+}
+
 /// The row of races that were counted and not shown, where there are any.
 fn aside_row(page: Markup, word: &[u8], rows: &[(Key, RaceRow)]) -> Result<Markup, NoMemory>
     ensures { IfOk result (λ more. more ≡ record page { facts = spec.aside_row_facts rows.now page.facts }) }
@@ -77,12 +91,17 @@ fn aside_row(page: Markup, word: &[u8], rows: &[(Key, RaceRow)]) -> Result<Marku
     end_line(number_cell(page, rows.len() as u64)?)
 }
 
-/// Such races, where there are any.
-pub(crate) fn aside_part(page: Markup, alloc: Global, outcome: &Outcome) -> Result<Markup, NoMemory>
-    ensures { IfOk result (λ more. more ≡ record page { facts = spec.aside_facts outcome.now page.facts }) }
+/// Such races of these rows and of ignored ones, where there are any.
+pub(crate) fn apart_part(
+    page: Markup,
+    alloc: Global,
+    rows: &[(Key, RaceRow)],
+    ignored: &[(Key, RaceRow)],
+) -> Result<Markup, NoMemory>
+    ensures { IfOk result (λ more. more ≡ record page { facts = spec.apart_facts rows.now ignored.now page.facts }) }
 {
-    let named = of_class(alloc, outcome.races, RaceClass::Named)?;
-    if named.is_empty() && outcome.ignored.is_empty() {
+    let named = of_class(alloc, rows, RaceClass::Named)?;
+    if named.is_empty() && ignored.is_empty() {
         return Ok(page);
     }
     let page = begin_part(page, Place::Aside, b"Counted, not told")?;
@@ -91,8 +110,15 @@ pub(crate) fn aside_part(page: Markup, alloc: Global, outcome: &Outcome) -> Resu
     let page = number_column(page, b"races")?;
     let page = begin_rows(end_line(page)?)?;
     let page = aside_row(page, b"named", &named)?;
-    let page = aside_row(page, b"ignored", outcome.ignored)?;
+    let page = aside_row(page, b"ignored", ignored)?;
     end_line(end_table(page)?)
+}
+
+/// Such races of a hunt, where there are any.
+pub(crate) fn aside_part(page: Markup, alloc: Global, outcome: &Outcome) -> Result<Markup, NoMemory>
+    ensures { IfOk result (λ more. more ≡ record page { facts = spec.aside_facts outcome.now page.facts }) }
+{
+    apart_part(page, alloc, outcome.races, outcome.ignored)
 }
 
 /// The run in which harts first ended so, where it is named.

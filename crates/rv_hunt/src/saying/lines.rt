@@ -6,7 +6,7 @@ ghost use Rattle.rv_hunt.specs.declared.saying.lines.Seen.{Seen};
 use crate::code_seen::CodeSeen;
 use crate::hunted::Hunted;
 use crate::near::Fate;
-use crate::page::parts::Outcome;
+use crate::page::parts::{Outcome, Tabled};
 use crate::row::RaceRow;
 use crate::saying::ended::{ended_rows, ways_words};
 use crate::saying::order::{benign, bugs, of_class, reports_of, unwatched};
@@ -18,20 +18,37 @@ use rv_memory::store::NoMemory;
 use rv_report::key::Key;
 use std::alloc::Global;
 
+/// How many races no data breakpoint watched, where there are any.
+fn unwatched_words(alloc: Global, rows: &[(Key, RaceRow)]) -> Result<String, NoMemory> {
+    match unwatched(rows) {
+        0 => Ok(String::new(alloc)),
+        number => Ok(format!(in alloc; ", unwatched {number}")?),
+    }
+}
+
 /// The first line.
 pub(crate) fn summary_line(alloc: Global, outcome: &Outcome) -> Result<String, NoMemory> {
     let saw = &outcome.saw.tally;
     let bugs = bugs(outcome.races);
     let benign = benign(outcome.races);
-    let apart = match unwatched(outcome.races) {
-        0 => String::new(alloc),
-        number => format!(in alloc; ", unwatched {number}")?,
-    };
+    let apart = unwatched_words(alloc, outcome.races)?;
     let reports = saw.counts().hit.saturating_add(saw.counts().changed);
     let pauses = saw.pauses();
     let runs = saw.runs();
     Ok(format!(in alloc;
         "races {bugs}{apart}, likely benign {benign}, reports {reports} of {pauses} endings in {runs} runs\n"
+    )?)
+}
+
+/// The first line of what is told of a table.
+pub(crate) fn tabled_line(alloc: Global, tabled: &Tabled) -> Result<String, NoMemory> {
+    let bugs = bugs(tabled.rows);
+    let benign = benign(tabled.rows);
+    let apart = unwatched_words(alloc, tabled.rows)?;
+    let reports = reports_of(tabled.rows).saturating_add(reports_of(tabled.ignored));
+    let runs = tabled.runs;
+    Ok(format!(in alloc;
+        "races {bugs}{apart}, likely benign {benign}, reports {reports} in {runs} runs\n"
     )?)
 }
 
@@ -262,6 +279,18 @@ fn push_code(alloc: Global, text: &mut Vec<u8>, code: &CodeSeen) -> Result<(), N
     Ok(())
 }
 
+/// Adds how many races of these rows are named, and how many were ignored, where there are any.
+pub(crate) fn push_counted(
+    alloc: Global,
+    text: &mut Vec<u8>,
+    rows: &[(Key, RaceRow)],
+    ignored: &[(Key, RaceRow)],
+) -> Result<(), NoMemory> {
+    let named = of_class(alloc, rows, RaceClass::Named)?;
+    push_apart(alloc, text, "named", &named)?;
+    push_apart(alloc, text, "ignored", ignored)
+}
+
 /// Adds the lines behind the blocks: which races were counted and not shown, how harts ended, what was seen, and how much of the code
 /// was executed.
 pub(crate) fn push_behind(
@@ -270,9 +299,7 @@ pub(crate) fn push_behind(
     symbols: &SymbolTable,
     outcome: &Outcome,
 ) -> Result<(), NoMemory> {
-    let named = of_class(alloc, outcome.races, RaceClass::Named)?;
-    push_apart(alloc, text, "named", &named)?;
-    push_apart(alloc, text, "ignored", outcome.ignored)?;
+    push_counted(alloc, text, outcome.races, outcome.ignored)?;
     push_ended(alloc, text, symbols, outcome)?;
     push_seen(alloc, text, outcome)?;
     push_code(alloc, text, outcome.code)

@@ -18,7 +18,7 @@ pub(crate) fn order_word(order: Order) -> &'static [u8] {
 }
 
 /// The counts of a race's trials.
-fn counts_of(row: &OrderRow) -> OrderCounts {
+pub(crate) fn counts_of(row: &OrderRow) -> OrderCounts {
     OrderCounts {
         trials: row.trials,
         ends: row.ends,

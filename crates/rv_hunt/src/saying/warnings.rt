@@ -4,7 +4,7 @@ ghost use Rattle.rv_hunt.specs.Warnings as spec;
 
 use crate::hunted::Hunted;
 use crate::near::Fate;
-use crate::page::parts::Outcome;
+use crate::page::parts::{Outcome, Tabled};
 use crate::saying::ended::{Ways, ways_words};
 use crate::saying::unexpected::push_unexpected;
 use rv_explain::symbol_table::SymbolTable;
@@ -166,8 +166,7 @@ fn first_stop(alloc: Global, symbols: &SymbolTable, saw: &Hunted) -> Result<Stri
 }
 
 /// The words of the warning that a name has gone.
-fn gone_words(alloc: Global, outcome: &Outcome) -> Result<String, NoMemory> {
-    let line = outcome.gone.unwrap_or(0);
+pub(crate) fn gone_words(alloc: Global, line: u64) -> Result<String, NoMemory> {
     Ok(format!(in alloc;
         "line {line} of the list of --expect names what the image lacks, and fits no race: was it renamed?"
     )?)
@@ -224,7 +223,7 @@ pub(crate) fn warning_words(
         Warning::NoExit => {
             "in most of the longest runs no hart exited: if the program ends, take more steps by --plan"
         }
-        Warning::Gone => return gone_words(alloc, outcome),
+        Warning::Gone => return gone_words(alloc, outcome.gone.unwrap_or(0)),
     };
     Ok(format!(in alloc; "{words}")?)
 }
@@ -242,5 +241,21 @@ pub(crate) fn first_notes(
         text.extend_from_slice(line.as_bytes())?;
     }
     push_unexpected(alloc, &mut text, symbols, outcome.new)?;
+    Ok(text)
+}
+
+/// The same of a table: the warning that a name has gone, if one has, and a line of each race that may be a bug and is not expected.
+pub(crate) fn tabled_notes(
+    alloc: Global,
+    symbols: &SymbolTable,
+    tabled: &Tabled,
+) -> Result<Vec<u8>, NoMemory> {
+    let mut text = Vec::new(alloc);
+    if let Some(line) = tabled.gone {
+        let words = gone_words(alloc, line)?;
+        let line = format!(in alloc; "rvcollide: warning: {words}\n")?;
+        text.extend_from_slice(line.as_bytes())?;
+    }
+    push_unexpected(alloc, &mut text, symbols, tabled.new)?;
     Ok(text)
 }

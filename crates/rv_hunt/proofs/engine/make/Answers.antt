@@ -1,10 +1,10 @@
 use Rattle.std.proofs.Common.{◌∙◌, ap, sym}
-use Rattle.std.specs.Prelude.{is_some}
+use Rattle.std.specs.Prelude.{◌||◌, is_some}
 use Rattle.rv_engines.specs.CommandFault as command
 use Rattle.rv_hunt.proofs.EngineLemmas.{make_told, made_known, write_same}
 use Rattle.rv_hunt.specs.engine.Asked.{asked}
 use Rattle.rv_hunt.specs.engine.Hunting.{files_of, showing_of}
-use Rattle.rv_hunt.specs.engine.Late.{IfListed, IfPaged, IfSaved}
+use Rattle.rv_hunt.specs.engine.Late.{IfListed, IfPaged, IfSaved, IfWritten}
 use Rattle.rv_hunt.specs.RightEnds.{right_codes}
 use Rattle.rv_hunt.specs.internal.Opened.{hunt_in, hunting_with, texts_in}
 use Rattle.rv_hunt.proofs.engine.make.Goals as goal
@@ -19,6 +19,6 @@ returns-in-Err-made-clause-files g c =
 
 pub returns-in-Ok-made-clause-made : goal.returns-in-Ok-made-clause-made
 returns-in-Ok-made-clause-made g c =
-    made_known (files_of g.R.Read.remaining c.args.inputs.now) (asked c.args.options.now) (showing_of c.args.options.now (is_some c.args.folder.now) (is_some c.args.page.now)) (hunting_with (hunt_in (asked c.args.options.now) c.in-Ok.read.0) c.in-Ok.read.0.digits.items (right_codes (asked c.args.options.now).right) c.in-Ok.read.1)
-    (IfSaved g.D.Folder.has_failed g.D.Folder.Holds c.make_hunt-made.new.folder) (IfPaged g.F.NewFile.has_failed g.F.NewFile.Holds c.make_hunt-made.new.page) (IfListed g.F.NewFile.has_failed g.F.NewFile.Holds c.make_hunt-made.new.list)
+    made_known (files_of g.R.Read.remaining c.args.inputs.now) (asked c.args.options.now) (showing_of c.args.options.now (is_some c.args.folder.now) (is_some c.args.page.now || is_some c.args.json.now)) (hunting_with (hunt_in (asked c.args.options.now) c.in-Ok.read.0) c.in-Ok.read.0.digits.items (right_codes (asked c.args.options.now).right) c.in-Ok.read.1)
+    (IfSaved g.D.Folder.has_failed g.D.Folder.Holds c.make_hunt-made.new.folder) (IfPaged g.F.NewFile.has_failed g.F.NewFile.Holds c.make_hunt-made.new.page) (IfListed g.F.NewFile.has_failed g.F.NewFile.Holds c.make_hunt-made.new.list) (IfWritten g.F.NewFile.has_failed g.F.NewFile.Holds c.make_hunt-made.new.json)
     c.in-Ok-made.made.found (texts_in c.in-Ok-made.made) c.in-Ok.ensures.ok c.in-Ok-made.ensures.made

@@ -1,0 +1,107 @@
+//! Addresses as JSON: each by its digits and, where it has one, by its symbol.
+ghost use Rattle.std.specs.Prelude.{◌≡◌, codes, IfOk};
+ghost use Rattle.rv_explain.specs.RaceObject as spec;
+
+use rv_json::object::Json;
+use rv_memory::store::NoMemory;
+use rv_symbols::symbol_table::SymbolTable;
+use std::alloc::Global;
+
+/// How many bytes of a symbol's name are written at most.
+const OBJECT_NAME: usize = 4096;
+
+/// A name, or its first bytes up to a character's end and two dots.
+fn name_at(json: Json, alloc: Global, name: &str) -> Result<Json, NoMemory>
+    ensures { IfOk result (λ more. more ≡ json) }
+{
+    let (front, rest) = name.split_at(name.floor_char_boundary(OBJECT_NAME));
+    if rest.is_empty() {
+        return json.text_at("symbol", front);
+    }
+    let cut = format!(in alloc; "{front}..")?;
+    json.text_at("symbol", cut.as_str())
+}
+
+/// By which symbol an address is told, and its source line, which isn't known.
+fn symbol_members(
+    json: Json,
+    alloc: Global,
+    symbols: &SymbolTable,
+    address: u32,
+) -> Result<Json, NoMemory>
+    ensures { IfOk result (λ more. more ≡ json) }
+{
+    let json = match symbols.symbol_of(address) {
+        Some(symbol) => {
+            let offset = address.saturating_sub(symbol.value);
+            let json = name_at(json, alloc, &symbol.name)?;
+            let json = json.number_at("offset", u64::from(offset))?;
+            json.number_at("size", u64::from(symbol.size))?
+        }
+        None => {
+            let json = json.nothing_at("symbol")?.nothing_at("offset")?;
+            json.nothing_at("size")?
+        }
+    };
+    json.nothing_at("source")
+}
+
+/// A place by its name.
+pub fn place_at(
+    json: Json,
+    alloc: Global,
+    symbols: &SymbolTable,
+    name: &str,
+    address: u32,
+) -> Result<Json, NoMemory>
+    ensures { IfOk result (λ more. more ≡ json) }
+{
+    let json = json.object_at(name)?.digits_at("address", address)?;
+    symbol_members(json, alloc, symbols, address)?.end()
+}
+
+/// The same, where there is one.
+pub fn place_if(
+    json: Json,
+    alloc: Global,
+    symbols: &SymbolTable,
+    name: &str,
+    address: Option<u32>,
+) -> Result<Json, NoMemory>
+    ensures { IfOk result (λ more. more ≡ json) }
+{
+    match address {
+        Some(address) => place_at(json, alloc, symbols, name, address),
+        None => json.nothing_at(name),
+    }
+}
+
+/// A place whose address is told.
+pub(crate) fn place_told(
+    json: Json,
+    alloc: Global,
+    symbols: &SymbolTable,
+    name: &'static str,
+    address: u32,
+) -> Result<Json, NoMemory>
+    ensures { IfOk result (λ more. more ≡ record json { facts = spec.place_facts name.now address json.facts }) }
+{
+    let json = json.object_told(name)?.digits_told("address", address)?;
+    symbol_members(json, alloc, symbols, address)?.end()
+}
+
+/// The same, where there is one.
+pub(crate) fn place_told_if(
+    json: Json,
+    alloc: Global,
+    symbols: &SymbolTable,
+    name: &'static str,
+    address: Option<u32>,
+) -> Result<Json, NoMemory>
+    ensures { IfOk result (λ more. more ≡ record json { facts = spec.place_if_facts name.now address json.facts }) }
+{
+    match address {
+        Some(address) => place_told(json, alloc, symbols, name, address),
+        None => json.nothing_told(name),
+    }
+}

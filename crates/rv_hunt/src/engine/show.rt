@@ -1,0 +1,580 @@
+//! The engine of `show`: an image and the table of a hunt of it in, the table's races out, as the hunt shows them.
+//!
+//! The run of each row is made again, by what the table's last line says of the runs. What is written is stated in
+//! `specs/engine/TableShown.antt`.
+ghost use Rattle.std.specs.Prelude.{◌≡◌, ◌≤◌, false, true, is_some, Ok, IfErr, IfOk, IfSome, OnOk, length, map};
+ghost use Rattle.std.specs.Io.KnownBytes.{Keeps};
+ghost use Rattle.rv_memory.specs.Buffered as buffer;
+ghost use Rattle.rv_memory.specs.Flagged.{device};
+ghost use Rattle.rv_engines.specs.Campaigns.{passes};
+ghost use Rattle.rv_hunt.specs.GivenRuns.{given as runs_given};
+ghost use Rattle.rv_hunt.specs.HuntObject.{object_facts, table_sums};
+ghost use Rattle.rv_hunt.specs.PageFacts.{table_facts};
+ghost use Rattle.rv_hunt.specs.declared.engine.tabled.ShownTable.{ShownTable};
+ghost use Rattle.rv_hunt.specs.engine.Asked.{asked as asked_for};
+ghost use Rattle.rv_hunt.specs.engine.Hunting.{expected_in, files_of, ignored_in};
+ghost use Rattle.rv_hunt.specs.engine.Late.{IfListed, IfPaged, IfSaved, IfWritten};
+ghost use Rattle.rv_hunt.specs.engine.TableShown as spec;
+ghost use Rattle.rv_hunt.specs.engine.TableShown.{without_place};
+ghost use Rattle.rv_hunt.specs.merge.Merge.{bytes_if};
+ghost use Rattle.rv_hunt.specs.internal.Opened.{hunt_by, hunt_with};
+ghost use Rattle.rv_hunt.specs.internal.Remaking as internal;
+
+use crate::aim::Aim;
+use crate::engine::fault::{HuntFault, MakeFault};
+use crate::engine::folder::{Folder, FolderFault};
+use crate::engine::found::{Checks, Found};
+use crate::engine::inputs::Inputs;
+use crate::engine::lists::{Lists, read_aim, read_ignored, read_known};
+use crate::engine::making::{Made, first_of, found_in, look, look_at_file, status_of};
+use crate::engine::opening::{FileRead, Listed, read_file, read_lists};
+use crate::engine::options::{HuntOptions, LineParts, SaidOptions, Shows};
+use crate::engine::orders::{ShownOrder, shown_orders};
+use crate::engine::publish;
+use crate::engine::remaking::{RemakeFault, WatchRuns, remade_rows};
+use crate::engine::shown::{InFull, ShownRace};
+use crate::engine::tabled::{ShownTable, read_shown, shape_fault};
+use crate::engine::texts::tabled_text;
+use crate::fault::{TableFault, TableKind};
+use crate::given::{GivenRuns, given_in};
+use crate::hunt::{Hunt, Watch};
+use crate::merge::fault::FileFault;
+use crate::merge::known::{gone, new_races};
+use crate::merge::listing::list_of;
+use crate::merge::parted::part_rows;
+use crate::object::races::Races;
+use crate::object::{Beside, tabled_object};
+use crate::orders::OrderTable;
+use crate::page::parts::Tabled;
+use crate::page::tabled::tabled_page;
+use crate::row::RaceRow;
+use crate::saying::order::told_rows;
+use crate::saying::warnings::tabled_notes;
+use rv_campaign::PoolFault;
+use rv_engines::fault::Fault;
+use rv_engines::new_file::NewFile;
+use rv_engines::run::fault::CommandFault;
+use rv_explain::symbol_table::SymbolTable;
+use rv_memory::buffered::Buffered;
+use rv_memory::flagged::{Flagged, WriteFault};
+use rv_memory::store::NoMemory;
+use rv_report::key::Key;
+use rv_sample::Sampler;
+use rv_tally::limit::Limit;
+use rv_tally::plans::Plans;
+use rv_walk::code::Code;
+use rv_walk::sites::Sites;
+use std::alloc::Global;
+use std::io::{Read, Write};
+use std::sync::Wait;
+use std::thread::Threads;
+
+/// The options of `show`.
+#[derive(Clone, Copy)]
+pub struct ShowOptions<'b> {
+    /// How many workers make the runs. What is written does not depend on it.
+    pub workers: u8,
+    /// How many races are shown in full.
+    pub blocks: u32,
+    /// What the text tells of the command line.
+    pub line: LineParts<'b>,
+    /// What the exit status is asked to tell.
+    pub checks: Checks,
+}
+
+/// Why `show` writes nothing, or not all.
+#[derive(Clone, Copy)]
+pub enum ShowFault {
+    /// The table is refused.
+    Table(FileFault),
+    /// What `hunt` tells too.
+    Hunt(HuntFault<'static>),
+}
+
+impl From<MakeFault> for ShowFault {
+    ghost from_gives = { λ given fault. fault ≡ internal.of_make given };
+
+    fn from(given: MakeFault) -> ShowFault {
+        ShowFault::Hunt(HuntFault::Command(given.as_command()))
+    }
+}
+
+impl From<PoolFault> for ShowFault {
+    ghost from_gives = { λ given fault. fault ≡ internal.of_pool given };
+
+    fn from(given: PoolFault) -> ShowFault {
+        ShowFault::from(MakeFault::from(given))
+    }
+}
+
+impl From<NoMemory> for ShowFault {
+    ghost from_gives = { λ _ fault. fault ≡ internal.no_memory };
+
+    fn from(given: NoMemory) -> ShowFault {
+        ShowFault::from(MakeFault::from(given))
+    }
+}
+
+impl From<WriteFault> for ShowFault {
+    ghost from_gives = { λ _ fault. fault ≡ internal.write_failed };
+
+    fn from(given: WriteFault) -> ShowFault {
+        ShowFault::from(MakeFault::from(given))
+    }
+}
+
+impl From<FolderFault> for ShowFault {
+    ghost from_gives = { λ given fault. fault ≡ internal.of_folder given };
+
+    fn from(given: FolderFault) -> ShowFault {
+        ShowFault::from(MakeFault::from(given))
+    }
+}
+
+impl From<RemakeFault> for ShowFault {
+    ghost from_gives = { λ given fault. fault ≡ internal.of_remake given };
+
+    fn from(given: RemakeFault) -> ShowFault {
+        match given {
+            RemakeFault::Pool(fault) => ShowFault::from(fault),
+            RemakeFault::NotMet { line } => ShowFault::Table(FileFault::Table(TableFault {
+                line,
+                kind: TableKind::NotMet,
+            })),
+        }
+    }
+}
+
+/// What other programs are told of the runs that have that given, beside the lists of the line.
+fn said_of<'b>(given: &GivenRuns<'_>, line: &LineParts<'b>) -> SaidOptions<'b> {
+    SaidOptions {
+        harts: given.harts,
+        slots: given.slots(),
+        lengths: given.lengths,
+        ..line.said
+    }
+}
+
+/// The options of the hunt whose runs have that given and this seed.
+fn hunt_options<'a, 'b>(
+    given: &GivenRuns<'a>,
+    seed: u64,
+    options: &ShowOptions<'b>,
+) -> Option<HuntOptions<'a, 'b>>
+    ensures asked { IfSome result (λ made. asked_for made ≡ spec.asked_by seed (runs_given given.now)) }
+    ensures shown { IfSome result (λ made. (made.workers ≡ options.now.workers) × (made.blocks ≡ options.now.blocks)) }
+{
+    let Ok(seed) = u32::try_from(seed) else {
+        return None;
+    };
+    let plans = Plans::new(given.mix(), given.harts, given.slots(), given.lengths)?;
+    Some(HuntOptions {
+        plans,
+        seed,
+        first: 0,
+        limit: Limit::Runs(1),
+        workers: options.workers,
+        named: given.named,
+        skip: given.skip,
+        idle: None,
+        right: None,
+        aim: given.aim,
+        shows: Shows::Text,
+        blocks: options.blocks,
+        line: LineParts {
+            said: said_of(given, &options.line),
+            ..options.line
+        },
+        orders: false,
+        checks: options.checks,
+    })
+}
+
+/// Reads the lists that the table's last line has.
+fn read_its_lists(
+    alloc: Global,
+    hunt: &HuntOptions<'_, '_>,
+    file: &FileRead,
+    table: &ShownTable,
+) -> Result<Listed, ShowFault>
+    ensures ok { IfOk result (λ lists. hunt_with (asked_for hunt.now) file.now.image ≡ Ok (hunt_by (asked_for hunt.now) file.now.image lists)) }
+    ensures err { IfErr result (internal.IsUnsaid table.now) }
+{
+    match read_lists(alloc, hunt, &file.image) {
+        Ok(lists) => Ok(lists),
+        Err(CommandFault::Plain(Fault::NoMemory)) => Err(ShowFault::from(NoMemory)),
+        // The image is the one that the line was written of.
+        Err(_) => Err(shape_fault(table)),
+    }
+}
+
+/// Reads the lists of files, and looks for what the table's last line aims at.
+fn read_files<R: Read>(
+    alloc: Global,
+    hunt: &HuntOptions<'_, '_>,
+    file: &FileRead,
+    table: &ShownTable,
+    inputs: &mut Inputs<R>,
+) -> Result<Lists, ShowFault>
+    ensures ignored { IfOk result (λ lists. IfSome (bytes_if R.remaining inputs.old.ignored) (λ bytes.
+        ignored_in file.now.image bytes ≡ Ok lists.ignored)) }
+    ensures expected { IfOk result (λ lists. IfSome (bytes_if R.remaining inputs.old.expected) (λ bytes.
+        expected_in bytes ≡ Ok lists.expected)) }
+    ensures err { IfErr result (λ fault. IfSome (bytes_if R.remaining inputs.old.ignored) (λ ignored.
+        IfSome (bytes_if R.remaining inputs.old.expected) (λ expected.
+        internal.IsLateTold table.now file.now.image ignored expected fault))) }
+{
+    let aim = match read_aim(alloc, &file.image, hunt) {
+        Ok(aim) => aim,
+        Err(FileFault::Plain(Fault::NoMemory)) => return Err(ShowFault::from(NoMemory)),
+        // So is what it aims at.
+        Err(_) => return Err(shape_fault(table)),
+    };
+    let ignored = match read_ignored(alloc, &file.image, &mut inputs.ignored) {
+        Ok(ignored) => ignored,
+        Err(fault) => return Err(ShowFault::Hunt(HuntFault::Ignored(fault))),
+    };
+    match read_known(alloc, &mut inputs.expected) {
+        Ok(expected) => Ok(Lists {
+            ignored,
+            expected,
+            aim,
+            built: file.built,
+        }),
+        Err(fault) => Err(ShowFault::Hunt(HuntFault::Expected(fault))),
+    }
+}
+
+/// What is told of a table, whose rows have their places, and of which the races in full are made again: the text, the notes, the object, the
+/// page and the list.
+fn made_of<T: Threads + Wait, D: Folder, F: NewFile, P: Watch>(
+    rt: &T,
+    alloc: Global,
+    hunt: &Hunt,
+    beside: &Beside<'_, '_, '_>,
+    lists: &Lists,
+    symbols: &SymbolTable,
+    table: &ShownTable,
+    rows: &[(Key, RaceRow)],
+    folder: &mut Option<D>,
+    page: &mut Option<F>,
+    list: &mut Option<F>,
+    json: &mut Option<F>,
+    watch: &mut P,
+) -> Result<Made, PoolFault>
+    requires workers { beside.now.options.now.workers ≤ 16 }
+    requires symbols { symbols.now ≡ hunt.now.source.image }
+    requires rows { map without_place rows.now ≡ map without_place table.now.rows }
+    ensures { IfOk result (λ made. spec.IsMade (internal.shown_by hunt.now lists.now) beside.now.options.now.blocks table.now
+        (IfSaved D.has_failed D.Holds folder.new) (IfPaged F.has_failed F.Holds page.new)
+        (IfListed F.has_failed F.Holds list.new) (IfWritten F.has_failed F.Holds json.new) made.found) }
+{
+    let options = beside.options;
+    let parted = part_rows(alloc, symbols, &lists.ignored, rows)?;
+    let untried = OrderTable::new(alloc);
+    let told = told_rows(alloc, symbols, &untried, &parted.told)?;
+    let unexpected = new_races(alloc, symbols, &lists.expected, &parted.told)?;
+    let tabled = Tabled {
+        runs: table.origin.runs(),
+        rows: &parted.told,
+        ignored: &parted.ignored,
+        new: &unexpected,
+        gone: gone(alloc, symbols.image(), &lists.expected)?,
+    };
+    let full = InFull {
+        hunt,
+        symbols,
+        rows: first_of(&told, options.blocks as usize),
+    };
+    let orders = shown_orders(rt, alloc, &full, options.workers, &untried, folder)?;
+    let shown = full.show(rt, alloc, options.workers, folder, watch)?;
+    let line = &options.line;
+    let text = tabled_text(alloc, line, symbols, &tabled, &told, &shown, &orders)?;
+    let notes = tabled_notes(alloc, symbols, &tabled)?;
+    let found = found_in(&unexpected, &parted.told, &[], false, false);
+    // What wants memory comes before the first file.
+    let listed = list_of(alloc, symbols, &parted.told)?;
+    let beside = Beside {
+        status: status_of(folder, options.checks, found),
+        ..*beside
+    };
+    let races = Races {
+        told: &told,
+        shown: &shown,
+        orders: &orders,
+        tried: &untried,
+        new: &unexpected,
+    };
+    make_object(alloc, symbols, &tabled, &beside, &races, json)?;
+    make_page(alloc, line, symbols, &tabled, &told, &shown, &orders, page)?;
+    put_list(list, &listed);
+    Ok(Made { found, text, notes })
+}
+
+/// Makes the object of what was found, where one is wanted. Where it can't be made the file has that noted.
+fn make_object<F: NewFile>(
+    alloc: Global,
+    symbols: &SymbolTable,
+    tabled: &Tabled,
+    beside: &Beside<'_, '_, '_>,
+    races: &Races<'_>,
+    json: &mut Option<F>,
+) -> Result<(), NoMemory>
+    ensures { OnOk result (IfWritten F.has_failed F.Holds json.new
+        (object_facts (table_sums tabled.now.rows.now tabled.now.ignored.now tabled.now.runs) races.now.told.now)) }
+{
+    if let Some(file) = json {
+        let text = tabled_object(alloc, symbols, tabled, beside, races)?;
+        let _ = file.make(&text);
+    }
+    Ok(())
+}
+
+/// Makes the list, where one is wanted. Where it can't be made the file has that noted.
+fn put_list<F: NewFile>(list: &mut Option<F>, text: &[u8])
+    ensures { IfListed F.has_failed F.Holds list.new text.now }
+{
+    if let Some(file) = list {
+        let _ = file.make(text);
+    }
+}
+
+/// Makes the page, where one is wanted. Where it can't be made the file has that noted.
+fn make_page<F: NewFile>(
+    alloc: Global,
+    line: &LineParts<'_>,
+    symbols: &SymbolTable,
+    tabled: &Tabled,
+    told: &[(Key, RaceRow)],
+    shown: &[ShownRace],
+    orders: &[ShownOrder],
+    page: &mut Option<F>,
+) -> Result<(), NoMemory>
+    requires shown { length shown.now ≤ length told.now }
+    requires orders { length orders.now ≡ length shown.now }
+    ensures { OnOk result (IfPaged F.has_failed F.Holds page.new
+        (table_facts (is_some tabled.now.gone) tabled.now.rows.now tabled.now.ignored.now told.now (length shown.now))) }
+{
+    if let Some(file) = page {
+        let text = tabled_page(alloc, line, symbols, tabled, told, shown, orders)?;
+        let _ = file.make(&text);
+    }
+    Ok(())
+}
+
+/// Makes the runs of the table's rows again, and what is told of them.
+fn make_rows<T: Threads + Wait, D: Folder, F: NewFile, P: Watch + WatchRuns>(
+    rt: &T,
+    alloc: Global,
+    asked: &HuntOptions<'_, '_>,
+    file: &FileRead,
+    listed: &Listed,
+    lists: &Lists,
+    table: &ShownTable,
+    folder: &mut Option<D>,
+    page: &mut Option<F>,
+    list: &mut Option<F>,
+    json: &mut Option<F>,
+    watch: &mut P,
+) -> Result<Made, ShowFault>
+    requires { asked.now.workers ≤ 16 }
+    ensures made { IfOk result (λ made. spec.IsMade (internal.shown_with (asked_for asked.now) file.now.image listed.now lists.now)
+        asked.now.blocks table.now (IfSaved D.has_failed D.Holds folder.new) (IfPaged F.has_failed F.Holds page.new)
+        (IfListed F.has_failed F.Holds list.new) (IfWritten F.has_failed F.Holds json.new) made.found) }
+    ensures err { IfErr result internal.IsRunFault }
+    ensures no_schedules { IfErr result (λ fault. spec.is_of_files fault ≡ true
+        → passes D.is_used folder.new ≡ passes D.is_used folder.old) }
+    ensures no_page { IfErr result (λ fault. spec.is_of_files fault ≡ true
+        → passes F.is_made page.new ≡ passes F.is_made page.old) }
+    ensures no_list { IfErr result (λ fault. spec.is_of_files fault ≡ true
+        → passes F.is_made list.new ≡ passes F.is_made list.old) }
+    ensures no_object { IfErr result (λ fault. spec.is_of_files fault ≡ true
+        → passes F.is_made json.new ≡ passes F.is_made json.old) }
+{
+    look(folder)?;
+    look_at_file(page)?;
+    look_at_file(list)?;
+    look_at_file(json)?;
+    let sampler = Sampler::sites(alloc, &file.image, &listed.excluded)?;
+    let sites = Sites::of(alloc, &sampler)?;
+    let code = Code::of(alloc, &file.image)?;
+    let symbols = SymbolTable::new(alloc, &file.image)?;
+    let aim = Aim::of(alloc, asked.aim, &symbols, &code)?;
+    let hunt = Hunt {
+        image: &file.image,
+        seed: asked.seed,
+        sampler: &sampler,
+        sites: &sites,
+        code: &code,
+        plans: &asked.plans,
+        ranges: &listed.ranges,
+        idle: &listed.idle,
+        aim: &aim,
+        first: asked.first,
+        limit: asked.limit,
+        orders: false,
+    };
+    let rows = remade_rows(rt, alloc, &hunt, &table.rows, asked.workers, watch)?;
+    let beside = Beside {
+        command: "show",
+        options: asked,
+        first: table.origin.first_run(),
+        digest: file.digest.as_str(),
+        status: 0,
+    };
+    Ok(made_of(
+        rt, alloc, &hunt, &beside, lists, &symbols, table, &rows, folder, page, list, json, watch,
+    )?)
+}
+
+/// The same, with the lists that are read.
+fn make_with<T: Threads + Wait, R: Read, D: Folder, F: NewFile, P: Watch + WatchRuns>(
+    rt: &T,
+    alloc: Global,
+    options: &ShowOptions<'_>,
+    inputs: &mut Inputs<R>,
+    file: &FileRead,
+    table: &ShownTable,
+    folder: &mut Option<D>,
+    page: &mut Option<F>,
+    list: &mut Option<F>,
+    json: &mut Option<F>,
+    watch: &mut P,
+) -> Result<Made, ShowFault>
+    requires { options.now.workers ≤ 16 }
+    ensures made { IfOk result (λ made. IfSome (bytes_if R.remaining inputs.old.ignored) (λ ignored.
+        IfSome (bytes_if R.remaining inputs.old.expected) (λ expected. (shown : spec.TableShown)
+        × internal.IsShownBy file.now.image ignored expected table.now shown
+        × spec.IsMade shown options.now.blocks table.now (IfSaved D.has_failed D.Holds folder.new) (IfPaged F.has_failed F.Holds page.new)
+        (IfListed F.has_failed F.Holds list.new) (IfWritten F.has_failed F.Holds json.new) made.found))) }
+    ensures err { IfErr result (λ fault. IfSome (bytes_if R.remaining inputs.old.ignored) (λ ignored.
+        IfSome (bytes_if R.remaining inputs.old.expected) (λ expected.
+        internal.IsLateTold table.now file.now.image ignored expected fault))) }
+    ensures no_schedules { IfErr result (λ fault. spec.is_of_files fault ≡ true
+        → passes D.is_used folder.new ≡ passes D.is_used folder.old) }
+    ensures no_page { IfErr result (λ fault. spec.is_of_files fault ≡ true
+        → passes F.is_made page.new ≡ passes F.is_made page.old) }
+    ensures no_list { IfErr result (λ fault. spec.is_of_files fault ≡ true
+        → passes F.is_made list.new ≡ passes F.is_made list.old) }
+    ensures no_object { IfErr result (λ fault. spec.is_of_files fault ≡ true
+        → passes F.is_made json.new ≡ passes F.is_made json.old) }
+{
+    let words = table.origin.given_words(alloc)?;
+    let Some(given) = given_in(&words) else {
+        return Err(shape_fault(table));
+    };
+    let Some(asked) = hunt_options(&given, table.origin.seed(), options) else {
+        return Err(shape_fault(table));
+    };
+    let listed = read_its_lists(alloc, &asked, file, table)?;
+    let lists = read_files(alloc, &asked, file, table, inputs)?;
+    match make_rows(
+        rt, alloc, &asked, file, &listed, &lists, table, folder, page, list, json, watch,
+    ) {
+        Ok(made) => Ok(made),
+        Err(fault) => Err(fault),
+    }
+}
+
+/// Reads the files, and makes what is written.
+fn make<T: Threads + Wait, R: Read, D: Folder, F: NewFile, P: Watch + WatchRuns>(
+    rt: &T,
+    alloc: Global,
+    options: &ShowOptions<'_>,
+    inputs: &mut Inputs<R>,
+    table: &mut Flagged<R>,
+    folder: &mut Option<D>,
+    page: &mut Option<F>,
+    list: &mut Option<F>,
+    json: &mut Option<F>,
+    watch: &mut P,
+) -> Result<Made, ShowFault>
+    requires { options.now.workers ≤ 16 }
+    ensures made { IfOk result (λ made. IfSome (files_of R.remaining inputs.old) (λ files.
+        IfSome (R.remaining (device table.old)) (λ bytes. (read : ShownTable) × (shown : spec.TableShown)
+        × spec.IsShownOf options.now.line.version.now files bytes read shown
+        × spec.IsMade shown options.now.blocks read (IfSaved D.has_failed D.Holds folder.new) (IfPaged F.has_failed F.Holds page.new)
+        (IfListed F.has_failed F.Holds list.new) (IfWritten F.has_failed F.Holds json.new) made.found))) }
+    ensures refused { IfErr result (λ fault. IfSome (files_of R.remaining inputs.old) (λ files.
+        IfSome (R.remaining (device table.old)) (λ bytes.
+        spec.IsTold options.now.line.version.now files bytes fault))) }
+    ensures no_schedules { IfErr result (λ fault. spec.is_of_files fault ≡ true
+        → passes D.is_used folder.new ≡ passes D.is_used folder.old) }
+    ensures no_page { IfErr result (λ fault. spec.is_of_files fault ≡ true
+        → passes F.is_made page.new ≡ passes F.is_made page.old) }
+    ensures no_list { IfErr result (λ fault. spec.is_of_files fault ≡ true
+        → passes F.is_made list.new ≡ passes F.is_made list.old) }
+    ensures no_object { IfErr result (λ fault. spec.is_of_files fault ≡ true
+        → passes F.is_made json.new ≡ passes F.is_made json.old) }
+{
+    let file = match read_file(alloc, &mut inputs.image) {
+        Ok(file) => file,
+        Err(fault) => return Err(ShowFault::Hunt(HuntFault::Command(CommandFault::Plain(fault)))),
+    };
+    let version = options.line.version.as_bytes();
+    let table = match read_shown(alloc, &file.digits, version, table) {
+        Ok(table) => table,
+        Err(fault) => return Err(ShowFault::Table(fault)),
+    };
+    match make_with(
+        rt, alloc, options, inputs, &file, &table, folder, page, list, json, watch,
+    ) {
+        Ok(made) => Ok(made),
+        Err(fault) => Err(fault),
+    }
+}
+
+/// Reads the image, the table, and the lists of files; looks at the folder; makes the runs of the table's rows again, the schedules of
+/// the races that are shown in full, the object, the page and the list of the races; and writes what the rows say. `notes` is the standard error: it has
+/// got all of the notes before the first byte of the text is written. Where a file or a list is refused, or a row is not met, nothing is
+/// made or written. A file that fails after the runs has it noted: all others are made, and the text is written.
+pub fn run_show<
+    T: Threads + Wait,
+    R: Read,
+    D: Folder,
+    F: NewFile,
+    W: Write,
+    E: Write,
+    P: Watch + WatchRuns,
+>(
+    rt: &T,
+    alloc: Global,
+    options: &ShowOptions<'_>,
+    inputs: &mut Inputs<R>,
+    table: &mut Flagged<R>,
+    folder: &mut Option<D>,
+    page: &mut Option<F>,
+    list: &mut Option<F>,
+    json: &mut Option<F>,
+    writer: &mut Buffered<W>,
+    notes: &mut Buffered<E>,
+    watch: &mut P,
+) -> Result<Found, ShowFault>
+    requires { options.now.workers ≤ 16 }
+    ensures told { IfOk result (λ found. IfSome (files_of R.remaining inputs.old) (λ files.
+        IfSome (R.remaining (device table.old)) (λ bytes. (read : ShownTable) × (shown : spec.TableShown)
+        × spec.IsShownOf options.now.line.version.now files bytes read shown
+        × spec.IsMade shown options.now.blocks read (IfSaved D.has_failed D.Holds folder.new) (IfPaged F.has_failed F.Holds page.new)
+        (IfListed F.has_failed F.Holds list.new) (IfWritten F.has_failed F.Holds json.new) found))) }
+    ensures refused { IfErr result (λ fault. IfSome (files_of R.remaining inputs.old) (λ files.
+        IfSome (R.remaining (device table.old)) (λ bytes.
+        spec.IsTold options.now.line.version.now files bytes fault))) }
+    ensures nothing { IfErr result (λ fault. spec.is_write fault ≡ false
+        → Keeps (buffer.sent W.contents writer.old) (buffer.sent W.contents writer.new)) }
+    ensures no_notes { IfErr result (λ fault. spec.is_write fault ≡ false
+        → Keeps (buffer.sent E.contents notes.old) (buffer.sent E.contents notes.new)) }
+    ensures no_schedules { IfErr result (λ fault. spec.is_of_files fault ≡ true
+        → passes D.is_used folder.new ≡ passes D.is_used folder.old) }
+    ensures no_page { IfErr result (λ fault. spec.is_of_files fault ≡ true
+        → passes F.is_made page.new ≡ passes F.is_made page.old) }
+    ensures no_list { IfErr result (λ fault. spec.is_of_files fault ≡ true
+        → passes F.is_made list.new ≡ passes F.is_made list.old) }
+    ensures no_object { IfErr result (λ fault. spec.is_of_files fault ≡ true
+        → passes F.is_made json.new ≡ passes F.is_made json.old) }
+{
+    let made = make(
+        rt, alloc, options, inputs, table, folder, page, list, json, watch,
+    )?;
+    publish(&made, writer, notes)?;
+    Ok(made.found)
+}

@@ -1,0 +1,132 @@
+//! What a hunt came to, or what its table has, as JSON: one object, for other programs.
+//!
+//! It has the values of the text and the page, from the same functions. `specs/HuntObject.antt` has which of its members are told.
+ghost use Rattle.std.specs.Prelude.{◌≡◌, ◌≤◌, [], length, IfOk};
+ghost use Rattle.rv_hunt.specs.HuntObject as spec;
+ghost use Rattle.rv_json.specs.Object.{IsObject};
+
+use crate::engine::options::HuntOptions;
+use crate::engine::orders::ShownOrder;
+use crate::engine::shown::ShownRace;
+use crate::object::ended::ended_at;
+use crate::object::given::given_at;
+use crate::object::near::near_at;
+use crate::object::races::{Races, races_at};
+use crate::object::seen::seen_at;
+use crate::object::stuck::stuck_at;
+use crate::object::sums::{hunt_sums, sums_at, table_sums};
+use crate::object::warnings::{tabled_warnings, warnings_at};
+use crate::page::parts::{Outcome, Tabled};
+use crate::row::RaceRow;
+use rv_explain::object::head::{Head, head_members};
+use rv_explain::symbol_table::SymbolTable;
+use rv_json::object::Json;
+use rv_memory::store::NoMemory;
+use rv_report::key::Key;
+use std::alloc::Global;
+
+mod ended;
+mod given;
+mod near;
+pub(crate) mod races;
+mod schedules;
+mod seen;
+mod stuck;
+mod sums;
+mod warnings;
+
+/// What the object has beside what was found: the command, the options, the number of the first run, the digest of the image's file, and
+/// the exit status.
+#[derive(Clone, Copy)]
+pub struct Beside<'a, 'b, 'c> {
+    pub command: &'static str,
+    pub options: &'a HuntOptions<'b, 'c>,
+    pub first: u64,
+    pub digest: &'a str,
+    pub status: u8,
+}
+
+/// What stands before the sums: what was asked for, and how many runs were made.
+fn before_sums(json: Json, beside: &Beside<'_, '_, '_>, runs: u64) -> Result<Json, NoMemory>
+    ensures { IfOk result (λ more. more ≡ json) }
+{
+    let line = &beside.options.line;
+    let head = Head {
+        version: line.version,
+        path: line.path,
+        digest: beside.digest,
+        command: beside.command,
+    };
+    given_at(
+        head_members(json, &head)?,
+        beside.options,
+        beside.first,
+        runs,
+    )
+}
+
+/// What stands behind them.
+fn behind_races(
+    json: Json,
+    alloc: Global,
+    symbols: &SymbolTable,
+    outcome: &Outcome,
+    beside: &Beside<'_, '_, '_>,
+) -> Result<Json, NoMemory>
+    ensures { IfOk result (λ more. more ≡ json) }
+{
+    let has_folder = beside.options.line.folder.is_some();
+    let json = stuck_at(json, alloc, symbols, outcome, has_folder)?;
+    let json = ended_at(json, alloc, symbols, outcome, has_folder)?;
+    let json = seen_at(json, outcome)?;
+    let json = near_at(json, alloc, symbols, outcome)?;
+    let json = warnings_at(json, alloc, symbols, outcome)?;
+    json.number_at("status", u64::from(beside.status))
+}
+
+/// The object of what a hunt came to. The races that are told stand in their order, the first of them in full.
+pub fn object_text(
+    alloc: Global,
+    symbols: &SymbolTable,
+    outcome: &Outcome,
+    beside: &Beside<'_, '_, '_>,
+    told: &[(Key, RaceRow)],
+    shown: &[ShownRace],
+    orders: &[ShownOrder],
+) -> Result<Vec<u8>, NoMemory>
+    ensures { IfOk result (λ text. IsObject text.items (spec.hunt_facts outcome.now told.now)) }
+{
+    let json = before_sums(Json::new(alloc).object()?, beside, outcome.saw.tally.runs())?;
+    let json = sums_at(json, alloc, &hunt_sums(outcome))?;
+    let races = Races {
+        told,
+        shown,
+        orders,
+        tried: &outcome.saw.orders,
+        new: outcome.new,
+    };
+    let json = races_at(json, alloc, symbols, beside.options, &races)?;
+    let json = behind_races(json, alloc, symbols, outcome, beside)?;
+    json.end()?.finish()
+}
+
+/// The object of what a table has. What its runs saw but for races a table doesn't have.
+pub(crate) fn tabled_object(
+    alloc: Global,
+    symbols: &SymbolTable,
+    tabled: &Tabled<'_>,
+    beside: &Beside<'_, '_, '_>,
+    races: &Races<'_>,
+) -> Result<Vec<u8>, NoMemory>
+    ensures { IfOk result (λ text. IsObject text.items
+        (spec.object_facts (spec.table_sums tabled.now.rows.now tabled.now.ignored.now tabled.now.runs) races.now.told.now)) }
+{
+    let json = before_sums(Json::new(alloc).object()?, beside, tabled.runs)?;
+    let json = sums_at(json, alloc, &table_sums(tabled))?;
+    let json = races_at(json, alloc, symbols, beside.options, races)?;
+    let json = json.nothing_at("stuck")?.nothing_at("ended")?;
+    let json = json.nothing_at("seen")?.nothing_at("near")?;
+    let json = tabled_warnings(json, alloc, tabled.gone)?;
+    let json = json.number_at("status", u64::from(beside.status))?;
+    json.end()?.finish()
+}

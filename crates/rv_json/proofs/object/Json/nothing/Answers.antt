@@ -1,0 +1,8 @@
+use Rattle.std.proofs.Common.{refl, ◌∙◌}
+use Rattle.json.specs.Token as token
+use Rattle.rv_json.specs.Object.{Said}
+use Rattle.rv_json.proofs.ObjectLemmas.{with_piece}
+use Rattle.rv_json.proofs.object.Json.nothing.Goals as goal
+
+pub invariant_of-self : goal.invariant_of-self
+invariant_of-self c = (c.null.ensures.room.0 ∙ c.self.invariant.0, with_piece (Said (token.null)) c.self.invariant.1 c.in_ok-null.ensures.ok refl refl)

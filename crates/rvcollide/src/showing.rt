@@ -1,0 +1,199 @@
+//! The engine of `show` on the files of a line, and what is told while it works.
+use crate::failure::Failure;
+use crate::files::InputFile;
+use crate::hunt_failure::{Failed, Said, WRITE_FAULT, at_fault_in, failure_of, of_file};
+use crate::hunting::{
+    checks_of, ending_of, file_if, folder_if, folder_said, made_if, said_of, workers_of,
+};
+use crate::kept_file::{has_failed, said_by};
+use crate::paths::{expect_path, ignore_path, json_path, list_path, page_path};
+use crate::shown_line::ShownLine;
+use crate::system::{Stream, SystemSaid};
+use rv_command::arguments::{ImagePath, TablePath};
+use rv_command::command::hunt::{DEFAULT_BUDGET, DEFAULT_SEED, HuntLine};
+use rv_command::command::show::ShowLine;
+use rv_hunt::engine::inputs::Inputs;
+use rv_hunt::engine::options::{LineParts, MOST_WORKERS};
+use rv_hunt::engine::remaking::WatchRuns;
+use rv_hunt::engine::show::{ShowFault, ShowOptions, run_show};
+use rv_hunt::hunt::Watch;
+use rv_hunt::hunted::Hunted;
+use rv_memory::buffered::Buffered;
+use rv_memory::flagged::Flagged;
+use rv_tally::limit::Limit;
+use std::io::IsTerminal;
+use std::sync::Wait;
+use std::thread::Threads;
+
+/// Tells a person at a terminal how far `show` has come.
+#[derive(Drop)]
+struct ShowProgress<'a> {
+    rt: &'a HostRuntime,
+    is_shown: bool,
+}
+
+impl Watch for ShowProgress<'_> {
+    fn saw(&mut self, _: &Hunted) {}
+
+    fn shows(&mut self, shown: usize, all: usize) {
+        if self.is_shown && shown > 0 {
+            // Where the standard error fails there is nothing left to tell it to.
+            let _ = eprintln!(self.rt; "races shown {shown} of {all}");
+        }
+    }
+}
+
+impl WatchRuns for ShowProgress<'_> {
+    fn made(&mut self, made: usize, all: usize) {
+        if self.is_shown {
+            let _ = eprintln!(self.rt; "runs made again {made} of {all}");
+        }
+    }
+}
+
+/// A line of `hunt` with the same files and checks. What its runs are is not asked of it.
+fn hunt_line<'a>(line: &ShowLine<'a>) -> HuntLine<'a> {
+    HuntLine {
+        harts: None,
+        seed: DEFAULT_SEED,
+        first: 0,
+        limit: Limit::Budget(DEFAULT_BUDGET),
+        workers: line.workers,
+        lengths: None,
+        slots: None,
+        sampled: false,
+        aim: None,
+        named: None,
+        skip: None,
+        idle: None,
+        ignore: line.ignore,
+        save_to: line.save_to,
+        page: line.page,
+        list: line.list,
+        table_to: None,
+        json: line.json,
+        blocks: line.blocks,
+        shows_table: false,
+        checks: line.checks,
+        checks_all: line.checks_all,
+        check_ends: false,
+        right: None,
+        expect: line.expect,
+        is_quiet: line.is_quiet,
+        no_orders: true,
+    }
+}
+
+/// Runs the engine of `show` on the files of a line.
+pub fn show_file<'a>(
+    rt: &HostRuntime,
+    threads: &(impl Threads + Wait + Sync),
+    words: &[&str],
+    image: ImagePath<'a>,
+    table: TablePath<'a>,
+    line: &ShowLine<'a>,
+) -> Result<(), Failure<'a>> {
+    let alloc = rt.alloc();
+    let line = hunt_line(line);
+    let shown = ShownLine::of(alloc, words, image, &line)?;
+    show_by(rt, threads, image, table, &line, shown.parts())
+}
+
+/// The line of a fault.
+fn show_failure<'a>(
+    image: ImagePath<'a>,
+    table: TablePath<'a>,
+    line: &HuntLine<'a>,
+    failed: Failed,
+    said: Option<SystemSaid>,
+    fault: ShowFault,
+) -> Failure<'a> {
+    match fault {
+        ShowFault::Table(fault) => of_file(Some(table.0), said, fault),
+        ShowFault::Hunt(fault) => failure_of(image, line, failed, fault),
+    }
+}
+
+/// The same, with what the text tells of the line.
+fn show_by<'a>(
+    rt: &HostRuntime,
+    threads: &(impl Threads + Wait + Sync),
+    image: ImagePath<'a>,
+    table: TablePath<'a>,
+    line: &HuntLine<'a>,
+    parts: LineParts<'_>,
+) -> Result<(), Failure<'a>> {
+    let alloc = rt.alloc();
+    let options = ShowOptions {
+        workers: workers_of(threads, line),
+        blocks: line.blocks,
+        line: parts,
+        checks: checks_of(line),
+    };
+    if MOST_WORKERS < options.workers {
+        return Err(Failure::Line);
+    }
+    let mut inputs = Inputs {
+        image: Flagged::new(InputFile::new(rt, image.0)),
+        ignored: file_if(rt, ignore_path(line.ignore)),
+        expected: file_if(rt, expect_path(line.expect)),
+    };
+    let mut rows = Flagged::new(InputFile::new(rt, table.0));
+    let mut folder = folder_if(rt, line.save_to);
+    let mut page = made_if(rt, page_path(line.page));
+    let mut list = made_if(rt, list_path(line.list));
+    let mut json = made_if(rt, json_path(line.json));
+    let mut writer = Buffered::new(alloc, Stream::new(rt.stdout()));
+    let mut notes = Buffered::new(alloc, rt.stderr());
+    let mut progress = ShowProgress {
+        rt,
+        is_shown: !line.is_quiet && rt.stderr().is_terminal(),
+    };
+    let shown = run_show(
+        threads,
+        alloc,
+        &options,
+        &mut inputs,
+        &mut rows,
+        &mut folder,
+        &mut page,
+        &mut list,
+        &mut json,
+        &mut writer,
+        &mut notes,
+        &mut progress,
+    );
+    let Inputs {
+        image: image_file,
+        ignored,
+        expected,
+    } = inputs;
+    let failed = Failed {
+        image: image_file.failed(),
+        folder: at_fault_in(&folder),
+        page: has_failed(&page),
+        list: has_failed(&list),
+        table: false,
+        json: has_failed(&json),
+        said: Said {
+            image: image_file.into_inner().said(),
+            ignored: said_of(ignored),
+            expected: said_of(expected),
+            folder: folder_said(&folder),
+            page: said_by(&page),
+            list: said_by(&list),
+            table: None,
+            json: said_by(&json),
+            output: writer.into_inner().said(),
+        },
+    };
+    match shown {
+        // What a file's fault left is written by now.
+        Ok(_) if failed.has_file() => Err(failure_of(image, line, failed, WRITE_FAULT)),
+        Ok(found) => ending_of(line, found),
+        Err(fault) => {
+            let said = rows.into_inner().said();
+            Err(show_failure(image, table, line, failed, said, fault))
+        }
+    }
+}
