@@ -85,9 +85,13 @@ impl<'a, S: Fork> Again<'a, S> {
         Detector::begin(alloc, machine, plan)
     }
 
-    /// The machine behind such entries from where the walk has been gone over to, with room to print a byte at each; none where that is more
-    /// than a machine may print.
-    pub fn machine_behind(&mut self, entries: &[Entry]) -> Result<Option<Machine<S>>, NoMemory>
+    /// The machine behind so many of the entries of a part that begins where the walk has been gone over to, with room to print a byte at
+    /// each of them all; none where a machine may not print as much.
+    pub fn machine_behind(
+        &mut self,
+        entries: &[Entry],
+        count: usize,
+    ) -> Result<Option<Machine<S>>, NoMemory>
         ensures { self.new ≡ self.old }
     {
         let printed = self.machine.output().len();
@@ -99,7 +103,7 @@ impl<'a, S: Fork> Again<'a, S> {
             return Ok(None);
         }
         let mut machine = self.machine.share(limit as u32)?;
-        make_steps(&mut machine, entries)?;
+        make_steps(&mut machine, &entries[..count.min(entries.len())])?;
         Ok(Some(machine))
     }
 
@@ -111,7 +115,7 @@ impl<'a, S: Fork> Again<'a, S> {
     ) -> Result<Option<StuckEnd>, NoMemory>
         ensures { self.new ≡ self.old }
     {
-        match self.machine_behind(entries)? {
+        match self.machine_behind(entries, entries.len())? {
             Some(mut machine) => stuck_end(alloc, &mut machine),
             None => Ok(None),
         }

@@ -120,13 +120,12 @@ impl<'a, S: Fork> Probes<'a, S> {
 }
 
 impl<'a, S: Fork> Probes<'a, S> {
-    /// The machine as it stood before an entry of the last part that was made, with room to print a byte at each entry before that.
+    /// The machine as it stood before an entry of the last part that was made, with room to print a byte at each of the part's entries.
     pub fn before(&mut self, part: &Part, entry: u32) -> Result<Option<Machine<S>>, NoMemory>
         ensures { self.new ≡ self.old }
     {
-        let entries = &part.probed.finished.entries;
-        let count = (entry as usize).min(entries.len());
-        self.again.machine_behind(&entries[..count])
+        self.again
+            .machine_behind(&part.probed.finished.entries, entry as usize)
     }
 
     /// What each hart does at the end of a probe that forked where the walk has been gone over to, where all that run wait.
