@@ -48,19 +48,19 @@ threads_options = plan_options ++ required_option (codes "seed") ∷ option (cod
 
 -- the options of `explain`
 abbrev pub explain_options : List Rule
-explain_options = option (codes "named") ∷ option (codes "around") ∷ option (codes "race") ∷ option (codes "picture") ∷ option (codes "json") ∷ []
+explain_options = option (codes "named") ∷ option (codes "around") ∷ option (codes "race") ∷ option (codes "picture") ∷ option (codes "json") ∷ option (codes "color") ∷ []
 
 -- the options of `hunt`
 abbrev pub hunt_options : List Rule
 hunt_options = option (codes "harts") ∷ option (codes "seed") ∷ option (codes "first") ∷ option (codes "runs") ∷ option (codes "budget")
     ∷ option (codes "workers") ∷ option (codes "plan") ∷ option (codes "slots") ∷ flag (codes "sampled") ∷ option (codes "aim") ∷ flag (codes "no-orders") ∷ option (codes "named") ∷ option (codes "skip")
     ∷ option (codes "idle") ∷ option (codes "ignore") ∷ option (codes "save-to") ∷ option (codes "page") ∷ option (codes "list") ∷ option (codes "table-to") ∷ option (codes "json") ∷ option (codes "blocks")
-    ∷ flag (codes "table") ∷ flag (codes "check") ∷ flag (codes "check-all") ∷ flag (codes "check-ends") ∷ option (codes "right") ∷ option (codes "expect") ∷ flag (codes "quiet") ∷ []
+    ∷ flag (codes "table") ∷ flag (codes "check") ∷ flag (codes "check-all") ∷ flag (codes "check-ends") ∷ option (codes "right") ∷ option (codes "expect") ∷ flag (codes "quiet") ∷ flag (codes "progress") ∷ option (codes "color") ∷ []
 
 -- the options of `show`
 abbrev pub show_options : List Rule
 show_options = option (codes "ignore") ∷ option (codes "save-to") ∷ option (codes "page") ∷ option (codes "list") ∷ option (codes "json") ∷ option (codes "blocks")
-    ∷ option (codes "workers") ∷ flag (codes "check") ∷ flag (codes "check-all") ∷ option (codes "expect") ∷ flag (codes "quiet") ∷ []
+    ∷ option (codes "workers") ∷ flag (codes "check") ∷ flag (codes "check-all") ∷ option (codes "expect") ∷ flag (codes "quiet") ∷ flag (codes "progress") ∷ option (codes "color") ∷ []
 
 -- a command's name, and what it takes
 abbrev pub command : Text → List Rule → Shape
@@ -78,7 +78,7 @@ commands = command (codes "words") []
     ∷ command (codes "explain") (image ∷ schedule ∷ explain_options)
     ∷ command (codes "gdb") (image ∷ schedule ∷ [])
     ∷ command (codes "hunt") (image ∷ hunt_options)
-    ∷ command (codes "merge") (required_words (codes "TABLE") ∷ option (codes "expect") ∷ flag (codes "gaps") ∷ [])
+    ∷ command (codes "merge") (required_words (codes "TABLE") ∷ option (codes "expect") ∷ flag (codes "gaps") ∷ option (codes "color") ∷ [])
     ∷ command (codes "show") (image ∷ required_word (codes "TABLE") ∷ show_options)
     ∷ []
 

@@ -12,7 +12,7 @@ is_place name = list_any (bytes_eq name) (codes "SOURCE" ∷ codes "IMAGE" ∷ c
 
 -- an option without a value
 abbrev pub is_flag : Text → Bool
-is_flag name = list_any (bytes_eq name) (codes "sampled" ∷ codes "no-orders" ∷ codes "table" ∷ codes "check" ∷ codes "check-all" ∷ codes "check-ends" ∷ codes "quiet" ∷ codes "gaps" ∷ [])
+is_flag name = list_any (bytes_eq name) (codes "sampled" ∷ codes "no-orders" ∷ codes "table" ∷ codes "check" ∷ codes "check-all" ∷ codes "check-ends" ∷ codes "quiet" ∷ codes "progress" ∷ codes "gaps" ∷ [])
 
 -- the option stands in the words with this value: `--name value` or `--name=value`
 pub data Gives (words : List Text) (name value : Text) : Type 0 where

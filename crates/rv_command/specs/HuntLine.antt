@@ -1,5 +1,5 @@
 -- The options of `hunt`: what each value means.
-use Rattle.std.specs.Prelude.{ℕ, ◌+◌, ◌-◌, ◌||◌, Bool, List, [], ◌∷◌, Option, Some, None, option_and_then, option_map, codes, is_some, if◌then◌else◌}
+use Rattle.std.specs.Prelude.{ℕ, ◌+◌, ◌-◌, ◌&&◌, ◌||◌, Bool, List, [], ◌∷◌, Option, Some, None, option_and_then, option_map, codes, is_some, if◌then◌else◌}
 use Rattle.std.specs.List.{list_all}
 use Rattle.clap.specs.Walk.{is_empty}
 use Rattle.clap.specs.Words.{Row, Text, first_of}
@@ -46,6 +46,7 @@ pub record Hunting : Type 0 where
   pub right : Option Text
   pub expect : Option Text
   pub is_quiet : Bool
+  pub progress : Bool
   pub no_orders : Bool
 
 -- the sides as texts
@@ -81,6 +82,7 @@ hunting line = record {
   right = option_map (λ text. text.now) line.right;
   expect = option_map (λ path. path.0.now) line.expect;
   is_quiet = line.is_quiet;
+  progress = line.progress;
   no_orders = line.no_orders;
 }
 
@@ -149,9 +151,13 @@ right_by text = if are_codes text then Some text else None
 abbrev pub right_at : List Row → Option (Option Text)
 right_at rows = if_given right_by (first_of (codes "right") rows)
 
+-- progress can't be asked for where none is
+abbrev pub progress_at : List Row → Option Bool
+progress_at rows = if flag_at (codes "progress") rows && flag_at (codes "quiet") rows then None else Some (flag_at (codes "progress") rows)
+
 abbrev pub hunting_at : List Row → Option Hunting
 hunting_at rows =
-    option_and_then (λ harts. option_and_then (λ seed. option_and_then (λ first. option_and_then (λ limit. option_and_then (λ workers. option_and_then (λ lengths. option_and_then (λ slots. option_and_then (λ aim. option_and_then (λ blocks. option_map (λ right.
+    option_and_then (λ harts. option_and_then (λ seed. option_and_then (λ first. option_and_then (λ limit. option_and_then (λ workers. option_and_then (λ lengths. option_and_then (λ slots. option_and_then (λ aim. option_and_then (λ blocks. option_and_then (λ right. option_map (λ progress.
     record {
       harts = harts;
       seed = seed;
@@ -179,8 +185,10 @@ hunting_at rows =
       right = right;
       expect = first_of (codes "expect") rows;
       is_quiet = flag_at (codes "quiet") rows;
+      progress = progress;
       no_orders = flag_at (codes "no-orders") rows;
     })
+    (progress_at rows))
     (right_at rows))
     (number_or DEFAULT_BLOCKS (codes "blocks") 0 MOST_BLOCKS rows))
     (aim_at rows))

@@ -65,6 +65,9 @@ complaint_output (complaint.Lengths value) =
 complaint_output (complaint.Aim value) =
     Some (codes "error: invalid value '" ++ (shown value.now ++ codes "' for '--aim': it is A,B: two names or addresses with one comma\n"))
 complaint_output complaint.SampledAim = Some (codes "error: '--aim' cannot be used with '--sampled': sampled runs make no probes\n")
+complaint_output complaint.QuietProgress = Some (codes "error: '--progress' cannot be used with '--quiet'\n")
+complaint_output (complaint.Color value) =
+    Some (codes "error: invalid value '" ++ (shown value.now ++ codes "' for '--color': it is auto, always or never\n"))
 complaint_output (complaint.Right value) =
     Some (codes "error: invalid value '" ++ (shown value.now ++ (codes "' for '--right': it is a list of decimal numbers from 0 to "
     ++ (decimal MOST_CODE ++ codes " with commas between them\n"))))

@@ -2,6 +2,7 @@
 use Rattle.std.specs.Prelude.{ℕ, Bool, List, Option, option_and_then, option_map, codes}
 use Rattle.clap.specs.Words.{Row, Text, first_of}
 use Rattle.rv_campaign.specs.declared.runs.TheConstants.{MOST_WORKERS}
+use Rattle.rv_command.specs.HuntLine.{progress_at}
 use Rattle.rv_command.specs.Values.{flag_at, number_if, number_or}
 use Rattle.rv_command.specs.declared.command.hunt.TheConstants.{DEFAULT_BLOCKS, MOST_BLOCKS}
 use Rattle.rv_command.specs.declared.command.show.ShowLine.{ShowLine}
@@ -19,6 +20,7 @@ pub record Showing : Type 0 where
   pub checks_all : Bool
   pub expect : Option Text
   pub is_quiet : Bool
+  pub progress : Bool
 
 -- the same of the options, their paths as texts
 abbrev pub showing : ShowLine → Showing
@@ -34,11 +36,12 @@ showing line = record {
   checks_all = line.checks_all;
   expect = option_map (λ path. path.0.now) line.expect;
   is_quiet = line.is_quiet;
+  progress = line.progress;
 }
 
 abbrev pub showing_at : List Row → Option Showing
 showing_at rows =
-    option_and_then (λ workers. option_map (λ blocks.
+    option_and_then (λ workers. option_and_then (λ blocks. option_map (λ progress.
     record {
       workers = workers;
       ignore = first_of (codes "ignore") rows;
@@ -51,6 +54,8 @@ showing_at rows =
       checks_all = flag_at (codes "check-all") rows;
       expect = first_of (codes "expect") rows;
       is_quiet = flag_at (codes "quiet") rows;
+      progress = progress;
     })
+    (progress_at rows))
     (number_or DEFAULT_BLOCKS (codes "blocks") 0 MOST_BLOCKS rows))
     (number_if (codes "workers") 1 MOST_WORKERS rows)

@@ -2,5 +2,6 @@
 #![tactic(auto)]
 
 pub mod arguments;
+pub mod color;
 pub mod command;
 pub mod status;

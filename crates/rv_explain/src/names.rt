@@ -124,6 +124,32 @@ pub fn name_text(alloc: Global, symbols: &SymbolTable, address: u32) -> Result<V
     Ok(Names { symbols, most }.name(alloc, address)?.into_bytes())
 }
 
+/// The name of the function at an address, as `take`, or the address's eight digits.
+pub fn function_text(
+    alloc: Global,
+    symbols: &SymbolTable,
+    address: u32,
+) -> Result<Vec<u8>, NoMemory> {
+    match symbols.symbol_of(address) {
+        Some(symbol) => Ok(shown(alloc, TEXT_NAME, &symbol.name)?.into_bytes()),
+        None => Ok(format!(in alloc; "{address:08x}")?.into_bytes()),
+    }
+}
+
+/// The name of the variable at an address and how far into it that is, as `rings+0x8`, or the address's eight digits.
+pub fn variable_text(
+    alloc: Global,
+    symbols: &SymbolTable,
+    address: u32,
+) -> Result<Vec<u8>, NoMemory> {
+    let Some(symbol) = symbols.symbol_of(address) else {
+        return Ok(format!(in alloc; "{address:08x}")?.into_bytes());
+    };
+    let name = shown(alloc, TEXT_NAME, &symbol.name)?;
+    let offset = address.saturating_sub(symbol.value);
+    Ok(format!(in alloc; "{name}+0x{offset:x}")?.into_bytes())
+}
+
 /// The digits of an address, and its name where it has one, as `00010074 take+0x14/0x28`.
 pub fn address_text(
     alloc: Global,

@@ -40,6 +40,7 @@ pub mod inputs;
 mod keeping;
 mod lists;
 mod making;
+mod meetings;
 mod onward;
 mod opening;
 pub mod options;
@@ -220,6 +221,7 @@ pub fn run_hunt<
         Ok(made) => made,
         Err(fault) => return Err(fault),
     };
+    watch.ends();
     match publish(&made, writer, notes) {
         Ok(()) => Ok(made.found),
         Err(fault) => Err(HuntFault::from(fault)),

@@ -83,6 +83,8 @@ pub enum Draft {
     List,
     /// The hunt table.
     Table,
+    /// What was found as JSON.
+    Object,
 }
 
 /// Is told how far a hunt has come, and keeps what it has found. What it can't keep while the hunt goes on is no fault of the hunt.
@@ -92,6 +94,17 @@ pub trait Watch {
 
     /// Of so many races that are shown in full some have been.
     fn shows(&mut self, shown: usize, all: usize);
+
+    /// Whether it tells races the moment that they are met.
+    fn tells_meetings(&self) -> bool {
+        false
+    }
+
+    /// Tells a line of such a race.
+    fn met(&mut self, _: &[u8]) {}
+
+    /// All is made that is written now.
+    fn ends(&mut self) {}
 
     /// Looks, before the first run, whether what is kept can be. Where it can't the hunt ends as where memory is out, and why it
     /// can't is told by who watches.

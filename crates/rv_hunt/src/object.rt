@@ -36,14 +36,32 @@ mod sums;
 mod warnings;
 
 /// What the object has beside what was found: the command, the options, the number of the first run, the digest of the image's file, and
-/// the exit status.
+/// the exit status, which there is none of while a hunt goes on.
 #[derive(Clone, Copy)]
 pub struct Beside<'a, 'b, 'c> {
     pub command: &'static str,
     pub options: &'a HuntOptions<'b, 'c>,
     pub first: u64,
     pub digest: &'a str,
-    pub status: u8,
+    pub status: Option<u8>,
+}
+
+impl Beside<'_, '_, '_> {
+    /// Whether all of the runs are made.
+    fn is_complete(&self) -> bool {
+        self.status.is_some()
+    }
+
+    /// Whether there is a folder that has the schedules, which are saved at the end.
+    fn is_saved(&self) -> bool {
+        self.is_complete() && self.options.line.folder.is_some()
+    }
+
+    fn status_at(&self, json: Json) -> Result<Json, NoMemory>
+        ensures { IfOk result (λ more. more ≡ json) }
+    {
+        json.number_if("status", self.status.map(|status| u64::from(status)))
+    }
 }
 
 /// What stands before the sums: what was asked for, and how many runs were made.
@@ -52,6 +70,7 @@ fn before_sums(json: Json, beside: &Beside<'_, '_, '_>, runs: u64) -> Result<Jso
 {
     let line = &beside.options.line;
     let head = Head {
+        is_complete: beside.is_complete(),
         version: line.version,
         path: line.path,
         digest: beside.digest,
@@ -65,6 +84,23 @@ fn before_sums(json: Json, beside: &Beside<'_, '_, '_>, runs: u64) -> Result<Jso
     )
 }
 
+/// The stuck ends, whose runs are made again at the end.
+fn stuck_if(
+    json: Json,
+    alloc: Global,
+    symbols: &SymbolTable,
+    outcome: &Outcome,
+    beside: &Beside<'_, '_, '_>,
+) -> Result<Json, NoMemory>
+    ensures { IfOk result (λ more. more ≡ json) }
+{
+    if beside.is_complete() {
+        stuck_at(json, alloc, symbols, outcome, beside.is_saved())
+    } else {
+        json.nothing_at("stuck")
+    }
+}
+
 /// What stands behind them.
 fn behind_races(
     json: Json,
@@ -75,13 +111,12 @@ fn behind_races(
 ) -> Result<Json, NoMemory>
     ensures { IfOk result (λ more. more ≡ json) }
 {
-    let has_folder = beside.options.line.folder.is_some();
-    let json = stuck_at(json, alloc, symbols, outcome, has_folder)?;
-    let json = ended_at(json, alloc, symbols, outcome, has_folder)?;
+    let json = stuck_if(json, alloc, symbols, outcome, beside)?;
+    let json = ended_at(json, alloc, symbols, outcome, beside.is_saved())?;
     let json = seen_at(json, outcome)?;
     let json = near_at(json, alloc, symbols, outcome)?;
     let json = warnings_at(json, alloc, symbols, outcome)?;
-    json.number_at("status", u64::from(beside.status))
+    beside.status_at(json)
 }
 
 /// The object of what a hunt came to. The races that are told stand in their order, the first of them in full.
@@ -127,6 +162,5 @@ pub(crate) fn tabled_object(
     let json = json.nothing_at("stuck")?.nothing_at("ended")?;
     let json = json.nothing_at("seen")?.nothing_at("near")?;
     let json = tabled_warnings(json, alloc, tabled.gone)?;
-    let json = json.number_at("status", u64::from(beside.status))?;
-    json.end()?.finish()
+    beside.status_at(json)?.end()?.finish()
 }

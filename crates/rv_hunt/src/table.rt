@@ -105,6 +105,16 @@ impl HuntTable {
         entries_of(alloc, &self.rows)
     }
 
+    /// The rows from a place on, in their order.
+    pub(crate) fn rows_from(
+        &self,
+        alloc: Global,
+        place: usize,
+    ) -> Result<Vec<(Key, RaceRow)>, NoMemory> {
+        let entries = self.rows.iter().map(|(key, row)| (*key, *row));
+        Ok(entries.skip(place).collect(alloc)?)
+    }
+
     /// The rows in their order, in place of the table.
     pub fn into_rows(self, alloc: Global) -> Result<Vec<(Key, RaceRow)>, NoMemory>
         ensures { IfOk result (λ rows. rows.items ≡ self) }

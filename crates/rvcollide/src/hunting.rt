@@ -4,14 +4,16 @@ ghost use Rattle.rv_command.specs.HuntLine.{sides};
 ghost use Rattle.rvcollide.specs.Ending as spec;
 ghost use Rattle.rvcollide.specs.Hunt as asked;
 
+use crate::colors::Colors;
 use crate::failure::Failure;
 use crate::files::InputFile;
 use crate::folder::ScheduleFolder;
 use crate::hunt_failure::{AtFault, Failed, Said, WRITE_FAULT, at_fault_in, failure_of};
 use crate::keeper::Keeper;
 use crate::kept_file::{KeptFile, has_failed, said_by};
+use crate::painted::Painted;
 use crate::paths::{expect_path, ignore_path, json_path, list_path, page_path};
-use crate::progress::Progress;
+use crate::progress::{Progress, Told};
 use crate::shown_line::ShownLine;
 use crate::system::{Stream, SystemSaid};
 use rv_collide::plan::DEFAULT_SLOTS;
@@ -25,10 +27,10 @@ use rv_hunt::engine::inputs::Inputs;
 use rv_hunt::engine::options::{HuntOptions, LineParts, MOST_WORKERS, Shows, Sides};
 use rv_hunt::engine::run_hunt;
 use rv_hunt::given::SLOTS;
+use rv_hunt::hunt::Watch;
 use rv_memory::buffered::Buffered;
 use rv_memory::flagged::Flagged;
 use rv_tally::plans::{Mix, Plans};
-use std::io::IsTerminal;
 use std::sync::Wait;
 use std::thread::{Threads, available_parallelism};
 
@@ -191,24 +193,26 @@ fn is_over(hunted: &Result<Found, HuntFault<'_>>) -> bool {
 
 /// Runs the engine of `hunt` on the files of a line.
 pub fn hunt_file<'a>(
-    rt: &HostRuntime,
+    rt: &'a HostRuntime,
     threads: &(impl Threads + Wait + Sync),
     words: &[&str],
     image: ImagePath<'a>,
     line: &HuntLine<'a>,
+    colors: Colors,
 ) -> Result<(), Failure<'a>> {
     let alloc = rt.alloc();
     let shown = ShownLine::of(alloc, words, image, line)?;
-    hunt_by(rt, threads, image, line, shown.parts())
+    hunt_by(rt, threads, image, line, shown.parts(), colors)
 }
 
 /// The same, with what the text tells of the line.
 fn hunt_by<'a>(
-    rt: &HostRuntime,
+    rt: &'a HostRuntime,
     threads: &(impl Threads + Wait + Sync),
     image: ImagePath<'a>,
     line: &HuntLine<'a>,
     parts: LineParts<'_>,
+    colors: Colors,
 ) -> Result<(), Failure<'a>> {
     let Some(options) = options_of(line, workers_of(threads, line), parts) else {
         return Err(Failure::Line);
@@ -223,15 +227,14 @@ fn hunt_by<'a>(
     let mut page = made_if(rt, page_path(line.page));
     let mut list = made_if(rt, list_path(line.list));
     let mut json = made_if(rt, json_path(line.json));
-    let mut writer = Buffered::new(alloc, Stream::new(rt.stdout()));
-    let mut notes = Buffered::new(alloc, rt.stderr());
-    let progress = Progress {
-        rt,
-        limit: line.limit,
-        is_shown: !line.is_quiet && rt.stderr().is_terminal(),
-        hundredths: 0,
-    };
-    let mut keeper = Keeper::new(alloc, progress, line);
+    // A table is for tools.
+    let paints = colors.output && !line.shows_table;
+    let output = Painted::new(alloc, rt.stdout(), paints);
+    let mut writer = Buffered::new(alloc, Stream::new(output));
+    let mut notes = Buffered::new(alloc, Painted::new(alloc, rt.stderr(), colors.errors));
+    let told = Told::of(rt, line.is_quiet, line.progress);
+    let progress = Progress::new(rt, told, colors.errors);
+    let mut keeper = Keeper::new(rt, alloc, progress, line);
     let hunted = run_hunt(
         threads,
         alloc,
@@ -245,6 +248,7 @@ fn hunt_by<'a>(
         &mut notes,
         &mut keeper,
     );
+    keeper.ends();
     let Inputs {
         image: image_file,
         ignored,

@@ -1,7 +1,7 @@
-//! Keeps on disk what a hunt has found so far: a hunt that is killed leaves the schedules of its races, a page, a list and a table.
+//! Keeps on disk what a hunt has found so far: a hunt that is killed leaves the schedules of its races, a page, a list, a table and an object.
 use crate::early_folder::{EarlyFolder, folder_of};
 use crate::kept_file::{KeptFile, has_failed, is_replaced, replace, said_by};
-use crate::paths::{list_path, page_path, table_to_path};
+use crate::paths::{json_path, list_path, page_path, table_to_path};
 use crate::progress::Progress;
 use crate::system::SystemSaid;
 use rv_command::command::hunt::HuntLine;
@@ -10,6 +10,7 @@ use rv_hunt::hunt::{Draft, Watch};
 use rv_hunt::hunted::Hunted;
 use rv_memory::store::NoMemory;
 use rv_report::key::Key;
+use rv_tally::limit::Limit;
 use std::alloc::Global;
 
 /// The paths of the texts that are made anew while the hunt goes on: of those that are wanted what is no device and no pipe.
@@ -18,6 +19,7 @@ struct Drafts<'a> {
     page: Option<&'a str>,
     list: Option<&'a str>,
     table: Option<&'a str>,
+    object: Option<&'a str>,
 }
 
 impl<'a> Drafts<'a> {
@@ -26,6 +28,7 @@ impl<'a> Drafts<'a> {
             Draft::Page => self.page,
             Draft::List => self.list,
             Draft::Table => self.table,
+            Draft::Object => self.object,
         }
     }
 }
@@ -34,6 +37,7 @@ impl<'a> Drafts<'a> {
 #[derive(Drop)]
 pub struct Keeper<'a> {
     rt: &'a HostRuntime,
+    limit: Limit,
     progress: Progress<'a>,
     folder: Option<EarlyFolder<'a>>,
     wanted: Drafts<'a>,
@@ -42,21 +46,28 @@ pub struct Keeper<'a> {
 }
 
 impl<'a> Keeper<'a> {
-    pub fn new(alloc: Global, progress: Progress<'a>, line: &HuntLine<'a>) -> Keeper<'a> {
-        let rt = progress.rt;
+    pub fn new(
+        rt: &'a HostRuntime,
+        alloc: Global,
+        progress: Progress<'a>,
+        line: &HuntLine<'a>,
+    ) -> Keeper<'a> {
         Keeper {
             rt,
+            limit: line.limit,
             progress,
             folder: folder_of(alloc, rt, line.save_to),
             wanted: Drafts {
                 page: page_path(line.page),
                 list: list_path(line.list),
                 table: table_to_path(line.table_to),
+                object: json_path(line.json),
             },
             drafts: Drafts {
                 page: None,
                 list: None,
                 table: None,
+                object: None,
             },
             table: file_of(rt, table_to_path(line.table_to)),
         }
@@ -94,11 +105,23 @@ fn replaced<'a>(rt: &HostRuntime, path: Option<&'a str>) -> Option<&'a str> {
 
 impl Watch for Keeper<'_> {
     fn saw(&mut self, hunted: &Hunted) {
-        self.progress.saw(hunted);
+        self.progress.saw(self.limit, hunted);
     }
 
     fn shows(&mut self, shown: usize, all: usize) {
         self.progress.shows(shown, all);
+    }
+
+    fn tells_meetings(&self) -> bool {
+        self.progress.tells_meetings()
+    }
+
+    fn met(&mut self, line: &[u8]) {
+        self.progress.met(line);
+    }
+
+    fn ends(&mut self) {
+        self.progress.ends();
     }
 
     fn begins(&mut self) -> Result<(), NoMemory> {
@@ -106,6 +129,7 @@ impl Watch for Keeper<'_> {
             page: replaced(self.rt, self.wanted.page),
             list: replaced(self.rt, self.wanted.list),
             table: replaced(self.rt, self.wanted.table),
+            object: replaced(self.rt, self.wanted.object),
         };
         match &mut self.table {
             Some(table) => table.look().map_err(|_| NoMemory),

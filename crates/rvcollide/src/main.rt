@@ -6,6 +6,7 @@ ghost use Rattle.std.specs.Prelude.{◌≡◌};
 ghost use Rattle.std.specs.Process.{exit_status};
 ghost use Rattle.rvcollide.specs.Failure.{status_of};
 
+mod colors;
 mod early_folder;
 pub mod failure;
 pub mod file_line;
@@ -16,22 +17,27 @@ mod hunting;
 mod keeper;
 mod kept_file;
 mod merging;
+mod painted;
 mod paths;
 mod progress;
 mod showing;
 mod shown_line;
 pub mod system;
 
+use crate::colors::Colors;
 use crate::failure::Failure;
 use crate::files::{InputFile, OutputFile, failed_input, failed_output, path_of, said_of};
 use crate::hunt_failure::{filed, filed_line};
 use crate::hunting::hunt_file;
 use crate::merging::merge_files;
+use crate::painted::{Painted, tell_painted};
 use crate::paths::json_path;
 use crate::showing::show_file;
 use crate::system::Stream;
 use rv_collide::plan::Plan;
 use rv_command::arguments::{ImagePath, JsonPath, PicturePath, SavePath, SchedulePath, SourcePath};
+use rv_command::color::{Color, ColorFault, color_line};
+use rv_command::command::complaint::Complaint;
 use rv_command::command::{Job, LineFault, Notice, VERSION, command_of, notice_of};
 use rv_engines::asm::run_asm;
 use rv_engines::debug::engine::run_debug;
@@ -70,10 +76,7 @@ fn run_arguments(
     let alloc = rt.alloc();
     let arguments: Vec<String> = env::args(rt)?.collect(alloc)?;
     let words: Vec<&str> = arguments.iter().map(|word| word.as_str()).collect(alloc)?;
-    match run_line(rt, threads, &words) {
-        Ok(()) => Ok(ExitCode::SUCCESS),
-        Err(failure) => Ok(tell_failure(rt, failure)),
-    }
+    Ok(run_colored(rt, threads, &words))
 }
 
 /// Tells a failure, unless that was done, and gives its exit status.
@@ -87,15 +90,47 @@ fn tell_failure(rt: &HostRuntime, failure: Failure<'_>) -> ExitCode
     ExitCode::from(failure.status())
 }
 
+/// Runs the command of a line, with the colours that it asks for.
+fn run_colored(
+    rt: &HostRuntime,
+    threads: &(impl Threads + Wait + Sync),
+    words: &[&str],
+) -> ExitCode {
+    let line = match color_line(rt.alloc(), words) {
+        Ok(line) => line,
+        Err(fault) => return tell_failure(rt, color_failure(rt, fault)),
+    };
+    let colors = Colors::of(rt, line.color);
+    match run_line(rt, threads, &line.words, colors) {
+        Ok(()) => ExitCode::SUCCESS,
+        Err(failure) => tell_failure(rt, failure),
+    }
+}
+
+/// Why a line has no colours.
+fn color_failure(rt: &HostRuntime, fault: ColorFault<'_>) -> Failure<'static> {
+    let ColorFault::Value(value) = fault else {
+        return Failure::Told(CommandFault::Plain(Fault::NoMemory));
+    };
+    let complaint = Complaint::Color { value };
+    let Ok(text) = format!(in rt.alloc(); "{complaint}") else {
+        return Failure::Told(CommandFault::Plain(Fault::NoMemory));
+    };
+    let colors = Colors::of(rt, Color::Auto);
+    tell_painted(rt, colors.errors, text.as_str());
+    Failure::Line
+}
+
 /// Runs the command of a line.
 fn run_line<'a>(
     rt: &'a HostRuntime,
     threads: &(impl Threads + Wait + Sync),
     words: &'a [&'a str],
+    colors: Colors,
 ) -> Result<(), Failure<'a>> {
     match command_of(rt.alloc(), words) {
-        Ok(job) => run_job(rt, threads, words, job),
-        Err(LineFault::Line) => tell(rt, words),
+        Ok(job) => run_job(rt, threads, words, job, colors),
+        Err(LineFault::Line) => tell(rt, words, colors),
         Err(fault) => Err(Failure::from(fault)),
     }
 }
@@ -106,6 +141,7 @@ fn run_job<'a>(
     threads: &(impl Threads + Wait + Sync),
     words: &[&str],
     job: Job<'a>,
+    colors: Colors,
 ) -> Result<(), Failure<'a>> {
     match job {
         Job::Words => Ok(words_read(rt)?),
@@ -119,13 +155,15 @@ fn run_job<'a>(
         } => Ok(exhibit_files(rt, image, schedule, number)?),
         Job::Debug { image, schedule } => Ok(debug_files(rt, image, schedule)?),
         Job::Gdb { image, schedule } => gdb_files(rt, image, schedule),
-        Job::Hunt { image, line } => hunt_file(rt, threads, words, image, &line),
+        Job::Hunt { image, line } => hunt_file(rt, threads, words, image, &line, colors),
         Job::Merge {
             tables,
             expected,
             gaps,
-        } => merge_files(rt, tables, expected, gaps),
-        Job::Show { image, table, line } => show_file(rt, threads, words, image, table, &line),
+        } => merge_files(rt, tables, expected, gaps, colors),
+        Job::Show { image, table, line } => {
+            show_file(rt, threads, words, image, table, &line, colors)
+        }
         Job::Run {
             image,
             options,
@@ -137,7 +175,7 @@ fn run_job<'a>(
             options,
             picture,
             json,
-        } => explain_files(rt, image, schedule, &options, picture, json),
+        } => explain_files(rt, image, schedule, &options, picture, json, colors),
         Job::Threads {
             image,
             plan,
@@ -259,6 +297,7 @@ fn explain_files<'a>(
     options: &ExplainOptions<'a>,
     picture: Option<PicturePath<'a>>,
     json: Option<JsonPath<'a>>,
+    colors: Colors,
 ) -> Result<(), Failure<'a>> {
     let alloc = rt.alloc();
     let mut image_file = Flagged::new(InputFile::new(rt, image.0));
@@ -269,7 +308,8 @@ fn explain_files<'a>(
         path: image.0,
         version: VERSION,
     };
-    let mut writer = Buffered::new(alloc, Stream::new(rt.stdout()));
+    let output = Painted::new(alloc, rt.stdout(), colors.output);
+    let mut writer = Buffered::new(alloc, Stream::new(output));
     let told = run_explain(
         alloc,
         options,
@@ -341,11 +381,11 @@ fn picture_path<'a>(path: Option<PicturePath<'a>>) -> Option<&'a str> {
 }
 
 /// Writes why the words give no job, or the help that they ask for.
-fn tell<'a>(rt: &HostRuntime, words: &'a [&'a str]) -> Result<(), Failure<'a>> {
+fn tell<'a>(rt: &HostRuntime, words: &'a [&'a str], colors: Colors) -> Result<(), Failure<'a>> {
     match notice_of(rt.alloc(), words)? {
         Notice::Answer(text) => Ok(print!(rt; "{text}")?),
         Notice::Refusal(text) => {
-            let _ = eprint!(rt; "{text}");
+            tell_painted(rt, colors.errors, text.as_str());
             Err(Failure::Line)
         }
     }

@@ -3,10 +3,12 @@ ghost use Rattle.std.specs.Prelude.{◌≡◌, map, option_and_then, option_map}
 ghost use Rattle.rv_command.specs.declared.arguments.TablePath.{TablePath};
 ghost use Rattle.rvcollide.specs.Files.{path_of};
 
+use crate::colors::Colors;
 use crate::failure::Failure;
 use crate::file_line::{FileLine, FilePlace};
 use crate::files::InputFile;
 use crate::hunting::said_of;
+use crate::painted::tell_painted;
 use crate::system::Stream;
 use rv_command::arguments::{TablePath, TablePaths};
 use rv_engines::fault::Fault;
@@ -17,8 +19,8 @@ use rv_memory::buffered::Buffered;
 use rv_memory::flagged::Flagged;
 
 /// What is told where a table doesn't say what it is of.
-const NOT_OF_ONE: &[u8] =
-    b"rvcollide: warning: a table does not say what it is of (it has no last line of ..), so they are added in the order given: nothing tells whether they are of one hunt\n";
+const NOT_OF_ONE: &str =
+    "rvcollide: warning: a table does not say what it is of (it has no last line of ..), so they are added in the order given: nothing tells whether they are of one hunt\n";
 
 /// The path of the file of a number, where there is one: the tables count from 0, and the table of what is expected comes
 /// behind them.
@@ -60,11 +62,11 @@ fn expected_file<'a>(
     Some(Flagged::new(InputFile::new(rt, path.0)))
 }
 
-/// Writes lines to the standard error. Where that fails there is nothing left to tell it to.
-fn tell(rt: &HostRuntime, lines: &[u8]) {
+/// Names races on the standard error.
+fn tell_names(rt: &HostRuntime, colors: Colors, names: &[u8]) {
     // They are ASCII.
-    if let Ok(text) = String::from_utf8_lossy(rt.alloc(), lines) {
-        let _ = eprint!(rt; "{text}");
+    if let Ok(text) = String::from_utf8_lossy(rt.alloc(), names) {
+        tell_painted(rt, colors.errors, text.as_str());
     }
 }
 
@@ -74,6 +76,7 @@ pub fn merge_files<'a>(
     tables: TablePaths<'a>,
     expected: Option<TablePath<'a>>,
     gaps: bool,
+    colors: Colors,
 ) -> Result<(), Failure<'a>> {
     let alloc = rt.alloc();
     let mut files = Vec::new(alloc);
@@ -88,13 +91,13 @@ pub fn merge_files<'a>(
     match run_merge(alloc, gaps, &mut files, &mut known, &mut writer) {
         Ok(merged) => {
             if !merged.is_of_one {
-                tell(rt, NOT_OF_ONE);
+                tell_painted(rt, colors.errors, NOT_OF_ONE);
             }
             if merged.unexpected.is_empty() {
                 return Ok(());
             }
             if let Ok(names) = plain_names(alloc, &merged.unexpected) {
-                tell(rt, &names);
+                tell_names(rt, colors, &names);
             }
             Err(Failure::Found)
         }

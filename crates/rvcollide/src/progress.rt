@@ -1,59 +1,273 @@
-//! What a person at a terminal is told while a hunt goes on.
+//! What is told on the standard error while runs are made: a terminal has one line that moves, and above it each race the moment that it is met;
+//! another stream has a line for each tenth, where that is asked for. Nothing of it depends on time.
+use crate::painted::tell_painted;
 use rv_hunt::hunted::Hunted;
 use rv_tally::limit::Limit;
+use rv_text::decimal::read_decimal;
+use std::alloc::{AllocError, Global};
+use std::env;
+use std::io::IsTerminal;
 
-/// How many lines of progress there are at most.
-const LINES: u64 = 100;
+/// How many bytes the line of a terminal has, where COLUMNS says nothing of use.
+const LINE: usize = 79;
 
-/// Tells a person at a terminal how far a hunt has come, once for each hundredth of its budget.
-#[derive(Drop)]
-pub struct Progress<'a> {
-    pub rt: &'a HostRuntime,
-    pub limit: Limit,
-    pub is_shown: bool,
-    pub hundredths: u64,
+const LEAST_COLUMNS: u32 = 20;
+
+const MOST_COLUMNS: u32 = 500;
+
+/// In how many parts the work is told: to a terminal, and to another stream. The bar has as many.
+const HUNDREDTHS: u64 = 100;
+
+const TENTHS: u64 = 10;
+
+/// Who is told.
+#[derive(Clone, Copy)]
+pub enum Told {
+    Nobody,
+    /// A terminal, by a line of so many bytes at most.
+    Terminal(usize),
+    Stream,
 }
 
-impl Progress<'_> {
-    /// How many hundredths of what was asked for are done.
-    fn hundredths_of(&self, hunted: &Hunted) -> u64 {
-        let (done, all) = match self.limit {
-            Limit::Runs(runs) => (hunted.tally.runs(), runs),
-            Limit::Budget(steps) => (hunted.tally.reached().cost, steps),
-        };
-        (done / all.div_ceil(LINES).max(1)).min(LINES)
+/// How long the line of a terminal may be.
+fn line_len(rt: &HostRuntime) -> usize {
+    let Ok(columns) = env::var(rt, "COLUMNS") else {
+        return LINE;
+    };
+    match read_decimal(columns.as_bytes(), MOST_COLUMNS) {
+        Some(number) if number >= LEAST_COLUMNS => number.saturating_sub(1) as usize,
+        _ => LINE,
+    }
+}
+
+impl Told {
+    /// By the options of a line.
+    pub fn of(rt: &HostRuntime, is_quiet: bool, progress: bool) -> Told {
+        if is_quiet {
+            Told::Nobody
+        } else if rt.stderr().is_terminal() {
+            Told::Terminal(line_len(rt))
+        } else if progress {
+            Told::Stream
+        } else {
+            Told::Nobody
+        }
     }
 
-    fn tell(&self, hunted: &Hunted) {
-        let (runs, races) = (hunted.tally.runs(), hunted.table.len());
-        let probes = hunted.tally.probes();
-        // Where the standard error fails there is nothing left to tell it to.
-        let _ = match self.limit {
-            Limit::Runs(all) => eprintln!(self.rt;
-                "runs {runs} of {all}, probes {probes}, races {races}"
-            ),
-            Limit::Budget(all) => {
-                let spent = hunted.tally.reached().cost.min(all);
-                eprintln!(self.rt;
-                    "runs {runs}, probes {probes}, races {races}, {spent} of {all} steps"
-                )
+    /// In how many parts.
+    fn parts(self) -> u64 {
+        match self {
+            Told::Nobody => 0,
+            Told::Terminal(_) => HUNDREDTHS,
+            Told::Stream => TENTHS,
+        }
+    }
+}
+
+/// How far some work has come.
+#[derive(Clone, Copy)]
+struct Reached {
+    done: u64,
+    all: u64,
+}
+
+impl Reached {
+    /// How many of so many parts are done.
+    fn parts(self, parts: u64) -> u64 {
+        (self.done.saturating_mul(parts) / self.all.max(1)).min(parts)
+    }
+
+    /// As `[####......]`.
+    fn bar(self, alloc: Global) -> Result<String, AllocError> {
+        let full = self.parts(TENTHS);
+        let mut bar = String::from_str(alloc, "[")?;
+        for n in 0..TENTHS {
+            bar.push(if n < full { '#' } else { '.' })?;
+        }
+        bar.push(']')?;
+        Ok(bar)
+    }
+}
+
+/// How far a hunt has come, of what was asked for.
+fn reached_of(limit: Limit, hunted: &Hunted) -> Reached {
+    match limit {
+        Limit::Runs(all) => Reached {
+            done: hunted.tally.runs(),
+            all,
+        },
+        Limit::Budget(all) => Reached {
+            done: hunted.tally.reached().cost,
+            all,
+        },
+    }
+}
+
+/// What a hunt has made and found.
+fn hunt_words(alloc: Global, limit: Limit, hunted: &Hunted) -> Result<String, AllocError> {
+    let (runs, races) = (hunted.tally.runs(), hunted.table.len());
+    let probes = hunted.tally.probes();
+    match limit {
+        Limit::Runs(all) => {
+            format!(in alloc; "runs {runs} of {all}, probes {probes}, races {races}")
+        }
+        Limit::Budget(all) => {
+            let spent = hunted.tally.reached().cost.min(all);
+            format!(in alloc; "runs {runs}, probes {probes}, races {races}, {spent} of {all} steps")
+        }
+    }
+}
+
+/// What takes a line of so many bytes away: blanks in its place.
+fn erasing(alloc: Global, count: usize) -> Result<String, AllocError> {
+    let mut text = String::new(alloc);
+    if count > 0 {
+        text.push('\r')?;
+        for _ in 0..count {
+            text.push(' ')?;
+        }
+        text.push('\r')?;
+    }
+    Ok(text)
+}
+
+/// The first characters of a text.
+fn cut(alloc: Global, text: &str, most: usize) -> Result<String, AllocError> {
+    let mut line = String::new(alloc);
+    for character in text.chars().take(most) {
+        line.push(character)?;
+    }
+    Ok(line)
+}
+
+/// Tells how far the work has come. What gets no memory isn't told, and where the standard error fails there is nothing left to tell it to.
+#[derive(Drop)]
+pub struct Progress<'a> {
+    rt: &'a HostRuntime,
+    told: Told,
+    paints: bool,
+    /// The line in place.
+    line: String,
+    /// How many parts were told of the hunt, of runs that are made again, and of races that are shown in full.
+    hunted: u64,
+    remade: u64,
+    shown: u64,
+}
+
+impl<'a> Progress<'a> {
+    pub fn new(rt: &'a HostRuntime, told: Told, paints: bool) -> Progress<'a> {
+        Progress {
+            rt,
+            told,
+            paints,
+            line: String::new(rt.alloc()),
+            hunted: 0,
+            remade: 0,
+            shown: 0,
+        }
+    }
+
+    /// Puts a line in place of the one that is there.
+    fn put(&mut self, line: String) {
+        if let Ok(erased) = erasing(self.rt.alloc(), self.line.len()) {
+            let _ = eprint!(self.rt; "{erased}{line}");
+            self.line = line;
+        }
+    }
+
+    /// Puts what was reached in place.
+    fn put_reached(
+        &mut self,
+        most: usize,
+        reached: Reached,
+        words: &str,
+    ) -> Result<(), AllocError> {
+        let alloc = self.rt.alloc();
+        let bar = reached.bar(alloc)?;
+        let whole = format!(in alloc; "{bar} {words}")?;
+        self.put(cut(alloc, whole.as_str(), most)?);
+        Ok(())
+    }
+
+    fn tell(&mut self, reached: Reached, words: &str) {
+        match self.told {
+            Told::Nobody => {}
+            Told::Stream => {
+                let _ = eprintln!(self.rt; "{words}");
             }
-        };
+            Told::Terminal(most) => {
+                let _ = self.put_reached(most, reached, words);
+            }
+        }
     }
 
     /// One more run has been added up.
-    pub fn saw(&mut self, hunted: &Hunted) {
-        let hundredths = self.hundredths_of(hunted);
-        if self.is_shown && self.hundredths < hundredths {
-            self.hundredths = hundredths;
-            self.tell(hunted);
+    pub fn saw(&mut self, limit: Limit, hunted: &Hunted) {
+        let reached = reached_of(limit, hunted);
+        let parts = reached.parts(self.told.parts());
+        if self.hunted < parts {
+            self.hunted = parts;
+            if let Ok(words) = hunt_words(self.rt.alloc(), limit, hunted) {
+                self.tell(reached, words.as_str());
+            }
+        }
+    }
+
+    /// Of so many runs some have been made again.
+    pub fn made(&mut self, made: usize, all: usize) {
+        let reached = Reached {
+            done: made as u64,
+            all: all as u64,
+        };
+        let parts = reached.parts(self.told.parts());
+        if self.remade < parts {
+            self.remade = parts;
+            if let Ok(words) = format!(in self.rt.alloc(); "runs made again {made} of {all}") {
+                self.tell(reached, words.as_str());
+            }
         }
     }
 
     /// Of so many races that are shown in full some have been.
     pub fn shows(&mut self, shown: usize, all: usize) {
-        if self.is_shown && shown > 0 {
-            let _ = eprintln!(self.rt; "races shown {shown} of {all}");
+        let reached = Reached {
+            done: shown as u64,
+            all: all as u64,
+        };
+        let parts = reached.parts(self.told.parts());
+        if self.shown < parts {
+            self.shown = parts;
+            if let Ok(words) = format!(in self.rt.alloc(); "races shown {shown} of {all}") {
+                self.tell(reached, words.as_str());
+            }
+        }
+    }
+
+    /// Whether races are told the moment that they are met.
+    pub fn tells_meetings(&self) -> bool {
+        matches!(self.told, Told::Terminal(_))
+    }
+
+    /// Tells such a race, above the line in place.
+    pub fn met(&mut self, said: &[u8]) {
+        let alloc = self.rt.alloc();
+        let Ok(line) = cut(alloc, self.line.as_str(), self.line.len()) else {
+            return;
+        };
+        // It is ASCII.
+        let Ok(text) = String::from_utf8_lossy(alloc, said) else {
+            return;
+        };
+        self.ends();
+        tell_painted(self.rt, self.paints, text.as_str());
+        let _ = eprintln!(self.rt; "");
+        self.put(line);
+    }
+
+    /// Nothing is left of the line in place.
+    pub fn ends(&mut self) {
+        if !self.line.is_empty() {
+            self.put(String::new(self.rt.alloc()));
         }
     }
 }

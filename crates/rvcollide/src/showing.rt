@@ -1,4 +1,5 @@
 //! The engine of `show` on the files of a line, and what is told while it works.
+use crate::colors::Colors;
 use crate::failure::Failure;
 use crate::files::InputFile;
 use crate::hunt_failure::{Failed, Said, WRITE_FAULT, at_fault_in, failure_of, of_file};
@@ -6,7 +7,9 @@ use crate::hunting::{
     checks_of, ending_of, file_if, folder_if, folder_said, made_if, said_of, workers_of,
 };
 use crate::kept_file::{has_failed, said_by};
+use crate::painted::Painted;
 use crate::paths::{expect_path, ignore_path, json_path, list_path, page_path};
+use crate::progress::{Progress, Told};
 use crate::shown_line::ShownLine;
 use crate::system::{Stream, SystemSaid};
 use rv_command::arguments::{ImagePath, TablePath};
@@ -21,33 +24,28 @@ use rv_hunt::hunted::Hunted;
 use rv_memory::buffered::Buffered;
 use rv_memory::flagged::Flagged;
 use rv_tally::limit::Limit;
-use std::io::IsTerminal;
 use std::sync::Wait;
 use std::thread::Threads;
 
-/// Tells a person at a terminal how far `show` has come.
+/// Tells how far `show` has come.
 #[derive(Drop)]
-struct ShowProgress<'a> {
-    rt: &'a HostRuntime,
-    is_shown: bool,
-}
+struct ShowProgress<'a>(Progress<'a>);
 
 impl Watch for ShowProgress<'_> {
     fn saw(&mut self, _: &Hunted) {}
 
     fn shows(&mut self, shown: usize, all: usize) {
-        if self.is_shown && shown > 0 {
-            // Where the standard error fails there is nothing left to tell it to.
-            let _ = eprintln!(self.rt; "races shown {shown} of {all}");
-        }
+        self.0.shows(shown, all);
+    }
+
+    fn ends(&mut self) {
+        self.0.ends();
     }
 }
 
 impl WatchRuns for ShowProgress<'_> {
     fn made(&mut self, made: usize, all: usize) {
-        if self.is_shown {
-            let _ = eprintln!(self.rt; "runs made again {made} of {all}");
-        }
+        self.0.made(made, all);
     }
 }
 
@@ -80,6 +78,7 @@ fn hunt_line<'a>(line: &ShowLine<'a>) -> HuntLine<'a> {
         right: None,
         expect: line.expect,
         is_quiet: line.is_quiet,
+        progress: line.progress,
         no_orders: true,
     }
 }
@@ -92,11 +91,12 @@ pub fn show_file<'a>(
     image: ImagePath<'a>,
     table: TablePath<'a>,
     line: &ShowLine<'a>,
+    colors: Colors,
 ) -> Result<(), Failure<'a>> {
     let alloc = rt.alloc();
     let line = hunt_line(line);
     let shown = ShownLine::of(alloc, words, image, &line)?;
-    show_by(rt, threads, image, table, &line, shown.parts())
+    show_by(rt, threads, image, table, &line, shown.parts(), colors)
 }
 
 /// The line of a fault.
@@ -122,6 +122,7 @@ fn show_by<'a>(
     table: TablePath<'a>,
     line: &HuntLine<'a>,
     parts: LineParts<'_>,
+    colors: Colors,
 ) -> Result<(), Failure<'a>> {
     let alloc = rt.alloc();
     let options = ShowOptions {
@@ -143,12 +144,11 @@ fn show_by<'a>(
     let mut page = made_if(rt, page_path(line.page));
     let mut list = made_if(rt, list_path(line.list));
     let mut json = made_if(rt, json_path(line.json));
-    let mut writer = Buffered::new(alloc, Stream::new(rt.stdout()));
-    let mut notes = Buffered::new(alloc, rt.stderr());
-    let mut progress = ShowProgress {
-        rt,
-        is_shown: !line.is_quiet && rt.stderr().is_terminal(),
-    };
+    let output = Painted::new(alloc, rt.stdout(), colors.output);
+    let mut writer = Buffered::new(alloc, Stream::new(output));
+    let mut notes = Buffered::new(alloc, Painted::new(alloc, rt.stderr(), colors.errors));
+    let told = Told::of(rt, line.is_quiet, line.progress);
+    let mut progress = ShowProgress(Progress::new(rt, told, colors.errors));
     let shown = run_show(
         threads,
         alloc,
@@ -163,6 +163,7 @@ fn show_by<'a>(
         &mut notes,
         &mut progress,
     );
+    progress.ends();
     let Inputs {
         image: image_file,
         ignored,

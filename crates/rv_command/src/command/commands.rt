@@ -158,6 +158,7 @@ pub const COMMANDS: [Subcommand; 13] = [
                 value: "FILE",
                 help: "JSON file to write, with what is shown, for other programs",
             },
+            COLOR,
         ],
     },
     Subcommand {
@@ -276,6 +277,8 @@ pub const COMMANDS: [Subcommand; 13] = [
             },
             EXPECT,
             QUIET,
+            PROGRESS,
+            COLOR,
         ],
     },
     Subcommand {
@@ -300,6 +303,7 @@ pub const COMMANDS: [Subcommand; 13] = [
                 name: "gaps",
                 help: "Allow that runs between those of two tables are missing",
             },
+            COLOR,
         ],
     },
     Subcommand {
@@ -334,6 +338,8 @@ pub const COMMANDS: [Subcommand; 13] = [
             CHECK_ALL,
             EXPECT,
             QUIET,
+            PROGRESS,
+            COLOR,
         ],
     },
 ];
@@ -429,6 +435,17 @@ const EXPECT: Argument = Argument::Optional {
 const QUIET: Argument = Argument::Flag {
     name: "quiet",
     help: "Print no progress; warnings are still printed",
+};
+
+const PROGRESS: Argument = Argument::Flag {
+    name: "progress",
+    help: "Print a line of progress for each tenth also where the standard error is no terminal",
+};
+
+const COLOR: Argument = Argument::Optional {
+    name: "color",
+    value: "WHEN",
+    help: "Colour of classes, errors and warnings: auto, always or never [default: auto]",
 };
 
 /// What the help of `words` says after its options.

@@ -32,6 +32,12 @@ pub enum Complaint<'a> {
     },
     /// `--aim` and `--sampled` are both given.
     SampledAim,
+    /// `--progress` and `--quiet` are both given.
+    QuietProgress,
+    /// The value of `--color` is none of its words.
+    Color {
+        value: &'a str,
+    },
     /// The value of `--right` is not a list of exit codes.
     Right {
         value: &'a str,
@@ -79,6 +85,14 @@ impl<'a> fmt::Display for Complaint<'a> {
             ),
             Complaint::SampledAim => f.write_str(
                 "error: '--aim' cannot be used with '--sampled': sampled runs make no probes\n",
+            ),
+            Complaint::QuietProgress => {
+                f.write_str("error: '--progress' cannot be used with '--quiet'\n")
+            }
+            Complaint::Color { value } => write!(
+                f,
+                "error: invalid value '{}' for '--color': it is auto, always or never\n",
+                Shown(*value)
             ),
             Complaint::Right { value } => write!(
                 f,

@@ -53,8 +53,9 @@ Get help:
   help     Print this help, a command's (help run), what faults mean (help faults) or words (help words)
 
 Options:
-  -h, --help     Print help
-  -V, --version  Print version
+      --color <WHEN>  Colour of classes, errors and warnings, of any command: auto, always or never
+  -h, --help          Print help
+  -V, --version       Print version
 
 To find and read a first race:
   rvcollide hunt guest.elf

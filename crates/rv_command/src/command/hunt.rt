@@ -107,6 +107,8 @@ pub struct HuntLine<'a> {
     pub expect: Option<TablePath<'a>>,
     /// No progress is told.
     pub is_quiet: bool,
+    /// It is told where the standard error is no terminal, too.
+    pub progress: bool,
     /// Orders of races' accesses aren't tried.
     pub no_orders: bool,
 }
@@ -138,6 +140,7 @@ fn line_of<'a>(given: &ArgMatches<'a>) -> Result<HuntLine<'a>, Complaint<'a>>
     let aim = aim_of(given)?;
     let blocks = number_or(given, BLOCKS, u64::from(DEFAULT_BLOCKS))?;
     let right = right_of(given)?;
+    let progress = progress_of(given)?;
     Ok(HuntLine {
         harts: harts.map(|n| n as u8),
         seed: seed as u32,
@@ -165,6 +168,7 @@ fn line_of<'a>(given: &ArgMatches<'a>) -> Result<HuntLine<'a>, Complaint<'a>>
         right,
         expect: expect_of(given),
         is_quiet: flag_of(given, "quiet"),
+        progress,
         no_orders: flag_of(given, "no-orders"),
     })
 }
@@ -328,6 +332,18 @@ fn right_of<'a>(given: &ArgMatches<'a>) -> Result<Option<&'a str>, Complaint<'a>
     } else {
         Err(Complaint::Right { value })
     }
+}
+
+/// Whether progress is told where the standard error is no terminal, too.
+pub(super) fn progress_of<'a>(given: &ArgMatches<'a>) -> Result<bool, Complaint<'a>>
+    ensures { MatchResult result (λ progress. line.progress_at (rows_of (found_of given.now)) ≡ Some progress)
+        (λ _. line.progress_at (rows_of (found_of given.now)) ≡ None) }
+{
+    let progress = flag_of(given, "progress");
+    if progress && flag_of(given, "quiet") {
+        return Err(Complaint::QuietProgress);
+    }
+    Ok(progress)
 }
 
 /// Whether a text is a list of exit codes, as `0,255`.

@@ -7,7 +7,7 @@ ghost use Rattle.rv_command.specs.ShowLine as line;
 
 use super::complaint::Complaint;
 use super::hunt::{
-    BLOCKS, DEFAULT_BLOCKS, expect_of, folder_of, ignore_of, json_of, list_of, page_of,
+    BLOCKS, DEFAULT_BLOCKS, expect_of, folder_of, ignore_of, json_of, list_of, page_of, progress_of,
 };
 use super::number::{flag_of, number_if, number_or};
 use super::run::WORKERS;
@@ -42,6 +42,8 @@ pub struct ShowLine<'a> {
     pub expect: Option<TablePath<'a>>,
     /// No progress is told.
     pub is_quiet: bool,
+    /// It is told where the standard error is no terminal, too.
+    pub progress: bool,
 }
 
 /// `show` with its options.
@@ -65,6 +67,7 @@ fn line_of<'a>(given: &ArgMatches<'a>) -> Result<ShowLine<'a>, Complaint<'a>>
 {
     let workers = number_if(given, WORKERS)?;
     let blocks = number_or(given, BLOCKS, u64::from(DEFAULT_BLOCKS))?;
+    let progress = progress_of(given)?;
     Ok(ShowLine {
         workers: workers.map(|n| n as u8),
         ignore: ignore_of(given),
@@ -77,5 +80,6 @@ fn line_of<'a>(given: &ArgMatches<'a>) -> Result<ShowLine<'a>, Complaint<'a>>
         checks_all: flag_of(given, "check-all"),
         expect: expect_of(given),
         is_quiet: flag_of(given, "quiet"),
+        progress,
     })
 }

@@ -35,6 +35,7 @@ const PLAIN: HuntLine = HuntLine {
     right: None,
     expect: None,
     is_quiet: false,
+    progress: false,
     no_orders: false,
 };
 
@@ -89,12 +90,19 @@ const ALL: HuntLine = HuntLine {
     right: Some("0,255"),
     expect: Some(TablePath("t.txt")),
     is_quiet: true,
+    progress: false,
     no_orders: true,
 };
 
 /// What a line asks for that gives `--sampled`.
 const SAMPLED: HuntLine = HuntLine {
     sampled: true,
+    ..PLAIN
+};
+
+/// What a line asks for that gives `--progress`.
+const PROGRESS: HuntLine = HuntLine {
+    progress: true,
     ..PLAIN
 };
 
@@ -133,6 +141,7 @@ const LINES: &[(&str, HuntLine)] = &[
     ("rvcollide hunt -- a.elf", PLAIN),
     ("rvcollide hunt a.elf --runs 4294967296", MOST_RUNS),
     ("rvcollide hunt --sampled a.elf", SAMPLED),
+    ("rvcollide hunt a.elf --progress", PROGRESS),
     ("rvcollide hunt a.elf --aim f,f", AIMED),
     ("rvcollide hunt a.elf --right 0", RIGHT),
     ("rvcollide hunt a.elf --right=4294967295", MOST_RIGHT),

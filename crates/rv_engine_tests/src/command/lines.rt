@@ -46,6 +46,7 @@ const PLAIN: ShowLine<'static> = ShowLine {
     checks_all: false,
     expect: None,
     is_quiet: false,
+    progress: false,
 };
 
 const SHOW: Job<'static> = Job::Show {

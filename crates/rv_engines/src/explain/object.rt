@@ -267,6 +267,7 @@ pub(crate) fn object_text(
     ensures { IfOk result (λ text. IsAnObject text.items) }
 {
     let head = Head {
+        is_complete: true,
         version: about.version,
         path: about.path,
         digest,

@@ -1,16 +1,17 @@
 //! What a hunt has found so far, which its watch keeps while it goes on, so that a hunt that is killed loses little.
 //!
 //! The schedule of a race is kept when it is first reported, and anew when its class rises: of as many races as are shown in full, by their
-//! classes and then by their runs. At each tenth of what was asked for the page, the list and the table are kept anew. What wants memory
-//! for that and gets none is left out, since the hunt goes on.
+//! classes and then by their runs. At each tenth of what was asked for the page, the list, the table and the object are kept anew. What wants
+//! memory for that and gets none is left out, since the hunt goes on.
 ghost use Rattle.std.specs.Prelude.{◌≡◌, ◌≤◌, false, IfOk, OnOk};
 ghost use Rattle.rv_hunt.specs.Hunt.{IsHunt};
 ghost use Rattle.rv_hunt.specs.Hunted as spec;
 
-use crate::code_seen::code_seen;
+use crate::code_seen::{CodeSeen, code_seen};
 use crate::engine::early::{PartText, parts_of, texts_of};
 use crate::engine::lists::Lists;
 use crate::engine::making::shown_of;
+use crate::engine::meetings::Meetings;
 use crate::engine::options::{HuntOptions, MOST_WORKERS};
 use crate::engine::stuck_ends::StuckEnds;
 use crate::engine::texts::{heading_of, stretch_of, table_of};
@@ -20,6 +21,7 @@ use crate::merge::known::{gone, new_races};
 use crate::merge::listing::list_of;
 use crate::merge::parted::{Parted, part_rows};
 use crate::noted::Noted;
+use crate::object::{Beside, object_text};
 use crate::page::page_text;
 use crate::page::parts::Outcome;
 use crate::row::RaceRow;
@@ -45,7 +47,19 @@ pub(crate) struct Given<'a, 'o, 'l, 's> {
     pub(crate) options: &'a HuntOptions<'o, 'l>,
     pub(crate) lists: &'a Lists,
     pub(crate) digits: &'a [u8],
+    pub(crate) digest: &'a str,
     pub(crate) symbols: &'a SymbolTable<'s>,
+}
+
+/// What the page and the object are made of, beside what the hunt saw. Stuck ends are counted alone: no run is made again for them.
+#[derive(Drop)]
+struct SoFar {
+    code: CodeSeen,
+    races: Vec<(Key, RaceRow)>,
+    told: Vec<(Key, RaceRow)>,
+    unexpected: Vec<(Key, RaceRow)>,
+    stuck: StuckEnds,
+    gone: Option<u64>,
 }
 
 impl Given<'_, '_, '_, '_> {
@@ -67,40 +81,79 @@ impl Given<'_, '_, '_, '_> {
         table_of(alloc, rows, &heading, stretch_of(hunt, hunted))
     }
 
-    /// The page, which has a line of each race.
-    fn page(
+    fn so_far(
         &self,
         alloc: Global,
         hunt: &Hunt,
         hunted: &Hunted,
         noted: &Noted,
         parted: &Parted,
-    ) -> Result<Vec<u8>, NoMemory> {
-        let code = code_seen(alloc, self.symbols, hunt.code, &noted.words)?;
+    ) -> Result<SoFar, NoMemory> {
         let races = shown_of(alloc, hunted, &parted.told)?;
-        let told = told_rows(alloc, self.symbols, &hunted.orders, &races)?;
         let expected = &self.lists.expected;
-        let unexpected = new_races(alloc, self.symbols, expected, &parted.told)?;
-        let stuck = StuckEnds {
-            count: noted.stuck.len(),
-            shown: Vec::new(alloc),
-        };
-        let outcome = Outcome {
+        Ok(SoFar {
+            code: code_seen(alloc, self.symbols, hunt.code, &noted.words)?,
+            told: told_rows(alloc, self.symbols, &hunted.orders, &races)?,
+            races,
+            unexpected: new_races(alloc, self.symbols, expected, &parted.told)?,
+            stuck: StuckEnds {
+                count: noted.stuck.len(),
+                shown: Vec::new(alloc),
+            },
+            gone: gone(alloc, self.symbols.image(), expected)?,
+        })
+    }
+
+    fn outcome<'a>(
+        &self,
+        hunt: &Hunt,
+        hunted: &'a Hunted,
+        noted: &'a Noted,
+        parted: &'a Parted,
+        so_far: &'a SoFar,
+    ) -> Outcome<'a> {
+        Outcome {
             sites: hunt.sampler.len() as u64,
             mix: hunt.plans.mix(),
             saw: hunted,
-            code: &code,
+            code: &so_far.code,
             ends: &noted.ends,
-            stuck: &stuck,
+            stuck: &so_far.stuck,
             rows: &parted.told,
-            races: &races,
+            races: &so_far.races,
             ignored: &parted.ignored,
-            new: &unexpected,
-            gone: gone(alloc, self.symbols.image(), expected)?,
+            new: &so_far.unexpected,
+            gone: so_far.gone,
             built: self.lists.built,
-        };
+        }
+    }
+
+    /// The page, which has a line of each race.
+    fn page(
+        &self,
+        alloc: Global,
+        outcome: &Outcome,
+        told: &[(Key, RaceRow)],
+    ) -> Result<Vec<u8>, NoMemory> {
         let line = &self.options.line;
-        page_text(alloc, line, self.symbols, &outcome, &told, &[], &[])
+        page_text(alloc, line, self.symbols, outcome, told, &[], &[])
+    }
+
+    /// The object, which has each race by its line alone.
+    fn object(
+        &self,
+        alloc: Global,
+        outcome: &Outcome,
+        told: &[(Key, RaceRow)],
+    ) -> Result<Vec<u8>, NoMemory> {
+        let beside = Beside {
+            command: "hunt",
+            options: self.options,
+            first: u64::from(self.options.first),
+            digest: self.digest,
+            status: None,
+        };
+        object_text(alloc, self.symbols, outcome, &beside, told, &[], &[])
     }
 }
 
@@ -131,10 +184,12 @@ fn standing_of(rows: &[(Key, RaceRow)]) -> Standing {
     }
 }
 
-/// Has a watch keep what a hunt has found.
+/// Has a watch tell and keep what a hunt has found.
 #[derive(Drop)]
 struct Keeping<'a, 'o, 'l, 's, W> {
+    alloc: Global,
     watch: &'a mut W,
+    meetings: Meetings,
     given: Given<'a, 'o, 'l, 's>,
     /// As what class a race's schedule was kept last.
     kept: IndexMap<Key, u8>,
@@ -251,17 +306,43 @@ impl<W: Watch> Keeping<'_, '_, '_, '_, W> {
             let text = given.table(alloc, hunt, hunted, &parted.told)?;
             self.watch.keep(Draft::Table, &text);
         }
-        if self.watch.keeps(Draft::Page) {
-            let text = given.page(alloc, hunt, hunted, noted, &parted)?;
-            self.watch.keep(Draft::Page, &text);
+        if self.keeps_whole() {
+            let so_far = given.so_far(alloc, hunt, hunted, noted, &parted)?;
+            let outcome = given.outcome(hunt, hunted, noted, &parted, &so_far);
+            self.keep_whole(alloc, &outcome, &so_far.told)?;
         }
         Ok(())
+    }
+
+    /// Keeps those that have all that was found.
+    fn keep_whole(
+        &mut self,
+        alloc: Global,
+        outcome: &Outcome,
+        told: &[(Key, RaceRow)],
+    ) -> Result<(), NoMemory> {
+        let given = self.given;
+        if self.watch.keeps(Draft::Page) {
+            let text = given.page(alloc, outcome, told)?;
+            self.watch.keep(Draft::Page, &text);
+        }
+        if self.watch.keeps(Draft::Object) {
+            let text = given.object(alloc, outcome, told)?;
+            self.watch.keep(Draft::Object, &text);
+        }
+        Ok(())
+    }
+
+    /// Whether a text that has all is wanted.
+    fn keeps_whole(&self) -> bool {
+        let watch = &*self.watch;
+        watch.keeps(Draft::Page) || watch.keeps(Draft::Object)
     }
 
     /// Whether any text is wanted.
     fn keeps_any(&self) -> bool {
         let watch = &*self.watch;
-        watch.keeps(Draft::List) || watch.keeps(Draft::Table) || watch.keeps(Draft::Page)
+        watch.keeps(Draft::List) || watch.keeps(Draft::Table) || self.keeps_whole()
     }
 
     /// The table of the whole hunt goes to the watch, where it takes one.
@@ -278,6 +359,14 @@ impl<W: Watch> Keeping<'_, '_, '_, '_, W> {
 
 impl<W: Watch> Along for Keeping<'_, '_, '_, '_, W> {
     fn saw(&mut self, hunted: &Hunted) {
+        if self.watch.tells_meetings() {
+            let given = self.given;
+            let ignored = &given.lists.ignored;
+            // What gets no memory isn't told.
+            let _ = self
+                .meetings
+                .tell(self.alloc, given.symbols, ignored, hunted, self.watch);
+        }
         self.watch.saw(hunted);
     }
 
@@ -316,7 +405,9 @@ pub(crate) fn hunted<R: Threads + Wait, W: Watch>(
 {
     watch.begins()?;
     let mut keeping = Keeping {
+        alloc,
         watch,
+        meetings: Meetings::none(alloc),
         given,
         kept: IndexMap::new(alloc),
         stood: standing_of(&[]),

@@ -329,7 +329,7 @@ fn made_of<R: Threads + Wait, D: Folder, F: NewFile, P: Watch>(
         options,
         first: u64::from(options.first),
         digest,
-        status: status_of(folder, options.checks, found),
+        status: Some(status_of(folder, options.checks, found)),
     };
     make_json(
         alloc, symbols, &outcome, &beside, &told, &shown, &orders, json,
@@ -425,6 +425,7 @@ pub(crate) fn make_hunt<T: Threads + Wait + Sync, P: Watch, D: Folder, F: NewFil
         options,
         lists,
         digits: &opened.digits,
+        digest: opened.digest.as_str(),
         symbols: &symbols,
     };
     let saw = hunted(rt, alloc, &hunt, given, &mut noted, watch)?;

@@ -295,7 +295,7 @@ fn made_of<T: Threads + Wait, D: Folder, F: NewFile, P: Watch>(
     // What wants memory comes before the first file.
     let listed = list_of(alloc, symbols, &parted.told)?;
     let beside = Beside {
-        status: status_of(folder, options.checks, found),
+        status: Some(status_of(folder, options.checks, found)),
         ..*beside
     };
     let races = Races {
@@ -420,7 +420,7 @@ fn make_rows<T: Threads + Wait, D: Folder, F: NewFile, P: Watch + WatchRuns>(
         options: asked,
         first: table.origin.first_run(),
         digest: file.digest.as_str(),
-        status: 0,
+        status: None,
     };
     Ok(made_of(
         rt, alloc, &hunt, &beside, lists, &symbols, table, &rows, folder, page, list, json, watch,
@@ -575,6 +575,7 @@ pub fn run_show<
     let made = make(
         rt, alloc, options, inputs, table, folder, page, list, json, watch,
     )?;
+    watch.ends();
     publish(&made, writer, notes)?;
     Ok(made.found)
 }
