@@ -13,13 +13,15 @@ use Rattle.std.proofs.lemmas.List.Elements.{All-from_recursion, filter_map-appen
 use Rattle.std.proofs.lemmas.Map.Text.{btree_map_updates_str}
 use Rattle.std.proofs.lemmas.Slice.Eq.{bytes_eq-Decides}
 use Rattle.rv_elf.specs.Contents.{Contents, Named}
-use Rattle.rv_explain.specs.Names.{escaped, escaped_byte, is_hidden}
+use Rattle.rv_explain.specs.Names.{escaped, escaped_byte, escaped_field, field_byte, is_hidden}
+use Rattle.rv_explain.specs.Naming.{Naming}
 use Rattle.rv_explain.specs.Symbols.{symbol_of}
 use Rattle.rv_text.specs.Hexadecimal.{byte_digits}
 use Rattle.rv_hunt.specs.declared.merge.words.NamedSymbol.{NamedSymbol}
 use Rattle.rv_hunt.specs.declared.merge.words.Words.{Words}
-use Rattle.rv_hunt.specs.internal.Words.{AreMarks, AreMarksAt, AreNumbered, Keeps, MarksMore, count, holds, named, named_by, number_of, told_word}
-use Rattle.rv_hunt.specs.merge.Ignore.{as_name, first_escaped, is_in_name, is_spelled, is_told_by_name, says_other, spelled}
+use Rattle.rv_lines.specs.SourceLines.{SourceFrame, SourceLine, frames_at, known_function}
+use Rattle.rv_hunt.specs.internal.Words.{AreInstructionMarks, AreMarks, AreMarksAt, AreNumbered, Keeps, MarksFrames, MarksMore, count, function_word, holds, is_word_of, named, named_by, number_of, told_word}
+use Rattle.rv_hunt.specs.merge.Ignore.{as_name, first_escaped, has_function, is_at_name, is_function_of, is_in_name, is_spelled, is_told_by_name, says_other, spelled, spelled_field}
 
 -- ---- a word more
 
@@ -138,6 +140,36 @@ spelled_length name =
     let named = named_length (escaped name) in
     omega arith
 
+field_shown : (byte : ℕ) → 1 ≤ length (field_byte byte)
+field_shown byte = at (is_hidden byte) where
+  at : (hidden : Bool) → 1 ≤ length (if hidden then codes "\\x" ++ byte_digits byte else byte ∷ [])
+  at true = let two = length-append (codes "\\x") (byte_digits byte) in omega arith
+  at false = omega arith
+
+field_length : (field : List ℕ) → length field ≤ length (escaped_field field)
+field_length [] = omega arith
+field_length (byte ∷ field) =
+    let both = length-append (field_byte byte) (escaped_field field) in
+    let first = field_shown byte in
+    let next = field_length field in
+    omega arith
+
+pub spelled_field_length : (field : List ℕ) → length field ≤ length (spelled_field field)
+unfolding spelled_field
+spelled_field_length field =
+    let shown = field_length field in
+    let named = named_length (escaped_field field) in
+    omega arith
+
+pub field_too_long : (words : Words) → AreNumbered words → (field : List ℕ) → words.longest < length field → number_of words (spelled_field field) ≡ None
+field_too_long words numbered field long = at (number_of words (spelled_field field)) refl where
+  at : (given : Option ℕ) → number_of words (spelled_field field) ≡ given → given ≡ None
+  at None is = refl
+  at (Some number) is =
+      let short = numbered.short (spelled_field field) number is in
+      let shown = spelled_field_length field in
+      absurd (omega arith)
+
 pub too_long : (words : Words) → AreNumbered words → (name : List ℕ) → words.longest < length name → number_of words (spelled name) ≡ None
 too_long words numbered name long = at (number_of words (spelled name)) refl where
   at : (given : Option ℕ) → number_of words (spelled name) ≡ given → given ≡ None
@@ -148,6 +180,10 @@ too_long words numbered name long = at (number_of words (spelled name)) refl whe
       absurd (omega arith)
 
 -- ---- the symbols that words name
+
+or_assoc : (a b c : Bool) → ((a || b) || c) ≡ (a || (b || c))
+or_assoc true b c = refl
+or_assoc false b c = refl
 
 and_false : (b : Bool) → b && false ≡ false
 and_false true = refl
@@ -219,6 +255,41 @@ marks_at words numbered image address named holding before after told named_is h
 
 pub no_marks_at : (words : Words) (image : Contents) (marks : List Bool) → AreMarks [] marks → AreMarksAt words image None marks
 no_marks_at words image marks marked word number is = marked number
+
+-- ---- functions of source lines
+
+function_by : (words : Words) → AreNumbered words → (word : List ℕ) (number : ℕ) → number_of words word ≡ Some number → (known : Option (List ℕ))
+    → option_map_or (λ given. given == number) (option_and_then (λ (f : List ℕ). number_of words (spelled_field f)) known) false ≡ option_map_or (λ (f : List ℕ). bytes_eq (spelled_field f) word) known false
+function_by words numbered word number is None = refl
+function_by words numbered word number is (Some function) = at (number_of words (spelled_field function)) refl where
+  at : (named : Option ℕ) → number_of words (spelled_field function) ≡ named → option_map_or (λ given. given == number) named false ≡ bytes_eq (spelled_field function) word
+  at None named = sym (unnumbered words (spelled_field function) word number named is)
+  at (Some one) named = same_number words numbered (spelled_field function) word one number named is
+
+pub frames_any : (words : Words) → AreNumbered words → (word : List ℕ) (number : ℕ) → number_of words word ≡ Some number → (frames : List SourceFrame) → list_any (is_word_of words number) frames ≡ list_any (is_function_of word) frames
+frames_any words numbered word number is [] = refl
+frames_any words numbered word number is (frame ∷ frames) =
+    ap (λ (b : Bool). b || list_any (is_word_of words number) frames) (function_by words numbered word number is (known_function frame))
+    ∙ ap (λ (b : Bool). is_function_of word frame || b) (frames_any words numbered word number is frames)
+
+pub lines_any : (words : Words) → AreNumbered words → (word : List ℕ) (number : ℕ) → number_of words word ≡ Some number → (lines : List SourceLine)
+    → list_any (λ (line : SourceLine). list_any (is_word_of words number) line.frames) lines ≡ list_any (has_function word) lines
+lines_any words numbered word number is [] = refl
+lines_any words numbered word number is (line ∷ lines) =
+    ap (λ (b : Bool). b || list_any (λ (line : SourceLine). list_any (is_word_of words number) line.frames) lines) (frames_any words numbered word number is line.frames)
+    ∙ ap (λ (b : Bool). has_function word line || b) (lines_any words numbered word number is lines)
+
+pub instruction_marks : (words : Words) → AreNumbered words → (naming : Naming) (address : ℕ) (before after : List Bool) → AreMarksAt words naming.image (Some address) before → MarksFrames words (frames_at naming.lines address) before after
+    → AreInstructionMarks words naming (Some address) after
+instruction_marks words numbered naming address before after marked more word number is =
+    more number ∙ ap (λ (b : Bool). b || list_any (is_word_of words number) (frames_at naming.lines address)) (marked word number is)
+    ∙ ap (λ (b : Bool). is_at_name naming.image word address || b) (frames_any words numbered word number is (frames_at naming.lines address))
+
+-- frames more are marked one by one
+pub frames_marked : (words : Words) (frame : SourceFrame) (frames : List SourceFrame) (word : Option ℕ) (before after last : List Bool) → word ≡ function_word words frame → MarksMore word before after → MarksFrames words frames after last → MarksFrames words (frame ∷ frames) before last
+frames_marked words frame frames word before after last is one others number =
+    others number ∙ ap (λ (b : Bool). b || list_any (is_word_of words number) frames) (one number ∙ ap (λ (w : Option ℕ). get_or before number false || option_map_or (λ given. given == number) w false) is)
+    ∙ or_assoc (get_or before number false) (is_word_of words number frame) (list_any (is_word_of words number) frames)
 
 -- ---- a symbol more
 

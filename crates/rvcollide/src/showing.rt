@@ -6,7 +6,7 @@ use crate::hunting::{
     checks_of, ending_of, file_if, folder_if, folder_said, made_if, said_of, workers_of,
 };
 use crate::kept_file::{has_failed, said_by};
-use crate::paths::{expect_path, ignore_path, json_path, list_path, page_path};
+use crate::paths::{expect_path, ignore_path, json_path, lines_path, list_path, page_path};
 use crate::shown_line::ShownLine;
 use crate::system::{Stream, SystemSaid};
 use rv_command::arguments::{ImagePath, TablePath};
@@ -66,6 +66,7 @@ fn hunt_line<'a>(line: &ShowLine<'a>) -> HuntLine<'a> {
         named: None,
         skip: None,
         idle: None,
+        lines: line.lines,
         ignore: line.ignore,
         save_to: line.save_to,
         page: line.page,
@@ -135,6 +136,7 @@ fn show_by<'a>(
     }
     let mut inputs = Inputs {
         image: Flagged::new(InputFile::new(rt, image.0)),
+        lines: file_if(rt, lines_path(line.lines)),
         ignored: file_if(rt, ignore_path(line.ignore)),
         expected: file_if(rt, expect_path(line.expect)),
     };
@@ -165,6 +167,7 @@ fn show_by<'a>(
     );
     let Inputs {
         image: image_file,
+        lines,
         ignored,
         expected,
     } = inputs;
@@ -177,6 +180,7 @@ fn show_by<'a>(
         json: has_failed(&json),
         said: Said {
             image: image_file.into_inner().said(),
+            lines: said_of(lines),
             ignored: said_of(ignored),
             expected: said_of(expected),
             folder: folder_said(&folder),

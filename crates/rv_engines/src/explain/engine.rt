@@ -1,5 +1,6 @@
 //! The engine of `explain`: an image and a schedule in, text out, and a picture where one is wanted.
 ghost use Rattle.std.specs.Prelude.{◌≡◌, ◌<◌, ◌||◌, [], true, false, Ok, IfOk, IfErr, IfSome, OnOk, is_some, length, map};
+ghost use Rattle.std.specs.Option.{option_map_or};
 ghost use Rattle.std.specs.Result.{IsOk};
 ghost use Rattle.std.specs.Io.KnownBytes.{Appends, Keeps};
 ghost use Rattle.rv_explain.specs.Blocks.{shown_of};
@@ -13,13 +14,16 @@ ghost use Rattle.rv_engines.specs.CommandFault.{IsTold, refusal, fails_by, is_re
 ghost use Rattle.rv_engines.specs.Explains as spec;
 ghost use Rattle.rv_engines.specs.Fault as plain;
 ghost use Rattle.rv_engines.specs.Replay.{IfKnown};
+ghost use Rattle.rv_engines.specs.SourceFile as source;
 
+use crate::explain::fault::ExplainFault;
 use crate::explain::object::{Explained, object_text};
 use crate::explain::opening::open_run;
 use crate::explain::options::{About, ExplainOptions};
 use crate::fault::Fault;
 use crate::new_file::NewFile;
 use crate::run::fault::CommandFault;
+use crate::source_lines::{lines_miss, read_source_if};
 use rv_debug::session::Session;
 use rv_explain::block::Block;
 use rv_explain::blocks::{ordered_text, totals_text};
@@ -28,7 +32,9 @@ use rv_explain::order::{EIGHT_TRIALS, OrderTrials, order_of, order_rows};
 use rv_explain::picture::picture_text;
 use rv_explain::races::RunRaces;
 use rv_explain::stuck::{StuckBlock, stuck_block, stuck_text};
+use rv_elf::Image;
 use rv_explain::symbol_table::SymbolTable;
+use rv_lines::lines::SourceLines;
 use rv_memory::buffered::Buffered;
 use rv_memory::flagged::Flagged;
 use rv_memory::output::Output;
@@ -53,7 +59,7 @@ fn blocks_of<'a>(
     options: &ExplainOptions<'a>,
     draws: bool,
 ) -> Result<Vec<Block>, CommandFault<'a>>
-    requires image { session.old.image ≡ symbols.now }
+    requires image { session.old.image ≡ symbols.now.image }
     requires told { AreTold (placed_run session.old) found.now.races.items }
     ensures ok { IfOk result (λ blocks.
         spec.shown_in_run draws (asking options.now) (placed_run session.old) (found_of found.now)
@@ -219,6 +225,7 @@ fn object_if(
     blocks: &[Block],
     beside: &BesideBlocks,
     harts: u8,
+    misses: bool,
     wanted: Option<Wanted<'_>>,
 ) -> Result<Option<Vec<u8>>, NoMemory>
     ensures wanted { IfOk result (λ made. is_some made ≡ is_some wanted.entry) }
@@ -234,6 +241,7 @@ fn object_if(
         first: first_number(options),
         harts,
         stuck: beside.stuck.as_ref(),
+        misses,
     };
     Ok(Some(object_text(alloc, symbols, &about, digest, &of)?))
 }
@@ -247,6 +255,7 @@ fn texts_of(
     options: &ExplainOptions,
     blocks: &[Block],
     draws: bool,
+    misses: bool,
     wanted: Option<Wanted<'_>>,
 ) -> Result<Texts, NoMemory>
     requires { draws ≡ true → 0 < length blocks.now }
@@ -259,7 +268,7 @@ fn texts_of(
     let text = text_of(alloc, symbols, found, options, blocks, &beside)?;
     let harts = session.machine().harts();
     let object = object_if(
-        alloc, symbols, found, options, blocks, &beside, harts, wanted,
+        alloc, symbols, found, options, blocks, &beside, harts, misses, wanted,
     )?;
     let first = first_number(options);
     let picture = match blocks.first() {
@@ -311,53 +320,73 @@ fn publish<F: NewFile, W: Write>(
     Ok(())
 }
 
-/// Reads an image and then a schedule, and tells the schedule's races, or the one that is asked for. Where a picture is
+/// The symbols of an image, with the lines of its sources, where they are known.
+fn symbols_of<'a>(
+    alloc: Global,
+    image: &'a Image,
+    lines: &'a Option<SourceLines>,
+) -> Result<SymbolTable<'a>, NoMemory>
+    ensures { IfOk result (λ symbols. symbols.image ≡ image.now) }
+{
+    let symbols = SymbolTable::new(alloc, image)?;
+    match lines {
+        Some(lines) => Ok(symbols.with_lines(lines)),
+        None => Ok(symbols),
+    }
+}
+
+/// Reads an image, a schedule and then a file of source lines where one is given, and tells the schedule's races, or the one that is asked for. Where a picture is
 /// or an object is wanted its file is made first. Where one of the files or the list of names is refused, an entry is not what its call
-/// adds, or there is no such race, nothing is written and no file is made.
+/// adds, or there is no such race, nothing is written and no file is made. The answer is whether the lines have no frame of the image.
 pub fn run_explain<'a, R: Read, Q: Read, F: NewFile, W: Write>(
     alloc: Global,
     options: &ExplainOptions<'a>,
     about: &About<'_>,
     image: &mut Flagged<R>,
     schedule: &mut Flagged<Q>,
+    lines: &mut Option<Flagged<R>>,
     picture: &mut Option<F>,
     json: &mut Option<F>,
     writer: &mut Buffered<W>,
-) -> Result<(), CommandFault<'a>>
+) -> Result<bool, ExplainFault<'a>>
     ensures told { OnOk result (
         IfKnown (R.remaining (flag.device image.old)) (Q.remaining (flag.device schedule.old)) (λ i s.
         spec.IsOfLegal i s × IsOk (spec.explain_of (is_some picture.old) (asking options.now) i s))) }
     ensures drawn { OnOk result (IfSome picture.new (λ file. spec.IsDrawn (F.Holds file))) }
     ensures object { OnOk result (IfSome json.new (λ file. spec.IsObjected (F.Holds file))) }
     ensures wanted { (is_some picture.new ≡ is_some picture.old) × (is_some json.new ≡ is_some json.old) }
+    ensures lines { OnOk result (IfSome (source.bytes_if R.remaining lines.old) (λ bytes. IsOk (source.source_in bytes))) }
     ensures refused { IfErr result (λ fault.
         IfKnown (R.remaining (flag.device image.old)) (Q.remaining (flag.device schedule.old)) (λ i s.
-        spec.IsExplainRefusal (is_some picture.old) (asking options.now) i s (refusal fault))) }
-    ensures nothing { IfErr result (λ fault. is_write (refusal fault) ≡ false
+        IfSome (source.bytes_if R.remaining lines.old) (λ l.
+        spec.IsExplainTold (is_some picture.old) (asking options.now) i s l fault))) }
+    ensures nothing { IfErr result (λ fault. spec.is_write fault ≡ false
         → Keeps (buffer.sent W.contents writer.old) (buffer.sent W.contents writer.new)) }
-    ensures none { IfErr result (λ fault. is_write (refusal fault) ≡ false
+    ensures none { IfErr result (λ fault. spec.is_write fault ≡ false
         → (passes F.is_made picture.new ≡ passes F.is_made picture.old) × (passes F.is_made json.new ≡ passes F.is_made json.old)) }
     ensures first { (passes F.has_failed picture.old || passes F.has_failed json.old) ≡ false
         → (passes F.has_failed picture.new || passes F.has_failed json.new) ≡ true
         → Keeps (buffer.sent W.contents writer.old) (buffer.sent W.contents writer.new) }
-    ensures readers { (flag.has_failed image.new || flag.has_failed schedule.new)
-        ≡ (flag.has_failed image.old || flag.has_failed schedule.old || fails_by is_read result) }
+    ensures readers { (flag.has_failed image.new || flag.has_failed schedule.new || option_map_or flag.has_failed lines.new false)
+        ≡ (flag.has_failed image.old || flag.has_failed schedule.old || option_map_or flag.has_failed lines.old false || spec.fails_by spec.is_read result) }
     ensures writers { (passes F.has_failed picture.new || passes F.has_failed json.new || buffer.has_failed writer.new)
-        ≡ (passes F.has_failed picture.old || passes F.has_failed json.old || buffer.has_failed writer.old || fails_by is_write result) }
+        ≡ (passes F.has_failed picture.old || passes F.has_failed json.old || buffer.has_failed writer.old || spec.fails_by spec.is_write result) }
 {
     let draws = picture.is_some();
     let mut opened = open_run(alloc, options, draws, image, schedule)?;
+    let source = read_source_if(alloc, lines)?;
     let run = &mut opened;
-    let symbols = SymbolTable::new(alloc, &run.image)?;
+    let symbols = symbols_of(alloc, &run.image, &source)?;
+    let misses = lines_miss(&run.image, &source);
     let found = &run.found;
     let blocks = blocks_of(alloc, &mut run.session, &symbols, found, options, draws)?;
     let session = &run.session;
     let wanted = wanted_if(json.is_some(), *about, run.digest.as_str());
     let texts = texts_of(
-        alloc, &symbols, session, found, options, &blocks, draws, wanted,
+        alloc, &symbols, session, found, options, &blocks, draws, misses, wanted,
     )?;
     match publish(&texts, picture, json, writer) {
-        Ok(()) => Ok(()),
-        Err(fault) => Err(CommandFault::from(fault)),
+        Ok(()) => Ok(misses),
+        Err(fault) => Err(ExplainFault::from(fault)),
     }
 }

@@ -38,7 +38,7 @@ hunt_in asked opened = hunt_by asked opened.image opened.lists
 
 -- the same with the digits of the image's file, the exit codes that are right, and the lists of files
 abbrev pub hunting_with : Hunt → List ℕ → List ℕ → Lists → Hunting
-hunting_with hunt digits right lists = record { hunt = hunt; digits = digits; ignored = lists.ignored; expected = lists.expected; aim = lists.aim; right = right; built = lists.built }
+hunting_with hunt digits right lists = record { hunt = hunt; digits = digits; lines = lists.source; ignored = lists.ignored; expected = lists.expected; aim = lists.aim; right = right; built = lists.built }
 
 abbrev pub texts_in : Made → Texts
 texts_in made = record { text = made.text.items; notes = made.notes.items }

@@ -28,6 +28,7 @@ use indexmap::IndexMap;
 use rv_campaign::PoolFault;
 use rv_explain::block::RaceClass;
 use rv_explain::classes::rank;
+use rv_engines::source_lines::lines_miss;
 use rv_explain::symbol_table::SymbolTable;
 use rv_memory::store::NoMemory;
 use rv_report::key::Key;
@@ -96,7 +97,8 @@ impl Given<'_, '_, '_, '_> {
             races: &races,
             ignored: &parted.ignored,
             new: &unexpected,
-            gone: gone(alloc, self.symbols.image(), expected)?,
+            gone: gone(alloc, self.symbols.image(), &self.lists.source, expected)?,
+            misses: lines_miss(self.symbols.image(), &self.lists.source),
             built: self.lists.built,
         };
         let line = &self.options.line;
