@@ -48,18 +48,18 @@ threads_options = plan_options ++ required_option (codes "seed") ∷ option (cod
 
 -- the options of `explain`
 abbrev pub explain_options : List Rule
-explain_options = option (codes "named") ∷ option (codes "around") ∷ option (codes "race") ∷ option (codes "picture") ∷ option (codes "json") ∷ option (codes "color") ∷ []
+explain_options = option (codes "named") ∷ option (codes "lines") ∷ option (codes "around") ∷ option (codes "race") ∷ option (codes "picture") ∷ option (codes "json") ∷ option (codes "color") ∷ []
 
 -- the options of `hunt`
 abbrev pub hunt_options : List Rule
 hunt_options = option (codes "harts") ∷ option (codes "seed") ∷ option (codes "first") ∷ option (codes "runs") ∷ option (codes "budget")
     ∷ option (codes "workers") ∷ option (codes "plan") ∷ option (codes "slots") ∷ flag (codes "sampled") ∷ option (codes "aim") ∷ flag (codes "no-orders") ∷ option (codes "named") ∷ option (codes "skip")
-    ∷ option (codes "idle") ∷ option (codes "ignore") ∷ option (codes "save-to") ∷ option (codes "page") ∷ option (codes "list") ∷ option (codes "table-to") ∷ option (codes "json") ∷ option (codes "blocks")
+    ∷ option (codes "idle") ∷ option (codes "lines") ∷ option (codes "ignore") ∷ option (codes "save-to") ∷ option (codes "page") ∷ option (codes "list") ∷ option (codes "table-to") ∷ option (codes "json") ∷ option (codes "blocks")
     ∷ flag (codes "table") ∷ flag (codes "check") ∷ flag (codes "check-all") ∷ flag (codes "check-ends") ∷ option (codes "right") ∷ option (codes "expect") ∷ flag (codes "quiet") ∷ flag (codes "progress") ∷ option (codes "color") ∷ []
 
 -- the options of `show`
 abbrev pub show_options : List Rule
-show_options = option (codes "ignore") ∷ option (codes "save-to") ∷ option (codes "page") ∷ option (codes "list") ∷ option (codes "json") ∷ option (codes "blocks")
+show_options = option (codes "lines") ∷ option (codes "ignore") ∷ option (codes "save-to") ∷ option (codes "page") ∷ option (codes "list") ∷ option (codes "json") ∷ option (codes "blocks")
     ∷ option (codes "workers") ∷ flag (codes "check") ∷ flag (codes "check-all") ∷ option (codes "expect") ∷ flag (codes "quiet") ∷ flag (codes "progress") ∷ option (codes "color") ∷ []
 
 -- a command's name, and what it takes

@@ -33,7 +33,7 @@ pub data Asked : Type 0 where
   Run : (image : Text) → (wanted : Request) → (save : Option Text) → Asked
   Threads : (image : Text) → (plan : Numbers) → (seed : ℕ) → (save : Option Text) → Asked
   Exhibit : (image schedule : Text) → (number : ℕ) → Asked
-  Explain : (image schedule : Text) → (wanted : Asking) → (picture json : Option Text) → Asked
+  Explain : (image schedule : Text) → (wanted : Asking) → (lines picture json : Option Text) → Asked
   Gdb : (image schedule : Text) → Asked
   Hunt : (image : Text) → (wanted : Hunting) → Asked
   Merge : (tables : List Text) → (expected : Option Text) → (gaps : Bool) → Asked
@@ -49,7 +49,7 @@ asked (job.Debug image schedule) = Debug image.0.now schedule.0.now
 asked (job.Run image options save) = Run image.0.now (request options) (option_map (λ path. path.0.now) save)
 asked (job.Threads image plan seed save) = Threads image.0.now (numbers plan) seed (option_map (λ path. path.0.now) save)
 asked (job.Exhibit image schedule number) = Exhibit image.0.now schedule.0.now number
-asked (job.Explain image schedule options picture json) = Explain image.0.now schedule.0.now (asking options) (option_map (λ path. path.0.now) picture) (option_map (λ path. path.0.now) json)
+asked (job.Explain image schedule options lines picture json) = Explain image.0.now schedule.0.now (asking options) (option_map (λ path. path.0.now) lines) (option_map (λ path. path.0.now) picture) (option_map (λ path. path.0.now) json)
 asked (job.Gdb image schedule) = Gdb image.0.now schedule.0.now
 asked (job.Hunt image line) = Hunt image.0.now (hunting line)
 asked (job.Merge tables expected gaps) = Merge (texts tables.0.now) (option_map (λ path. path.0.now) expected) gaps
@@ -87,7 +87,7 @@ threads_at rows = option_and_then (λ image. option_and_then (λ plan. option_ma
     (number_at (codes "seed") 0 MOST_SEED rows)) (plan_at rows)) (first_of (codes "IMAGE") rows)
 
 abbrev pub explain_at : List Row → Option Asked
-explain_at rows = option_and_then (λ saved. option_map (λ wanted. Explain saved.0 saved.1 wanted (first_of (codes "picture") rows) (first_of (codes "json") rows)) (asking_at rows)) (saved_at rows)
+explain_at rows = option_and_then (λ saved. option_map (λ wanted. Explain saved.0 saved.1 wanted (first_of (codes "lines") rows) (first_of (codes "picture") rows) (first_of (codes "json") rows)) (asking_at rows)) (saved_at rows)
 
 abbrev pub hunt_at : List Row → Option Asked
 hunt_at rows = option_and_then (λ image. option_map (λ wanted. Hunt image wanted) (hunting_at rows)) (first_of (codes "IMAGE") rows)

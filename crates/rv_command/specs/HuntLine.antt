@@ -32,6 +32,7 @@ pub record Hunting : Type 0 where
   pub named : Option Text
   pub skip : Option Text
   pub idle : Option Text
+  pub lines : Option Text
   pub ignore : Option Text
   pub save_to : Option Text
   pub page : Option Text
@@ -68,6 +69,7 @@ hunting line = record {
   named = option_map (λ text. text.now) line.named;
   skip = option_map (λ text. text.now) line.skip;
   idle = option_map (λ text. text.now) line.idle;
+  lines = option_map (λ path. path.0.now) line.lines;
   ignore = option_map (λ path. path.0.now) line.ignore;
   save_to = option_map (λ path. path.0.now) line.save_to;
   page = option_map (λ path. path.0.now) line.page;
@@ -171,6 +173,7 @@ hunting_at rows =
       named = first_of (codes "named") rows;
       skip = first_of (codes "skip") rows;
       idle = first_of (codes "idle") rows;
+      lines = first_of (codes "lines") rows;
       ignore = first_of (codes "ignore") rows;
       save_to = first_of (codes "save-to") rows;
       page = first_of (codes "page") rows;

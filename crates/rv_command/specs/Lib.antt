@@ -1,4 +1,5 @@
 pub mod ClapProgram
+pub mod Color
 pub mod Command
 pub mod ExplainLine
 pub mod Given

@@ -10,6 +10,7 @@ use Rattle.rv_command.specs.declared.command.show.ShowLine.{ShowLine}
 -- What a line of `show` asks for, beside its image and its table.
 pub record Showing : Type 0 where
   pub workers : Option ℕ
+  pub lines : Option Text
   pub ignore : Option Text
   pub save_to : Option Text
   pub page : Option Text
@@ -26,6 +27,7 @@ pub record Showing : Type 0 where
 abbrev pub showing : ShowLine → Showing
 showing line = record {
   workers = line.workers;
+  lines = option_map (λ path. path.0.now) line.lines;
   ignore = option_map (λ path. path.0.now) line.ignore;
   save_to = option_map (λ path. path.0.now) line.save_to;
   page = option_map (λ path. path.0.now) line.page;
@@ -44,6 +46,7 @@ showing_at rows =
     option_and_then (λ workers. option_and_then (λ blocks. option_map (λ progress.
     record {
       workers = workers;
+      lines = first_of (codes "lines") rows;
       ignore = first_of (codes "ignore") rows;
       save_to = first_of (codes "save-to") rows;
       page = first_of (codes "page") rows;

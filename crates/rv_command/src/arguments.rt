@@ -40,6 +40,10 @@ pub struct JsonPath<'a>(pub &'a str);
 #[derive(Clone, Copy, Debug, PartialEq, Eq)]
 pub struct FolderPath<'a>(pub &'a str);
 
+/// The path of a file of source lines.
+#[derive(Clone, Copy, Debug, PartialEq, Eq)]
+pub struct LinesPath<'a>(pub &'a str);
+
 /// The path of a list of races that are to be ignored.
 #[derive(Clone, Copy, Debug, PartialEq, Eq)]
 pub struct IgnorePath<'a>(pub &'a str);

@@ -30,7 +30,8 @@ pub mod subcommand;
 pub mod threads;
 
 use crate::arguments::{
-    ImagePath, JsonPath, PicturePath, SavePath, SchedulePath, SourcePath, TablePath, TablePaths,
+    ImagePath, JsonPath, LinesPath, PicturePath, SavePath, SchedulePath, SourcePath, TablePath,
+    TablePaths,
 };
 use crate::command::commands::COMMANDS;
 use crate::command::complaint::Complaint;
@@ -103,6 +104,7 @@ pub enum Job<'a> {
         image: ImagePath<'a>,
         schedule: SchedulePath<'a>,
         options: ExplainOptions<'a>,
+        lines: Option<LinesPath<'a>>,
         picture: Option<PicturePath<'a>>,
         json: Option<JsonPath<'a>>,
     },

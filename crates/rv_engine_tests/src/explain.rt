@@ -4,6 +4,7 @@ use crate::exhibit::{HIT, ILLEGAL, NO_PLAN, P, QUIET, STORES, long_schedule};
 use crate::images::file_of;
 use crate::kept::Kept;
 use rv_engines::explain::engine::run_explain;
+use rv_engines::explain::fault::ExplainFault;
 use rv_engines::explain::options::{About, ExplainOptions};
 use rv_engines::fault::Fault;
 use rv_engines::run::fault::CommandFault;
@@ -50,16 +51,26 @@ fn told<'a, W: Write>(
     writer: &mut Buffered<W>,
 ) -> Result<(), CommandFault<'a>> {
     let mut none: Option<Kept> = None;
-    run_explain(
+    as_command(run_explain(
         alloc,
         options,
         &ABOUT,
         &mut Flagged::new(image),
         &mut Flagged::new(schedule),
+        &mut None,
         picture,
         &mut none,
         writer,
-    )
+    ))
+}
+
+/// The same where no source lines are read.
+fn as_command<'a>(told: Result<bool, ExplainFault<'a>>) -> Result<(), CommandFault<'a>> {
+    match told {
+        Ok(_) => Ok(()),
+        Err(ExplainFault::Command(fault)) => Err(fault),
+        Err(ExplainFault::Lines(_)) => Err(CommandFault::NoThread),
+    }
 }
 
 /// Two stores to the same bytes: hart 0 is paused before its own, and hart 1 makes one.
@@ -271,7 +282,7 @@ fn tells_a_writer_that_fails(rt: HostRuntime) {
 }
 
 /// What `explain` answers of two readers, whatever it writes.
-fn read_by<I: Read, S: Read>(
+fn read_by<I: Read + Drop, S: Read>(
     alloc: Global,
     image: &mut Flagged<I>,
     schedule: &mut Flagged<S>,
@@ -279,16 +290,18 @@ fn read_by<I: Read, S: Read>(
     let mut writer = Buffered::new(alloc, Vec::new(alloc));
     let mut none: Option<Kept> = None;
     let mut object: Option<Kept> = None;
-    plain(run_explain(
+    let mut lines: Option<Flagged<I>> = None;
+    plain(as_command(run_explain(
         alloc,
         &PLAIN,
         &ABOUT,
         image,
         schedule,
+        &mut lines,
         &mut none,
         &mut object,
         &mut writer,
-    ))
+    )))
 }
 
 #[test]

@@ -1,6 +1,6 @@
 -- What two files and the options of `explain` come to, and why they are refused.
-use Rattle.std.proofs.Common.{◌≡◌, ℕ, Bool, true, false, true≢false, List, [], length, Option, Some, None, Ok, Err, refl, sym, ap, subst, ◌∙◌}
-use Rattle.std.specs.Prelude.{◌==◌, ◌||◌, ◌&&◌, IfSome, if◌then◌else◌, find, is_some}
+use Rattle.std.proofs.Common.{◌≡◌, ℕ, Bool, true, false, true≢false, List, [], length, Option, Some, None, Result, Ok, Err, refl, sym, ap, subst, ◌∙◌}
+use Rattle.std.specs.Prelude.{◌==◌, ◌||◌, ◌&&◌, IfSome, IsOkAnd, if◌then◌else◌, find, is_some}
 use Rattle.std.specs.Result.{IsOk}
 use Rattle.rv_collide.specs.Legal.{IsLegal}
 use Rattle.rv_collide.specs.Plan.{Numbers}
@@ -14,19 +14,24 @@ use Rattle.rv_explain.specs.Blocks.{RaceShown}
 use Rattle.rv_explain.specs.Explained.{blocks_asked}
 use Rattle.rv_explain.specs.Races.{AreTold, Found, Run, found, found_of, run_of as placed_run}
 use Rattle.rv_races.specs.declared.races.Race.{Race}
+use Rattle.rv_lines.specs.SourceLines.{SourceLine}
 use Rattle.rv_markup.specs.Markup.{IsDocument}
 use Rattle.rv_memory.specs.Chain.{◌>>=◌}
 use Rattle.rv_prune.specs.Ranges.{is_unknown, ranges}
 use Rattle.rv_engines.proofs.ReplayLemmas.{entry_told}
 use Rattle.rv_engines.specs.Asking.{Asking}
 use Rattle.rv_engines.specs.Campaigns.{IfWanted, elements, listed, unless_some}
-use Rattle.rv_engines.specs.CommandFault.{Refusal, Plain, Name, NoThread, NoRace, IsTold, is_thread, plainly}
-use Rattle.rv_engines.specs.Explains.{IsAnObject, IsDrawn, IsExplainRefusal, IsObjected, IsOfLegal, explain_of, if_drawn, run_in, shown_in, shown_in_run, unless_none}
+use Rattle.rv_engines.specs.CommandFault.{Refusal, Plain, Name, NoThread, NoRace, IsTold, is_thread, plainly, refusal}
+use Rattle.rv_engines.specs.Explains.{IsAnObject, IsDrawn, IsExplainRefusal, IsExplainTold, IsObjected, IsOfLegal, SaysMiss, explain_of, if_drawn, of_command, of_fault, of_lines, run_in, shown_in, shown_in_run, unless_none}
 use Rattle.rv_engines.specs.Fault.{fault_of_replay}
 use Rattle.rv_engines.specs.Replay.{IfKnown, IsReplayRefusal, run_of}
 use Rattle.rv_engines.specs.declared.explain.opening.Opened.{Opened}
 use Rattle.rv_engines.specs.declared.fault.Fault.{Fault}
 use Rattle.rv_engines.specs.declared.fault.Fault.TheVariants.{Read, Write, NoMemory}
+use Rattle.rv_engines.specs.declared.explain.fault.ExplainFault.{ExplainFault}
+use Rattle.rv_engines.specs.declared.run.fault.CommandFault.{CommandFault}
+use Rattle.rv_engines.specs.declared.source_lines.SourceFault.{SourceFault}
+use Rattle.rv_engines.specs.SourceFile as source
 use Rattle.rv_engines.specs.internal.Opened.{AreFound}
 
 -- ---- the files
@@ -140,24 +145,85 @@ races_refused (Some i) None draws wanted opened told is image legal found_in no_
 races_refused (Some i) (Some s) draws wanted opened told is image legal found_in no_thread h =
     races_told draws wanted i s (placed_run opened.session) (found_of opened.found) told (of_legal i s _ is legal) (whole draws wanted i s opened is image found_in) no_thread h
 
-pub races_shown : (image schedule : Option (List ℕ)) (draws : Bool) (wanted : Asking) (opened : Opened) (blocks : List RaceShown) → IfKnown image schedule (λ i s. run_of i s ≡ Ok (stored opened.session.image opened.session.plan opened.session.entries))
+pub races_shown : (image schedule : Option (List ℕ)) (draws : Bool) (wanted : Asking) (opened : Opened) → IfKnown image schedule (λ i s. run_of i s ≡ Ok (stored opened.session.image opened.session.plan opened.session.entries))
     → opened.session.image ≡ opened.image → IsLegal (setting opened.session) opened.session.entries → AreFound wanted opened
-    → shown_in_run draws wanted (placed_run opened.session) (found_of opened.found) ≡ Ok blocks → IfKnown image schedule (λ i s. IsOfLegal i s × IsOk (explain_of draws wanted i s))
-races_shown None schedule draws wanted opened blocks is image legal found_in h = tt
-races_shown (Some i) None draws wanted opened blocks is image legal found_in h = tt
-races_shown (Some i) (Some s) draws wanted opened blocks is image legal found_in h =
-    let all : explain_of draws wanted i s ≡ Ok blocks = whole draws wanted i s opened is image found_in ∙ h in
-    (of_legal i s _ is legal, rw all refl)
+    → IsOk (shown_in_run draws wanted (placed_run opened.session) (found_of opened.found)) → IfKnown image schedule (λ i s. IsOfLegal i s × IsOk (explain_of draws wanted i s))
+races_shown None schedule draws wanted opened is image legal found_in h = tt
+races_shown (Some i) None draws wanted opened is image legal found_in h = tt
+races_shown (Some i) (Some s) draws wanted opened is image legal found_in h =
+    (of_legal i s _ is legal, subst (λ (o : Result (List RaceShown) Refusal). IsOk o) (sym (whole draws wanted i s opened is image found_in)) h)
 
-pub write_refused : (image schedule : Option (List ℕ)) (draws : Bool) (wanted : Asking) (told : Refusal) → told ≡ Plain Write → IfKnown image schedule (λ i s. IsExplainRefusal draws wanted i s told)
-write_refused None schedule draws wanted told is = tt
-write_refused (Some i) None draws wanted told is = tt
-write_refused (Some i) (Some s) draws wanted told is = subst (λ (t : Refusal). IsExplainRefusal draws wanted i s t) (sym is) tt
+-- ---- with source lines
 
-pub memory_refused : (image schedule : Option (List ℕ)) (draws : Bool) (wanted : Asking) (told : Refusal) → told ≡ Plain NoMemory → IfKnown image schedule (λ i s. IsExplainRefusal draws wanted i s told)
-memory_refused None schedule draws wanted told is = tt
-memory_refused (Some i) None draws wanted told is = tt
-memory_refused (Some i) (Some s) draws wanted told is = subst (λ (t : Refusal). IsExplainRefusal draws wanted i s t) (sym is) tt
+-- what is told of the files is told with any lines too
+pub told_command : (image schedule : Option (List ℕ)) (lines : Option (Option (List ℕ))) (draws : Bool) (wanted : Asking) (given : CommandFault)
+    → IfKnown image schedule (λ i s. IsExplainRefusal draws wanted i s (refusal given)) → IfKnown image schedule (λ i s. IfSome lines (λ l. IsExplainTold draws wanted i s l (of_command given)))
+told_command None schedule lines draws wanted given h = tt
+told_command (Some i) None lines draws wanted given h = tt
+told_command (Some i) (Some s) None draws wanted given h = tt
+told_command (Some i) (Some s) (Some l) draws wanted given h = h
+
+-- lines that are refused are told where the schedule is legal
+pub told_lines : (image schedule : Option (List ℕ)) (lines : Option (Option (List ℕ))) (draws : Bool) (wanted : Asking) (run : Stored) (given : SourceFault) → IfKnown image schedule (λ i s. run_of i s ≡ Ok run)
+    → IsLegal (setting_of run) run.entries → IfSome lines (λ l. source.IsTold (source.source_in l) given) → IfKnown image schedule (λ i s. IfSome lines (λ l. IsExplainTold draws wanted i s l (of_lines given)))
+told_lines None schedule lines draws wanted run given is legal h = tt
+told_lines (Some i) None lines draws wanted run given is legal h = tt
+told_lines (Some i) (Some s) None draws wanted run given is legal h = tt
+told_lines (Some i) (Some s) (Some l) draws wanted run given is legal h = (of_legal i s run is legal, h)
+
+pub write_told : (image schedule : Option (List ℕ)) (lines : Option (Option (List ℕ))) (draws : Bool) (wanted : Asking) (told : ExplainFault) → told ≡ of_fault Write
+    → IfKnown image schedule (λ i s. IfSome lines (λ l. IsExplainTold draws wanted i s l told))
+write_told None schedule lines draws wanted told is = tt
+write_told (Some i) None lines draws wanted told is = tt
+write_told (Some i) (Some s) None draws wanted told is = tt
+write_told (Some i) (Some s) (Some l) draws wanted told is = subst (λ (t : ExplainFault). IsExplainTold draws wanted i s l t) (sym is) tt
+
+-- whether the lines miss the image is said of what was read
+pub missed : (image schedule : Option (List ℕ)) (lines : Option (Option (List ℕ))) (opened : Opened) (read : Option (List SourceLine)) (misses : Bool)
+    → IfKnown image schedule (λ i s. run_of i s ≡ Ok (stored opened.session.image opened.session.plan opened.session.entries)) → opened.session.image ≡ opened.image
+    → IfSome lines (λ l. source.source_in l ≡ Ok read) → misses ≡ source.lines_miss opened.image read → IfKnown image schedule (λ i s. IfSome lines (λ l. SaysMiss i s l misses))
+missed None schedule lines opened read misses is image read_is same = tt
+missed (Some i) None lines opened read misses is image read_is same = tt
+missed (Some i) (Some s) None opened read misses is image read_is same = tt
+missed (Some i) (Some s) (Some l) opened read misses is image read_is same =
+    subst (λ (o : Result Stored Fault). IsOkAnd o (λ (run : Stored). IsOkAnd (source.source_in l) (λ (found : Option (List SourceLine)). misses ≡ source.lines_miss run.image found))) (sym is)
+    (subst (λ (o : Result (Option (List SourceLine)) SourceFault). IsOkAnd o (λ (found : Option (List SourceLine)). misses ≡ source.lines_miss opened.session.image found)) (sym read_is)
+    (same ∙ ap (λ (c : Contents). source.lines_miss c read) (sym image)))
+
+reassoc : (a b c : Bool) → (a || b || c) ≡ ((a || b) || c)
+reassoc true b c = refl
+reassoc false b c = refl
+
+swapped : (i s f l : Bool) → ((i || s || f) || l) ≡ (i || s || l || f)
+swapped true s f l = refl
+swapped false true f l = refl
+swapped false false true true = refl
+swapped false false true false = refl
+swapped false false false true = refl
+swapped false false false false = refl
+
+joined : (i s l g : Bool) → ((i || s || false) || (l || g)) ≡ (i || s || l || g)
+joined true s l g = refl
+joined false true l g = refl
+joined false false l g = refl
+
+-- of three readers the first two may have failed
+pub files_read : (image_now schedule_now image schedule failed lines : Bool) → (image_now || schedule_now) ≡ (image || schedule || failed)
+    → (image_now || schedule_now || lines) ≡ (image || schedule || lines || failed)
+files_read image_now schedule_now image schedule failed lines h =
+    reassoc image_now schedule_now lines ∙ ap (λ (b : Bool). b || lines) h ∙ swapped image schedule failed lines
+
+-- or the last
+pub lines_read : (image_now schedule_now lines_now image schedule lines failed : Bool) → (image_now || schedule_now) ≡ (image || schedule || false) → lines_now ≡ (lines || failed)
+    → (image_now || schedule_now || lines_now) ≡ (image || schedule || lines || failed)
+lines_read image_now schedule_now lines_now image schedule lines failed h k =
+    reassoc image_now schedule_now lines_now ∙ ap (λ (b : Bool). b || lines_now) h ∙ ap (λ (b : Bool). (image || schedule || false) || b) k ∙ joined image schedule lines failed
+
+-- or none
+pub all_read : (image_now schedule_now lines_now image schedule lines failed : Bool) → (image_now || schedule_now) ≡ (image || schedule || false) → lines_now ≡ (lines || false) → failed ≡ false
+    → (image_now || schedule_now || lines_now) ≡ (image || schedule || lines || failed)
+all_read image_now schedule_now lines_now image schedule lines failed h k is =
+    lines_read image_now schedule_now lines_now image schedule lines false h k ∙ ap (λ (b : Bool). image || schedule || lines || b) (sym is)
 
 -- ---- what is written
 

@@ -1,5 +1,5 @@
 -- Which blocks `explain` shows of two files, an image and a schedule, by its options.
-use Rattle.std.specs.Prelude.{◌≡◌, ℕ, ◌==◌, Bool, ◌&&◌, if◌then◌else◌, IsOkAnd, Option, Some, None, Result, Ok, Err, List, [], length}
+use Rattle.std.specs.Prelude.{◌≡◌, ℕ, ◌==◌, Bool, false, ◌&&◌, if◌then◌else◌, IsOkAnd, Option, Some, None, Result, Ok, Err, List, [], length}
 use Rattle.rv_collide.specs.Legal.{IsLegal}
 use Rattle.rv_collide.specs.Stored.{Stored, setting_of}
 use Rattle.rv_debug.specs.Placed.{placed}
@@ -7,11 +7,21 @@ use Rattle.rv_explain.specs.Blocks.{RaceShown}
 use Rattle.rv_explain.specs.Explained.{blocks_asked}
 use Rattle.rv_explain.specs.Races.{Found, Run, found, run_of as placed_run}
 use Rattle.rv_json.specs.Object.{IsObject, Member}
+use Rattle.rv_lines.specs.SourceLines.{SourceLine}
 use Rattle.rv_markup.specs.Markup.{IsDocument}
 use Rattle.rv_memory.specs.Chain.{◌>>=◌}
 use Rattle.rv_engines.specs.Asking.{Asking}
 use Rattle.rv_engines.specs.Campaigns.{elements, listed}
-use Rattle.rv_engines.specs.CommandFault.{Refusal, Plain, NoRace, plainly}
+use Rattle.rv_engines.specs.CommandFault as reading
+use Rattle.rv_engines.specs.CommandFault.{Refusal, Plain, NoRace, plainly, refusal}
+use Rattle.rv_engines.specs.SourceFile as source
+use Rattle.rv_engines.specs.declared.explain.fault.ExplainFault.{ExplainFault}
+use Rattle.rv_engines.specs.declared.explain.fault.ExplainFault.TheVariants.{Command, Lines}
+use Rattle.rv_engines.specs.declared.fault.Fault.{Fault}
+use Rattle.rv_engines.specs.declared.fault.Fault.TheVariants as plain
+use Rattle.rv_engines.specs.declared.run.fault.CommandFault.{CommandFault}
+use Rattle.rv_engines.specs.declared.run.fault.CommandFault.TheVariants as command
+use Rattle.rv_engines.specs.declared.source_lines.SourceFault.{SourceFault}
 use Rattle.rv_engines.specs.Replay.{IsReplayRefusal, run_of}
 
 -- the run that is told of
@@ -64,3 +74,43 @@ IsOfLegal image schedule = IsOkAnd (run_of image schedule) (λ run. IsLegal (set
 abbrev pub IsExplainRefusal : Bool → Asking → List ℕ → List ℕ → Refusal → Type 0
 IsExplainRefusal draws wanted image schedule (Plain fault) = IsReplayRefusal image schedule fault
 IsExplainRefusal draws wanted image schedule told = IsOfLegal image schedule × (explain_of draws wanted image schedule ≡ Err told)
+
+-- ---- with source lines
+
+abbrev pub of_command : CommandFault → ExplainFault
+of_command given = Command given
+
+abbrev pub of_lines : SourceFault → ExplainFault
+of_lines given = Lines given
+
+abbrev pub of_fault : Fault → ExplainFault
+of_fault given = Command (command.Plain given)
+
+abbrev pub no_memory : ExplainFault
+no_memory = of_fault plain.NoMemory
+
+-- The fault is the one that is told of the files: of the image and the schedule, the names and the race; or, where the schedule is legal,
+-- of the source lines.
+abbrev pub IsExplainTold : Bool → Asking → List ℕ → List ℕ → Option (List ℕ) → ExplainFault → Type 0
+IsExplainTold draws wanted image schedule lines (Command given) = IsExplainRefusal draws wanted image schedule (refusal given)
+IsExplainTold draws wanted image schedule lines (Lines given) = IsOfLegal image schedule × source.IsTold (source.source_in lines) given
+
+-- it is said whether the lines have no frames of any instruction of the image
+abbrev pub SaysMiss : List ℕ → List ℕ → Option (List ℕ) → Bool → Type 0
+SaysMiss image schedule lines misses =
+    IsOkAnd (run_of image schedule) (λ (run : Stored). IsOkAnd (source.source_in lines) (λ (read : Option (List SourceLine)). misses ≡ source.lines_miss run.image read))
+
+-- the fault is that a reader failed
+abbrev pub is_read : ExplainFault → Bool
+is_read (Command given) = reading.is_read (refusal given)
+is_read (Lines given) = source.is_read given
+
+-- the fault is that a writer or a file failed
+abbrev pub is_write : ExplainFault → Bool
+is_write (Command given) = reading.is_write (refusal given)
+is_write (Lines given) = source.is_write given
+
+-- something was refused, and the fault passes the test
+abbrev pub fails_by : {A : Type 0} → (ExplainFault → Bool) → Result A ExplainFault → Bool
+fails_by test (Ok a) = false
+fails_by test (Err given) = test given

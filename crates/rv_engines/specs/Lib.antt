@@ -12,6 +12,7 @@ pub mod Replay
 pub mod Request
 pub mod Sentences
 pub mod Shown
+pub mod SourceFile
 pub mod Sources
 pub mod Threads
 pub mod Words

@@ -18,6 +18,7 @@ pub mod replay;
 pub mod run;
 pub mod sentences;
 pub mod shown;
+pub mod source_lines;
 pub mod terms;
 pub mod threads;
 pub mod words;

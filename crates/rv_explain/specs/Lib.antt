@@ -18,4 +18,5 @@ pub use Rattle.rv_races.specs.Judged
 pub use Rattle.rv_races.specs.Races
 pub use Rattle.rv_races.specs.Second
 pub use Rattle.rv_races.specs.Stretches
+pub use Rattle.rv_symbols.specs.Naming
 pub use Rattle.rv_symbols.specs.Symbols

@@ -13,3 +13,10 @@ escaped_byte byte = if is_hidden byte then codes "\\x" ++ byte_digits byte else 
 
 abbrev pub escaped : List ℕ → List ℕ
 escaped name = flat_map escaped_byte name
+
+-- A field of a file of source lines, in which a backslash and each control character are escaped already.
+abbrev pub field_byte : ℕ → List ℕ
+field_byte byte = if is_hidden byte then codes "\\x" ++ byte_digits byte else byte ∷ []
+
+abbrev pub escaped_field : List ℕ → List ℕ
+escaped_field field = flat_map field_byte field

@@ -4,7 +4,7 @@ ghost use Rattle.std.specs.Prelude.{◌≡◌};
 ghost use Rattle.rv_explain.specs.Blocks as spec;
 
 use crate::block::{Block, RaceClass, Side};
-use crate::names::{Names, TEXT_NAME};
+use crate::names::{Names, TEXT_NAME, add_caller};
 use crate::rows::shown_line;
 use rv_collide::ending::Verdict;
 use rv_memory::store::NoMemory;
@@ -131,7 +131,7 @@ fn other_line(alloc: Global, names: &Names, block: &Block) -> Result<String, NoM
     Ok(format!(in alloc; "  hart {hart} {verb} {bytes}, entry {entry}{last}")?)
 }
 
-/// Adds the line of a side's instruction, and that of its caller.
+/// Adds the lines of a side's instruction, and those of its caller.
 fn add_side(
     alloc: Global,
     lines: &mut Vec<Vec<u8>>,
@@ -140,11 +140,8 @@ fn add_side(
 ) -> Result<(), NoMemory> {
     let instruction = names.instruction(alloc, side.access.pc, side.word)?;
     lines.push(format!(in alloc; "    {instruction}")?.into_bytes())?;
-    if let Some(caller) = side.caller {
-        let place = names.address(alloc, caller)?;
-        lines.push(format!(in alloc; "    called from {place}")?.into_bytes())?;
-    }
-    Ok(())
+    names.add_inlined(alloc, lines, side.access.pc)?;
+    add_caller(alloc, lines, names, side.caller)
 }
 
 fn values_line(alloc: Global, block: &Block) -> Result<String, NoMemory> {

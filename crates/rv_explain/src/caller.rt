@@ -45,7 +45,7 @@ fn follows_call(image: &Image, address: u32) -> bool
 
 /// Whether two addresses are told by one symbol.
 fn are_told_by_one(symbols: &SymbolTable, one: u32, other: u32) -> bool
-    ensures { result ≡ spec.are_told_by_one symbols.now one other }
+    ensures { result ≡ spec.are_told_by_one symbols.now.image one other }
 {
     match (symbols.symbol_of(one), symbols.symbol_of(other)) {
         (Some(symbol), Some(second)) => symbol.value == second.value,
@@ -61,7 +61,7 @@ fn is_return(image: &Image, address: u32) -> bool
 
 /// The return address in the frame of the function at pc.
 fn stored_return(symbols: &SymbolTable, machine: &Machine<Paged>, pc: u32, x2: u32) -> Option<u32>
-    ensures { result ≡ spec.stored_return symbols.now machine.now.state.memory pc x2 }
+    ensures { result ≡ spec.stored_return symbols.now.image machine.now.state.memory pc x2 }
 {
     let frame = frame_at(symbols, pc)?;
     let address = word_at(machine, x2.wrapping_add(frame.slot))?;
@@ -79,7 +79,7 @@ fn caller_by(
     x1: u32,
     x2: u32,
 ) -> Option<u32>
-    ensures { result ≡ spec.caller_by symbols.now machine.now.state.memory pc x1 x2 }
+    ensures { result ≡ spec.caller_by symbols.now.image machine.now.state.memory pc x1 x2 }
 {
     if !is_code(symbols.image(), x1) {
         None
@@ -101,7 +101,7 @@ pub(crate) fn caller_in(
     hart: u8,
     pc: u32,
 ) -> Option<u32>
-    ensures { result ≡ spec.caller_in symbols.now hart pc machine.now.state }
+    ensures { result ≡ spec.caller_in symbols.now.image hart pc machine.now.state }
 {
     if hart >= machine.harts() {
         return None;

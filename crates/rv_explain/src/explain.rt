@@ -24,7 +24,7 @@ pub fn blocks_asked(
     around: u32,
     asked: Option<u64>,
 ) -> Result<Option<Vec<Block>>, NoMemory>
-    requires image { session.old.image ≡ symbols.now }
+    requires image { session.old.image ≡ symbols.now.image }
     requires told { AreTold (run_of session.old) found.now.races.items }
     ensures blocks { IfOk result (λ blocks. option_map (λ some. map shown_of some.items) blocks
         ≡ spec.blocks_asked (run_of session.old) around found.now.races.items asked) }
@@ -47,7 +47,7 @@ fn all_blocks(
     races: &[Race],
     around: u32,
 ) -> Result<Vec<Block>, NoMemory>
-    requires image { session.old.image ≡ symbols.now }
+    requires image { session.old.image ≡ symbols.now.image }
     requires told { AreTold (run_of session.old) races.now }
     ensures blocks { IfOk result (λ blocks. map shown_of blocks.items ≡ map (race_shown (run_of session.old) around) races.now) }
     ensures same { session.new ≡ moved session.old session.new.place }

@@ -147,7 +147,7 @@ fn frame_in(image: &Image, pc: u32, function: &Symbol) -> Option<Frame>
 /// show it for certain.
 #[tactic(auto, unfolding(crate::specs::Frame::frame_at))]
 pub(crate) fn frame_at(symbols: &SymbolTable, pc: u32) -> Option<Frame>
-    ensures { result ≡ spec.frame_at symbols.now pc }
+    ensures { result ≡ spec.frame_at symbols.now.image pc }
 {
     let function = symbols.symbol_of(pc)?;
     frame_in(symbols.image(), pc, function)

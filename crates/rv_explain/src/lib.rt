@@ -8,7 +8,7 @@
 #![tactic(auto)]
 
 pub use rv_races::classes;
-pub use rv_symbols::{symbol_table, symbols};
+pub use rv_symbols::{frames, symbol_table, symbols};
 
 pub mod block;
 pub mod blocks;
@@ -29,6 +29,7 @@ pub mod races;
 pub mod row;
 mod rows;
 mod sides;
+mod source;
 pub mod stuck;
 pub mod told;
 mod walk;

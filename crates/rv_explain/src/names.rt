@@ -1,9 +1,11 @@
 //! How an address is written: by its symbol, as Linux writes addresses in its own reports.
 ghost use Rattle.std.specs.Prelude.{◌≡◌, ◌++◌, IfOk, OnOk, codes};
 ghost use Rattle.rv_explain.specs.Names as spec;
+ghost use Rattle.rv_hart.specs.Arithmetic.{minus};
 ghost use Rattle.rv_text.specs.Hexadecimal.{byte_digits};
 
 use crate::instruction::instruction_line;
+use crate::source::{at_text, inlined_row};
 use rv_memory::store::NoMemory;
 use rv_symbols::symbol_table::SymbolTable;
 use rv_text::hexadecimal::byte_digits;
@@ -43,6 +45,16 @@ fn add_byte(text: &mut Vec<u8>, byte: u8) -> Result<(), NoMemory>
     Ok(())
 }
 
+fn add_field_byte(text: &mut Vec<u8>, byte: u8) -> Result<(), NoMemory>
+    ensures { OnOk result (text.new.items ≡ text.old.items ++ spec.field_byte byte) }
+{
+    if is_hidden(byte) {
+        return add_hidden(text, byte);
+    }
+    text.push(byte)?;
+    Ok(())
+}
+
 /// A name from a file as people are shown it, in printable ASCII, so that it cannot steer a terminal.
 pub fn escaped(alloc: Global, name: &[u8]) -> Result<Vec<u8>, NoMemory>
     ensures { IfOk result (λ text. text.items ≡ spec.escaped name.now) }
@@ -50,6 +62,17 @@ pub fn escaped(alloc: Global, name: &[u8]) -> Result<Vec<u8>, NoMemory>
     let mut text = Vec::new(alloc);
     for byte in name {
         add_byte(&mut text, *byte)?;
+    }
+    Ok(text)
+}
+
+/// A field of a source line as a list has it: its file escapes backslashes itself.
+pub fn escaped_field(alloc: Global, field: &[u8]) -> Result<Vec<u8>, NoMemory>
+    ensures { IfOk result (λ text. text.items ≡ spec.escaped_field field.now) }
+{
+    let mut text = Vec::new(alloc);
+    for byte in field {
+        add_field_byte(&mut text, *byte)?;
     }
     Ok(text)
 }
@@ -102,7 +125,27 @@ impl Names<'_, '_> {
         }
     }
 
-    /// The same, and the line of the word that memory had there.
+    /// ` at FILE:LINE` of the innermost frame of an instruction, where that is known.
+    fn source(&self, alloc: Global, address: u32) -> Result<String, NoMemory> {
+        let mut frames = self.symbols.frames_at(address);
+        at_text(alloc, frames.next_frame())
+    }
+
+    /// The address of an instruction, its name, and its source line.
+    pub(crate) fn place(&self, alloc: Global, address: u32) -> Result<String, NoMemory> {
+        let place = self.address(alloc, address)?;
+        let source = self.source(alloc, address)?;
+        Ok(format!(in alloc; "{place}{source}")?)
+    }
+
+    /// The same of where a function returns to: the source line is that of the call in front of it.
+    pub(crate) fn caller(&self, alloc: Global, address: u32) -> Result<String, NoMemory> {
+        let place = self.address(alloc, address)?;
+        let source = self.source(alloc, call_before(address))?;
+        Ok(format!(in alloc; "{place}{source}")?)
+    }
+
+    /// The address of an instruction, its name, the line of the word that memory had there, and its source line.
     pub(crate) fn instruction(
         &self,
         alloc: Global,
@@ -110,12 +153,50 @@ impl Names<'_, '_> {
         word: Option<u32>,
     ) -> Result<String, NoMemory> {
         let place = self.address(alloc, address)?;
+        let source = self.source(alloc, address)?;
         let Some(word) = word else {
-            return Ok(format!(in alloc; "{place}: unreadable")?);
+            return Ok(format!(in alloc; "{place}: unreadable{source}")?);
         };
         let line = instruction_line(alloc, word, address)?;
-        Ok(format!(in alloc; "{place}: {line}")?)
+        Ok(format!(in alloc; "{place}: {line}{source}")?)
     }
+
+    /// Adds a row for each further frame of an instruction, which its function was inlined into.
+    pub(crate) fn add_inlined(
+        &self,
+        alloc: Global,
+        rows: &mut Vec<Vec<u8>>,
+        address: u32,
+    ) -> Result<(), NoMemory> {
+        let mut frames = self.symbols.frames_at(address);
+        let _ = frames.next_frame();
+        while let Some(frame) = frames.next_frame() {
+            rows.push(inlined_row(alloc, &frame)?)?;
+        }
+        Ok(())
+    }
+}
+
+/// The call that a function returns from to an address.
+pub(crate) fn call_before(address: u32) -> u32
+    ensures { result ≡ minus address 4 }
+{
+    address.wrapping_sub(4)
+}
+
+/// Adds the row of a caller, and those of the functions that the call was inlined into.
+pub(crate) fn add_caller(
+    alloc: Global,
+    rows: &mut Vec<Vec<u8>>,
+    names: &Names,
+    caller: Option<u32>,
+) -> Result<(), NoMemory> {
+    let Some(address) = caller else {
+        return Ok(());
+    };
+    let place = names.caller(alloc, address)?;
+    rows.push(format!(in alloc; "    called from {place}")?.into_bytes())?;
+    names.add_inlined(alloc, rows, call_before(address))
 }
 
 /// The name of an address, as `take+0x14/0x28`, or its eight digits where it has no symbol.

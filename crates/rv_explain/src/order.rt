@@ -164,7 +164,7 @@ pub fn order_of(
     requires some { 1 ≤ harts }
     requires within { harts ≤ MOST_HARTS }
     ensures { IfOk result (λ found. IfSome found (spec.IsOrder
-        (first_state symbols.now.segments symbols.now.entry harts) entries.now block.now.second
+        (first_state symbols.now.image.segments symbols.now.image.entry harts) entries.now block.now.second
         numbers block.now.other.hart block.now.paused.hart)) }
 {
     let place = block.second as usize;

@@ -77,7 +77,7 @@ pub fn race_block(
     around: u32,
     race: &Race,
 ) -> Result<Block, NoMemory>
-    requires image { session.old.image ≡ symbols.now }
+    requires image { session.old.image ≡ symbols.now.image }
     requires told { slice_get (endings (run_of session.old).start session.old.entries) race.now.told.number ≡ Some race.now.told.ending }
     ensures block { IfOk result (λ block. shown_of block ≡ spec.race_shown (run_of session.old) around race.now) }
     ensures same { session.new ≡ moved session.old session.new.place }
@@ -96,7 +96,7 @@ fn block_of(
     around: u32,
     race: &Race,
 ) -> Result<Block, NoMemory>
-    requires image { session.old.image ≡ symbols.now }
+    requires image { session.old.image ≡ symbols.now.image }
     requires of_pause { IsOfPause (run_of session.old).start session.old.entries race.now.told.ending }
     ensures block { IfOk result (λ block. shown_of block ≡ spec.race_shown (run_of session.old) around race.now) }
     ensures same { session.new ≡ moved session.old session.new.place }
@@ -136,7 +136,7 @@ pub fn numbered_block(
     around: u32,
     k: u64,
 ) -> Result<Option<Block>, NoMemory>
-    requires image { session.old.image ≡ symbols.now }
+    requires image { session.old.image ≡ symbols.now.image }
     requires told { AreTold (run_of session.old) found.now.races.items }
     ensures block { IfOk result (λ block. option_map shown_of block
         ≡ option_map (spec.race_shown (run_of session.old) around) (race_of found.now.races.items k)) }

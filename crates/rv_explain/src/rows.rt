@@ -75,7 +75,7 @@ fn bytes_of(alloc: Global, block: &Block, row: &Row) -> Result<String, NoMemory>
 /// The instruction, or the site that was armed.
 fn place_of(alloc: Global, names: &Names, row: &Row) -> Result<String, NoMemory> {
     match row.entry {
-        Entry::Armed(address) | Entry::Disarmed(address) => names.address(alloc, address),
+        Entry::Armed(address) | Entry::Disarmed(address) => names.place(alloc, address),
         _ => names.instruction(alloc, row.pc, row.word),
     }
 }

@@ -18,7 +18,7 @@ use rv_symbols::symbol_table::SymbolTable;
 /// A side in the state of a machine.
 #[tactic(auto, unfolding(crate::specs::BlockOf::side_in))]
 fn side_in(symbols: &SymbolTable, machine: &Machine<Paged>, seen: &Seen) -> Side
-    ensures { result ≡ spec.side_in symbols.now seen.now.hart seen.now.access (Some machine.now.state) }
+    ensures { result ≡ spec.side_in symbols.now.image seen.now.hart seen.now.access (Some machine.now.state) }
 {
     Side {
         hart: seen.hart,
@@ -34,7 +34,7 @@ pub(crate) fn side_at(
     symbols: &SymbolTable,
     seen: &Seen,
 ) -> Result<Side, NoMemory>
-    requires image { session.old.image ≡ symbols.now }
+    requires image { session.old.image ≡ symbols.now.image }
     requires within { seen.now.place ≤ length session.old.entries }
     ensures side { IfOk result (λ side. side
         ≡ spec.side (run_of session.old) seen.now.place seen.now.hart seen.now.access) }

@@ -109,7 +109,7 @@ pub fn stuck_block(
     requires some { 1 ≤ harts }
     requires within { harts ≤ MOST_HARTS }
     ensures stuck { IfOk result (λ block. IfSome block (λ it.
-        spec.IsShownEnd symbols.now (first_state symbols.now.segments symbols.now.entry harts) entries.now it)) }
+        spec.IsShownEnd symbols.now.image (first_state symbols.now.image.segments symbols.now.image.entry harts) entries.now it)) }
     ensures steps { IfOk result (λ block. IfSome block (λ it. it.steps ≡ spec.step_count entries.now)) }
 {
     let image = symbols.image();
@@ -134,9 +134,9 @@ fn block_of(
     requires some { 1 ≤ harts }
     requires within { harts ≤ MOST_HARTS }
     requires count { length end.now.harts.items ≡ length machine.old.state.harts }
-    ensures called { IfOk result (λ block. spec.AreCalled symbols.now machine.old.state block.harts.items) }
+    ensures called { IfOk result (λ block. spec.AreCalled symbols.now.image machine.old.state block.harts.items) }
     ensures harts { IfOk result (λ block. map spec.shown_as block.harts.items
-        ≡ map (spec.does_after (first_state symbols.now.segments symbols.now.entry harts) entries.now machine.old.state.memory) end.now.harts.items) }
+        ≡ map (spec.does_after (first_state symbols.now.image.segments symbols.now.image.entry harts) entries.now machine.old.state.memory) end.now.harts.items) }
     ensures steps { IfOk result (λ block. block.steps ≡ spec.step_count entries.now) }
 {
     let mut reads = reads_of(alloc, machine, &acts_of(alloc, end)?)?;
@@ -186,7 +186,7 @@ fn harts_of(
     reads: &[RoundReads],
 ) -> Result<Vec<StuckHart>, NoMemory>
     requires { length end.now.harts.items ≡ length machine.old.state.harts }
-    ensures called { IfOk result (λ harts. spec.AreCalled symbols.now machine.old.state harts.items) }
+    ensures called { IfOk result (λ harts. spec.AreCalled symbols.now.image machine.old.state harts.items) }
     ensures shown { IfOk result (λ harts. (of : Doing → List ReadBytes) → reads.now ≡ map of end.now.harts.items
         → map spec.shown_as harts.items ≡ map (λ doing. spec.does doing (of doing)) end.now.harts.items) }
 {
@@ -208,7 +208,7 @@ fn hart_of(
     reads: &[RoundReads],
 ) -> Result<StuckHart, NoMemory>
     ensures same { machine.new ≡ machine.old }
-    ensures called { IfOk result (spec.IsCalled symbols.now machine.old.state h) }
+    ensures called { IfOk result (spec.IsCalled symbols.now.image machine.old.state h) }
     ensures shown { IfOk result (λ hart. spec.shown_as hart ≡ spec.does doing.now (unwrap_or (slice_get reads.now h) [])) }
 {
     match doing {

@@ -3,7 +3,7 @@ use Rattle.std.proofs.Common.{◌≡◌, ℕ, List, Option, Some, None, refl, sy
 use Rattle.std.specs.Prelude.{IfSome}
 use Rattle.rv_engines.specs.CommandFault as command
 use Rattle.rv_engines.specs.declared.run.fault.CommandFault.{CommandFault}
-use Rattle.rv_hunt.proofs.FileLemmas.{is_ok}
+use Rattle.rv_hunt.proofs.OpenLemmas.{is_ok}
 use Rattle.rv_hunt.specs.engine.Asked.{Asked}
 use Rattle.rv_hunt.specs.engine.HuntFault as fault
 use Rattle.rv_hunt.specs.engine.Hunting.{Files, Hunting, IsHuntingOf, IsMade, IsTold, Showing, Texts, hunt_of}
@@ -19,9 +19,9 @@ never : {P : Type 0} → true ≡ false → P
 never h = cc
 
 by_fault : (files : Files) (asked : Asked) (hunting : Hunting) → IsHuntingOf asked files hunting → (made : MakeFault) → fault.IsTold asked files (Command (as_command made))
-by_fault files asked hunting is NoMemory = (tt, λ thread. never (sym thread))
-by_fault files asked hunting is NoThread = (is_ok (hunt_of asked files.image) hunting.hunt is.hunt_is, λ thread. (hunting, is))
-by_fault files asked hunting is Write = (tt, λ thread. never (sym thread))
+by_fault files asked hunting is NoMemory = (tt, λ plain. never (sym plain), λ thread. never (sym thread))
+by_fault files asked hunting is NoThread = (is_ok (hunt_of asked files.image) hunting.hunt is.hunt_is, λ plain. never (sym plain), λ thread. (hunting, is))
+by_fault files asked hunting is Write = (tt, λ plain. never (sym plain), λ thread. never (sym thread))
 
 pub make_told : (known : Option Files) (asked : Asked) (hunting : Hunting) (made : MakeFault) (told : CommandFault) → told ≡ as_command made → IfSome known (λ files. IsHuntingOf asked files hunting) → IfSome known (λ files. fault.IsTold asked files (Command told))
 make_told None asked hunting made told same is = tt

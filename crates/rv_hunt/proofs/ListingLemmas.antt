@@ -4,10 +4,10 @@ use Rattle.std.specs.Prelude.{if◌then◌else◌, nat_le, ◌&&◌}
 use Rattle.std.proofs.lemmas.Bool.Decides.{nat_tests}
 use Rattle.std.proofs.lemmas.List.{take_more}
 use Rattle.rv_text.specs.Lines.{text_of_lines}
-use Rattle.rv_hunt.proofs.WordLemmas.{spelled_length}
+use Rattle.rv_hunt.proofs.WordLemmas.{spelled_field_length, spelled_length}
 use Rattle.rv_hunt.specs.declared.merge.ignore.TheConstants.{LONGEST_WORD}
 use Rattle.rv_hunt.specs.declared.row.RaceRow.{RaceRow}
-use Rattle.rv_hunt.specs.merge.Ignore.{has_bytes, is_short, spelled}
+use Rattle.rv_hunt.specs.merge.Ignore.{has_bytes, is_short, spelled, spelled_field}
 use Rattle.rv_hunt.specs.merge.Listing.{word_if}
 use Rattle.rv_report.specs.declared.key.Key.{Key}
 
@@ -28,6 +28,12 @@ text_more f races place race before after within is so_far after_is =
 and_false : (b : Bool) → (b && false) ≡ false
 and_false true = refl
 and_false false = refl
+
+pub field_too_long : (name : List ℕ) → LONGEST_WORD < length name → word_if (spelled_field name) ≡ None
+field_too_long name long =
+    let longer = spelled_field_length name in
+    let over : is_short (spelled_field name) ≡ false = grind (arith, nat_tests, longer, long) in
+    rw (over, and_false (has_bytes (spelled_field name))) refl
 
 pub too_long : (name : List ℕ) → LONGEST_WORD < length name → word_if (spelled name) ≡ None
 too_long name long =

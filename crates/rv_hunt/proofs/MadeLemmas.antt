@@ -1,7 +1,8 @@
 -- What is made of a hunt.
 use Rattle.std.proofs.Common.{◌≡◌, ℕ, Bool, Option, Result, Ok, Err, IfOk, List, [], ◌∷◌, length, ap, subst, ◌∙◌, take, true, false}
 use Rattle.std.specs.Map.{keys_of}
-use Rattle.rv_elf.specs.Contents.{Contents}
+use Rattle.rv_engines.specs.SourceFile.{lines_miss}
+use Rattle.rv_explain.specs.Naming.{Naming}
 use Rattle.rv_campaign.specs.declared.pool.PoolFault.{PoolFault}
 use Rattle.rv_campaign.specs.declared.pool.PoolFault.TheVariants as pool
 use Rattle.rv_hunt.specs.declared.engine.fault.MakeFault.{MakeFault}
@@ -22,7 +23,7 @@ use Rattle.rv_hunt.specs.declared.origin.Stretch.{Stretch}
 use Rattle.rv_hunt.specs.declared.hunted.Hunted.{Hunted}
 use Rattle.rv_hunt.specs.declared.merge.known.Known.{Known}
 use Rattle.rv_hunt.specs.declared.row.RaceRow.{RaceRow}
-use Rattle.rv_hunt.specs.engine.Hunting.{Hunting, IsMade, IsTable, Showing, Texts, found_in, ignored_by, new_in, origin_of, outcome, shown_in, told_in}
+use Rattle.rv_hunt.specs.engine.Hunting.{Hunting, IsMade, IsTable, Showing, Texts, found_in, ignored_by, naming_in, new_in, origin_of, outcome, shown_in, told_in}
 use Rattle.rv_hunt.specs.merge.Known.{has_gone, new_races}
 use Rattle.rv_hunt.specs.merge.Listing.{list_text}
 use Rattle.rv_hunt.specs.engine.OrderShown.{AreOrdersShown}
@@ -38,14 +39,14 @@ use Rattle.rv_tally.specs.declared.plans.Mix.{Mix}
 abbrev Row : Type 0
 Row = Key × RaceRow
 
-pub outcome_is : (hunting : Hunting) (saw : Hunted) (n : ℕ) (mix : Mix) (rows races ignored : List Row) (gone : Bool) (built : Built) → n ≡ length hunting.hunt.source.sites → mix ≡ hunting.hunt.given.mix → rows ≡ told_in hunting saw → races ≡ shown_in hunting saw → ignored ≡ ignored_by hunting saw → gone ≡ has_gone hunting.hunt.source.image hunting.expected → built ≡ hunting.built
-    → record { sites = n; mix = mix; saw = saw; rows = rows; races = races; ignored = ignored; gone = gone; built = built } ≡ outcome hunting saw
-outcome_is hunting saw n mix rows races ignored gone built a b c s d f e = rw (a, b, c, s, d, f, e)
+pub outcome_is : (hunting : Hunting) (saw : Hunted) (n : ℕ) (mix : Mix) (rows races ignored : List Row) (gone misses : Bool) (built : Built) → n ≡ length hunting.hunt.source.sites → mix ≡ hunting.hunt.given.mix → rows ≡ told_in hunting saw → races ≡ shown_in hunting saw → ignored ≡ ignored_by hunting saw → gone ≡ has_gone (naming_in hunting) hunting.expected → misses ≡ lines_miss hunting.hunt.source.image hunting.lines → built ≡ hunting.built
+    → record { sites = n; mix = mix; saw = saw; rows = rows; races = races; ignored = ignored; gone = gone; misses = misses; built = built } ≡ outcome hunting saw
+outcome_is hunting saw n mix rows races ignored gone misses built a b c s d f m e = rw (a, b, c, s, d, f, m, e)
 
-pub made_is : (way : Showing) (hunting : Hunting) (saw : Hunted) (Saves : ℕ → List ℕ → Type 0) (Pages : List Fact → Type 0) (Lists : List ℕ → Type 0) (Objects : List Member → Type 0) (rows races told full unexpected : List Row) (o : Outcome) (paged_told : List Row) (paged_shown : List ShownRace) (object_told : List Row) (listed_image : Contents) (listed_rows : List Row) (shown : List ShownRace) (orders : List ShownOrder) (stuck : List ShownStuck) (ends : EndsSeen) (wrong : Bool) (found : Found) (texts : Texts) → IsNoted hunting.hunt saw ends → ends.right ≡ hunting.right → wrong ≡ ends.is_wrong
+pub made_is : (way : Showing) (hunting : Hunting) (saw : Hunted) (Saves : ℕ → List ℕ → Type 0) (Pages : List Fact → Type 0) (Lists : List ℕ → Type 0) (Objects : List Member → Type 0) (rows races told full unexpected : List Row) (o : Outcome) (paged_told : List Row) (paged_shown : List ShownRace) (object_told : List Row) (listed_image : Naming) (listed_rows : List Row) (shown : List ShownRace) (orders : List ShownOrder) (stuck : List ShownStuck) (ends : EndsSeen) (wrong : Bool) (found : Found) (texts : Texts) → IsNoted hunting.hunt saw ends → ends.right ≡ hunting.right → wrong ≡ ends.is_wrong
     → rows ≡ told_in hunting saw → races ≡ shown_in hunting saw → AreInOrder hunting.hunt.source.image saw.orders races told → full ≡ take way.full told → o ≡ outcome hunting saw → AreShown hunting.hunt Saves full shown → AreOrdersShown hunting.hunt saw.orders (keys_of full) orders
     → IsTable way.shows o.rows (origin_of way hunting saw) texts.text → paged_told ≡ told → paged_shown ≡ shown → Pages (page_facts o paged_told (length paged_shown)) → object_told ≡ told → Objects (hunt_facts o object_told) → AreStuckShown hunting.hunt stuck
-    → listed_image ≡ hunting.hunt.source.image → listed_rows ≡ rows → Lists (list_text listed_image listed_rows) → unexpected ≡ new_races hunting.hunt.source.image hunting.expected rows → found ≡ found_in unexpected races (length stuck) wrong (is_void o)
+    → listed_image ≡ naming_in hunting → listed_rows ≡ rows → Lists (list_text listed_image listed_rows) → unexpected ≡ new_races (naming_in hunting) hunting.expected rows → found ≡ found_in unexpected races (length stuck) wrong (is_void o)
     → IsMade way hunting Saves Pages Lists Objects found texts
 made_is way hunting saw Saves Pages Lists Objects rows races told full unexpected o paged_told paged_shown object_told listed_image listed_rows shown orders stuck ends wrong found texts noted right is_wrong are shows order first came are_shown ordered table same_told same_shown paged same_object objected are_stuck same_image same_rows listed new_is found_is = record {
   saw = saw;
@@ -65,13 +66,13 @@ made_is way hunting saw Saves Pages Lists Objects rows races told full unexpecte
       subst (λ (x : Outcome). Objects (hunt_facts x told)) came
       (subst (λ (rs : List Row). Objects (hunt_facts o rs)) same_object objected);
   listed =
-      subst (λ (rs : List Row). Lists (list_text hunting.hunt.source.image rs)) (same_rows ∙ are)
-      (subst (λ (image : Contents). Lists (list_text image listed_rows)) same_image listed);
+      subst (λ (rs : List Row). Lists (list_text (naming_in hunting) rs)) (same_rows ∙ are)
+      (subst (λ (naming : Naming). Lists (list_text naming listed_rows)) same_image listed);
   stuck = stuck;
   are_stuck = are_stuck;
   found_is =
       found_is ∙ ap (λ (rs : List Row). found_in rs races (length stuck) wrong (is_void o)) new_is
-      ∙ ap (λ (rs : List Row). found_in (new_races hunting.hunt.source.image hunting.expected rs) races (length stuck) wrong (is_void o)) are
+      ∙ ap (λ (rs : List Row). found_in (new_races (naming_in hunting) hunting.expected rs) races (length stuck) wrong (is_void o)) are
       ∙ ap (λ (rs : List Row). found_in (new_in hunting saw) rs (length stuck) wrong (is_void o)) shows
       ∙ ap (λ (x : Outcome). found_in (new_in hunting saw) (shown_in hunting saw) (length stuck) wrong (is_void x)) came
       ∙ ap (λ (w : Bool). found_in (new_in hunting saw) (shown_in hunting saw) (length stuck) w (is_void (outcome hunting saw)))
@@ -94,8 +95,8 @@ table_from shows rows image that_image version that_version given that_given tex
     (subst (λ (x : List ℕ). IsTable shows rows (record { image = x; version = version; seed = seed; stretches = stretch ∷ []; given = given }) text) a is))))
 
 -- the same of rows that are the same
-pub new_from : (image that : Contents) (known : Option Known) (rows those found : List Row) → image ≡ that → rows ≡ those → found ≡ new_races image known rows → found ≡ new_races that known those
-new_from image that known rows those found a b is = is ∙ ap (λ (i : Contents). new_races i known rows) a ∙ ap (λ (rs : List Row). new_races that known rs) b
+pub new_from : (image that : Naming) (known : Option Known) (rows those found : List Row) → image ≡ that → rows ≡ those → found ≡ new_races image known rows → found ≡ new_races that known those
+new_from image that known rows those found a b is = is ∙ ap (λ (i : Naming). new_races i known rows) a ∙ ap (λ (rs : List Row). new_races that known rs) b
 
 pub found_from : (unexpected new_ones rows those : List Row) (stuck ends : List ShownStuck) (wrong void is_so : Bool) (found : Found) → unexpected ≡ new_ones → rows ≡ those → stuck ≡ ends → void ≡ is_so → found ≡ found_in unexpected rows (length stuck) wrong void → found ≡ found_in new_ones those (length ends) wrong is_so
 found_from unexpected new_ones rows those stuck ends wrong void is_so found a b c d is =

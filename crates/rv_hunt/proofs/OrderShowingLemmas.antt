@@ -65,7 +65,7 @@ put_known full shown trial one there of known =
     }
 
 -- what workers made is of the races at their places
-placed_is : (full : Full) (again : Again) (trial : PlacedTrial) → full.hunt ≡ again.hunt.now → again.symbols.now ≡ again.hunt.now.source.image → All (IsWanted full.tried full.keys) again.wanted.now → IsPlaced again trial → IsOfPlace full trial
+placed_is : (full : Full) (again : Again) (trial : PlacedTrial) → full.hunt ≡ again.hunt.now → again.symbols.now.image ≡ again.hunt.now.source.image → All (IsWanted full.tried full.keys) again.wanted.now → IsPlaced again trial → IsOfPlace full trial
 placed_is full again trial hunt image wanted is =
     let below = slice_get_within again.wanted.now is.number is.wanted is.there in
     let is_one = get_or_from_slice_get again.wanted.now is.number is.wanted is.wanted is.there in
@@ -80,7 +80,7 @@ placed_is full again trial hunt image wanted is =
       is_shown = subst (λ (h : Hunt). IsTrialShown h is.wanted.key is.wanted.at trial.made) (sym hunt) (is.is_shown image);
     }
 
-pub all_placed : (full : Full) (again : Again) (made : List (Vec PlacedTrial Global)) → full.hunt ≡ again.hunt.now → again.symbols.now ≡ again.hunt.now.source.image → All (IsWanted full.tried full.keys) again.wanted.now → pool.AreMade (λ _ (one : Vec PlacedTrial Global). AreMade again one.items) again.count made → All (AreOfRun full) made
+pub all_placed : (full : Full) (again : Again) (made : List (Vec PlacedTrial Global)) → full.hunt ≡ again.hunt.now → again.symbols.now.image ≡ again.hunt.now.source.image → All (IsWanted full.tried full.keys) again.wanted.now → pool.AreMade (λ _ (one : Vec PlacedTrial Global). AreMade again one.items) again.count made → All (AreOfRun full) made
 all_placed full again made hunt image wanted are = λ k d below.
     let run = are.each k (get_or made k d) (slice_get-get_or made k d below) in
     λ j e within. placed_is full again (get_or (get_or made k d).items j e) hunt image wanted (run j e within)
@@ -92,7 +92,7 @@ wanted_is tried rows place row at there is = (slice_get-map (λ (r : Key × Race
 
 -- a trial that was made in a run is of one of the races
 pub is_placed : (again : Again) (of : ℕ) (left : Finished) (number : ℕ) (wanted : WantedTrial) (trial : PlacedTrial) → IsRunOf again.hunt.now of left → wanted.at.run ≡ of → slice_get again.wanted.now number ≡ Some wanted → trial.place ≡ wanted.place
-    → IsTrialIn (run_told again.symbols.now left) again.hunt.now.ranges wanted.key wanted.at.number trial.made → IsPlaced again trial
+    → IsTrialIn (run_told again.symbols.now.image left) again.hunt.now.ranges wanted.key wanted.at.number trial.made → IsPlaced again trial
 is_placed again of left number wanted trial is_run names there place is = record {
   number = number;
   wanted = wanted;

@@ -35,8 +35,8 @@ race_found run ranges row reports told are found =
 
 -- ---- the races of a part of a run
 
-one_shown : (full : InFull) (number : ℕ) (run : Finished) (schedule : List ℕ) (one : ℕ × ShownRace) → full.symbols.now ≡ full.hunt.now.source.image → IsRunOf full.hunt.now number run → schedule ≡ schedule_text (numbers run.plan) run.entries.items
-    → IsPlaced full number (run_told full.symbols.now run) run.plan.harts one → IsOfSchedule (of_full full) schedule one.0 one.1
+one_shown : (full : InFull) (number : ℕ) (run : Finished) (schedule : List ℕ) (one : ℕ × ShownRace) → full.symbols.now.image ≡ full.hunt.now.source.image → IsRunOf full.hunt.now number run → schedule ≡ schedule_text (numbers run.plan) run.entries.items
+    → IsPlaced full number (run_told full.symbols.now.image run) run.plan.harts one → IsOfSchedule (of_full full) schedule one.0 one.1
 one_shown full number run schedule one image is_run schedule_is placed =
     let of_row = placed.0 in
     let of_run = placed.1 in
@@ -52,7 +52,7 @@ one_shown full number run schedule one image is_run schedule_is placed =
       };
     }
 
-pub shown_in : (full : InFull) (number : ℕ) (run : Finished) (shown : ShownPart) → full.symbols.now ≡ full.hunt.now.source.image → IsRunOf full.hunt.now number run → IsShownPart full number run shown → IsShownIn (of_full full) shown
+pub shown_in : (full : InFull) (number : ℕ) (run : Finished) (shown : ShownPart) → full.symbols.now.image ≡ full.hunt.now.source.image → IsRunOf full.hunt.now number run → IsShownPart full number run shown → IsShownIn (of_full full) shown
 shown_in full number run shown image is_run is = λ k d below.
     one_shown full number run shown.schedule.items (get_or shown.races.items k d) image is_run is.schedule_is (is.races_are k d below)
 

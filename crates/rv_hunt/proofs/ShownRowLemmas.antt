@@ -9,6 +9,7 @@ use Rattle.std.proofs.lemmas.List.Filters.{sum_by-filter_both}
 use Rattle.std.proofs.lemmas.List.Sums.{get_or-le-sum_by, sum_by-cons}
 use Rattle.rv_collide.specs.Counts.{saturated}
 use Rattle.rv_elf.specs.Contents.{Contents}
+use Rattle.rv_explain.specs.Naming.{Naming}
 use Rattle.rv_hunt.proofs.CountedLemmas.{ChangedRow, Row, keys_differ, of_key, of_own, own_counts, table_count}
 use Rattle.rv_hunt.proofs.MergeLemmas.{AreApart, apart-added, none_alike, same_key_equiv}
 use Rattle.rv_hunt.proofs.ShownLemmas.{each_is_shown_once, twice}
@@ -340,28 +341,28 @@ own_of_runs p first runs few k d lt =
     let mine = All-filter p (AreAlone (table_of (rows_from first runs))) (table_of (rows_from first runs)) (alone (table_of (rows_from first runs)) (apart-table (rows_from first runs))) k d lt in
     own_counts row.0 first runs few ∙ ap (cond (is_of_two row.0) 0) mine
 
-counted_in : (image : Contents) (lines : List Line) (orders : List (Key × OrderRow)) (told : List Row) (first : ℕ) (runs : List KeptRun) → length (rows_from first runs) < 2 ^ 63
-    → AreInOrder image orders (shown_rows (filter (is_told image lines) (table_of (rows_from first runs))) (changed_of (changed_from first runs))) told
-    → sum_by count_of told + (sum_by count_of (of_class Named (shown_rows (filter (is_told image lines) (table_of (rows_from first runs))) (changed_of (changed_from first runs)))) + sum_by count_of (filter (is_ignored image lines) (table_of (rows_from first runs)))) ≡ length (rows_from first runs)
-counted_in image lines orders told first runs few order =
+counted_in : (naming : Naming) (lines : List Line) (orders : List (Key × OrderRow)) (told : List Row) (first : ℕ) (runs : List KeptRun) → length (rows_from first runs) < 2 ^ 63
+    → AreInOrder naming.image orders (shown_rows (filter (is_told naming lines) (table_of (rows_from first runs))) (changed_of (changed_from first runs))) told
+    → sum_by count_of told + (sum_by count_of (of_class Named (shown_rows (filter (is_told naming lines) (table_of (rows_from first runs))) (changed_of (changed_from first runs)))) + sum_by count_of (filter (is_ignored naming lines) (table_of (rows_from first runs)))) ≡ length (rows_from first runs)
+counted_in naming lines orders told first runs few order =
     let table = table_of (rows_from first runs) in
-    let kept = filter (is_told image lines) table in
+    let kept = filter (is_told naming lines) table in
     let changed = changed_of (changed_from first runs) in
-    let once = each_is_shown_once image orders (shown_rows kept changed) told count_of order in
-    let ignored = sum_by-filter_both (is_told image lines) (is_ignored image lines) (λ row. twice (is_ignored image lines row)) count_of table in
+    let once = each_is_shown_once naming.image orders (shown_rows kept changed) told count_of order in
+    let ignored = sum_by-filter_both (is_told naming lines) (is_ignored naming lines) (λ row. twice (is_ignored naming lines row)) count_of table in
     let count = table_count first runs few in
-    let same = shown_sum kept changed (apart-filter (is_told image lines) table (apart-table (rows_from first runs))) (omega (arith, ignored, count, few)) (own_of_runs (is_told image lines) first runs few) in
+    let same = shown_sum kept changed (apart-filter (is_told naming lines) table (apart-table (rows_from first runs))) (omega (arith, ignored, count, few)) (own_of_runs (is_told naming lines) first runs few) in
     omega (arith, once, ignored, count, same)
 
-counted_of : (image : Contents) (lines : List Line) (told : List Row) (first : ℕ) (runs : List KeptRun) (hunted : Hunted) → hunted ≡ seen_in first runs → length (rows_from first runs) < 2 ^ 63
-    → AreInOrder image hunted.orders (shown_rows (filter (is_told image lines) hunted.table) hunted.changed) told
-    → sum_by count_of told + (sum_by count_of (of_class Named (shown_rows (filter (is_told image lines) hunted.table) hunted.changed)) + sum_by count_of (filter (is_ignored image lines) hunted.table)) ≡ length (rows_from first runs)
+counted_of : (naming : Naming) (lines : List Line) (told : List Row) (first : ℕ) (runs : List KeptRun) (hunted : Hunted) → hunted ≡ seen_in first runs → length (rows_from first runs) < 2 ^ 63
+    → AreInOrder naming.image hunted.orders (shown_rows (filter (is_told naming lines) hunted.table) hunted.changed) told
+    → sum_by count_of told + (sum_by count_of (of_class Named (shown_rows (filter (is_told naming lines) hunted.table) hunted.changed)) + sum_by count_of (filter (is_ignored naming lines) hunted.table)) ≡ length (rows_from first runs)
 unfolding seen_in
-counted_of image lines told first runs hunted seen few order =
+counted_of naming lines told first runs hunted seen few order =
     let table : hunted.table ≡ table_of (rows_from first runs) = ap (λ (h : Hunted). h.table) seen in
     let changed : hunted.changed ≡ changed_of (changed_from first runs) = ap (λ (h : Hunted). h.changed) seen in
-    rw (table, changed) (counted_in image lines hunted.orders told first runs few (rw (table, changed) at order))
+    rw (table, changed) (counted_in naming lines hunted.orders told first runs few (rw (table, changed) at order))
 
 pub each_is_counted_once : EachIsCountedOnce
-each_is_counted_once hunt hunted so_far image lines told few order =
-    counted_of image lines told hunt.first so_far.runs hunted so_far.seen few order
+each_is_counted_once hunt hunted so_far naming lines told few order =
+    counted_of naming lines told hunt.first so_far.runs hunted so_far.seen few order

@@ -5,7 +5,8 @@ use Rattle.std.specs.Option.{option_map, option_map_or}
 use Rattle.std.specs.Prelude.{All, if◌then◌else◌, is_some, not, ◌==◌, ◌||◌}
 use Rattle.std.proofs.lemmas.List.{take_more}
 use Rattle.std.proofs.lemmas.List.Elements.{All-from_recursion}
-use Rattle.rv_elf.specs.Contents.{Contents}
+use Rattle.rv_explain.specs.Naming.{Naming}
+use Rattle.rv_lines.specs.SourceLines.{SourceLine}
 use Rattle.rv_report.specs.declared.key.Key.{Key}
 use Rattle.rv_hunt.specs.declared.merge.ignore.Line.{Line}
 use Rattle.rv_hunt.specs.declared.merge.ignore.ListedLine.{ListedLine}
@@ -19,10 +20,10 @@ use Rattle.rv_hunt.specs.declared.merge.sought.SoughtSide.TheVariants.{Any, Addr
 use Rattle.rv_hunt.specs.internal.Shaped.{unknown_in}
 use Rattle.rv_hunt.specs.declared.merge.sought.RacePlaces.{RacePlaces}
 use Rattle.rv_hunt.specs.internal.Sought.{AreNamesOf, ArePlaces, IsInstruction, IsSought, IsWithin, LineIsWithin, first_unknown, fits, is_known, line_fits, lines_in, sought_side}
-use Rattle.rv_hunt.specs.internal.Words.{AreMarks, AreNumbered, Keeps, count, number_of}
+use Rattle.rv_hunt.specs.internal.Words.{AreMarks, AreNumbered, Keeps, MarksLines, count, is_word_of, number_of}
 use Rattle.rv_hunt.specs.declared.merge.words.Words.{Words}
 use Rattle.rv_hunt.specs.merge.Ignore as spec
-use Rattle.rv_hunt.proofs.WordLemmas.{named_any}
+use Rattle.rv_hunt.proofs.WordLemmas.{lines_any, named_any}
 
 -- ---- a side's number
 
@@ -91,64 +92,83 @@ lines_within words numbered listed lines are most is =
 
 -- ---- known names
 
-known_side : (names : Names) (image : Contents) → AreNamesOf names image → (known : List Bool) → AreMarks names.symbols.items known → (given : Side) (sought : SoughtSide) → sought_side names.words given ≡ Some sought → is_known known sought ≡ spec.is_known image given
-known_side names image are known marked side.Any sought is = ap (is_known known) (sym (same_side Any sought is))
-known_side names image are known marked (side.Address address) sought is = ap (is_known known) (sym (same_side (Address address) sought is))
-known_side names image are known marked (side.Name word) sought is =
-    let name = name_is (number_of names.words word) sought is in
-    ap (is_known known) name.1 ∙ marked name.0 ∙ ap (list_any (λ s. s.word == name.0)) are.symbols
-    ∙ named_any (λ value size. true) names.words are.numbered word name.0 name.2 image.symbols
+-- the names of the symbols and the functions of the source lines are known
+abbrev pub AreKnown : Names → List SourceLine → List Bool → Type 0
+AreKnown names lines known =
+    (number : ℕ) → get_or known number false ≡ (list_any (λ s. s.word == number) names.symbols.items || list_any (λ (line : SourceLine). list_any (is_word_of names.words number) line.frames) lines)
 
-pub first_unknown_is : (names : Names) (image : Contents) → AreNamesOf names image → (known : List Bool) → AreMarks names.symbols.items known → (listed : List ListedLine) (lines : List SoughtLine) → AllZip (IsSought names.words) listed lines → first_unknown known lines ≡ unknown_in (spec.are_known image) listed
-first_unknown_is names image are known marked [] [] sought = refl
-first_unknown_is names image are known marked [] (line ∷ lines) sought = absurd sought
-first_unknown_is names image are known marked (x ∷ listed) [] sought = absurd sought
-first_unknown_is names image are known marked (x ∷ listed) (line ∷ lines) sought =
-    let one = known_side names image are known marked x.line.one line.one sought.0.1 in
-    let other = known_side names image are known marked x.line.other line.other sought.0.2 in
-    let on = known_side names image are known marked x.line.on line.on sought.0.3 in
-    let next = first_unknown_is names image are known marked listed lines sought.1 in
+pub known_more : (names : Names) (lines : List SourceLine) (before after : List Bool) → AreMarks names.symbols.items before → MarksLines names.words lines before after → AreKnown names lines after
+known_more names lines before after marked more number =
+    more number ∙ ap (λ (b : Bool). b || list_any (λ (line : SourceLine). list_any (is_word_of names.words number) line.frames) lines) (marked number)
+
+known_side : (names : Names) (naming : Naming) → AreNamesOf names naming.image → (known : List Bool) → AreKnown names naming.lines known → (given : Side) (sought : SoughtSide) → sought_side names.words given ≡ Some sought → is_known known sought ≡ spec.is_known naming given
+known_side names naming are known marked side.Any sought is = ap (is_known known) (sym (same_side Any sought is))
+known_side names naming are known marked (side.Address address) sought is = ap (is_known known) (sym (same_side (Address address) sought is))
+known_side names naming are known marked (side.Name word) sought is =
+    let name = name_is (number_of names.words word) sought is in
+    let by_symbols : list_any (λ s. s.word == name.0) names.symbols.items ≡ list_any (spec.is_spelled word) naming.image.symbols =
+    ap (list_any (λ s. s.word == name.0)) are.symbols ∙ named_any (λ value size. true) names.words are.numbered word name.0 name.2 naming.image.symbols in
+    let by_lines = lines_any names.words are.numbered word name.0 name.2 naming.lines in
+    ap (is_known known) name.1 ∙ marked name.0
+    ∙ ap (λ (b : Bool). b || list_any (λ (line : SourceLine). list_any (is_word_of names.words name.0) line.frames) naming.lines) by_symbols
+    ∙ ap (λ (b : Bool). list_any (spec.is_spelled word) naming.image.symbols || b) by_lines
+
+pub first_unknown_is : (names : Names) (naming : Naming) → AreNamesOf names naming.image → (known : List Bool) → AreKnown names naming.lines known → (listed : List ListedLine) (lines : List SoughtLine) → AllZip (IsSought names.words) listed lines → first_unknown known lines ≡ unknown_in (spec.are_known naming) listed
+first_unknown_is names naming are known marked [] [] sought = refl
+first_unknown_is names naming are known marked [] (line ∷ lines) sought = absurd sought
+first_unknown_is names naming are known marked (x ∷ listed) [] sought = absurd sought
+first_unknown_is names naming are known marked (x ∷ listed) (line ∷ lines) sought =
+    let one = known_side names naming are known marked x.line.one line.one sought.0.1 in
+    let other = known_side names naming are known marked x.line.other line.other sought.0.2 in
+    let on = known_side names naming are known marked x.line.on line.on sought.0.3 in
+    let next = first_unknown_is names naming are known marked listed lines sought.1 in
     rw (one, other, on, next, sought.0.0) refl
 
 -- ---- lines that fit
 
-fits_by : (names : Names) (image : Contents) (at : Option ℕ) (instruction : Instruction) → IsInstruction names image at instruction → (given : Side) (sought : SoughtSide) → sought_side names.words given ≡ Some sought → fits instruction sought ≡ spec.fits_side image given at
-fits_by names image at instruction is_at side.Any sought is = ap (fits instruction) (sym (same_side Any sought is))
-fits_by names image at instruction is_at (side.Address address) sought is =
-    ap (fits instruction) (sym (same_side (Address address) sought is)) ∙ ap (λ o. option_map_or (λ given. given == address) o false) is_at.at_is
-fits_by names image at instruction is_at (side.Name word) sought is =
+-- a place whose names are marked by a test
+fits_by : (names : Names) (test : List ℕ → ℕ → Bool) (at : Option ℕ) (place : Instruction) → place.at ≡ at
+    → ((word : List ℕ) (number : ℕ) → number_of names.words word ≡ Some number → get_or place.marks.items number false ≡ option_map_or (test word) at false)
+    → (given : Side) (sought : SoughtSide) → sought_side names.words given ≡ Some sought → fits place sought ≡ spec.fits_at test given at
+fits_by names test at place at_is marks side.Any sought is = ap (fits place) (sym (same_side Any sought is))
+fits_by names test at place at_is marks (side.Address address) sought is =
+    ap (fits place) (sym (same_side (Address address) sought is)) ∙ ap (λ o. option_map_or (λ given. given == address) o false) at_is
+fits_by names test at place at_is marks (side.Name word) sought is =
     let name = name_is (number_of names.words word) sought is in
-    ap (fits instruction) name.1 ∙ is_at.marks word name.0 name.2
+    ap (fits place) name.1 ∙ marks word name.0 name.2
 
-line_fits_by : (names : Names) (image : Contents) (key : Key) (on : Option ℕ) (places : RacePlaces) → ArePlaces names image key on places → (listed : ListedLine) (line : SoughtLine) → IsSought names.words listed line
-    → line_fits places line ≡ spec.fits image key on listed.line
-line_fits_by names image key on places are listed line sought =
-    let one_first = fits_by names image (Some key.first) places.first are.first_is listed.line.one line.one sought.1 in
-    let one_second = fits_by names image key.second places.second are.second_is listed.line.one line.one sought.1 in
-    let other_first = fits_by names image (Some key.first) places.first are.first_is listed.line.other line.other sought.2 in
-    let other_second = fits_by names image key.second places.second are.second_is listed.line.other line.other sought.2 in
-    let placed = fits_by names image on places.on are.on_is listed.line.on line.on sought.3 in
+fits_instruction : (names : Names) (naming : Naming) (at : Option ℕ) (instruction : Instruction) → IsInstruction names naming at instruction → (given : Side) (sought : SoughtSide) → sought_side names.words given ≡ Some sought → fits instruction sought ≡ spec.fits_side naming given at
+fits_instruction names naming at instruction is_at given sought is = fits_by names (spec.is_named naming) at instruction is_at.at_is is_at.marks given sought is
+
+line_fits_by : (names : Names) (naming : Naming) (key : Key) (on : Option ℕ) (places : RacePlaces) → ArePlaces names naming key on places → (listed : ListedLine) (line : SoughtLine) → IsSought names.words listed line
+    → line_fits places line ≡ spec.fits naming key on listed.line
+line_fits_by names naming key on places are listed line sought =
+    let one_first = fits_instruction names naming (Some key.first) places.first are.first_is listed.line.one line.one sought.1 in
+    let one_second = fits_instruction names naming key.second places.second are.second_is listed.line.one line.one sought.1 in
+    let other_first = fits_instruction names naming (Some key.first) places.first are.first_is listed.line.other line.other sought.2 in
+    let other_second = fits_instruction names naming key.second places.second are.second_is listed.line.other line.other sought.2 in
+    let placed = fits_by names (spec.is_at_name naming.image) on places.on are.on_is.at_is are.on_is.marks listed.line.on line.on sought.3 in
     rw (one_first, one_second, other_first, other_second, placed) refl
 
-pub any_is : (names : Names) (image : Contents) (key : Key) (on : Option ℕ) (places : RacePlaces) → ArePlaces names image key on places → (listed : List ListedLine) (lines : List SoughtLine) → AllZip (IsSought names.words) listed lines
-    → list_any (line_fits places) lines ≡ spec.any_fits image (lines_in listed) key on
-any_is names image key on places are [] [] sought = refl
-any_is names image key on places are [] (line ∷ lines) sought = absurd sought
-any_is names image key on places are (x ∷ listed) [] sought = absurd sought
-any_is names image key on places are (x ∷ listed) (line ∷ lines) sought =
-    rw (line_fits_by names image key on places are x line sought.0, any_is names image key on places are listed lines sought.1) refl
+pub any_is : (names : Names) (naming : Naming) (key : Key) (on : Option ℕ) (places : RacePlaces) → ArePlaces names naming key on places → (listed : List ListedLine) (lines : List SoughtLine) → AllZip (IsSought names.words) listed lines
+    → list_any (line_fits places) lines ≡ spec.any_fits naming (lines_in listed) key on
+any_is names naming key on places are [] [] sought = refl
+any_is names naming key on places are [] (line ∷ lines) sought = absurd sought
+any_is names naming key on places are (x ∷ listed) [] sought = absurd sought
+any_is names naming key on places are (x ∷ listed) (line ∷ lines) sought =
+    rw (line_fits_by names naming key on places are x line sought.0, any_is names naming key on places are listed lines sought.1) refl
 
 -- ---- whether there is one with an unknown name
 
-pub unknown_told : (image : Contents) (listed : List ListedLine) → is_some (unknown_in (spec.are_known image) listed) ≡ spec.has_unknown image (lines_in listed)
-unknown_told image [] = refl
-unknown_told image (x ∷ listed) = at (spec.are_known image x.line) (unknown_told image listed) where
-  at : (b : Bool) → is_some (unknown_in (spec.are_known image) listed) ≡ spec.has_unknown image (lines_in listed)
-      → is_some (if b then unknown_in (spec.are_known image) listed else Some x.at) ≡ (not b || spec.has_unknown image (lines_in listed))
+pub unknown_told : (naming : Naming) (listed : List ListedLine) → is_some (unknown_in (spec.are_known naming) listed) ≡ spec.has_unknown naming (lines_in listed)
+unknown_told naming [] = refl
+unknown_told naming (x ∷ listed) = at (spec.are_known naming x.line) (unknown_told naming listed) where
+  at : (b : Bool) → is_some (unknown_in (spec.are_known naming) listed) ≡ spec.has_unknown naming (lines_in listed)
+      → is_some (if b then unknown_in (spec.are_known naming) listed else Some x.at) ≡ (not b || spec.has_unknown naming (lines_in listed))
   at true next = next
   at false next = refl
 
-pub unknown_ok : {E : Type 0} (r : Result (Option ℕ) E) (image : Contents) (listed : List ListedLine) (lines : List Line) → lines ≡ lines_in listed → IfOk r (λ line. line ≡ unknown_in (spec.are_known image) listed)
-    → IfOk r (λ line. is_some line ≡ spec.has_unknown image lines)
-unknown_ok (Err fault) image listed lines same is = tt
-unknown_ok (Ok line) image listed lines same is = ap is_some is ∙ unknown_told image listed ∙ ap (spec.has_unknown image) (sym same)
+pub unknown_ok : {E : Type 0} (r : Result (Option ℕ) E) (naming : Naming) (listed : List ListedLine) (lines : List Line) → lines ≡ lines_in listed → IfOk r (λ line. line ≡ unknown_in (spec.are_known naming) listed)
+    → IfOk r (λ line. is_some line ≡ spec.has_unknown naming lines)
+unknown_ok (Err fault) naming listed lines same is = tt
+unknown_ok (Ok line) naming listed lines same is = ap is_some is ∙ unknown_told naming listed ∙ ap (spec.has_unknown naming) (sym same)

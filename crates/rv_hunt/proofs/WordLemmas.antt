@@ -1,5 +1,5 @@
 -- The words of an ignore list by numbers, and the symbols that have them for names.
-use Rattle.std.proofs.Common.{◌≡◌, ℕ, ◌+◌, ◌<◌, ◌≤◌, Bool, true, false, ◌&&◌, ◌||◌, List, [], ◌∷◌, ◌++◌, Option, Some, None, filter, get_or, length, length-append, take, refl, sym, ap, subst, ◌∙◌, ◌⊎◌, inl, inr, eq-eqb, eqb-true, arith}
+use Rattle.std.proofs.Common.{◌≡◌, ℕ, ◌+◌, ◌<◌, ◌≤◌, Bool, true, false, ◌&&◌, ◌||◌, List, [], ◌∷◌, ◌++◌, Option, Some, None, drop, filter, get_or, length, length-append, slice_get, take, refl, sym, ap, subst, ◌∙◌, ◌⊎◌, inl, inr, eq-eqb, eqb-true, arith}
 use Rattle.std.specs.BTreeMap.{UpdatesBy}
 use Rattle.std.specs.Cmp.Lexicographic.{slice_cmp}
 use Rattle.std.specs.List.{AllByRecursion, cons_option, filter_map, list_any}
@@ -13,13 +13,15 @@ use Rattle.std.proofs.lemmas.List.Elements.{All-from_recursion, filter_map-appen
 use Rattle.std.proofs.lemmas.Map.Text.{btree_map_updates_str}
 use Rattle.std.proofs.lemmas.Slice.Eq.{bytes_eq-Decides}
 use Rattle.rv_elf.specs.Contents.{Contents, Named}
-use Rattle.rv_explain.specs.Names.{escaped, escaped_byte, is_hidden}
+use Rattle.rv_explain.specs.Names.{escaped, escaped_byte, escaped_field, field_byte, is_hidden}
+use Rattle.rv_explain.specs.Naming.{Naming}
 use Rattle.rv_explain.specs.Symbols.{symbol_of}
 use Rattle.rv_text.specs.Hexadecimal.{byte_digits}
 use Rattle.rv_hunt.specs.declared.merge.words.NamedSymbol.{NamedSymbol}
 use Rattle.rv_hunt.specs.declared.merge.words.Words.{Words}
-use Rattle.rv_hunt.specs.internal.Words.{AreMarks, AreMarksAt, AreNumbered, Keeps, MarksMore, count, holds, named, named_by, number_of, told_word}
-use Rattle.rv_hunt.specs.merge.Ignore.{as_name, first_escaped, is_in_name, is_spelled, is_told_by_name, says_other, spelled}
+use Rattle.rv_lines.specs.SourceLines.{SourceFrame, SourceLine, frames_at, known_function}
+use Rattle.rv_hunt.specs.internal.Words.{AreInstructionMarks, AreMarks, AreMarksAt, AreNumbered, Keeps, MarksFrames, MarksLines, MarksMore, count, function_word, holds, is_word_of, named, named_by, number_of, told_word}
+use Rattle.rv_hunt.specs.merge.Ignore.{as_name, first_escaped, has_function, is_at_name, is_function_of, is_in_name, is_spelled, is_told_by_name, says_other, spelled, spelled_field}
 
 -- ---- a word more
 
@@ -138,6 +140,39 @@ spelled_length name =
     let named = named_length (escaped name) in
     omega arith
 
+field_shown : (byte : ℕ) → 1 ≤ length (field_byte byte)
+field_shown byte = at (is_hidden byte) where
+  at : (hidden : Bool) → 1 ≤ length (if hidden then codes "\\x" ++ byte_digits byte else byte ∷ [])
+  at true = let two = length-append (codes "\\x") (byte_digits byte) in omega arith
+  at false = omega arith
+
+field_length : (field : List ℕ) → length field ≤ length (escaped_field field)
+field_length [] = omega arith
+field_length (byte ∷ field) =
+    let both = length-append (field_byte byte) (escaped_field field) in
+    let first = field_shown byte in
+    let next = field_length field in
+    omega arith
+
+pub spelled_field_length : (field : List ℕ) → length field ≤ length (spelled_field field)
+unfolding spelled_field
+spelled_field_length field =
+    let shown = field_length field in
+    let named = named_length (escaped_field field) in
+    omega arith
+
+pub field_too_long : (words : Words) → AreNumbered words → (field : List ℕ) → words.longest < length field → number_of words (spelled_field field) ≡ None
+field_too_long words numbered field long = at (number_of words (spelled_field field)) refl where
+  at : (given : Option ℕ) → number_of words (spelled_field field) ≡ given → given ≡ None
+  at None is = refl
+  at (Some number) is =
+      let short = numbered.short (spelled_field field) number is in
+      let shown = spelled_field_length field in
+      absurd (omega arith)
+
+pub long_function : (words : Words) → AreNumbered words → (frame : SourceFrame) (function : List ℕ) → known_function frame ≡ Some function → words.longest < length function → function_word words frame ≡ None
+long_function words numbered frame function is long = ap (λ (known : Option (List ℕ)). option_and_then (λ (f : List ℕ). number_of words (spelled_field f)) known) is ∙ field_too_long words numbered function long
+
 pub too_long : (words : Words) → AreNumbered words → (name : List ℕ) → words.longest < length name → number_of words (spelled name) ≡ None
 too_long words numbered name long = at (number_of words (spelled name)) refl where
   at : (given : Option ℕ) → number_of words (spelled name) ≡ given → given ≡ None
@@ -148,6 +183,10 @@ too_long words numbered name long = at (number_of words (spelled name)) refl whe
       absurd (omega arith)
 
 -- ---- the symbols that words name
+
+or_assoc : (a b c : Bool) → ((a || b) || c) ≡ (a || (b || c))
+or_assoc true b c = refl
+or_assoc false b c = refl
 
 and_false : (b : Bool) → b && false ≡ false
 and_false true = refl
@@ -219,6 +258,88 @@ marks_at words numbered image address named holding before after told named_is h
 
 pub no_marks_at : (words : Words) (image : Contents) (marks : List Bool) → AreMarks [] marks → AreMarksAt words image None marks
 no_marks_at words image marks marked word number is = marked number
+
+-- ---- functions of source lines
+
+function_by : (words : Words) → AreNumbered words → (word : List ℕ) (number : ℕ) → number_of words word ≡ Some number → (known : Option (List ℕ))
+    → option_map_or (λ given. given == number) (option_and_then (λ (f : List ℕ). number_of words (spelled_field f)) known) false ≡ option_map_or (λ (f : List ℕ). bytes_eq (spelled_field f) word) known false
+function_by words numbered word number is None = refl
+function_by words numbered word number is (Some function) = at (number_of words (spelled_field function)) refl where
+  at : (named : Option ℕ) → number_of words (spelled_field function) ≡ named → option_map_or (λ given. given == number) named false ≡ bytes_eq (spelled_field function) word
+  at None named = sym (unnumbered words (spelled_field function) word number named is)
+  at (Some one) named = same_number words numbered (spelled_field function) word one number named is
+
+pub frames_any : (words : Words) → AreNumbered words → (word : List ℕ) (number : ℕ) → number_of words word ≡ Some number → (frames : List SourceFrame) → list_any (is_word_of words number) frames ≡ list_any (is_function_of word) frames
+frames_any words numbered word number is [] = refl
+frames_any words numbered word number is (frame ∷ frames) =
+    ap (λ (b : Bool). b || list_any (is_word_of words number) frames) (function_by words numbered word number is (known_function frame))
+    ∙ ap (λ (b : Bool). is_function_of word frame || b) (frames_any words numbered word number is frames)
+
+pub lines_any : (words : Words) → AreNumbered words → (word : List ℕ) (number : ℕ) → number_of words word ≡ Some number → (lines : List SourceLine)
+    → list_any (λ (line : SourceLine). list_any (is_word_of words number) line.frames) lines ≡ list_any (has_function word) lines
+lines_any words numbered word number is [] = refl
+lines_any words numbered word number is (line ∷ lines) =
+    ap (λ (b : Bool). b || list_any (λ (line : SourceLine). list_any (is_word_of words number) line.frames) lines) (frames_any words numbered word number is line.frames)
+    ∙ ap (λ (b : Bool). has_function word line || b) (lines_any words numbered word number is lines)
+
+pub instruction_marks : (words : Words) → AreNumbered words → (naming : Naming) (address : ℕ) (before after : List Bool) → AreMarksAt words naming.image (Some address) before → MarksFrames words (frames_at naming.lines address) before after
+    → AreInstructionMarks words naming (Some address) after
+instruction_marks words numbered naming address before after marked more word number is =
+    more number ∙ ap (λ (b : Bool). b || list_any (is_word_of words number) (frames_at naming.lines address)) (marked word number is)
+    ∙ ap (λ (b : Bool). is_at_name naming.image word address || b) (frames_any words numbered word number is (frames_at naming.lines address))
+
+-- frames more are marked one by one
+pub frames_marked : (words : Words) (frame : SourceFrame) (frames : List SourceFrame) (word : Option ℕ) (before after last : List Bool) → word ≡ function_word words frame → MarksMore word before after → MarksFrames words frames after last → MarksFrames words (frame ∷ frames) before last
+frames_marked words frame frames word before after last is one others number =
+    others number ∙ ap (λ (b : Bool). b || list_any (is_word_of words number) frames) (one number ∙ ap (λ (w : Option ℕ). get_or before number false || option_map_or (λ given. given == number) w false) is)
+    ∙ or_assoc (get_or before number false) (is_word_of words number frame) (list_any (is_word_of words number) frames)
+
+frame_same : (frame f : SourceFrame) → Some frame ≡ Some f → frame ≡ f
+frame_same frame f is = cc
+
+no_frame : (frame : SourceFrame) → Some frame ≡ None → ⊥
+no_frame frame is = cc
+
+-- the first of some frames, and then the others
+pub frames_more : (words : Words) (frames rest : List SourceFrame) (frame : SourceFrame) (word : Option ℕ) (before after last : List Bool) → Some frame ≡ slice_get frames 0 → rest ≡ drop 1 frames → word ≡ function_word words frame → MarksMore word before after
+    → MarksFrames words rest after last → MarksFrames words frames before last
+frames_more words [] rest frame word before after last is tail word_is one others = absurd (no_frame frame is)
+frames_more words (f ∷ frames) rest frame word before after last is tail word_is one others =
+    frames_marked words f frames word before after last (word_is ∙ ap (function_word words) (frame_same frame f is)) one (subst (λ (r : List SourceFrame). MarksFrames words r after last) tail others)
+
+or_false : (b : Bool) → (b || false) ≡ b
+or_false true = refl
+or_false false = refl
+
+any_last : {X : Type 0} (test : X → Bool) (xs : List X) (x : X) → list_any test (xs ++ x ∷ []) ≡ (list_any test xs || test x)
+any_last test [] x = or_false (test x)
+any_last test (y ∷ xs) x = ap (λ (b : Bool). test y || b) (any_last test xs x) ∙ sym (or_assoc (test y) (list_any test xs) (test x))
+
+-- the frames of a line more are marked
+pub lines_more : (words : Words) (lines : List SourceLine) (number : ℕ) (frames : List SourceFrame) (start before after : List Bool) → number < length lines → ((d : SourceLine) → frames ≡ (get_or lines number d).frames)
+    → MarksLines words (take number lines) start before → MarksFrames words frames before after → MarksLines words (take (number + 1) lines) start after
+lines_more words lines number frames start before after within frames_are so_far more k =
+    let line : SourceLine = get_or lines number (record { address = 0; frames = [] }) in
+    let has : SourceLine → Bool = λ line. list_any (is_word_of words k) line.frames in
+    let last : list_any has (take (number + 1) lines) ≡ (list_any has (take number lines) || has line) = ap (list_any has) (take_more lines number (record { address = 0; frames = [] }) within) ∙ any_last has (take number lines) line in
+    more k ∙ ap (λ (b : Bool). b || list_any (is_word_of words k) frames) (so_far k)
+    ∙ ap (λ (f : List SourceFrame). (get_or start k false || list_any has (take number lines)) || list_any (is_word_of words k) f) (frames_are (record { address = 0; frames = [] }))
+    ∙ or_assoc (get_or start k false) (list_any has (take number lines)) (has line) ∙ ap (λ (b : Bool). get_or start k false || b) (sym last)
+
+some_none : (address : ℕ) → Some address ≡ None → ⊥
+some_none address is = cc
+
+-- the marks at an instruction that isn't known
+pub marks_without : (words : Words) (naming : Naming) (at : Option ℕ) (marks : List Bool) → at ≡ None → AreMarksAt words naming.image at marks → AreInstructionMarks words naming at marks
+marks_without words naming None marks is marked = marked
+marks_without words naming (Some address) marks is marked = absurd (some_none address is)
+
+-- the marks at one that is
+pub marks_with : (words : Words) → AreNumbered words → (naming : Naming) (at : Option ℕ) (address : ℕ) (frames : List SourceFrame) (before after : List Bool) → at ≡ Some address → frames ≡ frames_at naming.lines address
+    → AreMarksAt words naming.image at before → MarksFrames words frames before after → AreInstructionMarks words naming at after
+marks_with words numbered naming at address frames before after is frames_are marked more =
+    subst (λ (o : Option ℕ). AreInstructionMarks words naming o after) (sym is)
+    (instruction_marks words numbered naming address before after (subst (λ (o : Option ℕ). AreMarksAt words naming.image o before) is marked) (subst (λ (f : List SourceFrame). MarksFrames words f before after) frames_are more))
 
 -- ---- a symbol more
 

@@ -11,7 +11,8 @@ use Rattle.rv_hunt.specs.declared.row.RaceRow.{RaceRow}
 use Rattle.rv_report.specs.declared.key.Key.{Key}
 
 -- How many sites the image has without those that are skipped, what its runs are, what they saw, the rows of its races, these as
--- they are shown, and those that a line of --ignore fits; whether the list of expected races has a name that the image lacks; and what the image was built with.
+-- they are shown, and those that a line of --ignore fits; whether the list of expected races has a name that the image lacks; whether the source
+-- lines have no frame of the image; and what the image was built with.
 pub record Outcome : Type 0 where
   pub sites : ℕ
   pub mix : Mix
@@ -20,6 +21,7 @@ pub record Outcome : Type 0 where
   pub races : List (Key × RaceRow)
   pub ignored : List (Key × RaceRow)
   pub gone : Bool
+  pub misses : Bool
   pub built : Built
 
 -- of the sampled runs: the sites, how many were armed and paused at, the pauses, how they ended, and their steps

@@ -125,11 +125,11 @@ page_facts outcome told full = runs_facts outcome (told_facts told full (warning
 abbrev pub link_to_races : List Fact → List Fact
 link_to_races facts = Link Races ∷ facts
 
--- the warning that a name has gone has a part
-abbrev pub gone_facts : Bool → List Fact → List Fact
-gone_facts gone facts = if gone then Target Warnings ∷ facts else facts
+-- warnings of a table have a part
+abbrev pub tabled_facts : Bool → List Fact → List Fact
+tabled_facts warns facts = if warns then Target Warnings ∷ facts else facts
 
--- The page of what is told of a table: whether a name has gone, its rows, and those that are ignored; of the races that are told so many
+-- The page of what is told of a table: whether there is a warning, its rows, and those that are ignored; of the races that are told so many
 -- are shown in full.
 abbrev pub table_facts : Bool → List (Key × RaceRow) → List (Key × RaceRow) → List (Key × RaceRow) → ℕ → List Fact
-table_facts gone rows ignored told full = apart_facts rows ignored (told_facts told full (gone_facts gone (link_to_races [])))
+table_facts warns rows ignored told full = apart_facts rows ignored (told_facts told full (tabled_facts warns (link_to_races [])))

@@ -2,6 +2,7 @@
 -- row that a line of --ignore fits.
 use Rattle.std.specs.Prelude.{◌≡◌, ℕ, ◌+◌, ◌^◌, ◌<◌, List, filter, length, sum_by}
 use Rattle.rv_elf.specs.Contents.{Contents}
+use Rattle.rv_explain.specs.Naming.{Naming}
 use Rattle.rv_races.specs.declared.classes.RaceClass.TheVariants.{Named}
 use Rattle.rv_hunt.specs.Hunt.{Hunt}
 use Rattle.rv_hunt.specs.Hunted.{IsSoFar, rows_from}
@@ -28,8 +29,8 @@ count_of row = row.1.count
 -- So many reports, a row for each of which was added, are counted: those that runs saw, where they are not beyond all measure.
 abbrev pub EachIsCountedOnce : Type 0
 EachIsCountedOnce =
-    (hunt : Hunt) (hunted : Hunted) (so_far : IsSoFar hunt hunted) (image : Contents) (lines : List Line) (told : List (Key × RaceRow))
+    (hunt : Hunt) (hunted : Hunted) (so_far : IsSoFar hunt hunted) (naming : Naming) (lines : List Line) (told : List (Key × RaceRow))
     → let reports = rows_from hunt.first so_far.runs in
-    let races = shown_rows (filter (is_told image lines) hunted.table) hunted.changed in
-    length reports < 2 ^ 63 → AreInOrder image hunted.orders races told
-    → sum_by count_of told + (sum_by count_of (of_class Named races) + sum_by count_of (filter (is_ignored image lines) hunted.table)) ≡ length reports
+    let races = shown_rows (filter (is_told naming lines) hunted.table) hunted.changed in
+    length reports < 2 ^ 63 → AreInOrder naming.image hunted.orders races told
+    → sum_by count_of told + (sum_by count_of (of_class Named races) + sum_by count_of (filter (is_ignored naming lines) hunted.table)) ≡ length reports

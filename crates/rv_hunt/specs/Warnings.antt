@@ -9,7 +9,7 @@ use Rattle.rv_hunt.specs.declared.near.Fate.TheVariants.{Untried}
 use Rattle.rv_tally.specs.declared.plans.Mix.{Mix}
 use Rattle.rv_tally.specs.declared.plans.Mix.TheVariants.{Mixed, Sampled, Walks}
 use Rattle.rv_hunt.specs.declared.saying.warnings.Warning.{Warning}
-use Rattle.rv_hunt.specs.declared.saying.warnings.Warning.TheVariants.{Compressed, Floating, NoSite, NoPause, Lost, Trapped, NoOtherStep, FewArmed, NoNear, ManyUntried, WalkedInVain, NoExit, Gone}
+use Rattle.rv_hunt.specs.declared.saying.warnings.Warning.TheVariants.{Compressed, Floating, NoSite, NoPause, Lost, Trapped, NoOtherStep, FewArmed, NoNear, ManyUntried, WalkedInVain, NoExit, Gone, Missed}
 
 -- the image has no site
 abbrev pub has_no_site : ℕ → Bool
@@ -76,9 +76,10 @@ holds outcome ManyUntried = tried_few outcome.saw
 holds outcome WalkedInVain = walked_in_vain outcome.saw.tally
 holds outcome NoExit = exited_nowhere outcome.saw.tally
 holds outcome Gone = outcome.gone
+holds outcome Missed = outcome.misses
 
 abbrev pub all_warnings : List Warning
-all_warnings = Compressed ∷ Floating ∷ NoSite ∷ NoPause ∷ Lost ∷ Trapped ∷ NoOtherStep ∷ FewArmed ∷ NoNear ∷ ManyUntried ∷ WalkedInVain ∷ NoExit ∷ Gone ∷ []
+all_warnings = Compressed ∷ Floating ∷ NoSite ∷ NoPause ∷ Lost ∷ Trapped ∷ NoOtherStep ∷ FewArmed ∷ NoNear ∷ ManyUntried ∷ WalkedInVain ∷ NoExit ∷ Gone ∷ Missed ∷ []
 
 -- those that hold
 abbrev pub warnings_of : Outcome → List Warning
@@ -107,6 +108,7 @@ voids mix ManyUntried = false
 voids mix WalkedInVain = false
 voids mix NoExit = false
 voids mix Gone = false
+voids mix Missed = false
 
 -- one of these holds of what a hunt came to
 unfoldable pub is_void : Outcome → Bool

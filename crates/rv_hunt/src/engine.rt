@@ -17,12 +17,13 @@ use crate::engine::fault::HuntFault;
 use crate::engine::folder::Folder;
 use crate::engine::found::Found;
 use crate::engine::inputs::Inputs;
-use crate::engine::lists::{Lists, read_aim, read_ignored, read_known};
+use crate::engine::lists::{Lists, read_ignored, read_known};
 use crate::engine::making::{Made, make_hunt};
 use crate::engine::opening::{Opened, open};
 use crate::engine::options::HuntOptions;
 use crate::hunt::Watch;
 use rv_engines::new_file::NewFile;
+use rv_engines::source_lines::read_source_if;
 use rv_memory::buffered::Buffered;
 use rv_memory::flagged::WriteFault;
 use rv_memory::output::Output;
@@ -72,7 +73,7 @@ fn publish<W: Write, E: Write>(
     writer.finish()
 }
 
-/// Reads the image, and then the lists, and looks for what is aimed at.
+/// Reads the image with the lists of the line, looks for what is aimed at, and reads the source lines and the lists of files.
 fn read<'a, R: Read>(
     alloc: Global,
     options: &HuntOptions<'a, '_>,
@@ -85,23 +86,27 @@ fn read<'a, R: Read>(
     ensures readers { spec.any_failed inputs.new ≡ (spec.any_failed inputs.old || fails_by is_read result) }
     ensures writer { fails_by is_write result ≡ false }
 {
-    let opened = open(alloc, options, &mut inputs.image)?;
-    let ignored = match read_ignored(alloc, &opened.image, &mut inputs.ignored) {
+    let (opened, aim) = match open(alloc, options, &mut inputs.image) {
+        Ok(read) => read,
+        Err(fault) => return Err(fault),
+    };
+    let source = match read_source_if(alloc, &mut inputs.lines) {
+        Ok(source) => source,
+        Err(fault) => return Err(HuntFault::Lines(fault)),
+    };
+    let ignored = match read_ignored(alloc, &opened.image, &source, &mut inputs.ignored) {
         Ok(ignored) => ignored,
         Err(fault) => return Err(HuntFault::Ignored(fault)),
     };
-    let expected = match read_known(alloc, &mut inputs.expected) {
-        Ok(expected) => expected,
-        Err(fault) => return Err(HuntFault::Expected(fault)),
-    };
-    let lists = match read_aim(alloc, &opened.image, options) {
-        Ok(aim) => Lists {
+    let lists = match read_known(alloc, &mut inputs.expected) {
+        Ok(expected) => Lists {
+            source,
             ignored,
             expected,
             aim,
             built: opened.built,
         },
-        Err(fault) => return Err(HuntFault::Aimed(fault)),
+        Err(fault) => return Err(HuntFault::Expected(fault)),
     };
     Ok((opened, lists))
 }

@@ -13,6 +13,7 @@
 pub mod aim;
 pub mod changed;
 pub mod code_seen;
+pub mod done;
 pub mod end_runs;
 pub mod engine;
 mod entries;

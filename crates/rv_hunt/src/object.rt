@@ -161,6 +161,6 @@ pub(crate) fn tabled_object(
     let json = races_at(json, alloc, symbols, beside.options, races)?;
     let json = json.nothing_at("stuck")?.nothing_at("ended")?;
     let json = json.nothing_at("seen")?.nothing_at("near")?;
-    let json = tabled_warnings(json, alloc, tabled.gone)?;
+    let json = tabled_warnings(json, alloc, tabled)?;
     beside.status_at(json)?.end()?.finish()
 }

@@ -3,7 +3,8 @@ use crate::failure::Failure;
 use crate::file_line::{FileLine, FilePlace};
 use crate::folder::{Saved, ScheduleFolder};
 use crate::paths::{
-    expect_path, folder_path, ignore_path, json_path, list_path, page_path, table_to_path,
+    expect_path, folder_path, ignore_path, json_path, lines_path, list_path, page_path,
+    table_to_path,
 };
 use crate::system::SystemSaid;
 use rv_command::arguments::ImagePath;
@@ -46,6 +47,7 @@ pub struct Failed {
 #[derive(Clone, Copy)]
 pub struct Said {
     pub image: Option<SystemSaid>,
+    pub lines: Option<SystemSaid>,
     pub ignored: Option<SystemSaid>,
     pub expected: Option<SystemSaid>,
     pub folder: Option<SystemSaid>,
@@ -184,6 +186,11 @@ pub fn failure_of<'a>(
     fault: HuntFault<'a>,
 ) -> Failure<'a> {
     match fault {
+        HuntFault::Lines(fault) => of_file(
+            lines_path(line.lines),
+            failed.said.lines,
+            FileFault::from(fault),
+        ),
         HuntFault::Ignored(fault) => of_file(ignore_path(line.ignore), failed.said.ignored, fault),
         HuntFault::Expected(fault) => of_file(
             expect_path(line.expect),

@@ -12,7 +12,7 @@ use crate::hunt_failure::{AtFault, Failed, Said, WRITE_FAULT, at_fault_in, failu
 use crate::keeper::Keeper;
 use crate::kept_file::{KeptFile, has_failed, said_by};
 use crate::painted::Painted;
-use crate::paths::{expect_path, ignore_path, json_path, list_path, page_path};
+use crate::paths::{expect_path, ignore_path, json_path, lines_path, list_path, page_path};
 use crate::progress::{Progress, Told};
 use crate::shown_line::ShownLine;
 use crate::system::{Stream, SystemSaid};
@@ -220,6 +220,7 @@ fn hunt_by<'a>(
     let alloc = rt.alloc();
     let mut inputs = Inputs {
         image: Flagged::new(InputFile::new(rt, image.0)),
+        lines: file_if(rt, lines_path(line.lines)),
         ignored: file_if(rt, ignore_path(line.ignore)),
         expected: file_if(rt, expect_path(line.expect)),
     };
@@ -251,6 +252,7 @@ fn hunt_by<'a>(
     keeper.ends();
     let Inputs {
         image: image_file,
+        lines,
         ignored,
         expected,
     } = inputs;
@@ -263,6 +265,7 @@ fn hunt_by<'a>(
         json: has_failed(&json),
         said: Said {
             image: image_file.into_inner().said(),
+            lines: said_of(lines),
             ignored: said_of(ignored),
             expected: said_of(expected),
             folder: folder_said(&folder),

@@ -27,15 +27,17 @@ pub mod system;
 use crate::colors::Colors;
 use crate::failure::Failure;
 use crate::files::{InputFile, OutputFile, failed_input, failed_output, path_of, said_of};
-use crate::hunt_failure::{filed, filed_line};
-use crate::hunting::hunt_file;
+use crate::hunt_failure::{filed, filed_line, of_file};
+use crate::hunting::{file_if, hunt_file, said_of as file_said};
 use crate::merging::merge_files;
 use crate::painted::{Painted, tell_painted};
-use crate::paths::json_path;
+use crate::paths::{json_path, lines_path};
 use crate::showing::show_file;
 use crate::system::Stream;
 use rv_collide::plan::Plan;
-use rv_command::arguments::{ImagePath, JsonPath, PicturePath, SavePath, SchedulePath, SourcePath};
+use rv_command::arguments::{
+    ImagePath, JsonPath, LinesPath, PicturePath, SavePath, SchedulePath, SourcePath,
+};
 use rv_command::color::{Color, ColorFault, color_line};
 use rv_command::command::complaint::Complaint;
 use rv_command::command::{Job, LineFault, Notice, VERSION, command_of, notice_of};
@@ -43,6 +45,7 @@ use rv_engines::asm::run_asm;
 use rv_engines::debug::engine::run_debug;
 use rv_engines::exhibit::engine::run_exhibit;
 use rv_engines::explain::engine::run_explain;
+use rv_engines::explain::fault::ExplainFault;
 use rv_engines::explain::options::{About, ExplainOptions};
 use rv_engines::fault::Fault;
 use rv_engines::list::run_list;
@@ -51,8 +54,10 @@ use rv_engines::run::engine::run_campaign;
 use rv_engines::run::fault::CommandFault;
 use rv_engines::run::options::Options;
 use rv_engines::sentences::Paths;
+use rv_engines::source_lines::MISS_WORDS;
 use rv_engines::threads::engine::run_by_threads;
 use rv_engines::words::engine::run_words;
+use rv_hunt::merge::fault::FileFault;
 use rv_memory::buffered::Buffered;
 use rv_memory::flagged::Flagged;
 use rv_stub::engine::run_gdb;
@@ -173,9 +178,10 @@ fn run_job<'a>(
             image,
             schedule,
             options,
+            lines,
             picture,
             json,
-        } => explain_files(rt, image, schedule, &options, picture, json, colors),
+        } => explain_files(rt, image, schedule, &options, lines, picture, json, colors),
         Job::Threads {
             image,
             plan,
@@ -289,12 +295,13 @@ fn run_files<'a>(
     run_campaign(threads, alloc, options, &mut image, &mut file, &mut writer)
 }
 
-/// Runs the engine of `explain` on two files, and on one that it makes where that is asked for.
+/// Runs the engine of `explain` on two files, on source lines, and on files that it makes where that is asked for.
 fn explain_files<'a>(
     rt: &'a HostRuntime,
     image: ImagePath<'a>,
     schedule: SchedulePath<'a>,
     options: &ExplainOptions<'a>,
+    lines: Option<LinesPath<'a>>,
     picture: Option<PicturePath<'a>>,
     json: Option<JsonPath<'a>>,
     colors: Colors,
@@ -302,6 +309,7 @@ fn explain_files<'a>(
     let alloc = rt.alloc();
     let mut image_file = Flagged::new(InputFile::new(rt, image.0));
     let mut schedule_file = Flagged::new(InputFile::new(rt, schedule.0));
+    let mut source = file_if(rt, lines_path(lines));
     let mut made = made_file(rt, picture_path(picture));
     let mut object = made_file(rt, json_path(json));
     let about = About {
@@ -316,12 +324,21 @@ fn explain_files<'a>(
         &about,
         &mut image_file,
         &mut schedule_file,
+        &mut source,
         &mut made,
         &mut object,
         &mut writer,
     );
-    let Err(fault) = told else {
-        return Ok(());
+    let fault = match told {
+        Ok(misses) => {
+            warn_if(rt, misses, colors);
+            return Ok(());
+        }
+        Err(ExplainFault::Lines(fault)) => {
+            let said = file_said(source);
+            return Err(of_file(lines_path(lines), said, FileFault::from(fault)));
+        }
+        Err(ExplainFault::Command(fault)) => fault,
     };
     let failed = failed_input(image_file).or(failed_input(schedule_file));
     let failed = failed.or(failed_output(made)).or(failed_output(object));
@@ -332,6 +349,15 @@ fn explain_files<'a>(
         failed: path_of(failed),
     };
     Err(filed(paths, said, fault))
+}
+
+/// Warns that the source lines have no frame of the image.
+fn warn_if(rt: &HostRuntime, misses: bool, colors: Colors) {
+    if misses {
+        tell_painted(rt, colors.errors, "rvcollide: warning: ");
+        // Where the standard error fails there is nothing left to tell it to.
+        let _ = eprintln!(rt; "{MISS_WORDS}");
+    }
 }
 
 /// Runs the engine of `gdb` on two files, with packets from the standard input.

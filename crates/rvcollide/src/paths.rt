@@ -1,7 +1,13 @@
 //! The paths of a line of `hunt`.
 use rv_command::arguments::{
-    FolderPath, IgnorePath, JsonPath, ListPath, PagePath, TablePath, TableToPath,
+    FolderPath, IgnorePath, JsonPath, LinesPath, ListPath, PagePath, TablePath, TableToPath,
 };
+
+/// The path of the file of source lines.
+pub fn lines_path<'a>(path: Option<LinesPath<'a>>) -> Option<&'a str> {
+    let path = path?;
+    Some(path.0)
+}
 
 /// The path of the list of races that are to be ignored.
 pub fn ignore_path<'a>(path: Option<IgnorePath<'a>>) -> Option<&'a str> {

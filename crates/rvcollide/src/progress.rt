@@ -1,6 +1,7 @@
 //! What is told on the standard error while runs are made: a terminal has one line that moves, and above it each race the moment that it is met;
 //! another stream has a line for each tenth, where that is asked for. Nothing of it depends on time.
 use crate::painted::tell_painted;
+use rv_hunt::done::Done;
 use rv_hunt::hunted::Hunted;
 use rv_tally::limit::Limit;
 use rv_text::decimal::read_decimal;
@@ -64,43 +65,15 @@ impl Told {
     }
 }
 
-/// How far some work has come.
-#[derive(Clone, Copy)]
-struct Reached {
-    done: u64,
-    all: u64,
-}
-
-impl Reached {
-    /// How many of so many parts are done.
-    fn parts(self, parts: u64) -> u64 {
-        (self.done.saturating_mul(parts) / self.all.max(1)).min(parts)
+/// As `[####......]`.
+fn bar_of(alloc: Global, done: Done) -> Result<String, AllocError> {
+    let full = done.parts(TENTHS);
+    let mut bar = String::from_str(alloc, "[")?;
+    for n in 0..TENTHS {
+        bar.push(if n < full { '#' } else { '.' })?;
     }
-
-    /// As `[####......]`.
-    fn bar(self, alloc: Global) -> Result<String, AllocError> {
-        let full = self.parts(TENTHS);
-        let mut bar = String::from_str(alloc, "[")?;
-        for n in 0..TENTHS {
-            bar.push(if n < full { '#' } else { '.' })?;
-        }
-        bar.push(']')?;
-        Ok(bar)
-    }
-}
-
-/// How far a hunt has come, of what was asked for.
-fn reached_of(limit: Limit, hunted: &Hunted) -> Reached {
-    match limit {
-        Limit::Runs(all) => Reached {
-            done: hunted.tally.runs(),
-            all,
-        },
-        Limit::Budget(all) => Reached {
-            done: hunted.tally.reached().cost,
-            all,
-        },
-    }
+    bar.push(']')?;
+    Ok(bar)
 }
 
 /// What a hunt has made and found.
@@ -175,70 +148,65 @@ impl<'a> Progress<'a> {
         }
     }
 
-    /// Puts what was reached in place.
-    fn put_reached(
-        &mut self,
-        most: usize,
-        reached: Reached,
-        words: &str,
-    ) -> Result<(), AllocError> {
+    /// Puts what is done in place.
+    fn put_done(&mut self, most: usize, done: Done, words: &str) -> Result<(), AllocError> {
         let alloc = self.rt.alloc();
-        let bar = reached.bar(alloc)?;
+        let bar = bar_of(alloc, done)?;
         let whole = format!(in alloc; "{bar} {words}")?;
         self.put(cut(alloc, whole.as_str(), most)?);
         Ok(())
     }
 
-    fn tell(&mut self, reached: Reached, words: &str) {
+    fn tell(&mut self, done: Done, words: &str) {
         match self.told {
             Told::Nobody => {}
             Told::Stream => {
                 let _ = eprintln!(self.rt; "{words}");
             }
             Told::Terminal(most) => {
-                let _ = self.put_reached(most, reached, words);
+                let _ = self.put_done(most, done, words);
             }
         }
     }
 
     /// One more run has been added up.
     pub fn saw(&mut self, limit: Limit, hunted: &Hunted) {
-        let reached = reached_of(limit, hunted);
-        let parts = reached.parts(self.told.parts());
+        let done = Done::of(limit, hunted);
+        let parts = done.parts(self.told.parts());
         if self.hunted < parts {
             self.hunted = parts;
             if let Ok(words) = hunt_words(self.rt.alloc(), limit, hunted) {
-                self.tell(reached, words.as_str());
+                self.tell(done, words.as_str());
             }
         }
     }
 
     /// Of so many runs some have been made again.
     pub fn made(&mut self, made: usize, all: usize) {
-        let reached = Reached {
+        let done = Done {
             done: made as u64,
             all: all as u64,
         };
-        let parts = reached.parts(self.told.parts());
+        let parts = done.parts(self.told.parts());
         if self.remade < parts {
             self.remade = parts;
             if let Ok(words) = format!(in self.rt.alloc(); "runs made again {made} of {all}") {
-                self.tell(reached, words.as_str());
+                self.tell(done, words.as_str());
             }
         }
     }
 
     /// Of so many races that are shown in full some have been.
     pub fn shows(&mut self, shown: usize, all: usize) {
-        let reached = Reached {
+        let done = Done {
             done: shown as u64,
             all: all as u64,
         };
-        let parts = reached.parts(self.told.parts());
+        let parts = done.parts(self.told.parts());
         if self.shown < parts {
             self.shown = parts;
             if let Ok(words) = format!(in self.rt.alloc(); "races shown {shown} of {all}") {
-                self.tell(reached, words.as_str());
+                self.tell(done, words.as_str());
             }
         }
     }

@@ -8,7 +8,7 @@ use crate::hunting::{
 };
 use crate::kept_file::{has_failed, said_by};
 use crate::painted::Painted;
-use crate::paths::{expect_path, ignore_path, json_path, list_path, page_path};
+use crate::paths::{expect_path, ignore_path, json_path, lines_path, list_path, page_path};
 use crate::progress::{Progress, Told};
 use crate::shown_line::ShownLine;
 use crate::system::{Stream, SystemSaid};
@@ -64,6 +64,7 @@ fn hunt_line<'a>(line: &ShowLine<'a>) -> HuntLine<'a> {
         named: None,
         skip: None,
         idle: None,
+        lines: line.lines,
         ignore: line.ignore,
         save_to: line.save_to,
         page: line.page,
@@ -136,6 +137,7 @@ fn show_by<'a>(
     }
     let mut inputs = Inputs {
         image: Flagged::new(InputFile::new(rt, image.0)),
+        lines: file_if(rt, lines_path(line.lines)),
         ignored: file_if(rt, ignore_path(line.ignore)),
         expected: file_if(rt, expect_path(line.expect)),
     };
@@ -166,6 +168,7 @@ fn show_by<'a>(
     progress.ends();
     let Inputs {
         image: image_file,
+        lines,
         ignored,
         expected,
     } = inputs;
@@ -178,6 +181,7 @@ fn show_by<'a>(
         json: has_failed(&json),
         said: Said {
             image: image_file.into_inner().said(),
+            lines: said_of(lines),
             ignored: said_of(ignored),
             expected: said_of(expected),
             folder: folder_said(&folder),

@@ -138,6 +138,7 @@ pub const COMMANDS: [Subcommand; 13] = [
                 value: "LIST",
                 help: "Symbols, separated by commas: races on their bytes are marked as named",
             },
+            LINES,
             Argument::Optional {
                 name: "around",
                 value: "N",
@@ -246,6 +247,7 @@ pub const COMMANDS: [Subcommand; 13] = [
                 value: "LIST",
                 help: "Functions in which harts may wait for ever, separated by commas",
             },
+            LINES,
             IGNORE,
             SAVE_TO,
             PAGE,
@@ -320,6 +322,7 @@ pub const COMMANDS: [Subcommand; 13] = [
                 name: "TABLE",
                 help: "File that hunt --table or merge wrote",
             },
+            LINES,
             IGNORE,
             SAVE_TO,
             PAGE,
@@ -383,6 +386,12 @@ const SLOTS: Argument = Argument::Optional {
 const SEED: Argument = Argument::Required {
     name: "seed",
     help: "Seed of the random choices, 0 to 4294967295",
+};
+
+const LINES: Argument = Argument::Optional {
+    name: "lines",
+    value: "FILE",
+    help: "Source lines of the image to show, as rvcollide-lines writes them",
 };
 
 const IGNORE: Argument = Argument::Optional {
@@ -573,7 +582,7 @@ const EXPLAIN: &str = "\
 For each race it prints both instructions with their symbols, what each hart did or was about to do, who
 called it, the bytes before and after, and the entries of the schedule around them. Endings have the
 numbers that replay prints and exhibit takes. IMAGE is as rvcollide list --help says, SCHEDULE as
-rvcollide replay --help says.
+rvcollide replay --help says, the file of --lines as rvcollide hunt --help says.
 
 A fault is told with its file and what is wrong:
   rvcollide: run.txt: explain NoRace of 2: there is no race with this number
@@ -607,7 +616,9 @@ A line of a list is two sides: each a function's name, an address of eight hexad
 instruction. It may go on with on and a variable's name; a word that begins with # begins a comment. --list
 writes such lines, --ignore takes them, and --expect takes them or a table, the output of hunt --table, of
 merge or of run. A race that --expect lacks and that may be a bug is marked new. --save-to takes a folder that
-is there and has no such schedule; explain, replay, debug, exhibit and gdb read the schedules.
+is there and has no such schedule; explain, replay, debug, exhibit and gdb read the schedules. rvcollide-lines
+IMAGE > FILE asks addr2line of binutils for the source line of each instruction: of --lines reports have files,
+lines and inlined functions, and lists know an instruction by each of its functions.
 
 A fault is told with its file and what is wrong:
   rvcollide: guest.elf: load NotRiscV: the file is for another processor
@@ -634,8 +645,8 @@ The last line of the table says how its runs are made: with which seed, harts, p
 the run of each row again and writes of the races what hunt writes: an index, a report of each, a page and
 schedules. It tries no orders, and how harts ended is in no table. The output begins with a line such as
   races 1, likely benign 0, reports 13 in 3 runs
-A table of another image, or of another version of rvcollide, is refused. Files of --ignore, --expect and
---list are as rvcollide hunt --help says.
+A table of another image, or of another version of rvcollide, is refused. Files of --lines, --ignore, --expect
+and --list are as rvcollide hunt --help says.
 
 A fault is told with its file and what is wrong, as in all.table: table line 2 NotMet.
 

@@ -7,7 +7,7 @@ ghost use Rattle.rv_command.specs.Command as spec;
 ghost use Rattle.rv_command.specs.ExplainLine as line;
 
 use super::complaint::{Complaint, NumberOption};
-use super::hunt::json_of;
+use super::hunt::{json_of, lines_of};
 use super::number::{number_if, number_or};
 use super::paths::saved_of;
 use super::{Job, text_of};
@@ -45,6 +45,7 @@ pub fn explain_of<'a>(given: &ArgMatches<'a>) -> Result<Job<'a>, Complaint<'a>>
         image,
         schedule,
         options,
+        lines: lines_of(given),
         picture: text_of(given, "picture").map(|path| PicturePath(path)),
         json: json_of(given),
     })

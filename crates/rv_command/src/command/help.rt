@@ -151,6 +151,10 @@ table line N NAME, of a table of hunt or run:
   Gap: runs are missing before those of the table: add their table, or allow it by --gaps
   NotMet: the run of the row makes no such report: was the table edited?
 
+lines line N NAME, of a file of --lines:
+  Shape: a line is an address of eight hexadecimal digits, and for each frame a function and FILE:LINE, with tabs between
+  Order: the address is not greater than that of the line before: did rvcollide-lines write the file?
+
 ignore line N NAME, of a list of --ignore, or of --expect:
   Shape: a line is two sides, each an address of eight hexadecimal digits, a symbol's name or *; on NAME may follow
   Unknown: the image has no symbol with this name

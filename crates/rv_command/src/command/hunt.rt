@@ -10,7 +10,8 @@ use super::number::{flag_of, number_between, number_if, number_or};
 use super::run::{HARTS, SEED, SLOTS, WORKERS};
 use super::{Job, text_of};
 use crate::arguments::{
-    Aim, FolderPath, IgnorePath, ImagePath, JsonPath, ListPath, PagePath, TablePath, TableToPath,
+    Aim, FolderPath, IgnorePath, ImagePath, JsonPath, LinesPath, ListPath, PagePath, TablePath,
+    TableToPath,
 };
 use clap::ArgMatches;
 use rv_collide::plan::{MOST_ARMS, MOST_PAUSE, MOST_STEPS};
@@ -79,6 +80,8 @@ pub struct HuntLine<'a> {
     pub skip: Option<&'a str>,
     /// Names of functions, with a comma between two: harts may wait in them for ever.
     pub idle: Option<&'a str>,
+    /// The file of source lines.
+    pub lines: Option<LinesPath<'a>>,
     /// The list of races that are to be ignored.
     pub ignore: Option<IgnorePath<'a>>,
     /// The folder for the schedules of the races.
@@ -154,6 +157,7 @@ fn line_of<'a>(given: &ArgMatches<'a>) -> Result<HuntLine<'a>, Complaint<'a>>
         named: text_of(given, "named"),
         skip: text_of(given, "skip"),
         idle: text_of(given, "idle"),
+        lines: lines_of(given),
         ignore: ignore_of(given),
         save_to: folder_of(given),
         page: page_of(given),
@@ -171,6 +175,13 @@ fn line_of<'a>(given: &ArgMatches<'a>) -> Result<HuntLine<'a>, Complaint<'a>>
         progress,
         no_orders: flag_of(given, "no-orders"),
     })
+}
+
+/// The file of source lines.
+pub fn lines_of<'a>(given: &ArgMatches<'a>) -> Option<LinesPath<'a>>
+    ensures { option_map (λ path. path.0.now) result ≡ first_of (codes "lines") (rows_of (found_of given.now)) }
+{
+    text_of(given, "lines").map(|path| LinesPath(path))
 }
 
 /// The list of races that are to be ignored.

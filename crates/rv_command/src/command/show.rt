@@ -7,13 +7,14 @@ ghost use Rattle.rv_command.specs.ShowLine as line;
 
 use super::complaint::Complaint;
 use super::hunt::{
-    BLOCKS, DEFAULT_BLOCKS, expect_of, folder_of, ignore_of, json_of, list_of, page_of, progress_of,
+    BLOCKS, DEFAULT_BLOCKS, expect_of, folder_of, ignore_of, json_of, lines_of, list_of, page_of,
+    progress_of,
 };
 use super::number::{flag_of, number_if, number_or};
 use super::run::WORKERS;
 use super::{Job, text_of};
 use crate::arguments::{
-    FolderPath, IgnorePath, ImagePath, JsonPath, ListPath, PagePath, TablePath,
+    FolderPath, IgnorePath, ImagePath, JsonPath, LinesPath, ListPath, PagePath, TablePath,
 };
 use clap::ArgMatches;
 
@@ -22,6 +23,8 @@ use clap::ArgMatches;
 pub struct ShowLine<'a> {
     /// How many threads make the runs; without it as many as there are processors.
     pub workers: Option<u8>,
+    /// The file of source lines.
+    pub lines: Option<LinesPath<'a>>,
     /// The list of races that are to be ignored.
     pub ignore: Option<IgnorePath<'a>>,
     /// The folder for the schedules of the races.
@@ -70,6 +73,7 @@ fn line_of<'a>(given: &ArgMatches<'a>) -> Result<ShowLine<'a>, Complaint<'a>>
     let progress = progress_of(given)?;
     Ok(ShowLine {
         workers: workers.map(|n| n as u8),
+        lines: lines_of(given),
         ignore: ignore_of(given),
         save_to: folder_of(given),
         page: page_of(given),

@@ -52,6 +52,7 @@ fn assert_explains(rt: &impl Abort, alloc: Global, row: &Asks) {
         image: ImagePath("a.elf"),
         schedule: SchedulePath("s.txt"),
         options,
+        lines: None,
         picture,
         json: None,
     };

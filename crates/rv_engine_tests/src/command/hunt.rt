@@ -1,6 +1,7 @@
 use crate::command::asserting::{assert_asks, assert_refused};
 use rv_command::arguments::{
-    Aim, FolderPath, IgnorePath, ImagePath, JsonPath, ListPath, PagePath, TablePath, TableToPath,
+    Aim, FolderPath, IgnorePath, ImagePath, JsonPath, LinesPath, ListPath, PagePath, TablePath,
+    TableToPath,
 };
 use rv_command::command::Job;
 use rv_command::command::hunt::HuntLine;
@@ -21,6 +22,7 @@ const PLAIN: HuntLine = HuntLine {
     named: None,
     skip: None,
     idle: None,
+    lines: None,
     ignore: None,
     save_to: None,
     page: None,
@@ -76,6 +78,7 @@ const ALL: HuntLine = HuntLine {
     named: Some("a,,b"),
     skip: Some("00010000,x"),
     idle: Some("sleep,"),
+    lines: Some(LinesPath("s.lines")),
     ignore: Some(IgnorePath("i.txt")),
     save_to: Some(FolderPath("d")),
     page: Some(PagePath("p.html")),
@@ -148,7 +151,7 @@ const LINES: &[(&str, HuntLine)] = &[
     ("rvcollide hunt a.elf --budget 1000000000000000", MOST_STEPS),
     (
         "rvcollide hunt --no-orders --quiet --expect=t.txt --right=0,255 --check-ends --check-all --check --table \
---blocks=7 --json=o.json --table-to=o.table --list=l.txt --page=p.html --save-to=d --ignore=i.txt --idle=sleep, --skip=00010000,x --named=a,,b --aim=f,00010000 --slots=8 --plan=02000,064,100 --workers=6 --runs=3 \
+--blocks=7 --json=o.json --table-to=o.table --list=l.txt --page=p.html --save-to=d --ignore=i.txt --lines=s.lines --idle=sleep, --skip=00010000,x --named=a,,b --aim=f,00010000 --slots=8 --plan=02000,064,100 --workers=6 --runs=3 \
 --first=12 --seed=7 --harts=2 -- a.elf",
         ALL,
     ),
@@ -157,7 +160,7 @@ const LINES: &[(&str, HuntLine)] = &[
 /// A line that gives each option in another order, and a budget beside the runs.
 const GIVEN: &str =
     "rvcollide hunt a.elf --harts 2 --seed 7 --first 12 --runs 3 --budget 5 --workers 6 \
---plan 2000,64,100 --slots 8 --aim f,00010000 --named a,,b --skip 00010000,x --idle sleep, --ignore i.txt --save-to d \
+--plan 2000,64,100 --slots 8 --aim f,00010000 --named a,,b --skip 00010000,x --idle sleep, --lines s.lines --ignore i.txt --save-to d \
 --page p.html --list l.txt --table-to o.table --json o.json --blocks 7 --table --check --check-all --check-ends --right 0,255 --expect t.txt --quiet --no-orders";
 
 /// All options left out, all given, in any order, with and without `=`.

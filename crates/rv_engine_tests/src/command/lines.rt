@@ -36,6 +36,7 @@ const EXHIBIT: Job<'static> = Job::Exhibit {
 /// What a line of `show` asks for without options.
 const PLAIN: ShowLine<'static> = ShowLine {
     workers: None,
+    lines: None,
     ignore: None,
     save_to: None,
     page: None,

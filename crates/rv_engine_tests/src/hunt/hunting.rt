@@ -142,6 +142,7 @@ fn told<R: Read, W: Write, E: Write>(
 fn alone<'f>(image: &'f [u8]) -> Inputs<&'f [u8]> {
     Inputs {
         image: Flagged::new(image),
+        lines: None,
         ignored: None,
         expected: None,
     }
@@ -172,6 +173,7 @@ fn readers<'f>(image: &'f [u8], place: usize, fails_at: u64) -> Inputs<Failing<'
     let at = |file| if file == place { fails_at } else { 0 };
     Inputs {
         image: reader_of(image, 10, at(0)),
+        lines: None,
         ignored: Some(reader_of(LIST, 10, at(1))),
         expected: Some(reader_of(TABLE, 10, at(2))),
     }

@@ -108,9 +108,14 @@ const REFUSED: &[(&str, &str)] = &[
 
 fn assert_fits(rt: &impl Abort, alloc: Global, symbols: &SymbolTable, row: &Fits, on: Option<u32>) {
     let (list, first, second, wanted) = *row;
-    let ignores = read_ignores(alloc, symbols.image(), &mut Flagged::new(list.as_bytes()))
-        .ok()
-        .expect(rt, list);
+    let ignores = read_ignores(
+        alloc,
+        symbols.image(),
+        &None,
+        &mut Flagged::new(list.as_bytes()),
+    )
+    .ok()
+    .expect(rt, list);
     let names = ignores.names(alloc, symbols.image()).expect(rt, "memory");
     let found = ignores.fits(alloc, symbols, &names, &Key { first, second }, on);
     assert_is(rt, found.expect(rt, "memory"), wanted, list);
@@ -118,7 +123,7 @@ fn assert_fits(rt: &impl Abort, alloc: Global, symbols: &SymbolTable, row: &Fits
 
 fn assert_refused(rt: &impl Abort, alloc: Global, image: &Image, row: &(&'static str, &str)) {
     let (list, told) = *row;
-    let fault = read_ignores(alloc, image, &mut Flagged::new(list.as_bytes()))
+    let fault = read_ignores(alloc, image, &None, &mut Flagged::new(list.as_bytes()))
         .err()
         .expect(rt, list);
     let text = format!(in alloc; "{fault}").expect(rt, "memory");

@@ -1,5 +1,6 @@
 //! The engine of `explain`: an image and a schedule in, text out, and a picture where one is wanted.
 ghost use Rattle.std.specs.Prelude.{◌≡◌, ◌<◌, ◌||◌, [], true, false, Ok, IfOk, IfErr, IfSome, OnOk, is_some, length, map};
+ghost use Rattle.std.specs.Option.{option_map_or};
 ghost use Rattle.std.specs.Result.{IsOk};
 ghost use Rattle.std.specs.Io.KnownBytes.{Appends, Keeps};
 ghost use Rattle.rv_explain.specs.Blocks.{shown_of};
@@ -13,13 +14,16 @@ ghost use Rattle.rv_engines.specs.CommandFault.{IsTold, refusal, fails_by, is_re
 ghost use Rattle.rv_engines.specs.Explains as spec;
 ghost use Rattle.rv_engines.specs.Fault as plain;
 ghost use Rattle.rv_engines.specs.Replay.{IfKnown};
+ghost use Rattle.rv_engines.specs.SourceFile as source;
 
+use crate::explain::fault::ExplainFault;
 use crate::explain::object::{Explained, object_text};
-use crate::explain::opening::open_run;
+use crate::explain::opening::{Opened, open_run};
 use crate::explain::options::{About, ExplainOptions};
 use crate::fault::Fault;
 use crate::new_file::NewFile;
 use crate::run::fault::CommandFault;
+use crate::source_lines::{Sourced, lines_miss, read_source_if};
 use rv_debug::session::Session;
 use rv_explain::block::Block;
 use rv_explain::blocks::{ordered_text, totals_text};
@@ -53,7 +57,7 @@ fn blocks_of<'a>(
     options: &ExplainOptions<'a>,
     draws: bool,
 ) -> Result<Vec<Block>, CommandFault<'a>>
-    requires image { session.old.image ≡ symbols.now }
+    requires image { session.old.image ≡ symbols.now.image }
     requires told { AreTold (placed_run session.old) found.now.races.items }
     ensures ok { IfOk result (λ blocks.
         spec.shown_in_run draws (asking options.now) (placed_run session.old) (found_of found.now)
@@ -192,24 +196,6 @@ fn text_of(
     Ok(text)
 }
 
-/// What an object is asked to say, and of which file.
-#[derive(Clone, Copy)]
-struct Wanted<'a> {
-    about: About<'a>,
-    digest: &'a str,
-}
-
-/// What an object is asked to say, where one is wanted.
-fn wanted_if<'a>(is_wanted: bool, about: About<'a>, digest: &'a str) -> Option<Wanted<'a>>
-    ensures { is_some result ≡ is_wanted }
-{
-    if is_wanted {
-        Some(Wanted { about, digest })
-    } else {
-        None
-    }
-}
-
 /// The object of what is shown, where one is wanted.
 fn object_if(
     alloc: Global,
@@ -219,14 +205,17 @@ fn object_if(
     blocks: &[Block],
     beside: &BesideBlocks,
     harts: u8,
-    wanted: Option<Wanted<'_>>,
+    misses: bool,
+    wants: bool,
+    about: &About<'_>,
+    digest: &str,
 ) -> Result<Option<Vec<u8>>, NoMemory>
-    ensures wanted { IfOk result (λ made. is_some made ≡ is_some wanted.entry) }
+    ensures wanted { IfOk result (λ made. is_some made ≡ wants) }
     ensures object { IfOk result (λ made. IfSome made (λ text. spec.IsAnObject text.items)) }
 {
-    let Some(Wanted { about, digest }) = wanted else {
+    if !wants {
         return Ok(None);
-    };
+    }
     let of = Explained {
         found,
         blocks,
@@ -234,8 +223,9 @@ fn object_if(
         first: first_number(options),
         harts,
         stuck: beside.stuck.as_ref(),
+        misses,
     };
-    Ok(Some(object_text(alloc, symbols, &about, digest, &of)?))
+    Ok(Some(object_text(alloc, symbols, about, digest, &of)?))
 }
 
 /// What is told of a run: the text, the picture of the first block where one is wanted, and the object where that is.
@@ -247,19 +237,22 @@ fn texts_of(
     options: &ExplainOptions,
     blocks: &[Block],
     draws: bool,
-    wanted: Option<Wanted<'_>>,
+    misses: bool,
+    wants: bool,
+    about: &About<'_>,
+    digest: &str,
 ) -> Result<Texts, NoMemory>
     requires { draws ≡ true → 0 < length blocks.now }
     ensures drawn { IfOk result (λ texts. is_some texts.picture ≡ draws) }
     ensures markup { IfOk result (λ texts. IfSome texts.picture (λ drawn. IsDocument drawn.items [])) }
-    ensures wanted { IfOk result (λ texts. is_some texts.object ≡ is_some wanted.entry) }
+    ensures wanted { IfOk result (λ texts. is_some texts.object ≡ wants) }
     ensures object { IfOk result (λ texts. IfSome texts.object (λ text. spec.IsAnObject text.items)) }
 {
     let beside = beside_blocks(alloc, symbols, session, options, blocks)?;
     let text = text_of(alloc, symbols, found, options, blocks, &beside)?;
     let harts = session.machine().harts();
     let object = object_if(
-        alloc, symbols, found, options, blocks, &beside, harts, wanted,
+        alloc, symbols, found, options, blocks, &beside, harts, misses, wants, about, digest,
     )?;
     let first = first_number(options);
     let picture = match blocks.first() {
@@ -311,53 +304,107 @@ fn publish<F: NewFile, W: Write>(
     Ok(())
 }
 
-/// Reads an image and then a schedule, and tells the schedule's races, or the one that is asked for. Where a picture is
+/// What is told of a run, with the lines of its image's sources.
+fn told_in<'a>(
+    alloc: Global,
+    options: &ExplainOptions<'a>,
+    about: &About<'_>,
+    sourced: &Sourced,
+    session: &mut Session,
+    found: &RunRaces,
+    digest: &str,
+    draws: bool,
+    wants: bool,
+) -> Result<Texts, CommandFault<'a>>
+    requires image { session.old.image ≡ sourced.now.image }
+    requires told { AreTold (placed_run session.old) found.now.races.items }
+    ensures ok { IfOk result (λ texts.
+        IsOk (spec.shown_in_run draws (asking options.now) (placed_run session.old) (found_of found.now))) }
+    ensures err { IfErr result (λ fault. IsTold
+        (spec.shown_in_run draws (asking options.now) (placed_run session.old) (found_of found.now)) (refusal fault)) }
+    ensures drawn { IfOk result (λ texts. is_some texts.picture ≡ draws) }
+    ensures markup { IfOk result (λ texts. IfSome texts.picture (λ drawn. IsDocument drawn.items [])) }
+    ensures wanted { IfOk result (λ texts. is_some texts.object ≡ wants) }
+    ensures object { IfOk result (λ texts. IfSome texts.object (λ text. spec.IsAnObject text.items)) }
+    ensures reader { fails_by is_read result ≡ false }
+    ensures writer { fails_by is_write result ≡ false }
+    ensures thread { fails_by is_thread result ≡ false }
+{
+    let symbols = sourced.symbols(alloc)?;
+    let blocks = blocks_of(alloc, session, &symbols, found, options, draws)?;
+    let misses = lines_miss(&sourced.image, &sourced.lines);
+    Ok(texts_of(
+        alloc, &symbols, session, found, options, &blocks, draws, misses, wants, about, digest,
+    )?)
+}
+
+/// Reads an image, a schedule and then a file of source lines where one is given, and tells the schedule's races, or the one that is asked for. Where a picture is
 /// or an object is wanted its file is made first. Where one of the files or the list of names is refused, an entry is not what its call
-/// adds, or there is no such race, nothing is written and no file is made.
+/// adds, or there is no such race, nothing is written and no file is made. The answer is whether the lines have no frame of the image.
 pub fn run_explain<'a, R: Read, Q: Read, F: NewFile, W: Write>(
     alloc: Global,
     options: &ExplainOptions<'a>,
     about: &About<'_>,
     image: &mut Flagged<R>,
     schedule: &mut Flagged<Q>,
+    lines: &mut Option<Flagged<R>>,
     picture: &mut Option<F>,
     json: &mut Option<F>,
     writer: &mut Buffered<W>,
-) -> Result<(), CommandFault<'a>>
+) -> Result<bool, ExplainFault<'a>>
     ensures told { OnOk result (
         IfKnown (R.remaining (flag.device image.old)) (Q.remaining (flag.device schedule.old)) (λ i s.
         spec.IsOfLegal i s × IsOk (spec.explain_of (is_some picture.old) (asking options.now) i s))) }
     ensures drawn { OnOk result (IfSome picture.new (λ file. spec.IsDrawn (F.Holds file))) }
     ensures object { OnOk result (IfSome json.new (λ file. spec.IsObjected (F.Holds file))) }
     ensures wanted { (is_some picture.new ≡ is_some picture.old) × (is_some json.new ≡ is_some json.old) }
+    ensures lines { IfOk result (λ misses.
+        IfKnown (R.remaining (flag.device image.old)) (Q.remaining (flag.device schedule.old)) (λ i s.
+        IfSome (source.bytes_if R.remaining lines.old) (λ l. spec.SaysMiss i s l misses))) }
     ensures refused { IfErr result (λ fault.
         IfKnown (R.remaining (flag.device image.old)) (Q.remaining (flag.device schedule.old)) (λ i s.
-        spec.IsExplainRefusal (is_some picture.old) (asking options.now) i s (refusal fault))) }
-    ensures nothing { IfErr result (λ fault. is_write (refusal fault) ≡ false
+        IfSome (source.bytes_if R.remaining lines.old) (λ l.
+        spec.IsExplainTold (is_some picture.old) (asking options.now) i s l fault))) }
+    ensures nothing { IfErr result (λ fault. spec.is_write fault ≡ false
         → Keeps (buffer.sent W.contents writer.old) (buffer.sent W.contents writer.new)) }
-    ensures none { IfErr result (λ fault. is_write (refusal fault) ≡ false
+    ensures none { IfErr result (λ fault. spec.is_write fault ≡ false
         → (passes F.is_made picture.new ≡ passes F.is_made picture.old) × (passes F.is_made json.new ≡ passes F.is_made json.old)) }
     ensures first { (passes F.has_failed picture.old || passes F.has_failed json.old) ≡ false
         → (passes F.has_failed picture.new || passes F.has_failed json.new) ≡ true
         → Keeps (buffer.sent W.contents writer.old) (buffer.sent W.contents writer.new) }
-    ensures readers { (flag.has_failed image.new || flag.has_failed schedule.new)
-        ≡ (flag.has_failed image.old || flag.has_failed schedule.old || fails_by is_read result) }
+    ensures readers { (flag.has_failed image.new || flag.has_failed schedule.new || option_map_or flag.has_failed lines.new false)
+        ≡ (flag.has_failed image.old || flag.has_failed schedule.old || option_map_or flag.has_failed lines.old false || spec.fails_by spec.is_read result) }
     ensures writers { (passes F.has_failed picture.new || passes F.has_failed json.new || buffer.has_failed writer.new)
-        ≡ (passes F.has_failed picture.old || passes F.has_failed json.old || buffer.has_failed writer.old || fails_by is_write result) }
+        ≡ (passes F.has_failed picture.old || passes F.has_failed json.old || buffer.has_failed writer.old || spec.fails_by spec.is_write result) }
 {
     let draws = picture.is_some();
-    let mut opened = open_run(alloc, options, draws, image, schedule)?;
-    let run = &mut opened;
-    let symbols = SymbolTable::new(alloc, &run.image)?;
-    let found = &run.found;
-    let blocks = blocks_of(alloc, &mut run.session, &symbols, found, options, draws)?;
-    let session = &run.session;
-    let wanted = wanted_if(json.is_some(), *about, run.digest.as_str());
-    let texts = texts_of(
-        alloc, &symbols, session, found, options, &blocks, draws, wanted,
+    let wants = json.is_some();
+    let opened = open_run(alloc, options, draws, image, schedule)?;
+    let source = read_source_if(alloc, lines)?;
+    let Opened {
+        image,
+        digest,
+        mut session,
+        found,
+    } = opened;
+    let sourced = Sourced {
+        image,
+        lines: source,
+    };
+    let misses = lines_miss(&sourced.image, &sourced.lines);
+    let texts = told_in(
+        alloc,
+        options,
+        about,
+        &sourced,
+        &mut session,
+        &found,
+        digest.as_str(),
+        draws,
+        wants,
     )?;
     match publish(&texts, picture, json, writer) {
-        Ok(()) => Ok(()),
-        Err(fault) => Err(CommandFault::from(fault)),
+        Ok(()) => Ok(misses),
+        Err(fault) => Err(ExplainFault::from(fault)),
     }
 }

@@ -4,6 +4,7 @@ ghost use Rattle.rv_engines.specs.Explains.{IsAnObject};
 ghost use Rattle.rv_engines.specs.internal.ExplainObject as spec;
 
 use crate::explain::options::About;
+use crate::source_lines::MISS_WORDS;
 use rv_collide::ending::Verdict;
 use rv_explain::block::{Block, RaceClass};
 use rv_explain::object::head::{Head, head_members};
@@ -24,7 +25,7 @@ use std::alloc::Global;
 use std::str;
 
 /// What is told of a run: its races, the blocks that are shown with what the orders of their accesses make, the number of the first of
-/// them, how many harts it has, and its stuck end, if it has one that is told.
+/// them, how many harts it has, its stuck end, if it has one that is told, and whether the source lines have no frame of the image.
 #[derive(Clone, Copy)]
 pub(crate) struct Explained<'a> {
     pub(crate) found: &'a RunRaces,
@@ -33,6 +34,7 @@ pub(crate) struct Explained<'a> {
     pub(crate) first: u64,
     pub(crate) harts: u8,
     pub(crate) stuck: Option<&'a StuckBlock>,
+    pub(crate) misses: bool,
 }
 
 /// A class's members count.
@@ -240,6 +242,17 @@ fn stuck_if(
     stuck_object(json, alloc, symbols, 1, &met, block, None)
 }
 
+/// The warning that the source lines have no frame of the image, where they have none.
+fn warning_if(json: Json, misses: bool) -> Result<Json, NoMemory>
+    ensures { IfOk result (λ more. more ≡ json) }
+{
+    if misses {
+        json.text(MISS_WORDS)
+    } else {
+        Ok(json)
+    }
+}
+
 /// What stands behind the races.
 fn behind_races(
     json: Json,
@@ -252,8 +265,8 @@ fn behind_races(
     let json = json.array_at("stuck")?;
     let json = stuck_if(json, alloc, symbols, of.stuck)?.end()?;
     let json = json.nothing_at("ended")?.nothing_at("seen")?;
-    let json = json.nothing_at("near")?.array_at("warnings")?.end()?;
-    json.number_at("status", 0)
+    let json = json.nothing_at("near")?.array_at("warnings")?;
+    warning_if(json, of.misses)?.end()?.number_at("status", 0)
 }
 
 /// The object of what is shown of a run.

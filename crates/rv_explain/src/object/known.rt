@@ -1,5 +1,5 @@
 //! How a list of races names a race: as `hunt --list` writes it and `--ignore` reads it.
-use crate::names::escaped;
+use crate::names::{escaped, escaped_field};
 use rv_memory::store::NoMemory;
 use rv_symbols::symbol_table::SymbolTable;
 use rv_text::hexadecimal::{byte_digits, read_word, word_digits};
@@ -11,6 +11,22 @@ const LONGEST_WORD: usize = 65_536;
 /// Whether a word says something else than a name: a comment, any instruction, or an address.
 fn says_other(word: &[u8]) -> bool {
     word.first() == Some(&b'#') || word == b"*".as_slice() || read_word(word).is_some()
+}
+
+/// The function of an instruction's innermost frame as a list has it, where it is known and a line can have it.
+fn function_of(
+    alloc: Global,
+    symbols: &SymbolTable,
+    address: u32,
+) -> Result<Option<Vec<u8>>, NoMemory> {
+    let mut frames = symbols.frames_at(address);
+    let Some(frame) = frames.next_frame() else {
+        return Ok(None);
+    };
+    match frame.known_function() {
+        Some(name) if name.len() <= LONGEST_WORD => { word_of(alloc, &escaped_field(alloc, name)?) }
+        _ => Ok(None),
+    }
 }
 
 /// The name of an address as a list has it, where a line can have it.
@@ -25,10 +41,14 @@ fn name_of(
     if symbol.name.len() > LONGEST_WORD {
         return Ok(None);
     }
-    let shown = escaped(alloc, symbol.name.as_bytes())?;
+    word_of(alloc, &escaped(alloc, symbol.name.as_bytes())?)
+}
+
+/// What is shown as a word of a list, where a line can have it.
+fn word_of(alloc: Global, shown: &[u8]) -> Result<Option<Vec<u8>>, NoMemory> {
     let mut word = Vec::new(alloc);
-    match shown.as_slice() {
-        [first, rest @ ..] if says_other(&shown) => {
+    match shown {
+        [first, rest @ ..] if says_other(shown) => {
             word.extend_from_slice(b"\\x")?;
             word.extend_from_slice(&byte_digits(*first))?;
             word.extend_from_slice(rest)?;
@@ -48,6 +68,10 @@ fn push_side(
     symbols: &SymbolTable,
     address: u32,
 ) -> Result<(), NoMemory> {
+    if let Some(function) = function_of(alloc, symbols, address)? {
+        text.extend_from_slice(&function)?;
+        return Ok(());
+    }
     match name_of(alloc, symbols, address)? {
         Some(name) => text.extend_from_slice(&name)?,
         None => text.extend_from_slice(&word_digits(address))?,

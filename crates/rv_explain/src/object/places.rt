@@ -2,8 +2,11 @@
 ghost use Rattle.std.specs.Prelude.{◌≡◌, codes, IfOk};
 ghost use Rattle.rv_explain.specs.RaceObject as spec;
 
+use crate::names::call_before;
+use crate::source::field_text;
 use rv_json::object::Json;
 use rv_memory::store::NoMemory;
+use rv_symbols::frames::{Frame, Frames};
 use rv_symbols::symbol_table::SymbolTable;
 use std::alloc::Global;
 
@@ -22,7 +25,7 @@ fn name_at(json: Json, alloc: Global, name: &str) -> Result<Json, NoMemory>
     json.text_at("symbol", cut.as_str())
 }
 
-/// By which symbol an address is told, and its source line, which isn't known.
+/// By which symbol an address is told.
 fn symbol_members(
     json: Json,
     alloc: Global,
@@ -43,7 +46,76 @@ fn symbol_members(
             json.nothing_at("size")?
         }
     };
-    json.nothing_at("source")
+    Ok(json)
+}
+
+/// A field of a frame, where it is known.
+fn field_at(json: Json, alloc: Global, name: &str, field: Option<&[u8]>) -> Result<Json, NoMemory>
+    ensures { IfOk result (λ more. more ≡ json) }
+{
+    match field {
+        Some(field) => {
+            let text = field_text(alloc, field)?;
+            json.text_at(name, text.as_str())
+        }
+        None => json.nothing_at(name),
+    }
+}
+
+fn frame_object(json: Json, alloc: Global, frame: &Frame<'_>) -> Result<Json, NoMemory>
+    ensures { IfOk result (λ more. more ≡ json) }
+{
+    let json = field_at(json.object()?, alloc, "function", frame.known_function())?;
+    let json = field_at(json, alloc, "file", frame.file())?;
+    json.number_if("line", frame.line().map(|line| u64::from(line)))?
+        .end()
+}
+
+/// A frame and those behind it.
+fn frame_objects(
+    json: Json,
+    alloc: Global,
+    first: &Frame<'_>,
+    rest: Frames<'_>,
+) -> Result<Json, NoMemory>
+    ensures { IfOk result (λ more. more ≡ json) }
+{
+    let mut json = frame_object(json, alloc, first)?;
+    let mut frames = rest;
+    while let Some(frame) = frames.next_frame() {
+        json = frame_object(json, alloc, &frame)?;
+    }
+    Ok(json)
+}
+
+/// The frames of the instruction at an address, where some are known.
+fn source_at(
+    json: Json,
+    alloc: Global,
+    symbols: &SymbolTable,
+    address: u32,
+) -> Result<Json, NoMemory>
+    ensures { IfOk result (λ more. more ≡ json) }
+{
+    let mut frames = symbols.frames_at(address);
+    match frames.next_frame() {
+        Some(first) => frame_objects(json.array_at("source")?, alloc, &first, frames)?.end(),
+        None => json.nothing_at("source"),
+    }
+}
+
+/// What is told of an address beside it: by which symbol it is told, and the frames of the instruction at another one.
+fn place_members(
+    json: Json,
+    alloc: Global,
+    symbols: &SymbolTable,
+    address: u32,
+    code: u32,
+) -> Result<Json, NoMemory>
+    ensures { IfOk result (λ more. more ≡ json) }
+{
+    let json = symbol_members(json, alloc, symbols, address)?;
+    source_at(json, alloc, symbols, code)
 }
 
 /// A place by its name.
@@ -57,7 +129,26 @@ pub fn place_at(
     ensures { IfOk result (λ more. more ≡ json) }
 {
     let json = json.object_at(name)?.digits_at("address", address)?;
-    symbol_members(json, alloc, symbols, address)?.end()
+    place_members(json, alloc, symbols, address, address)?.end()
+}
+
+/// Where a function returns to, where that is certain. Its frames are those of the call in front of it.
+pub(crate) fn caller_at(
+    json: Json,
+    alloc: Global,
+    symbols: &SymbolTable,
+    name: &str,
+    caller: Option<u32>,
+) -> Result<Json, NoMemory>
+    ensures { IfOk result (λ more. more ≡ json) }
+{
+    match caller {
+        Some(address) => {
+            let json = json.object_at(name)?.digits_at("address", address)?;
+            place_members(json, alloc, symbols, address, call_before(address))?.end()
+        }
+        None => json.nothing_at(name),
+    }
 }
 
 /// The same, where there is one.
@@ -87,7 +178,7 @@ pub(crate) fn place_told(
     ensures { IfOk result (λ more. more ≡ record json { facts = spec.place_facts name.now address json.facts }) }
 {
     let json = json.object_told(name)?.digits_told("address", address)?;
-    symbol_members(json, alloc, symbols, address)?.end()
+    place_members(json, alloc, symbols, address, address)?.end()
 }
 
 /// The same, where there is one.

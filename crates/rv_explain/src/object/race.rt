@@ -7,7 +7,7 @@ use crate::block::{Block, RaceClass, Side};
 use crate::instruction::instruction_line;
 use crate::object::entries::entries_at;
 use crate::object::order::{OrderSaid, order_at};
-use crate::object::places::{place_if, place_told, place_told_if};
+use crate::object::places::{caller_at, place_told, place_told_if};
 use rv_collide::ending::Verdict;
 use rv_hart::access::Access;
 use rv_json::object::Json;
@@ -160,7 +160,7 @@ fn beside_members(
     };
     let json = instruction_at(json, alloc, pc, beside.word)?;
     let json = json.number_at("entry", u64::from(beside.entry))?;
-    place_if(json, alloc, symbols, "called_from", beside.caller)
+    caller_at(json, alloc, symbols, "called_from", beside.caller)
 }
 
 /// An access by its name, whose instruction's address is told.

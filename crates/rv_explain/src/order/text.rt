@@ -33,11 +33,11 @@ fn end_text(alloc: Global, names: &Names, end: HartEnd) -> Result<String, NoMemo
         HartEnd::Exited(code) => Ok(format!(in alloc; "exits with {code:08x}")?),
         HartEnd::Stopped { cause, pc } => {
             let words = cause_words(cause);
-            let place = names.address(alloc, pc)?;
+            let place = names.place(alloc, pc)?;
             Ok(format!(in alloc; "stops with {words} at {place}")?)
         }
         HartEnd::Polls(pc) => {
-            let place = names.address(alloc, pc)?;
+            let place = names.place(alloc, pc)?;
             Ok(format!(in alloc; "waits at {place}")?)
         }
         HartEnd::Parked => Ok(format!(in alloc; "is parked")?),

@@ -21,7 +21,7 @@ pub(crate) fn caller_of(
     steps: &[RoundStep],
 ) -> Result<Option<u32>, NoMemory>
     ensures same { machine.new ≡ machine.old }
-    ensures caller { IfOk result (spec.IsCaller symbols.now machine.old.state hart steps.now) }
+    ensures caller { IfOk result (spec.IsCaller symbols.now.image machine.old.state hart steps.now) }
 {
     let mut copy = copy_of(machine)?;
     go_on(&mut copy, hart, least_place(steps))?;

@@ -2,7 +2,7 @@
 //! was called from.
 use super::called::{least_pc, least_place};
 use super::{ReadBytes, StuckBlock, StuckHart, Waiting};
-use crate::names::{Names, TEXT_NAME};
+use crate::names::{Names, TEXT_NAME, add_caller};
 use rv_memory::store::NoMemory;
 use rv_stuck::RoundStep;
 use rv_symbols::symbol_table::SymbolTable;
@@ -63,6 +63,7 @@ fn add_steps(
     for step in back.chain(front).take(MOST_SHOWN_STEPS) {
         let instruction = names.instruction(alloc, step.pc, step.word)?;
         lines.push(format!(in alloc; "    {instruction}")?.into_bytes())?;
+        names.add_inlined(alloc, lines, step.pc)?;
     }
     add_rest(alloc, lines, steps.len(), MOST_SHOWN_STEPS)
 }
@@ -75,7 +76,7 @@ fn read_line(alloc: Global, names: &Names, read: &ReadBytes) -> Result<String, N
         return Ok(format!(in alloc; "    reads {place}: {value:08x}")?);
     };
     let (hart, entry) = (writer.hart, writer.entry);
-    let by = names.address(alloc, writer.pc)?;
+    let by = names.place(alloc, writer.pc)?;
     Ok(format!(in alloc;
         "    reads {place}: {value:08x}, last written by hart {hart} at entry {entry}, {by}"
     )?)
@@ -108,11 +109,7 @@ fn add_polling(
     lines.push(line.into_bytes())?;
     add_steps(alloc, lines, names, &waiting.steps)?;
     add_reads(alloc, lines, names, &waiting.reads)?;
-    if let Some(caller) = waiting.caller {
-        let place = names.address(alloc, caller)?;
-        lines.push(format!(in alloc; "    called from {place}")?.into_bytes())?;
-    }
-    Ok(())
+    add_caller(alloc, lines, names, waiting.caller)
 }
 
 /// The lines of a hart.
@@ -127,7 +124,7 @@ fn add_hart(
         StuckHart::Exited => format!(in alloc; "  hart {h} exited")?,
         StuckHart::Stopped => format!(in alloc; "  hart {h} stopped")?,
         StuckHart::Waits(waiting) if waiting.reads.is_empty() => {
-            let place = names.address(alloc, least_pc(&waiting.steps))?;
+            let place = names.place(alloc, least_pc(&waiting.steps))?;
             format!(in alloc; "  hart {h} is parked at {place}")?
         }
         StuckHart::Waits(waiting) => return add_polling(alloc, lines, names, h, waiting),

@@ -3,6 +3,8 @@ use Rattle.std.specs.Prelude.{◌≡◌, ⊤, ℕ, Bool, false, ◌||◌, Option
 use Rattle.std.specs.Map.{keys_of}
 use Rattle.std.specs.Option.{option_map_or}
 use Rattle.rv_elf.specs.Contents.{Contents}
+use Rattle.rv_explain.specs.Naming.{Naming}
+use Rattle.rv_lines.specs.SourceLines.{SourceLine}
 use Rattle.rv_hunt.specs.HuntObject.{hunt_facts}
 use Rattle.rv_hunt.specs.HuntText.{table_text}
 use Rattle.rv_hunt.specs.Hunt.{Hunt}
@@ -23,6 +25,7 @@ use Rattle.rv_engines.specs.Built.{built_of}
 use Rattle.rv_engines.specs.Campaigns.{elements, listed, skipped}
 use Rattle.rv_engines.specs.CommandFault.{Refusal, plainly}
 use Rattle.rv_engines.specs.Images.{image_of}
+use Rattle.rv_engines.specs.SourceFile.{lines_miss, source_in}
 use Rattle.rv_engines.specs.declared.built.Built.{Built}
 use Rattle.rv_hunt.specs.engine.Asked.{Asked}
 use Rattle.rv_hunt.specs.engine.OrderShown.{AreOrdersShown}
@@ -36,7 +39,7 @@ use Rattle.rv_hunt.specs.declared.engine.inputs.Inputs.{Inputs}
 use Rattle.rv_hunt.specs.declared.engine.options.HuntOptions.{HuntOptions}
 use Rattle.rv_hunt.specs.declared.engine.options.Shows.{Shows}
 use Rattle.rv_hunt.specs.declared.engine.options.Shows.TheVariants.{Text, Table}
-use Rattle.rv_hunt.specs.merge.Ignore.{aimed_in, ignores_of, is_ignored, is_told}
+use Rattle.rv_hunt.specs.merge.Ignore.{aimed_in, ignores_of, is_ignored, is_told, naming_of}
 use Rattle.rv_hunt.specs.merge.Known.{has_gone, known_of, new_races}
 use Rattle.rv_hunt.specs.merge.Listing.{list_text}
 use Rattle.rv_hunt.specs.merge.Merge.{bytes_if}
@@ -59,53 +62,70 @@ hunt_of asked bytes = do
   idle ← listed image (elements asked.idle)
   Ok (record { source = record { image = image; sites = sites image excluded; seed = asked.seed }; given = asked.given; ranges = ranges; idle = idle; first = asked.first; limit = asked.limit })
 
+-- The image in which what is aimed at is looked for: neither it nor the lists of addresses and of names are refused. That is before the list
+-- of idle functions is read.
+abbrev pub sought_in : Asked → List ℕ → Result Contents Refusal
+sought_in asked bytes = do
+  image ← plainly (image_of bytes)
+  excluded ← skipped (elements asked.skip)
+  ranges ← listed image (elements asked.named)
+  Ok image
+
 -- ---- the files
 
--- the bytes of the image, of the list of races to be ignored, and of the table or list of expected ones, where they are given
+-- the bytes of the image, of the source lines, of the list of races to be ignored, and of the table or list of expected ones, where they are given
 pub record Files : Type 0 where
   pub image : List ℕ
+  pub lines : Option (List ℕ)
   pub ignored : Option (List ℕ)
   pub expected : Option (List ℕ)
 
 -- the bytes that the readers have left, where they are all known
 abbrev pub files_of : {R : Type 0} → (R → Option (List ℕ)) → Inputs R → Option Files
 files_of remaining inputs =
-    option_and_then (λ image. option_and_then (λ ignored. option_map (λ expected. record { image = image; ignored = ignored; expected = expected })
+    option_and_then (λ image. option_and_then (λ lines. option_and_then (λ ignored. option_map (λ expected. record { image = image; lines = lines; ignored = ignored; expected = expected })
     (bytes_if remaining inputs.expected))
     (bytes_if remaining inputs.ignored))
+    (bytes_if remaining inputs.lines))
     (remaining (device inputs.image))
 
 -- one of the readers has failed
 abbrev pub any_failed : {R : Type 0} → Inputs R → Bool
 any_failed inputs =
-    has_failed inputs.image || option_map_or has_failed inputs.ignored false || option_map_or has_failed inputs.expected false
+    has_failed inputs.image || option_map_or has_failed inputs.lines false || option_map_or has_failed inputs.ignored false || option_map_or has_failed inputs.expected false
 
 -- the lines of the races to be ignored, or why the list is refused
-abbrev pub ignored_in : Contents → Option (List ℕ) → Result (List Line) FileFault
-ignored_in image None = Ok []
-ignored_in image (Some bytes) = ignores_of image bytes
+abbrev pub ignored_in : Naming → Option (List ℕ) → Result (List Line) FileFault
+ignored_in naming None = Ok []
+ignored_in naming (Some bytes) = ignores_of naming bytes
 
 -- the races that are expected, by a table or a list, or why it is refused
 abbrev pub expected_in : Option (List ℕ) → Result (Option Known) FileFault
 expected_in None = Ok None
 expected_in (Some bytes) = known_of bytes >>= λ known. Ok (Some known)
 
--- What is hunted, the digits of its image's file, which races are counted and not told, which are expected, what is aimed at, which exit codes are
+-- What is hunted, the digits of its image's file, the source lines, where they are given, which races are counted and not told, which are expected, what is aimed at, which exit codes are
 -- right, and what the image was built with.
 pub record Hunting : Type 0 where
   pub hunt : Hunt
   pub digits : List ℕ
+  pub lines : Option (List SourceLine)
   pub ignored : List Line
   pub expected : Option Known
   pub aim : List Line
   pub right : List ℕ
   pub built : Built
 
+-- the image, and the source lines, where they are given
+abbrev pub naming_in : Hunting → Naming
+naming_in hunting = naming_of hunting.hunt.source.image hunting.lines
+
 -- the files and the options ask for it
 pub record IsHuntingOf (asked : Asked) (files : Files) (hunting : Hunting) : Type 0 where
   pub hunt_is : hunt_of asked files.image ≡ Ok hunting.hunt
   pub digits_are : hunting.digits ≡ image_digits files.image
-  pub ignored_is : ignored_in hunting.hunt.source.image files.ignored ≡ Ok hunting.ignored
+  pub lines_are : source_in files.lines ≡ Ok hunting.lines
+  pub ignored_is : ignored_in (naming_in hunting) files.ignored ≡ Ok hunting.ignored
   pub expected_is : expected_in files.expected ≡ Ok hunting.expected
   pub aim_is : aimed_in hunting.hunt.source.image asked.aim ≡ Ok hunting.aim
   pub right_is : hunting.right ≡ right_codes asked.right
@@ -115,10 +135,10 @@ pub record IsHuntingOf (asked : Asked) (files : Files) (hunting : Hunting) : Typ
 
 -- the rows of the races that no line of the list fits, and of the others
 abbrev pub told_in : Hunting → Hunted → List (Key × RaceRow)
-told_in hunting saw = filter (is_told hunting.hunt.source.image hunting.ignored) saw.table
+told_in hunting saw = filter (is_told (naming_in hunting) hunting.ignored) saw.table
 
 abbrev pub ignored_by : Hunting → Hunted → List (Key × RaceRow)
-ignored_by hunting saw = filter (is_ignored hunting.hunt.source.image hunting.ignored) saw.table
+ignored_by hunting saw = filter (is_ignored (naming_in hunting) hunting.ignored) saw.table
 
 -- the races as they are shown
 abbrev pub shown_in : Hunting → Hunted → List (Key × RaceRow)
@@ -133,13 +153,14 @@ outcome hunting saw = record {
   rows = told_in hunting saw;
   races = shown_in hunting saw;
   ignored = ignored_by hunting saw;
-  gone = has_gone hunting.hunt.source.image hunting.expected;
+  gone = has_gone (naming_in hunting) hunting.expected;
+  misses = lines_miss hunting.hunt.source.image hunting.lines;
   built = hunting.built;
 }
 
 -- the rows of races that may be bugs and are not expected
 abbrev pub new_in : Hunting → Hunted → List (Key × RaceRow)
-new_in hunting saw = new_races hunting.hunt.source.image hunting.expected (told_in hunting saw)
+new_in hunting saw = new_races (naming_in hunting) hunting.expected (told_in hunting saw)
 
 -- The text for the standard output, and the notes for the standard error.
 pub record Texts : Type 0 where
@@ -210,7 +231,7 @@ pub record IsMade (way : Showing) (hunting : Hunting) (Saves : ℕ → List ℕ 
   pub are_ordered : AreOrdersShown hunting.hunt saw.orders (keys_of (take way.full told)) orders
   pub is_table : IsTable way.shows (told_in hunting saw) (origin_of way hunting saw) texts.text
   pub paged : Pages (page_facts (outcome hunting saw) told (length shown))
-  pub listed : Lists (list_text hunting.hunt.source.image (told_in hunting saw))
+  pub listed : Lists (list_text (naming_in hunting) (told_in hunting saw))
   pub objected : Objects (hunt_facts (outcome hunting saw) told)
   pub stuck : List ShownStuck
   pub are_stuck : AreStuckShown hunting.hunt stuck

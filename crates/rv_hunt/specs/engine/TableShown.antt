@@ -1,9 +1,13 @@
 -- What `show` makes of the bytes of an image and of a hunt's table.
-use Rattle.std.specs.Prelude.{◌≡◌, ◌⊎◌, ℕ, ◌+◌, Bool, true, false, Option, Some, None, Result, Ok, Err, IsOkAnd, List, [], filter, length, map, take}
+use Rattle.std.specs.Prelude.{◌≡◌, ◌⊎◌, ℕ, ◌+◌, ◌||◌, Bool, true, false, Option, Some, None, Result, Ok, Err, IsOkAnd, List, [], filter, length, map, take}
 use Rattle.rv_collide.specs.Counts.{saturated}
 use Rattle.rv_engines.specs.CommandFault as command
 use Rattle.rv_engines.specs.Images.{image_of}
 use Rattle.rv_elf.specs.Contents.{Contents}
+use Rattle.rv_engines.specs.SourceFile as source
+use Rattle.rv_engines.specs.SourceFile.{lines_miss, source_in}
+use Rattle.rv_explain.specs.Naming.{Naming}
+use Rattle.rv_lines.specs.SourceLines.{SourceLine}
 use Rattle.rv_hunt.specs.GivenRuns.{RunsGiven, given_in, mix_of, slots_of}
 use Rattle.rv_hunt.specs.Hunt.{Hunt}
 use Rattle.rv_hunt.specs.HuntObject.{object_facts, table_sums}
@@ -11,7 +15,7 @@ use Rattle.rv_hunt.specs.Origin.{Origin, image_digits, other_than, runs_of, word
 use Rattle.rv_hunt.specs.PageFacts.{table_facts}
 use Rattle.rv_hunt.specs.ToldOrder.{AreInOrder}
 use Rattle.rv_hunt.specs.declared.engine.fault.HuntFault.{HuntFault}
-use Rattle.rv_hunt.specs.declared.engine.fault.HuntFault.TheVariants.{Command, Ignored, Expected, Aimed}
+use Rattle.rv_hunt.specs.declared.engine.fault.HuntFault.TheVariants.{Command, Ignored, Expected, Aimed, Lines}
 use Rattle.rv_hunt.specs.declared.engine.found.Found.{Found}
 use Rattle.rv_hunt.specs.declared.engine.show.ShowFault.{ShowFault}
 use Rattle.rv_hunt.specs.declared.engine.show.ShowFault.TheVariants as show
@@ -30,7 +34,7 @@ use Rattle.rv_hunt.specs.engine.HuntFault as hunting
 use Rattle.rv_hunt.specs.engine.Hunting.{Files, expected_in, found_in, hunt_of, ignored_in}
 use Rattle.rv_hunt.specs.engine.Shown.{AreShown}
 use Rattle.rv_hunt.specs.merge.FileFault as file
-use Rattle.rv_hunt.specs.merge.Ignore.{is_ignored, is_told}
+use Rattle.rv_hunt.specs.merge.Ignore.{is_ignored, is_told, naming_of}
 use Rattle.rv_hunt.specs.merge.Known.{has_gone, new_races}
 use Rattle.rv_hunt.specs.merge.Listing.{list_text}
 use Rattle.rv_hunt.specs.merge.TableFiles.{hunt_table}
@@ -85,11 +89,17 @@ asked_by seed given = record {
   right = None;
 }
 
--- What is shown of a table: a hunt with the runs that its last line says, which races are counted and not told, and which are expected.
+-- What is shown of a table: a hunt with the runs that its last line says, the source lines, where they are given, which races are counted
+-- and not told, and which are expected.
 pub record TableShown : Type 0 where
   pub hunt : Hunt
+  pub lines : Option (List SourceLine)
   pub ignored : List Line
   pub expected : Option Known
+
+-- the image, and the source lines, where they are given
+abbrev pub naming_in : TableShown → Naming
+naming_in shown = naming_of shown.hunt.source.image shown.lines
 
 -- the version of the program, the files and the bytes of a table ask for it
 pub record IsShownOf (version : List ℕ) (files : Files) (bytes : List ℕ) (table : ShownTable) (shown : TableShown) : Type 0 where
@@ -97,21 +107,22 @@ pub record IsShownOf (version : List ℕ) (files : Files) (bytes : List ℕ) (ta
   pub given : RunsGiven
   pub given_is : given_in (words_in table.origin.given) ≡ Some given
   pub hunt_is : hunt_of (asked_by table.origin.seed given) files.image ≡ Ok shown.hunt
-  pub ignored_is : ignored_in shown.hunt.source.image files.ignored ≡ Ok shown.ignored
+  pub lines_are : source_in files.lines ≡ Ok shown.lines
+  pub ignored_is : ignored_in (naming_in shown) files.ignored ≡ Ok shown.ignored
   pub expected_is : expected_in files.expected ≡ Ok shown.expected
 
 -- ---- what is told
 
 -- of these rows those that no line of the list fits, and the others
 abbrev pub told_of : TableShown → List (Key × RaceRow) → List (Key × RaceRow)
-told_of shown rows = filter (is_told shown.hunt.source.image shown.ignored) rows
+told_of shown rows = filter (is_told (naming_in shown) shown.ignored) rows
 
 abbrev pub ignored_of : TableShown → List (Key × RaceRow) → List (Key × RaceRow)
-ignored_of shown rows = filter (is_ignored shown.hunt.source.image shown.ignored) rows
+ignored_of shown rows = filter (is_ignored (naming_in shown) shown.ignored) rows
 
 -- what the page shows of rows, of which these are told in this order
 abbrev pub facts_of : TableShown → List (Key × RaceRow) → List (Key × RaceRow) → ℕ → List Fact
-facts_of shown rows told full = table_facts (has_gone shown.hunt.source.image shown.expected) (told_of shown rows) (ignored_of shown rows) told full
+facts_of shown rows told full = table_facts (has_gone (naming_in shown) shown.expected || lines_miss shown.hunt.source.image shown.lines) (told_of shown rows) (ignored_of shown rows) told full
 
 -- what the object has of them, and of so many runs
 abbrev pub members_of : TableShown → List (Key × RaceRow) → List (Key × RaceRow) → ℕ → List Member
@@ -119,7 +130,7 @@ members_of shown rows told runs = object_facts (table_sums (told_of shown rows) 
 
 -- what decides the exit status: of how harts ended a table says nothing
 abbrev pub found_of : TableShown → List (Key × RaceRow) → Found
-found_of shown rows = found_in (new_races shown.hunt.source.image shown.expected (told_of shown rows)) (told_of shown rows) 0 false false
+found_of shown rows = found_in (new_races (naming_in shown) shown.expected (told_of shown rows)) (told_of shown rows) 0 false false
 
 -- What is made of a table, of whose rows so many are shown in full: each of these is a race of the run that its row names, whose schedule is
 -- saved; the page; the list; and what was found as JSON. No order is tried.
@@ -131,7 +142,7 @@ pub record IsMade (shown : TableShown) (full : ℕ) (table : ShownTable) (Saves 
   pub races : List ShownRace
   pub are_shown : AreShown shown.hunt Saves (take full told) races
   pub paged : Pages (facts_of shown rows told (length races))
-  pub listed : Lists (list_text shown.hunt.source.image (told_of shown rows))
+  pub listed : Lists (list_text (naming_in shown) (told_of shown rows))
   pub objected : Objects (members_of shown rows told (runs_of table.origin.stretches))
   pub found_is : found ≡ found_of shown rows
 
@@ -144,7 +155,9 @@ pub data IsOfRuns (version : List ℕ) (files : Files) (table : List ℕ) (given
 
 abbrev pub IsHuntTold : Files → HuntFault → Type 0
 IsHuntTold files (Command given) = command.IsTold (command.plainly (image_of files.image)) (command.refusal given)
-IsHuntTold files (Ignored given) = IsOkAnd (image_of files.image) (λ (image : Contents). file.IsTold (ignored_in image files.ignored) given)
+IsHuntTold files (Lines given) = source.IsTold (source_in files.lines) given
+IsHuntTold files (Ignored given) =
+    IsOkAnd (source_in files.lines) (λ (lines : Option (List SourceLine)). IsOkAnd (image_of files.image) (λ (image : Contents). file.IsTold (ignored_in (naming_of image lines) files.ignored) given))
 IsHuntTold files (Expected given) = file.IsTold (expected_in files.expected) given
 IsHuntTold files (Aimed given) = ⊥
 

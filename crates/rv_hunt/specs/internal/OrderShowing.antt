@@ -27,7 +27,7 @@ pub record IsPlaced (again : Again) (trial : PlacedTrial) : Type 0 where
   pub wanted : WantedTrial
   pub there : slice_get again.wanted.now number ≡ Some wanted
   pub place_is : trial.place ≡ wanted.place
-  pub is_shown : again.symbols.now ≡ again.hunt.now.source.image → IsTrialShown again.hunt.now wanted.key wanted.at trial.made
+  pub is_shown : again.symbols.now.image ≡ again.hunt.now.source.image → IsTrialShown again.hunt.now wanted.key wanted.at trial.made
 
 abbrev pub AreMade : Again → List PlacedTrial → Type 0
 AreMade again = All (IsPlaced again)

@@ -1,7 +1,11 @@
 -- What `show` has of its files before runs are made again, and why it goes no further.
-use Rattle.std.specs.Prelude.{◌≡◌, ⊤, ◌⊎◌, ℕ, Option, Some, Result, Ok, List, length}
+use Rattle.std.specs.Prelude.{◌≡◌, ⊤, ◌⊎◌, ℕ, Option, Some, Result, Ok, List, length, IsOkAnd}
 use Rattle.rv_campaign.specs.declared.pool.PoolFault.{PoolFault}
 use Rattle.rv_elf.specs.Contents.{Contents}
+use Rattle.rv_engines.specs.SourceFile as source
+use Rattle.rv_engines.specs.SourceFile.{source_in}
+use Rattle.rv_hunt.specs.merge.Ignore.{naming_of}
+use Rattle.rv_lines.specs.SourceLines.{SourceLine}
 use Rattle.rv_engines.specs.CommandFault as command
 use Rattle.rv_engines.specs.declared.fault.Fault.TheVariants as plain
 use Rattle.rv_engines.specs.declared.run.fault.CommandFault.{CommandFault}
@@ -9,7 +13,7 @@ use Rattle.rv_engines.specs.declared.run.fault.CommandFault.TheVariants as fault
 use Rattle.rv_hunt.specs.GivenRuns.{RunsGiven, given_in}
 use Rattle.rv_hunt.specs.Hunt.{Hunt}
 use Rattle.rv_hunt.specs.Origin.{words_in}
-use Rattle.rv_hunt.specs.declared.engine.fault.HuntFault.TheVariants.{Command, Ignored, Expected, Aimed}
+use Rattle.rv_hunt.specs.declared.engine.fault.HuntFault.TheVariants.{Command, Ignored, Expected, Aimed, Lines}
 use Rattle.rv_hunt.specs.declared.engine.fault.MakeFault.{MakeFault}
 use Rattle.rv_hunt.specs.declared.engine.folder.FolderFault.{FolderFault}
 use Rattle.rv_hunt.specs.declared.engine.lists.Lists.{Lists}
@@ -74,28 +78,30 @@ IsRunFault (OfHunt (Command given)) = IsDevice given
 IsRunFault given = ⊥
 
 -- the fault is one of a table that was read, of an image, or of the lists of these files
-abbrev pub IsLateTold : ShownTable → Contents → Option (List ℕ) → Option (List ℕ) → ShowFault → Type 0
-IsLateTold table image ignored expected (Table given) = (given ≡ last_fault (length table.rows) kind.Shape) ⊎ ((line : ℕ) × (given ≡ not_met line))
-IsLateTold table image ignored expected (OfHunt (Command given)) = IsDevice given
-IsLateTold table image ignored expected (OfHunt (Ignored given)) = file.IsTold (ignored_in image ignored) given
-IsLateTold table image ignored expected (OfHunt (Expected given)) = file.IsTold (expected_in expected) given
-IsLateTold table image ignored expected (OfHunt (Aimed given)) = ⊥
+abbrev pub IsLateTold : ShownTable → Contents → Option (List ℕ) → Option (List ℕ) → Option (List ℕ) → ShowFault → Type 0
+IsLateTold table image lines ignored expected (Table given) = (given ≡ last_fault (length table.rows) kind.Shape) ⊎ ((line : ℕ) × (given ≡ not_met line))
+IsLateTold table image lines ignored expected (OfHunt (Command given)) = IsDevice given
+IsLateTold table image lines ignored expected (OfHunt (Lines given)) = source.IsTold (source_in lines) given
+IsLateTold table image lines ignored expected (OfHunt (Ignored given)) = IsOkAnd (source_in lines) (λ (read : Option (List SourceLine)). file.IsTold (ignored_in (naming_of image read) ignored) given)
+IsLateTold table image lines ignored expected (OfHunt (Expected given)) = file.IsTold (expected_in expected) given
+IsLateTold table image lines ignored expected (OfHunt (Aimed given)) = ⊥
 
 -- ---- what is shown
 
 -- by a hunt and the lists of files
 abbrev pub shown_by : Hunt → Lists → TableShown
-shown_by hunt lists = record { hunt = hunt; ignored = lists.ignored; expected = lists.expected }
+shown_by hunt lists = record { hunt = hunt; lines = lists.source; ignored = lists.ignored; expected = lists.expected }
 
 -- by what is asked of the runs, an image, the lists of the table's last line, and those of files
 abbrev pub shown_with : Asked → Contents → Listed → Lists → TableShown
 shown_with asked image listed lists = shown_by (hunt_by asked image listed) lists
 
 -- an image that is read, the bytes of lists and the table ask for it
-pub record IsShownBy (image : Contents) (ignored expected : Option (List ℕ)) (table : ShownTable) (shown : TableShown) : Type 0 where
+pub record IsShownBy (image : Contents) (lines ignored expected : Option (List ℕ)) (table : ShownTable) (shown : TableShown) : Type 0 where
   pub given : RunsGiven
   pub given_is : given_in (words_in table.origin.given) ≡ Some given
   pub image_is : shown.hunt.source.image ≡ image
   pub hunt_is : hunt_with (asked_by table.origin.seed given) image ≡ Ok shown.hunt
-  pub ignored_is : ignored_in image ignored ≡ Ok shown.ignored
+  pub lines_are : source_in lines ≡ Ok shown.lines
+  pub ignored_is : ignored_in (naming_of image shown.lines) ignored ≡ Ok shown.ignored
   pub expected_is : expected_in expected ≡ Ok shown.expected

@@ -36,7 +36,7 @@ IsPlaced full number run harts one = IsOfRow full run harts one.0 one.1 × IsOfR
 -- what is shown of a part of the run of that number, made again
 pub record IsShownPart (full : InFull) (number : ℕ) (run : Finished) (shown : ShownPart) : Type 0 where
   pub schedule_is : shown.schedule.items ≡ schedule_text (numbers run.plan) run.entries.items
-  pub races_are : All (IsPlaced full number (run_told full.symbols.now run) run.plan.harts) shown.races.items
+  pub races_are : All (IsPlaced full number (run_told full.symbols.now.image run) run.plan.harts) shown.races.items
 
 -- ---- the slots of all rows
 
@@ -62,7 +62,7 @@ abbrev pub AreShown : Full → Vec ShownPart Global → Type 0
 AreShown full parts = All (IsShownIn full) parts.items
 
 abbrev pub AreShownIn : InFull → List ShownPart → Type 0
-AreShownIn full parts = full.symbols.now ≡ full.hunt.now.source.image → All (IsShownIn (of_full full)) parts
+AreShownIn full parts = full.symbols.now.image ≡ full.hunt.now.source.image → All (IsShownIn (of_full full)) parts
 
 -- what a slot holds is the race of the row at its place, whose schedule is saved
 pub record IsInSlot (full : Full) (Saves : ℕ → List ℕ → Type 0) (place : ℕ) (shown : ShownRace) : Type 0 where

@@ -3,6 +3,7 @@ use Rattle.std.specs.Prelude.{◌≡◌, ⊤, ℕ, ◌<◌, Bool, true, false, �
 use Rattle.std.specs.List.{AllZip}
 use Rattle.std.specs.Option.{option_map_or}
 use Rattle.rv_elf.specs.Contents.{Contents}
+use Rattle.rv_explain.specs.Naming.{Naming}
 use Rattle.rv_hunt.specs.declared.merge.ignore.Line.{Line}
 use Rattle.rv_hunt.specs.declared.merge.ignore.ListedLine.{ListedLine}
 use Rattle.rv_hunt.specs.declared.merge.ignore.Names.{Names}
@@ -15,7 +16,7 @@ use Rattle.rv_hunt.specs.declared.merge.sought.SoughtSide.{SoughtSide}
 use Rattle.rv_hunt.specs.declared.merge.sought.SoughtSide.TheVariants.{Any, Address, Word}
 use Rattle.rv_hunt.specs.declared.merge.words.Words.{Words}
 use Rattle.rv_report.specs.declared.key.Key.{Key}
-use Rattle.rv_hunt.specs.internal.Words.{AreMarksAt, AreNumbered, count, named_by, number_of}
+use Rattle.rv_hunt.specs.internal.Words.{AreInstructionMarks, AreMarksAt, AreNumbered, count, named_by, number_of}
 
 -- a number is below how many words there are
 abbrev pub IsWithin : ℕ → SoughtSide → Type 0
@@ -74,14 +75,20 @@ pub record AreNames (names : Names) (image : Contents) (listed : List ListedLine
 abbrev pub AreTheNames : Names → Contents → List Line → Type 0
 AreTheNames names image lines = (listed : List ListedLine) × (lines ≡ lines_in listed) × AreNames names image listed
 
--- the instruction or the data, with the names there
-pub record IsInstruction (names : Names) (image : Contents) (at : Option ℕ) (instruction : Instruction) : Type 0 where
+-- the data, with the names there
+pub record IsData (names : Names) (image : Contents) (at : Option ℕ) (place : Instruction) : Type 0 where
+  pub at_is : place.at ≡ at
+  pub count : length place.marks.items ≡ count names.words
+  pub marks : AreMarksAt names.words image at place.marks.items
+
+-- the instruction, with the names there
+pub record IsInstruction (names : Names) (naming : Naming) (at : Option ℕ) (instruction : Instruction) : Type 0 where
   pub at_is : instruction.at ≡ at
   pub count : length instruction.marks.items ≡ count names.words
-  pub marks : AreMarksAt names.words image at instruction.marks.items
+  pub marks : AreInstructionMarks names.words naming at instruction.marks.items
 
 -- the places of a race
-pub record ArePlaces (names : Names) (image : Contents) (key : Key) (on : Option ℕ) (places : RacePlaces) : Type 0 where
-  pub first_is : IsInstruction names image (Some key.first) places.first
-  pub second_is : IsInstruction names image key.second places.second
-  pub on_is : IsInstruction names image on places.on
+pub record ArePlaces (names : Names) (naming : Naming) (key : Key) (on : Option ℕ) (places : RacePlaces) : Type 0 where
+  pub first_is : IsInstruction names naming (Some key.first) places.first
+  pub second_is : IsInstruction names naming key.second places.second
+  pub on_is : IsData names naming.image on places.on

@@ -9,7 +9,9 @@ use Rattle.rv_elf.specs.Contents.{Contents, Named}
 use Rattle.rv_explain.specs.Symbols.{symbol_of}
 use Rattle.rv_hunt.specs.declared.merge.words.NamedSymbol.{NamedSymbol}
 use Rattle.rv_hunt.specs.declared.merge.words.Words.{Words}
-use Rattle.rv_hunt.specs.merge.Ignore.{is_at_name, spelled}
+use Rattle.rv_explain.specs.Naming.{Naming}
+use Rattle.rv_hunt.specs.merge.Ignore.{is_at_name, is_named, spelled, spelled_field}
+use Rattle.rv_lines.specs.SourceLines.{SourceFrame, SourceLine, known_function}
 
 abbrev pub number_of : Words → List ℕ → Option ℕ
 number_of words word = get_by (λ key. slice_cmp nat_cmp word key.now) words.numbers
@@ -51,3 +53,26 @@ MarksMore word old new = (number : ℕ) → get_or new number false ≡ (get_or 
 abbrev pub AreMarksAt : Words → Contents → Option ℕ → List Bool → Type 0
 AreMarksAt words image at marks =
     (word : List ℕ) (number : ℕ) → number_of words word ≡ Some number → get_or marks number false ≡ option_map_or (is_at_name image word) at false
+
+-- ---- functions of source lines
+
+abbrev pub function_word : Words → SourceFrame → Option ℕ
+function_word words frame = option_and_then (λ function. number_of words (spelled_field function)) (known_function frame)
+
+-- the word of that number is the frame's function
+abbrev pub is_word_of : Words → ℕ → SourceFrame → Bool
+is_word_of words number frame = option_map_or (λ given. given == number) (function_word words frame) false
+
+-- those that are functions of frames are marked too
+abbrev pub MarksFrames : Words → List SourceFrame → List Bool → List Bool → Type 0
+MarksFrames words frames old new = (number : ℕ) → get_or new number false ≡ (get_or old number false || list_any (is_word_of words number) frames)
+
+-- the same of all frames of lines
+abbrev pub MarksLines : Words → List SourceLine → List Bool → List Bool → Type 0
+MarksLines words lines old new =
+    (number : ℕ) → get_or new number false ≡ (get_or old number false || list_any (λ line. list_any (is_word_of words number) line.frames) lines)
+
+-- the names at an instruction are marked, by the symbols and by the source lines
+abbrev pub AreInstructionMarks : Words → Naming → Option ℕ → List Bool → Type 0
+AreInstructionMarks words naming at marks =
+    (word : List ℕ) (number : ℕ) → number_of words word ≡ Some number → get_or marks number false ≡ option_map_or (is_named naming word) at false

@@ -3,12 +3,14 @@ use Rattle.std.specs.Prelude.{◌≡◌, ⊤, Bool, false, Result, Ok, Err}
 use Rattle.rv_engines.specs.Fault as plain
 use Rattle.rv_engines.specs.declared.fault.Fault.{Fault}
 use Rattle.rv_engines.specs.declared.fault.Fault.TheVariants as fault
+use Rattle.rv_engines.specs.declared.source_lines.SourceFault.{SourceFault}
+use Rattle.rv_engines.specs.declared.source_lines.SourceFault.TheVariants as source
 use Rattle.rv_hunt.specs.declared.fault.ReadFault.{ReadFault as TableReadFault}
 use Rattle.rv_hunt.specs.declared.fault.ReadFault.TheVariants as table
 use Rattle.rv_hunt.specs.declared.fault.TableFault.{TableFault}
 use Rattle.rv_memory.specs.declared.flagged.ReadFault.{ReadFault}
 use Rattle.rv_hunt.specs.declared.merge.fault.FileFault.{FileFault}
-use Rattle.rv_hunt.specs.declared.merge.fault.FileFault.TheVariants.{Plain, Table, Ignore, Aim}
+use Rattle.rv_hunt.specs.declared.merge.fault.FileFault.TheVariants.{Plain, Table, Ignore, Aim, Lines}
 use Rattle.rv_hunt.specs.declared.merge.fault.IgnoreFault.{IgnoreFault}
 
 abbrev pub no_memory : FileFault
@@ -23,6 +25,11 @@ fault_of_read given = Plain (plain.fault_of_read given)
 abbrev pub fault_of_table : TableReadFault → FileFault
 fault_of_table (table.Malformed fault) = Table fault
 fault_of_table table.NoMemory = no_memory
+
+-- what is wrong with a file of source lines, as a fault of a file
+abbrev pub fault_of_source : SourceFault → FileFault
+fault_of_source (source.Plain given) = Plain given
+fault_of_source (source.Line given) = Lines given
 
 -- a fault that any command may tell, as one of a file
 abbrev pub plainly : {A : Type 0} → Result A Fault → Result A FileFault
@@ -45,6 +52,7 @@ is_read (Plain fault) = plain.is_read fault
 is_read (Table fault) = false
 is_read (Ignore fault) = false
 is_read Aim = false
+is_read (Lines fault) = false
 
 -- the fault is that the writer failed
 abbrev pub is_write : FileFault → Bool
@@ -52,6 +60,7 @@ is_write (Plain fault) = plain.is_write fault
 is_write (Table fault) = false
 is_write (Ignore fault) = false
 is_write Aim = false
+is_write (Lines fault) = false
 
 -- what is said of a file's bytes by the fault; that a device failed or memory is out says nothing of them
 abbrev pub UnlessDevice : FileFault → Type 0 → Type 0

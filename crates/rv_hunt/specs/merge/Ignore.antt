@@ -4,11 +4,13 @@ use Rattle.std.specs.List.{list_any, take_while}
 use Rattle.std.specs.Option.{option_map_or}
 use Rattle.std.specs.Str.{bytes_eq}
 use Rattle.rv_elf.specs.Contents.{Contents, Named}
-use Rattle.rv_explain.specs.Names.{escaped}
+use Rattle.rv_explain.specs.Names.{escaped, escaped_field}
+use Rattle.rv_explain.specs.Naming.{Naming, by_symbols}
 use Rattle.rv_explain.specs.Symbols.{symbol_of}
 use Rattle.rv_memory.specs.Chain.{◌>>=◌, want}
 use Rattle.rv_engines.specs.Words.{unless_long}
 use Rattle.rv_hunt.specs.merge.FileFault.{plainly, told_ignore}
+use Rattle.rv_lines.specs.SourceLines.{SourceFrame, SourceLine, frames_at, known_function}
 use Rattle.rv_hunt.specs.declared.merge.fault.FileFault.{FileFault}
 use Rattle.rv_hunt.specs.declared.merge.fault.FileFault.TheVariants as fault
 use Rattle.rv_hunt.specs.declared.merge.fault.IgnoreFault.{IgnoreFault}
@@ -22,6 +24,14 @@ use Rattle.rv_hunt.specs.declared.row.RaceRow.{RaceRow}
 use Rattle.rv_report.specs.declared.key.Key.{Key}
 use Rattle.rv_text.specs.Hexadecimal.{byte_digits, word_of}
 use Rattle.rv_text.specs.Pieces.{pieces_of}
+
+-- an image, and source lines, where they are given
+abbrev pub lines_of : Option (List SourceLine) → List SourceLine
+lines_of None = []
+lines_of (Some lines) = lines
+
+abbrev pub naming_of : Contents → Option (List SourceLine) → Naming
+naming_of image source = record { image = image; lines = lines_of source }
 
 -- ---- a name
 
@@ -49,14 +59,25 @@ spelled name = as_name (escaped name)
 abbrev pub is_spelled : List ℕ → Named → Bool
 is_spelled word symbol = bytes_eq (spelled symbol.name) word
 
--- a symbol of the image has the name
-abbrev pub has_name : Contents → List ℕ → Bool
-has_name image word = list_any (is_spelled word) image.symbols
+-- A function of a source line as a list has it: its file has backslashes escaped already.
+unfoldable pub spelled_field : List ℕ → List ℕ
+spelled_field function = as_name (escaped_field function)
 
-abbrev pub is_known : Contents → Side → Bool
-is_known image Any = true
-is_known image (Address address) = true
-is_known image (Name word) = has_name image word
+-- the word is the frame's function
+abbrev pub is_function_of : List ℕ → SourceFrame → Bool
+is_function_of word frame = option_map_or (λ function. bytes_eq (spelled_field function) word) (known_function frame) false
+
+abbrev pub has_function : List ℕ → SourceLine → Bool
+has_function word line = list_any (is_function_of word) line.frames
+
+-- a symbol of the image has the name, or a source line has it as a function
+abbrev pub has_name : Naming → List ℕ → Bool
+has_name naming word = list_any (is_spelled word) naming.image.symbols || list_any (has_function word) naming.lines
+
+abbrev pub is_known : Naming → Side → Bool
+is_known naming Any = true
+is_known naming (Address address) = true
+is_known naming (Name word) = has_name naming word
 
 -- ---- a line
 
@@ -111,8 +132,8 @@ words_in (one ∷ other ∷ word ∷ place ∷ next ∷ words) = Err Shape
 abbrev pub sides_of : Said → Line
 sides_of said = record { one = side_of said.one; other = side_of said.other; on = side_of said.on }
 
-abbrev pub are_known : Contents → Line → Bool
-are_known image line = is_known image line.one && is_known image line.other && is_known image line.on
+abbrev pub are_known : Naming → Line → Bool
+are_known naming line = is_known naming line.one && is_known naming line.other && is_known naming line.on
 
 -- What a line says: its shape is tested first. The test is whether its names are known.
 unfoldable pub line_of : (Line → Bool) → List ℕ → Result (Option Line) IgnoreKind
@@ -121,9 +142,9 @@ line_of known text = do
   _ ← want (option_map_or (λ words. known (sides_of words)) said true) Unknown
   Ok (option_map sides_of said)
 
--- a line has a name that no symbol of the image has
-abbrev pub has_unknown : Contents → List Line → Bool
-has_unknown image lines = list_any (λ line. not (are_known image line)) lines
+-- a line has a name that no symbol of the image and no source line has
+abbrev pub has_unknown : Naming → List Line → Bool
+has_unknown naming lines = list_any (λ line. not (are_known naming line)) lines
 
 -- ---- the lines
 
@@ -145,10 +166,10 @@ lines_from known number (text ∷ later) = do
   Ok (listed said ++ lines)
 
 -- what a file says, or why its bytes are refused: they are too many, and else the first line with a fault
-unfoldable pub ignores_of : Contents → List ℕ → Result (List Line) FileFault
-ignores_of image bytes = do
+unfoldable pub ignores_of : Naming → List ℕ → Result (List Line) FileFault
+ignores_of naming bytes = do
   text ← plainly (unless_long bytes)
-  told_ignore (lines_from (are_known image) 1 (pieces_of 10 text))
+  told_ignore (lines_from (are_known naming) 1 (pieces_of 10 text))
 
 -- ---- what is aimed at
 
@@ -156,10 +177,10 @@ ignores_of image bytes = do
 abbrev pub aimed_at : List ℕ × List ℕ → Said
 aimed_at pair = record { one = pair.0; other = pair.1; on = codes "*" }
 
--- the line that two sides are, or why they are refused; none is, where nothing is aimed at
+-- the line that two sides are, or why they are refused, by the symbols alone; none is, where nothing is aimed at
 abbrev pub aimed_in : Contents → Option (List ℕ × List ℕ) → Result (List Line) FileFault
 aimed_in image None = Ok []
-aimed_in image (Some pair) = if are_known image (sides_of (aimed_at pair)) then Ok (sides_of (aimed_at pair) ∷ []) else Err fault.Aim
+aimed_in image (Some pair) = if are_known (by_symbols image) (sides_of (aimed_at pair)) then Ok (sides_of (aimed_at pair) ∷ []) else Err fault.Aim
 
 -- ---- which race a line fits
 
@@ -177,28 +198,44 @@ is_told_by_name image word address = option_map_or (is_spelled word) (symbol_of 
 abbrev pub is_at_name : Contents → List ℕ → ℕ → Bool
 is_at_name image word address = is_in_name image word address || is_told_by_name image word address
 
--- The side fits an instruction, or a place in data. One that isn't known may be any: only `*` fits it.
-abbrev pub fits_side : Contents → Side → Option ℕ → Bool
-fits_side image Any instruction = true
-fits_side image (Address address) instruction = option_map_or (λ at. at == address) instruction false
-fits_side image (Name word) instruction = option_map_or (is_at_name image word) instruction false
+-- one of the instruction's frames is of the function
+abbrev pub is_in_function : Naming → List ℕ → ℕ → Bool
+is_in_function naming word address = list_any (is_function_of word) (frames_at naming.lines address)
+
+-- the name is one of the instruction's, by the symbols or by the source lines
+abbrev pub is_named : Naming → List ℕ → ℕ → Bool
+is_named naming word address = is_at_name naming.image word address || is_in_function naming word address
+
+-- The side fits an address, of which a test says whether a name is one of it. One that isn't known may be any: only `*` fits it.
+abbrev pub fits_at : (List ℕ → ℕ → Bool) → Side → Option ℕ → Bool
+fits_at test Any at = true
+fits_at test (Address address) at = option_map_or (λ given. given == address) at false
+fits_at test (Name word) at = option_map_or (test word) at false
+
+-- the side fits an instruction
+abbrev pub fits_side : Naming → Side → Option ℕ → Bool
+fits_side naming side instruction = fits_at (is_named naming) side instruction
+
+-- the side fits a place in data, which has no source line
+abbrev pub fits_data : Naming → Side → Option ℕ → Bool
+fits_data naming side place = fits_at (is_at_name naming.image) side place
 
 -- the line's sides fit the race's instructions, in either order
-abbrev pub fits_sides : Contents → Key → Line → Bool
-fits_sides image key line =
-    (fits_side image line.one (Some key.first) && fits_side image line.other key.second) || (fits_side image line.one key.second && fits_side image line.other (Some key.first))
+abbrev pub fits_sides : Naming → Key → Line → Bool
+fits_sides naming key line =
+    (fits_side naming line.one (Some key.first) && fits_side naming line.other key.second) || (fits_side naming line.one key.second && fits_side naming line.other (Some key.first))
 
 -- The line fits a race of this data: its sides do, and so does what it says of the data.
-abbrev pub fits : Contents → Key → Option ℕ → Line → Bool
-fits image key on line = fits_sides image key line && fits_side image line.on on
+abbrev pub fits : Naming → Key → Option ℕ → Line → Bool
+fits naming key on line = fits_sides naming key line && fits_data naming line.on on
 
-abbrev pub any_fits : Contents → List Line → Key → Option ℕ → Bool
-any_fits image lines key on = list_any (fits image key on) lines
+abbrev pub any_fits : Naming → List Line → Key → Option ℕ → Bool
+any_fits naming lines key on = list_any (fits naming key on) lines
 
 -- One of the lines fits the race. Its data is that of the report that it is shown by.
-abbrev pub is_ignored : Contents → List Line → Key × RaceRow → Bool
-is_ignored image lines race = any_fits image lines race.0 race.1.address
+abbrev pub is_ignored : Naming → List Line → Key × RaceRow → Bool
+is_ignored naming lines race = any_fits naming lines race.0 race.1.address
 
 -- none of the lines fits the race
-abbrev pub is_told : Contents → List Line → Key × RaceRow → Bool
-is_told image lines race = not (is_ignored image lines race)
+abbrev pub is_told : Naming → List Line → Key × RaceRow → Bool
+is_told naming lines race = not (is_ignored naming lines race)

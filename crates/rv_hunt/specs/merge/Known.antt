@@ -2,7 +2,7 @@
 use Rattle.std.specs.Prelude.{ℕ, Bool, true, false, not, ◌&&◌, if◌then◌else◌, Option, Some, None, is_some, Result, Ok, List, [], filter, slice_get}
 use Rattle.std.specs.Option.{unwrap_or}
 use Rattle.rv_collide.specs.ScheduleRead.{words_of}
-use Rattle.rv_elf.specs.Contents.{Contents}
+use Rattle.rv_explain.specs.Naming.{Naming}
 use Rattle.rv_engines.specs.Words.{unless_long}
 use Rattle.rv_hunt.specs.Expected.{may_be_bug}
 use Rattle.rv_hunt.specs.HuntRead.{races_in}
@@ -40,23 +40,23 @@ known_of bytes = do
 -- ---- which races are new
 
 -- a table has a row of the race, of whatever class, or a line of a list fits it
-abbrev pub is_expected : Contents → Known → Key × RaceRow → Bool
-is_expected image (Table rows) race = has_race race.0 rows
-is_expected image (Lines lines) race = is_ignored image lines race
+abbrev pub is_expected : Naming → Known → Key × RaceRow → Bool
+is_expected naming (Table rows) race = has_race race.0 rows
+is_expected naming (Lines lines) race = is_ignored naming lines race
 
 -- the race may be a bug, and is not expected
-abbrev pub is_new : Contents → Known → Key × RaceRow → Bool
-is_new image known race = may_be_bug race.1.class && not (is_expected image known race)
+abbrev pub is_new : Naming → Known → Key × RaceRow → Bool
+is_new naming known race = may_be_bug race.1.class && not (is_expected naming known race)
 
 -- those of the races, where some are expected
-abbrev pub new_races : Contents → Option Known → List (Key × RaceRow) → List (Key × RaceRow)
-new_races image None races = []
-new_races image (Some known) races = filter (is_new image known) races
+abbrev pub new_races : Naming → Option Known → List (Key × RaceRow) → List (Key × RaceRow)
+new_races naming None races = []
+new_races naming (Some known) races = filter (is_new naming known) races
 
 -- ---- what has gone
 
--- a line has a name that no symbol of the image has
-abbrev pub has_gone : Contents → Option Known → Bool
-has_gone image None = false
-has_gone image (Some (Table rows)) = false
-has_gone image (Some (Lines lines)) = has_unknown image lines
+-- a line has a name that no symbol of the image and no source line has
+abbrev pub has_gone : Naming → Option Known → Bool
+has_gone naming None = false
+has_gone naming (Some (Table rows)) = false
+has_gone naming (Some (Lines lines)) = has_unknown naming lines

@@ -10,6 +10,7 @@ use Rattle.rv_hunt.specs.declared.merge.whole.Whole.{Whole}
 use Rattle.rv_hunt.specs.declared.origin_line.ReadTable.{ReadTable}
 use Rattle.rv_hunt.specs.declared.row.RaceRow.{RaceRow}
 use Rattle.rv_memory.specs.Chain.{◌>>=◌}
+pub use Rattle.rv_engines.specs.SourceFile.{bytes_if}
 use Rattle.rv_memory.specs.Flagged.{device, has_failed}
 use Rattle.rv_memory.specs.declared.flagged.Flagged.{Flagged}
 use Rattle.rv_hunt.specs.merge.FileFault.{UnlessDevice}
@@ -83,10 +84,6 @@ abbrev pub bytes_of : {R : Type 0} → (R → Option (List ℕ)) → List (Flagg
 bytes_of remaining [] = Some []
 bytes_of remaining (reader ∷ readers) =
     option_and_then (λ bytes. option_map (λ later. bytes ∷ later) (bytes_of remaining readers)) (remaining (device reader))
-
-abbrev pub bytes_if : {R : Type 0} → (R → Option (List ℕ)) → Option (Flagged R) → Option (Option (List ℕ))
-bytes_if remaining None = Some None
-bytes_if remaining (Some reader) = option_map Some (remaining (device reader))
 
 abbrev pub files_of : {R : Type 0} → (R → Option (List ℕ)) → List (Flagged R) → Option (Flagged R) → Option Files
 files_of remaining tables expected =

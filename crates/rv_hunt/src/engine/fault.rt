@@ -8,6 +8,7 @@ use crate::merge::fault::FileFault;
 use rv_campaign::PoolFault;
 use rv_engines::fault::Fault;
 use rv_engines::run::fault::CommandFault;
+use rv_engines::source_lines::SourceFault;
 use rv_memory::flagged::WriteFault;
 use rv_memory::store::NoMemory;
 
@@ -22,6 +23,8 @@ pub enum HuntFault<'a> {
     Expected(FileFault),
     /// What is aimed at is refused.
     Aimed(FileFault),
+    /// The file of source lines is refused.
+    Lines(SourceFault),
 }
 
 impl<'a> From<CommandFault<'a>> for HuntFault<'a> {

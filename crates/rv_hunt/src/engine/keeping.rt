@@ -8,6 +8,7 @@ ghost use Rattle.rv_hunt.specs.Hunt.{IsHunt};
 ghost use Rattle.rv_hunt.specs.Hunted as spec;
 
 use crate::code_seen::{CodeSeen, code_seen};
+use crate::done::Done;
 use crate::engine::early::{PartText, parts_of, texts_of};
 use crate::engine::lists::Lists;
 use crate::engine::making::shown_of;
@@ -28,12 +29,12 @@ use crate::row::RaceRow;
 use crate::saying::order::told_rows;
 use indexmap::IndexMap;
 use rv_campaign::PoolFault;
+use rv_engines::source_lines::lines_miss;
 use rv_explain::block::RaceClass;
 use rv_explain::classes::rank;
 use rv_explain::symbol_table::SymbolTable;
 use rv_memory::store::NoMemory;
 use rv_report::key::Key;
-use rv_tally::limit::Limit;
 use std::alloc::Global;
 use std::sync::Wait;
 use std::thread::Threads;
@@ -100,7 +101,7 @@ impl Given<'_, '_, '_, '_> {
                 count: noted.stuck.len(),
                 shown: Vec::new(alloc),
             },
-            gone: gone(alloc, self.symbols.image(), expected)?,
+            gone: gone(alloc, self.symbols.image(), &self.lists.source, expected)?,
         })
     }
 
@@ -124,6 +125,7 @@ impl Given<'_, '_, '_, '_> {
             ignored: &parted.ignored,
             new: &so_far.unexpected,
             gone: so_far.gone,
+            misses: lines_miss(self.symbols.image(), &self.lists.source),
             built: self.lists.built,
         }
     }
@@ -155,15 +157,6 @@ impl Given<'_, '_, '_, '_> {
         };
         object_text(alloc, self.symbols, outcome, &beside, told, &[], &[])
     }
-}
-
-/// How many tenths of what was asked for are done.
-fn tenths_of(limit: Limit, hunted: &Hunted) -> u64 {
-    let (done, all) = match limit {
-        Limit::Runs(runs) => (hunted.tally.runs(), runs),
-        Limit::Budget(steps) => (hunted.tally.reached().cost, steps),
-    };
-    (done / all.div_ceil(TIMES).max(1)).min(TIMES)
 }
 
 /// How many rows a table has, and their classes together: it is another one where a race was added, or the class of one has risen.
@@ -284,7 +277,7 @@ impl<W: Watch> Keeping<'_, '_, '_, '_, W> {
     /// Whether texts are to be kept again.
     fn is_time(&mut self, hunt: &Hunt, hunted: &Hunted) -> bool {
         let before = self.tenths;
-        self.tenths = tenths_of(hunt.limit, hunted);
+        self.tenths = Done::of(hunt.limit, hunted).parts(TIMES);
         before < self.tenths
     }
 

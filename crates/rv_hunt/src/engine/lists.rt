@@ -5,7 +5,7 @@ ghost use Rattle.rv_memory.specs.Flagged as flag;
 ghost use Rattle.rv_hunt.specs.engine.Asked.{asked};
 ghost use Rattle.rv_hunt.specs.engine.Hunting as spec;
 ghost use Rattle.rv_hunt.specs.merge.FileFault.{IsTold, fails_by, is_read, is_write};
-ghost use Rattle.rv_hunt.specs.merge.Ignore.{aimed_in};
+ghost use Rattle.rv_hunt.specs.merge.Ignore.{aimed_in, naming_of};
 ghost use Rattle.rv_hunt.specs.merge.Merge as merge;
 
 use crate::engine::options::HuntOptions;
@@ -14,14 +14,16 @@ use crate::merge::ignore::{Ignores, aimed, read_ignores};
 use crate::merge::known::{self, Known};
 use rv_elf::Image;
 use rv_engines::built::Built;
+use rv_lines::lines::SourceLines;
 use rv_memory::flagged::Flagged;
 use std::alloc::Global;
 use std::io::Read;
 
-/// The races that are to be ignored, those that are expected, the line of what is aimed at, if something is, and what the image was
-/// built with.
+/// The source lines, where they are given, the races that are to be ignored, those that are expected, the line of what is aimed at, if
+/// something is, and what the image was built with.
 #[derive(Drop)]
 pub(crate) struct Lists {
+    pub(crate) source: Option<SourceLines>,
     pub(crate) ignored: Ignores,
     pub(crate) expected: Option<Known>,
     pub(crate) aim: Ignores,
@@ -32,19 +34,20 @@ pub(crate) struct Lists {
 pub(crate) fn read_ignored<R: Read>(
     alloc: Global,
     image: &Image,
+    source: &Option<SourceLines>,
     list: &mut Option<Flagged<R>>,
 ) -> Result<Ignores, FileFault>
     ensures ok { IfOk result (λ lines. IfSome (merge.bytes_if R.remaining list.old) (λ bytes.
-        spec.ignored_in image.now bytes ≡ Ok lines)) }
+        spec.ignored_in (naming_of image.now source.now) bytes ≡ Ok lines)) }
     ensures err { IfErr result (λ fault. IfSome (merge.bytes_if R.remaining list.old) (λ bytes.
-        IsTold (spec.ignored_in image.now bytes) fault)) }
+        IsTold (spec.ignored_in (naming_of image.now source.now) bytes) fault)) }
     ensures reader { option_map_or flag.has_failed list.new false
         ≡ (option_map_or flag.has_failed list.old false || fails_by is_read result) }
     ensures writer { fails_by is_write result ≡ false }
 {
     match list {
         None => Ok(Ignores::none(alloc)),
-        Some(reader) => read_ignores(alloc, image, reader),
+        Some(reader) => read_ignores(alloc, image, source, reader),
     }
 }
 

@@ -6,6 +6,7 @@ ghost use Rattle.rv_hunt.specs.engine.Asked.{AreLegal, asked};
 ghost use Rattle.rv_hunt.specs.engine.FolderFault as looking;
 ghost use Rattle.rv_hunt.specs.engine.Hunting as spec;
 ghost use Rattle.rv_hunt.specs.engine.Late.{IfListed, IfPaged, IfSaved, IfWritten};
+ghost use Rattle.rv_hunt.specs.merge.Ignore.{naming_of};
 ghost use Rattle.rv_hunt.specs.merge.Listing.{list_text};
 ghost use Rattle.rv_hunt.specs.RightEnds.{right_codes};
 ghost use Rattle.rv_hunt.specs.internal.MakeFault.{fails_by_write};
@@ -46,7 +47,9 @@ use crate::shown_rows::shown_rows;
 use rv_campaign::PoolFault;
 use rv_engines::fault::Fault;
 use rv_engines::new_file::NewFile;
+use rv_engines::source_lines::lines_miss;
 use rv_explain::symbol_table::SymbolTable;
+use rv_lines::lines::SourceLines;
 use rv_memory::flagged::WriteFault;
 use rv_memory::store::NoMemory;
 use rv_report::key::Key;
@@ -118,7 +121,7 @@ fn parted_rows(
     lists: &Lists,
     saw: &Hunted,
 ) -> Result<Parted, NoMemory>
-    requires { symbols.now ≡ hunt.now.source.image }
+    requires { symbols.now ≡ naming_of hunt.now.source.image lists.now.source }
     ensures told { IfOk result (λ parted. parted.told.items ≡ spec.told_in (hunting_with hunt.now [] [] lists.now) saw.now) }
     ensures ignored { IfOk result (λ parted. parted.ignored.items ≡ spec.ignored_by (hunting_with hunt.now [] [] lists.now) saw.now) }
 {
@@ -261,7 +264,7 @@ fn made_of<R: Threads + Wait, D: Folder, F: NewFile, P: Watch>(
     watch: &mut P,
 ) -> Result<Made, PoolFault>
     requires legal { AreLegal options.now }
-    requires symbols { symbols.now ≡ hunt.now.source.image }
+    requires symbols { symbols.now ≡ naming_of hunt.now.source.image lists.now.source }
     requires noted { IsNoted hunt.now saw.now noted.now.ends }
     ensures made { IfOk result (λ made. spec.IsMade
         (spec.showing_of options.now (is_some folder.old) (is_some page.old || is_some json.old)) (hunting_with hunt.now digits.now noted.now.ends.right lists.now)
@@ -287,7 +290,8 @@ fn made_of<R: Threads + Wait, D: Folder, F: NewFile, P: Watch>(
         races: &races,
         ignored: &parted.ignored,
         new: &unexpected,
-        gone: gone(alloc, symbols.image(), &lists.expected)?,
+        gone: gone(alloc, symbols.image(), &lists.source, &lists.expected)?,
+        misses: lines_miss(symbols.image(), &lists.source),
         built: lists.built,
     };
     let most = full_of(
@@ -348,6 +352,20 @@ fn made_of<R: Threads + Wait, D: Folder, F: NewFile, P: Watch>(
     Ok(Made { found, text, notes })
 }
 
+/// The symbols, with the source lines where they are given.
+pub(crate) fn with_source<'a>(
+    symbols: SymbolTable<'a>,
+    source: &'a Option<SourceLines>,
+) -> SymbolTable<'a>
+    requires { symbols.lines ≡ [] }
+    ensures { result ≡ naming_of symbols.entry.image source.entry.now }
+{
+    match source {
+        Some(lines) => symbols.with_lines(lines),
+        None => symbols,
+    }
+}
+
 /// Looks at the folder, where one is given.
 pub(crate) fn look<D: Folder>(folder: &mut Option<D>) -> Result<(), FolderFault>
     ensures used { passes D.is_used folder.new ≡ passes D.is_used folder.old }
@@ -405,6 +423,7 @@ pub(crate) fn make_hunt<T: Threads + Wait + Sync, P: Watch, D: Folder, F: NewFil
     let code = Code::of(alloc, &opened.image)?;
     let symbols = SymbolTable::new(alloc, &opened.image)?;
     let aim = Aim::of(alloc, options.aim, &symbols, &code)?;
+    let symbols = with_source(symbols, &lists.source);
     let right = RightCodes::of(alloc, options.right)?;
     let mut noted = Noted::none(alloc, code.len(), right)?;
     let hunt = Hunt {

@@ -7,10 +7,16 @@ ghost use Rattle.rv_engines.specs.Fault as plain;
 ghost use Rattle.rv_engines.specs.Images.{image_of};
 ghost use Rattle.rv_hunt.specs.Origin.{image_digits};
 ghost use Rattle.rv_hunt.specs.engine.Asked.{asked};
+ghost use Rattle.rv_hunt.specs.engine.HuntFault as hunt;
 ghost use Rattle.rv_hunt.specs.engine.Hunting.{hunt_of};
+ghost use Rattle.rv_hunt.specs.internal.Opened as spec;
 ghost use Rattle.rv_hunt.specs.internal.Opened.{hunt_by, hunt_in, hunt_with};
+ghost use Rattle.rv_hunt.specs.merge.Ignore.{aimed_in};
 
+use crate::engine::fault::HuntFault;
+use crate::engine::lists::read_aim;
 use crate::engine::options::HuntOptions;
+use crate::merge::ignore::Ignores;
 use crate::origin::image_digits;
 use rv_elf::Image;
 use rv_engines::built::{Built, built_of};
@@ -107,35 +113,75 @@ pub(crate) fn read_file<R: Read>(alloc: Global, reader: &mut Flagged<R>) -> Resu
     })
 }
 
-/// Reads an image, and then the lists.
-pub fn open<'a, R: Read>(
+/// Reads the lists of the line, and looks for what is aimed at before the idle functions.
+fn read_line<'a>(
+    alloc: Global,
+    options: &HuntOptions<'a, '_>,
+    image: &Image,
+) -> Result<(Listed, Ignores), HuntFault<'a>>
+    ensures ok { IfOk result (λ read. hunt_with (asked options.now) image.now ≡ Ok (hunt_by (asked options.now) image.now read.0)) }
+    ensures aim { IfOk result (λ read. aimed_in image.now (asked options.now).aim ≡ Ok read.1) }
+    ensures err { IfErr result (spec.IsLineTold (asked options.now) image.now) }
+    ensures reader { hunt.fails_by hunt.is_read result ≡ false }
+    ensures writer { hunt.fails_by hunt.is_write result ≡ false }
+{
+    let excluded = match read_skipped(alloc, options.skip) {
+        Ok(excluded) => excluded,
+        Err(fault) => return Err(HuntFault::Command(fault)),
+    };
+    let ranges = match read_named(alloc, image, options.named) {
+        Ok(ranges) => ranges,
+        Err(fault) => return Err(HuntFault::Command(fault)),
+    };
+    let aim = match read_aim(alloc, image, options) {
+        Ok(aim) => aim,
+        Err(fault) => return Err(HuntFault::Aimed(fault)),
+    };
+    match read_named(alloc, image, options.idle) {
+        Ok(idle) => {
+            let lists = Listed {
+                excluded,
+                ranges,
+                idle,
+            };
+            Ok((lists, aim))
+        }
+        Err(fault) => Err(HuntFault::Command(fault)),
+    }
+}
+
+/// Reads an image, and then the lists of the line, and looks for what is aimed at.
+pub(crate) fn open<'a, R: Read>(
     alloc: Global,
     options: &HuntOptions<'a, '_>,
     image: &mut Flagged<R>,
-) -> Result<Opened, CommandFault<'a>>
-    ensures ok { IfOk result (λ opened. IfSome (R.remaining (flag.device image.old)) (λ bytes.
-        hunt_of (asked options.now) bytes ≡ Ok (hunt_in (asked options.now) opened))) }
-    ensures built { IfOk result (λ opened. IfSome (R.remaining (flag.device image.old)) (λ bytes. opened.built ≡ built_of bytes)) }
-    ensures digits { IfOk result (λ opened. IfSome (R.remaining (flag.device image.old)) (λ bytes.
-        opened.digits.items ≡ image_digits bytes)) }
+) -> Result<(Opened, Ignores), HuntFault<'a>>
+    ensures ok { IfOk result (λ read. IfSome (R.remaining (flag.device image.old)) (λ bytes.
+        hunt_of (asked options.now) bytes ≡ Ok (hunt_in (asked options.now) read.0))) }
+    ensures built { IfOk result (λ read. IfSome (R.remaining (flag.device image.old)) (λ bytes. read.0.built ≡ built_of bytes)) }
+    ensures digits { IfOk result (λ read. IfSome (R.remaining (flag.device image.old)) (λ bytes.
+        read.0.digits.items ≡ image_digits bytes)) }
+    ensures aim { IfOk result (λ read. aimed_in read.0.image (asked options.now).aim ≡ Ok read.1) }
     ensures err { IfErr result (λ fault. IfSome (R.remaining (flag.device image.old)) (λ bytes.
-        IsTold (hunt_of (asked options.now) bytes) (refusal fault))) }
-    ensures reader { flag.has_failed image.new ≡ (flag.has_failed image.old || fails_by is_read result) }
-    ensures writer { fails_by is_write result ≡ false }
-    ensures thread { fails_by is_thread result ≡ false }
+        spec.IsOpenTold (asked options.now) bytes fault)) }
+    ensures reader { flag.has_failed image.new ≡ (flag.has_failed image.old || hunt.fails_by hunt.is_read result) }
+    ensures writer { hunt.fails_by hunt.is_write result ≡ false }
 {
     let read = match read_file(alloc, image) {
         Ok(read) => read,
-        Err(fault) => return Err(CommandFault::Plain(fault)),
+        Err(fault) => return Err(HuntFault::Command(CommandFault::Plain(fault))),
     };
-    match read_lists(alloc, options, &read.image) {
-        Ok(lists) => Ok(Opened {
-            image: read.image,
-            digits: read.digits,
-            digest: read.digest,
-            lists,
-            built: read.built,
-        }),
+    match read_line(alloc, options, &read.image) {
+        Ok((lists, aim)) => {
+            let opened = Opened {
+                image: read.image,
+                digits: read.digits,
+                digest: read.digest,
+                lists,
+                built: read.built,
+            };
+            Ok((opened, aim))
+        }
         Err(fault) => Err(fault),
     }
 }

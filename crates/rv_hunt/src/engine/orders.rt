@@ -225,7 +225,7 @@ impl Again<'_, '_, '_> {
         at: TrialPlace,
     ) -> Result<Option<MadeTrial>, NoMemory>
         requires plan { numbers plan.now ≡ session.old.plan }
-        requires image { session.old.image ≡ self.now.symbols.now }
+        requires image { session.old.image ≡ self.now.symbols.now.image }
         requires reports { reports.now ≡ internal.reports_of self.now (races.run_of session.old) }
         ensures trial { IfOk result (λ made. IfSome made
             (spec.IsTrialIn (races.run_of session.old) self.now.hunt.now.ranges key at.number)) }
@@ -462,7 +462,7 @@ fn made_again<R: Threads + Wait>(
     workers: u8,
 ) -> Result<Vec<Vec<PlacedTrial>>, PoolFault>
     requires workers { workers ≤ 16 }
-    requires image { full.now.symbols.now ≡ full.now.hunt.now.source.image }
+    requires image { full.now.symbols.now.image ≡ full.now.hunt.now.source.image }
     ensures { IfOk result (λ made. (known : internal.Full) → known.hunt ≡ full.now.hunt.now
         → All (internal.IsWanted known.tried known.keys) wanted.now → All (internal.AreOfRun known) made.items) }
 {
@@ -490,7 +490,7 @@ pub(crate) fn shown_orders<R: Threads + Wait, D: Folder>(
     folder: &mut Option<D>,
 ) -> Result<Vec<ShownOrder>, PoolFault>
     requires workers { workers ≤ 16 }
-    requires image { full.now.symbols.now ≡ full.now.hunt.now.source.image }
+    requires image { full.now.symbols.now.image ≡ full.now.hunt.now.source.image }
     ensures shown { IfOk result (λ shown. spec.AreOrdersShown full.now.hunt.now table.now
         (keys_of full.now.rows.now) shown.items) }
     ensures count { IfOk result (λ shown. length shown.items ≡ length full.now.rows.now) }

@@ -2,7 +2,7 @@
 //!
 //! The run of each row is made again, by what the table's last line says of the runs. What is written is stated in
 //! `specs/engine/TableShown.antt`.
-ghost use Rattle.std.specs.Prelude.{◌≡◌, ◌≤◌, false, true, is_some, Ok, IfErr, IfOk, IfSome, OnOk, length, map};
+ghost use Rattle.std.specs.Prelude.{◌≡◌, ◌≤◌, ◌||◌, false, true, is_some, Ok, IfErr, IfOk, IfSome, OnOk, length, map};
 ghost use Rattle.std.specs.Io.KnownBytes.{Keeps};
 ghost use Rattle.rv_memory.specs.Buffered as buffer;
 ghost use Rattle.rv_memory.specs.Flagged.{device};
@@ -16,7 +16,9 @@ ghost use Rattle.rv_hunt.specs.engine.Hunting.{expected_in, files_of, ignored_in
 ghost use Rattle.rv_hunt.specs.engine.Late.{IfListed, IfPaged, IfSaved, IfWritten};
 ghost use Rattle.rv_hunt.specs.engine.TableShown as spec;
 ghost use Rattle.rv_hunt.specs.engine.TableShown.{without_place};
+ghost use Rattle.rv_hunt.specs.merge.Ignore.{naming_of};
 ghost use Rattle.rv_hunt.specs.merge.Merge.{bytes_if};
+ghost use Rattle.rv_engines.specs.SourceFile.{source_in};
 ghost use Rattle.rv_hunt.specs.internal.Opened.{hunt_by, hunt_with};
 ghost use Rattle.rv_hunt.specs.internal.Remaking as internal;
 
@@ -26,7 +28,7 @@ use crate::engine::folder::{Folder, FolderFault};
 use crate::engine::found::{Checks, Found};
 use crate::engine::inputs::Inputs;
 use crate::engine::lists::{Lists, read_aim, read_ignored, read_known};
-use crate::engine::making::{Made, first_of, found_in, look, look_at_file, status_of};
+use crate::engine::making::{Made, first_of, found_in, look, look_at_file, status_of, with_source};
 use crate::engine::opening::{FileRead, Listed, read_file, read_lists};
 use crate::engine::options::{HuntOptions, LineParts, SaidOptions, Shows};
 use crate::engine::orders::{ShownOrder, shown_orders};
@@ -54,6 +56,7 @@ use rv_campaign::PoolFault;
 use rv_engines::fault::Fault;
 use rv_engines::new_file::NewFile;
 use rv_engines::run::fault::CommandFault;
+use rv_engines::source_lines::{lines_miss, read_source_if};
 use rv_explain::symbol_table::SymbolTable;
 use rv_memory::buffered::Buffered;
 use rv_memory::flagged::{Flagged, WriteFault};
@@ -216,13 +219,16 @@ fn read_files<R: Read>(
     table: &ShownTable,
     inputs: &mut Inputs<R>,
 ) -> Result<Lists, ShowFault>
+    ensures source { IfOk result (λ lists. IfSome (bytes_if R.remaining inputs.old.lines) (λ bytes.
+        source_in bytes ≡ Ok lists.source)) }
     ensures ignored { IfOk result (λ lists. IfSome (bytes_if R.remaining inputs.old.ignored) (λ bytes.
-        ignored_in file.now.image bytes ≡ Ok lists.ignored)) }
+        ignored_in (naming_of file.now.image lists.source) bytes ≡ Ok lists.ignored)) }
     ensures expected { IfOk result (λ lists. IfSome (bytes_if R.remaining inputs.old.expected) (λ bytes.
         expected_in bytes ≡ Ok lists.expected)) }
-    ensures err { IfErr result (λ fault. IfSome (bytes_if R.remaining inputs.old.ignored) (λ ignored.
+    ensures err { IfErr result (λ fault. IfSome (bytes_if R.remaining inputs.old.lines) (λ lines.
+        IfSome (bytes_if R.remaining inputs.old.ignored) (λ ignored.
         IfSome (bytes_if R.remaining inputs.old.expected) (λ expected.
-        internal.IsLateTold table.now file.now.image ignored expected fault))) }
+        internal.IsLateTold table.now file.now.image lines ignored expected fault)))) }
 {
     let aim = match read_aim(alloc, &file.image, hunt) {
         Ok(aim) => aim,
@@ -230,12 +236,17 @@ fn read_files<R: Read>(
         // So is what it aims at.
         Err(_) => return Err(shape_fault(table)),
     };
-    let ignored = match read_ignored(alloc, &file.image, &mut inputs.ignored) {
+    let source = match read_source_if(alloc, &mut inputs.lines) {
+        Ok(source) => source,
+        Err(fault) => return Err(ShowFault::Hunt(HuntFault::Lines(fault))),
+    };
+    let ignored = match read_ignored(alloc, &file.image, &source, &mut inputs.ignored) {
         Ok(ignored) => ignored,
         Err(fault) => return Err(ShowFault::Hunt(HuntFault::Ignored(fault))),
     };
     match read_known(alloc, &mut inputs.expected) {
         Ok(expected) => Ok(Lists {
+            source,
             ignored,
             expected,
             aim,
@@ -263,7 +274,7 @@ fn made_of<T: Threads + Wait, D: Folder, F: NewFile, P: Watch>(
     watch: &mut P,
 ) -> Result<Made, PoolFault>
     requires workers { beside.now.options.now.workers ≤ 16 }
-    requires symbols { symbols.now ≡ hunt.now.source.image }
+    requires symbols { symbols.now ≡ naming_of hunt.now.source.image lists.now.source }
     requires rows { map without_place rows.now ≡ map without_place table.now.rows }
     ensures { IfOk result (λ made. spec.IsMade (internal.shown_by hunt.now lists.now) beside.now.options.now.blocks table.now
         (IfSaved D.has_failed D.Holds folder.new) (IfPaged F.has_failed F.Holds page.new)
@@ -279,7 +290,8 @@ fn made_of<T: Threads + Wait, D: Folder, F: NewFile, P: Watch>(
         rows: &parted.told,
         ignored: &parted.ignored,
         new: &unexpected,
-        gone: gone(alloc, symbols.image(), &lists.expected)?,
+        gone: gone(alloc, symbols.image(), &lists.source, &lists.expected)?,
+        misses: lines_miss(symbols.image(), &lists.source),
     };
     let full = InFull {
         hunt,
@@ -353,7 +365,7 @@ fn make_page<F: NewFile>(
     requires shown { length shown.now ≤ length told.now }
     requires orders { length orders.now ≡ length shown.now }
     ensures { OnOk result (IfPaged F.has_failed F.Holds page.new
-        (table_facts (is_some tabled.now.gone) tabled.now.rows.now tabled.now.ignored.now told.now (length shown.now))) }
+        (table_facts (is_some tabled.now.gone || tabled.now.misses) tabled.now.rows.now tabled.now.ignored.now told.now (length shown.now))) }
 {
     if let Some(file) = page {
         let text = tabled_page(alloc, line, symbols, tabled, told, shown, orders)?;
@@ -400,6 +412,7 @@ fn make_rows<T: Threads + Wait, D: Folder, F: NewFile, P: Watch + WatchRuns>(
     let code = Code::of(alloc, &file.image)?;
     let symbols = SymbolTable::new(alloc, &file.image)?;
     let aim = Aim::of(alloc, asked.aim, &symbols, &code)?;
+    let symbols = with_source(symbols, &lists.source);
     let hunt = Hunt {
         image: &file.image,
         seed: asked.seed,
@@ -442,14 +455,16 @@ fn make_with<T: Threads + Wait, R: Read, D: Folder, F: NewFile, P: Watch + Watch
     watch: &mut P,
 ) -> Result<Made, ShowFault>
     requires { options.now.workers ≤ 16 }
-    ensures made { IfOk result (λ made. IfSome (bytes_if R.remaining inputs.old.ignored) (λ ignored.
+    ensures made { IfOk result (λ made. IfSome (bytes_if R.remaining inputs.old.lines) (λ lines.
+        IfSome (bytes_if R.remaining inputs.old.ignored) (λ ignored.
         IfSome (bytes_if R.remaining inputs.old.expected) (λ expected. (shown : spec.TableShown)
-        × internal.IsShownBy file.now.image ignored expected table.now shown
+        × internal.IsShownBy file.now.image lines ignored expected table.now shown
         × spec.IsMade shown options.now.blocks table.now (IfSaved D.has_failed D.Holds folder.new) (IfPaged F.has_failed F.Holds page.new)
-        (IfListed F.has_failed F.Holds list.new) (IfWritten F.has_failed F.Holds json.new) made.found))) }
-    ensures err { IfErr result (λ fault. IfSome (bytes_if R.remaining inputs.old.ignored) (λ ignored.
+        (IfListed F.has_failed F.Holds list.new) (IfWritten F.has_failed F.Holds json.new) made.found)))) }
+    ensures err { IfErr result (λ fault. IfSome (bytes_if R.remaining inputs.old.lines) (λ lines.
+        IfSome (bytes_if R.remaining inputs.old.ignored) (λ ignored.
         IfSome (bytes_if R.remaining inputs.old.expected) (λ expected.
-        internal.IsLateTold table.now file.now.image ignored expected fault))) }
+        internal.IsLateTold table.now file.now.image lines ignored expected fault)))) }
     ensures no_schedules { IfErr result (λ fault. spec.is_of_files fault ≡ true
         → passes D.is_used folder.new ≡ passes D.is_used folder.old) }
     ensures no_page { IfErr result (λ fault. spec.is_of_files fault ≡ true

@@ -191,7 +191,7 @@ impl<'a, 'h, 's> InFull<'a, 'h, 's> {
         workers: u8,
     ) -> Result<Vec<Vec<ShownPart>>, PoolFault>
         requires workers { workers ≤ 16 }
-        requires image { self.now.symbols.now ≡ self.now.hunt.now.source.image }
+        requires image { self.now.symbols.now.image ≡ self.now.hunt.now.source.image }
         ensures { IfOk result (λ runs. All (spec.AreShown (spec.of_full self.now)) runs.items) }
     {
         let shares = shares_of(runs.len(), workers);
@@ -220,7 +220,7 @@ impl<'a, 'h, 's> InFull<'a, 'h, 's> {
         watch: &mut W,
     ) -> Result<(), PoolFault>
         requires workers { workers ≤ 16 }
-        requires image { self.now.symbols.now ≡ self.now.hunt.now.source.image }
+        requires image { self.now.symbols.now.image ≡ self.now.hunt.now.source.image }
         requires place { place < length self.now.rows.now }
         requires count { length slots.old.items ≡ length self.now.rows.now }
         ensures slots { OnOk result (spec.AreSlots (spec.of_full self.now) (IfSaved D.has_failed D.Holds folder.old) slots.old.items
@@ -249,7 +249,7 @@ impl<'a, 'h, 's> InFull<'a, 'h, 's> {
         watch: &mut W,
     ) -> Result<Vec<ShownRace>, PoolFault>
         requires workers { workers ≤ 16 }
-        requires image { self.now.symbols.now ≡ self.now.hunt.now.source.image }
+        requires image { self.now.symbols.now.image ≡ self.now.hunt.now.source.image }
         ensures shown { IfOk result (λ shown. AreShown self.now.hunt.now
             (IfSaved D.has_failed D.Holds folder.new) self.now.rows.now shown.items) }
         ensures wanted { is_some folder.new ≡ is_some folder.old }

@@ -189,7 +189,7 @@ impl InFull<'_, '_, '_> {
         place: usize,
     ) -> Result<Option<ShownRace>, NoMemory>
         requires place { place < length self.now.rows.now }
-        requires image { session.old.image ≡ self.now.symbols.now }
+        requires image { session.old.image ≡ self.now.symbols.now.image }
         requires reports { reports.now ≡ internal.reports_of self.now (races.run_of session.old) }
         ensures shown { IfOk result (λ found. IfSome found (λ shown.
             internal.IsOfRow self.now (races.run_of session.old) harts place shown)) }
@@ -227,7 +227,7 @@ impl InFull<'_, '_, '_> {
         harts: u8,
         of: RunPart,
     ) -> Result<Vec<(u32, ShownRace)>, NoMemory>
-        requires image { session.old.image ≡ self.now.symbols.now }
+        requires image { session.old.image ≡ self.now.symbols.now.image }
         requires reports { reports.now ≡ internal.reports_of self.now (races.run_of session.old) }
         ensures { IfOk result (λ shown. All (λ one.
             internal.IsOfRow self.now (races.run_of session.old) harts one.0 one.1

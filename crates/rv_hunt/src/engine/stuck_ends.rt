@@ -117,7 +117,7 @@ fn shown_of<D: Folder>(
     row: &StuckRow,
     folder: &mut Option<D>,
 ) -> Result<Option<(usize, StuckBlock)>, NoMemory>
-    requires { symbols.now ≡ hunt.now.source.image }
+    requires { symbols.now.image ≡ hunt.now.source.image }
     ensures wanted { is_some folder.new ≡ is_some folder.old }
     ensures block { IfOk result (λ block. IfSome block (λ it. IsStuckBlock hunt.now it.1)) }
 {
@@ -139,7 +139,7 @@ pub(crate) fn stuck_ends<D: Folder>(
     table: &StuckTable,
     folder: &mut Option<D>,
 ) -> Result<StuckEnds, NoMemory>
-    requires { symbols.now ≡ hunt.now.source.image }
+    requires { symbols.now.image ≡ hunt.now.source.image }
     ensures wanted { is_some folder.new ≡ is_some folder.old }
     ensures shown { IfOk result (λ ends. AreStuckShown hunt.now ends.shown.items) }
 {

@@ -7,6 +7,8 @@ use crate::fault::{ReadFault as TableReadFault, TableFault, TableKind};
 use rv_engines::fault::Fault;
 use rv_engines::run::fault::CommandFault;
 use rv_engines::sentences;
+use rv_engines::source_lines::SourceFault;
+use rv_lines::fault::{LinesFault, LinesKind};
 use rv_memory::flagged::{ReadFault, WriteFault};
 use rv_memory::store::NoMemory;
 use std::fmt;
@@ -38,6 +40,8 @@ pub enum FileFault {
     Ignore(IgnoreFault),
     /// A side of what is aimed at is a name that no symbol of the image has.
     Aim,
+    /// The file is none of source lines.
+    Lines(LinesFault),
 }
 
 impl FileFault {
@@ -48,7 +52,7 @@ impl FileFault {
     {
         match self {
             FileFault::Plain(fault) => fault.status(),
-            FileFault::Table(_) | FileFault::Ignore(_) | FileFault::Aim => 1,
+            FileFault::Table(_) | FileFault::Ignore(_) | FileFault::Aim | FileFault::Lines(_) => 1,
         }
     }
 }
@@ -88,6 +92,17 @@ impl From<WriteFault> for FileFault {
     }
 }
 
+impl From<SourceFault> for FileFault {
+    ghost from_gives = { λ given made. made ≡ spec.fault_of_source given };
+
+    fn from(given: SourceFault) -> FileFault {
+        match given {
+            SourceFault::Plain(fault) => FileFault::Plain(fault),
+            SourceFault::Line(fault) => FileFault::Lines(fault),
+        }
+    }
+}
+
 /// The fault's text, after the file's name.
 impl fmt::Display for FileFault {
     ghost output = { λ told. text.fault_output told };
@@ -112,6 +127,14 @@ impl fmt::Display for FileFault {
                 )
             }
             FileFault::Aim => { write!(f, "ignore aim {}", ignore_kind_name(IgnoreKind::Unknown)) }
+            FileFault::Lines(fault) => {
+                write!(
+                    f,
+                    "lines line {} {}",
+                    fault.line,
+                    lines_kind_name(fault.kind)
+                )
+            }
         }
     }
 }
@@ -142,6 +165,15 @@ fn ignore_kind_name(kind: IgnoreKind) -> &'static str
     }
 }
 
+fn lines_kind_name(kind: LinesKind) -> &'static str
+    ensures { result.now ≡ text.lines_kind_name kind }
+{
+    match kind {
+        LinesKind::Shape => "Shape",
+        LinesKind::Order => "Order",
+    }
+}
+
 /// What is wrong, or what to do.
 pub fn sentence(fault: FileFault) -> &'static str
     ensures { result.now ≡ text.sentence fault }
@@ -151,6 +183,7 @@ pub fn sentence(fault: FileFault) -> &'static str
         FileFault::Table(fault) => table_sentence(fault.kind),
         FileFault::Ignore(fault) => ignore_sentence(fault.kind),
         FileFault::Aim => ignore_sentence(IgnoreKind::Unknown),
+        FileFault::Lines(fault) => lines_sentence(fault.kind),
     }
 }
 
@@ -184,5 +217,16 @@ fn ignore_sentence(kind: IgnoreKind) -> &'static str
         IgnoreKind::Shape =>
             "a line is two sides, each an address of eight hexadecimal digits, a symbol's name or *; on NAME may follow",
         IgnoreKind::Unknown => "the image has no symbol with this name",
+    }
+}
+
+fn lines_sentence(kind: LinesKind) -> &'static str
+    ensures { result.now ≡ text.lines_sentence kind }
+{
+    match kind {
+        LinesKind::Shape =>
+            "a line is an address of eight hexadecimal digits, and for each frame a function and FILE:LINE, with tabs between",
+        LinesKind::Order =>
+            "the address is not greater than that of the line before: did rvcollide-lines write the file?",
     }
 }

@@ -18,9 +18,13 @@ use crate::merge::fault::{FileFault, IgnoreFault, IgnoreKind};
 use crate::merge::sought::{
     Instruction, RacePlaces, SoughtLine, SoughtSide, any_fits, first_unknown,
 };
-use crate::merge::words::{NamedSymbol, Words, begins_comment, marks_at, marks_of, named_symbols};
+use crate::merge::words::{
+    NamedSymbol, Words, begins_comment, instruction_marks, mark_lines, marks_at, marks_of,
+    named_symbols,
+};
 use rv_elf::Image;
 use rv_explain::symbol_table::SymbolTable;
+use rv_lines::lines::SourceLines;
 use rv_memory::flagged::{Flagged, INPUT_LIMIT, read_whole};
 use rv_memory::store::NoMemory;
 use rv_report::key::Key;
@@ -206,17 +210,31 @@ impl<'a> Names<'a> {
         })
     }
 
-    /// An instruction or a place in data, or one that is not known, with the names there.
+    /// A place in data, or one that is not known, with the names there.
+    fn data(
+        &self,
+        alloc: Global,
+        symbols: &SymbolTable,
+        at: Option<u32>,
+    ) -> Result<Instruction, NoMemory>
+        requires { by_number.AreNamesOf self.now symbols.now.image }
+        ensures { IfOk result (λ place. by_number.IsData self.now symbols.now.image at place) }
+    {
+        let marks = marks_at(alloc, &self.words, &self.symbols, symbols, at)?;
+        Ok(Instruction { at, marks })
+    }
+
+    /// An instruction, or one that is not known, with the names there.
     fn instruction(
         &self,
         alloc: Global,
         symbols: &SymbolTable,
         at: Option<u32>,
     ) -> Result<Instruction, NoMemory>
-        requires { by_number.AreNamesOf self.now symbols.now }
+        requires { by_number.AreNamesOf self.now symbols.now.image }
         ensures { IfOk result (λ instruction. by_number.IsInstruction self.now symbols.now at instruction) }
     {
-        let marks = marks_at(alloc, &self.words, &self.symbols, symbols, at)?;
+        let marks = instruction_marks(alloc, &self.words, &self.symbols, symbols, at)?;
         Ok(Instruction { at, marks })
     }
 
@@ -228,12 +246,12 @@ impl<'a> Names<'a> {
         key: &Key,
         on: Option<u32>,
     ) -> Result<RacePlaces, NoMemory>
-        requires { by_number.AreNamesOf self.now symbols.now }
+        requires { by_number.AreNamesOf self.now symbols.now.image }
         ensures { IfOk result (λ places. by_number.ArePlaces self.now symbols.now key.now on places) }
     {
         let first = self.instruction(alloc, symbols, Some(key.first))?;
         let second = self.instruction(alloc, symbols, key.second)?;
-        let on = self.instruction(alloc, symbols, on)?;
+        let on = self.data(alloc, symbols, on)?;
         Ok(RacePlaces { first, second, on })
     }
 }
@@ -264,27 +282,38 @@ impl Ignores {
         key: &Key,
         on: Option<u32>,
     ) -> Result<bool, NoMemory>
-        requires { by_number.AreTheNames names.now symbols.now self.now }
+        requires { by_number.AreTheNames names.now symbols.now.image self.now }
         ensures { IfOk result (λ fits. fits ≡ spec.any_fits symbols.now self.now key.now on) }
     {
         let places = names.places(alloc, symbols, key, on)?;
         Ok(any_fits(&names.lines, &places))
     }
 
-    /// The number of the first line with a name that no symbol of the image has.
-    pub fn unknown(&self, alloc: Global, image: &Image) -> Result<Option<u64>, NoMemory>
-        ensures { IfOk result (λ line. is_some line ≡ spec.has_unknown image.now self.now) }
+    /// The number of the first line with a name that no symbol of the image and no source line has.
+    pub fn unknown(
+        &self,
+        alloc: Global,
+        image: &Image,
+        source: &Option<SourceLines>,
+    ) -> Result<Option<u64>, NoMemory>
+        ensures { IfOk result (λ line. is_some line ≡ spec.has_unknown (spec.naming_of image.now source.now) self.now) }
     {
-        unknown_in(alloc, image, &self.lines)
+        unknown_in(alloc, image, source, &self.lines)
     }
 }
 
-/// The number of the first line with a name that no symbol of the image has.
-fn unknown_in(alloc: Global, image: &Image, lines: &[ListedLine]) -> Result<Option<u64>, NoMemory>
-    ensures { IfOk result (λ line. line ≡ shape.unknown_in (spec.are_known image.now) lines.now) }
+/// The number of the first line with a name that no symbol of the image and no source line has.
+fn unknown_in(
+    alloc: Global,
+    image: &Image,
+    source: &Option<SourceLines>,
+    lines: &[ListedLine],
+) -> Result<Option<u64>, NoMemory>
+    ensures { IfOk result (λ line. line ≡ shape.unknown_in (spec.are_known (spec.naming_of image.now source.now)) lines.now) }
 {
     let names = Names::of(alloc, image, lines)?;
-    let known = marks_of(alloc, names.words.count(), &names.symbols)?;
+    let mut known = marks_of(alloc, names.words.count(), &names.symbols)?;
+    mark_lines(alloc, &names.words, source, &mut known)?;
     Ok(first_unknown(&names.lines, &known))
 }
 
@@ -414,7 +443,7 @@ pub fn aimed(alloc: Global, image: &Image, one: &[u8], other: &[u8]) -> Result<I
     let mut lines = Vec::new(alloc);
     let on = b"*".as_slice();
     add_line(alloc, &mut lines, 1, Some(SaidWords { one, other, on }))?;
-    match unknown_in(alloc, image, &lines)? {
+    match unknown_in(alloc, image, &None, &lines)? {
         Some(_) => Err(FileFault::Aim),
         None => Ok(Ignores { lines }),
     }
@@ -443,15 +472,20 @@ fn shaped_lines(alloc: Global, text: &[u8]) -> Result<Shaped, NoMemory>
 }
 
 /// What the lines of a text say.
-fn read_lines(alloc: Global, image: &Image, text: &[u8]) -> Result<Ignores, FileFault>
+fn read_lines(
+    alloc: Global,
+    image: &Image,
+    source: &Option<SourceLines>,
+    text: &[u8],
+) -> Result<Ignores, FileFault>
     requires { length text.now ≤ INPUT_LIMIT }
-    ensures ok { IfOk result (λ lines. spec.lines_from (spec.are_known image.now) 1 (pieces_of 10 text.now) ≡ Ok lines) }
-    ensures err { IfErr result (IsTold (told_ignore (spec.lines_from (spec.are_known image.now) 1 (pieces_of 10 text.now)))) }
+    ensures ok { IfOk result (λ lines. spec.lines_from (spec.are_known (spec.naming_of image.now source.now)) 1 (pieces_of 10 text.now) ≡ Ok lines) }
+    ensures err { IfErr result (IsTold (told_ignore (spec.lines_from (spec.are_known (spec.naming_of image.now source.now)) 1 (pieces_of 10 text.now)))) }
     ensures reader { fails_by is_read result ≡ false }
     ensures writer { fails_by is_write result ≡ false }
 {
     let Shaped { lines, fault } = shaped_lines(alloc, text)?;
-    if let Some(line) = unknown_in(alloc, image, &lines)? {
+    if let Some(line) = unknown_in(alloc, image, source, &lines)? {
         let kind = IgnoreKind::Unknown;
         return Err(FileFault::Ignore(IgnoreFault { line, kind }));
     }
@@ -461,22 +495,23 @@ fn read_lines(alloc: Global, image: &Image, text: &[u8]) -> Result<Ignores, File
     }
 }
 
-/// Reads a list of races that are to be ignored. The image is the one that is hunted.
+/// Reads a list of races that are to be ignored. The image is the one that is hunted, and the source lines are those that are given.
 #[tactic(auto, unfolding(crate::specs::merge::Ignore::ignores_of))]
 pub fn read_ignores<R: Read>(
     alloc: Global,
     image: &Image,
+    source: &Option<SourceLines>,
     reader: &mut Flagged<R>,
 ) -> Result<Ignores, FileFault>
     ensures ok { IfOk result (λ lines. IfSome (R.remaining (flag.device reader.old)) (λ bytes.
-        spec.ignores_of image.now bytes ≡ Ok lines)) }
+        spec.ignores_of (spec.naming_of image.now source.now) bytes ≡ Ok lines)) }
     ensures err { IfErr result (λ fault. IfSome (R.remaining (flag.device reader.old)) (λ bytes.
-        IsTold (spec.ignores_of image.now bytes) fault)) }
+        IsTold (spec.ignores_of (spec.naming_of image.now source.now) bytes) fault)) }
     ensures reader { flag.has_failed reader.new ≡ (flag.has_failed reader.old || fails_by is_read result) }
     ensures writer { fails_by is_write result ≡ false }
 {
     let bytes = read_whole(alloc, reader, INPUT_LIMIT)?;
-    read_lines(alloc, image, &bytes)
+    read_lines(alloc, image, source, &bytes)
 }
 
 /// What the lines of a text say, whatever names the image has.

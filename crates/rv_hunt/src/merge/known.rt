@@ -4,6 +4,7 @@ ghost use Rattle.rv_memory.specs.Flagged as flag;
 ghost use Rattle.rv_hunt.specs.internal.Sought.{AreTheNames};
 ghost use Rattle.rv_hunt.specs.declared.merge.known.Known.TheVariants as known;
 ghost use Rattle.rv_hunt.specs.merge.FileFault.{IsTold, fails_by, is_read, is_write};
+ghost use Rattle.rv_hunt.specs.merge.Ignore.{naming_of};
 ghost use Rattle.rv_hunt.specs.merge.Known as spec;
 
 use crate::expected::{may_be_bug, new_in};
@@ -15,6 +16,7 @@ use crate::row::RaceRow;
 use crate::table::HuntTable;
 use rv_elf::Image;
 use rv_explain::symbol_table::SymbolTable;
+use rv_lines::lines::SourceLines;
 use rv_memory::flagged::{Flagged, INPUT_LIMIT, read_whole};
 use rv_memory::store::NoMemory;
 use rv_report::key::Key;
@@ -120,7 +122,7 @@ fn is_new(
     names: &Names,
     race: &(Key, RaceRow),
 ) -> Result<bool, NoMemory>
-    requires { AreTheNames names.now symbols.now lines.now }
+    requires { AreTheNames names.now symbols.now.image lines.now }
     ensures { IfOk result (λ is_new. is_new ≡ spec.is_new symbols.now (known.Lines lines.now) race.now) }
 {
     let is_expected = lines.fits(alloc, symbols, names, &race.0, race.1.address)?;
@@ -161,12 +163,17 @@ pub fn new_races(
     }
 }
 
-/// The number of the first line with a name that no symbol of the image has, where a list says what is expected.
-pub fn gone(alloc: Global, image: &Image, known: &Option<Known>) -> Result<Option<u64>, NoMemory>
-    ensures { IfOk result (λ line. is_some line ≡ spec.has_gone image.now known.now) }
+/// The number of the first line with a name that no symbol of the image and no source line has, where a list says what is expected.
+pub fn gone(
+    alloc: Global,
+    image: &Image,
+    source: &Option<SourceLines>,
+    known: &Option<Known>,
+) -> Result<Option<u64>, NoMemory>
+    ensures { IfOk result (λ line. is_some line ≡ spec.has_gone (naming_of image.now source.now) known.now) }
 {
     match known {
-        Some(Known::Lines(lines)) => lines.unknown(alloc, image),
+        Some(Known::Lines(lines)) => lines.unknown(alloc, image, source),
         Some(Known::Table(_)) | None => Ok(None),
     }
 }

@@ -1,11 +1,11 @@
 //! Lists of a hunt's races are written.
 ghost use Rattle.std.specs.Prelude.{◌≡◌, ◌∷◌, ◌++◌, [], IfOk, OnOk, map, option_map};
 ghost use Rattle.rv_text.specs.Lines.{text_of_lines};
-ghost use Rattle.rv_hunt.specs.merge.Ignore.{spelled};
+ghost use Rattle.rv_hunt.specs.merge.Ignore.{spelled, spelled_field};
 ghost use Rattle.rv_hunt.specs.merge.Listing as spec;
 
 use crate::merge::ignore::LONGEST_WORD;
-use crate::merge::words::write_spelled;
+use crate::merge::words::{write_spelled, write_spelled_field};
 use crate::row::RaceRow;
 use rv_explain::blocks::class_word;
 use rv_explain::symbol_table::SymbolTable;
@@ -41,11 +41,46 @@ fn word_of(alloc: Global, name: &[u8]) -> Result<Option<Vec<u8>>, NoMemory>
 
 /// The name by which an address is told, where a line can have it.
 fn name_at(alloc: Global, symbols: &SymbolTable, address: u32) -> Result<Option<Vec<u8>>, NoMemory>
-    ensures { IfOk result (λ name. option_map (λ word. word.items) name ≡ spec.name_at symbols.now address) }
+    ensures { IfOk result (λ name. option_map (λ word. word.items) name ≡ spec.name_at symbols.now.image address) }
 {
     match symbols.symbol_of(address) {
         None => Ok(None),
         Some(symbol) => word_of(alloc, symbol.name.as_bytes()),
+    }
+}
+
+/// A function of a source line as a list has it, where a line can have it.
+#[tactic(auto, using(crate::proofs::ListingLemmas::field_too_long))]
+fn function_word(alloc: Global, function: &[u8]) -> Result<Option<Vec<u8>>, NoMemory>
+    ensures { IfOk result (λ found. option_map (λ word. word.items) found ≡ spec.word_if (spelled_field function.now)) }
+{
+    if function.len() > LONGEST_WORD {
+        return Ok(None);
+    }
+    let mut word = Vec::new(alloc);
+    write_spelled_field(alloc, &mut word, function)?;
+    if is_word(&word) {
+        Ok(Some(word))
+    } else {
+        Ok(None)
+    }
+}
+
+/// The function of an instruction's innermost frame, where it is known and a line can have it.
+fn function_at(
+    alloc: Global,
+    symbols: &SymbolTable,
+    address: u32,
+) -> Result<Option<Vec<u8>>, NoMemory>
+    ensures { IfOk result (λ name. option_map (λ word. word.items) name ≡ spec.function_at symbols.now.lines address) }
+{
+    let mut frames = symbols.frames_at(address);
+    let Some(frame) = frames.next_frame() else {
+        return Ok(None);
+    };
+    match frame.known_function() {
+        Some(function) => function_word(alloc, function),
+        None => Ok(None),
     }
 }
 
@@ -58,6 +93,10 @@ fn push_side(
 ) -> Result<(), NoMemory>
     ensures { OnOk result (text.new.items ≡ text.old.items ++ spec.side_text symbols.now address) }
 {
+    if let Some(function) = function_at(alloc, symbols, address)? {
+        text.extend_from_slice(&function)?;
+        return Ok(());
+    }
     match name_at(alloc, symbols, address)? {
         Some(name) => text.extend_from_slice(&name)?,
         None => text.extend_from_slice(&word_digits(address))?,
@@ -90,7 +129,7 @@ fn push_on(
     symbols: &SymbolTable,
     address: Option<u32>,
 ) -> Result<(), NoMemory>
-    ensures { OnOk result (text.new.items ≡ text.old.items ++ spec.on_text symbols.now address) }
+    ensures { OnOk result (text.new.items ≡ text.old.items ++ spec.on_text symbols.now.image address) }
 {
     let Some(address) = address else {
         return Ok(());

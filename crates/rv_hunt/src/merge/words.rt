@@ -1,12 +1,15 @@
 //! The words of an ignore list by numbers, so that one pass over the symbols of an image finds those of every name.
 ghost use Rattle.std.specs.Prelude.{◌≡◌, ◌<◌, ◌++◌, Some, All, IfOk, IfSome, OnOk, length, filter, filter_map};
 ghost use Rattle.std.specs.Option.{option_to_list};
-ghost use Rattle.rv_explain.specs.Names.{escaped, escaped_byte, is_hidden};
-ghost use Rattle.rv_hunt.specs.merge.Ignore.{begins_comment, first_escaped, says_other, spelled};
+ghost use Rattle.rv_explain.specs.Names.{escaped, escaped_byte, escaped_field, field_byte, is_hidden};
+ghost use Rattle.rv_hunt.specs.merge.Ignore.{begins_comment, first_escaped, lines_of, says_other, spelled, spelled_field};
 ghost use Rattle.rv_hunt.specs.internal.Words as spec;
+ghost use Rattle.rv_lines.specs.SourceLines.{frame_of};
 
 use rv_elf::{Image, Symbol};
 use rv_explain::symbol_table::SymbolTable;
+use rv_lines::frames::{Frame, Frames};
+use rv_lines::lines::SourceLines;
 use rv_memory::store::NoMemory;
 use rv_text::hexadecimal::{byte_digits, read_word};
 use std::alloc::{AllocError, Global};
@@ -86,6 +89,26 @@ impl<'a> Words<'a> {
         write_spelled(alloc, text, symbol.name.as_bytes())?;
         Ok(self.numbers.get(text.as_slice()).copied())
     }
+
+    /// The number of the word that is a frame's function, where that is known. The text is room to write it in.
+    fn function_of(
+        &self,
+        alloc: Global,
+        text: &mut Vec<u8>,
+        frame: &Frame<'_>,
+    ) -> Result<Option<usize>, NoMemory>
+        requires { spec.AreNumbered self.now }
+        ensures { IfOk result (λ word. word ≡ spec.function_word self.now (frame_of frame.now)) }
+    {
+        let Some(function) = frame.known_function() else {
+            return Ok(None);
+        };
+        if function.len() > self.longest {
+            return Ok(None);
+        }
+        write_spelled_field(alloc, text, function)?;
+        Ok(self.numbers.get(text.as_slice()).copied())
+    }
 }
 
 fn is_hidden(byte: u8) -> bool
@@ -153,6 +176,46 @@ pub(crate) fn write_spelled(alloc: Global, text: &mut Vec<u8>, name: &[u8]) -> R
     ensures { OnOk result (text.new.items ≡ spelled name.now) }
 {
     write_shown(text, name)?;
+    if says_other(text) {
+        *text = first_escaped(alloc, text)?;
+    }
+    Ok(())
+}
+
+/// Writes a field of a source line, as it is shown, over a text.
+fn write_field(text: &mut Vec<u8>, field: &[u8]) -> Result<(), NoMemory>
+    ensures { OnOk result (text.new.items ≡ escaped_field field.now) }
+{
+    text.clear();
+    for byte in field {
+        add_field_byte(text, *byte)?;
+    }
+    Ok(())
+}
+
+/// Adds a byte of such a field, which has its backslashes escaped.
+fn add_field_byte(text: &mut Vec<u8>, byte: u8) -> Result<(), NoMemory>
+    ensures { OnOk result (text.new.items ≡ text.old.items ++ field_byte byte) }
+{
+    if is_hidden(byte) {
+        text.extend_from_slice(b"\\x")?;
+        text.extend_from_slice(&byte_digits(byte))?;
+    } else {
+        text.push(byte)?;
+    }
+    Ok(())
+}
+
+/// Writes a function of a source line, as a list has it, over a text.
+#[tactic(auto, unfolding(crate::specs::merge::Ignore::spelled_field))]
+pub(crate) fn write_spelled_field(
+    alloc: Global,
+    text: &mut Vec<u8>,
+    field: &[u8],
+) -> Result<(), NoMemory>
+    ensures { OnOk result (text.new.items ≡ spelled_field field.now) }
+{
+    write_field(text, field)?;
     if says_other(text) {
         *text = first_escaped(alloc, text)?;
     }
@@ -233,7 +296,7 @@ fn told_word(
     address: u32,
 ) -> Result<Option<usize>, NoMemory>
     requires { spec.AreNumbered words.now }
-    ensures { IfOk result (λ word. word ≡ spec.told_word words.now symbols.now address) }
+    ensures { IfOk result (λ word. word ≡ spec.told_word words.now symbols.now.image address) }
 {
     match symbols.symbol_of(address) {
         Some(symbol) => words.name_of(alloc, &mut Vec::new(alloc), symbol),
@@ -252,7 +315,7 @@ fn mark(marks: &mut Vec<bool>, word: Option<usize>)
     }
 }
 
-/// Which words are names at an instruction: of the symbols that it lies in, and of the one that tells it. At one that is
+/// Which words are names at an address: of the symbols that it lies in, and of the one that tells it. At one that is
 /// not known there are none.
 pub(crate) fn marks_at(
     alloc: Global,
@@ -262,9 +325,9 @@ pub(crate) fn marks_at(
     at: Option<u32>,
 ) -> Result<Vec<bool>, NoMemory>
     requires numbered { spec.AreNumbered words.now }
-    requires named { named.now ≡ filter_map (spec.named_by words.now) symbols.now.symbols }
+    requires named { named.now ≡ filter_map (spec.named_by words.now) symbols.now.image.symbols }
     ensures count { IfOk result (λ marks. length marks.items ≡ spec.count words.now) }
-    ensures marks { IfOk result (λ marks. spec.AreMarksAt words.now symbols.now at marks.items) }
+    ensures marks { IfOk result (λ marks. spec.AreMarksAt words.now symbols.now.image at marks.items) }
 {
     let Some(address) = at else {
         return marks_of(alloc, words.count(), &[]);
@@ -272,5 +335,83 @@ pub(crate) fn marks_at(
     let holding = holding(alloc, named, address)?;
     let mut marks = marks_of(alloc, words.count(), &holding)?;
     mark(&mut marks, told_word(alloc, words, symbols, address)?);
+    Ok(marks)
+}
+
+/// Marks the words that are functions of frames.
+fn mark_frames(
+    alloc: Global,
+    words: &Words,
+    frames: Frames<'_>,
+    marks: &mut Vec<bool>,
+) -> Result<(), NoMemory>
+    requires numbered { spec.AreNumbered words.now }
+    requires count { length marks.old.items ≡ spec.count words.now }
+    ensures count { OnOk result (length marks.new.items ≡ length marks.old.items) }
+    ensures marks { OnOk result (spec.MarksFrames words.now frames.entry marks.old.items marks.new.items) }
+{
+    let mut text = Vec::new(alloc);
+    let mut frames = frames;
+    while let Some(frame) = frames.next_frame() {
+        let word = words.function_of(alloc, &mut text, &frame)?;
+        mark(marks, word);
+    }
+    Ok(())
+}
+
+/// Marks the words that are functions of some line.
+fn mark_all(
+    alloc: Global,
+    words: &Words,
+    lines: &SourceLines,
+    marks: &mut Vec<bool>,
+) -> Result<(), NoMemory>
+    requires numbered { spec.AreNumbered words.now }
+    requires count { length marks.old.items ≡ spec.count words.now }
+    ensures count { OnOk result (length marks.new.items ≡ length marks.old.items) }
+    ensures marks { OnOk result (spec.MarksLines words.now lines.now marks.old.items marks.new.items) }
+{
+    for number in 0..lines.count() {
+        mark_frames(alloc, words, lines.frames_of(number), marks)?;
+    }
+    Ok(())
+}
+
+/// The same, where lines are given.
+pub(crate) fn mark_lines(
+    alloc: Global,
+    words: &Words,
+    lines: &Option<SourceLines>,
+    marks: &mut Vec<bool>,
+) -> Result<(), NoMemory>
+    requires numbered { spec.AreNumbered words.now }
+    requires count { length marks.old.items ≡ spec.count words.now }
+    ensures count { OnOk result (length marks.new.items ≡ length marks.old.items) }
+    ensures marks { OnOk result (spec.MarksLines words.now (lines_of lines.now) marks.old.items marks.new.items) }
+{
+    match lines {
+        None => Ok(()),
+        Some(lines) => mark_all(alloc, words, lines, marks),
+    }
+}
+
+/// Which words are names at an instruction: those at its address, and the functions of its frames.
+pub(crate) fn instruction_marks(
+    alloc: Global,
+    words: &Words,
+    named: &[NamedSymbol],
+    symbols: &SymbolTable,
+    at: Option<u32>,
+) -> Result<Vec<bool>, NoMemory>
+    requires numbered { spec.AreNumbered words.now }
+    requires named { named.now ≡ filter_map (spec.named_by words.now) symbols.now.image.symbols }
+    ensures count { IfOk result (λ marks. length marks.items ≡ spec.count words.now) }
+    ensures marks { IfOk result (λ marks. spec.AreInstructionMarks words.now symbols.now at marks.items) }
+{
+    let mut marks = marks_at(alloc, words, named, symbols, at)?;
+    let Some(address) = at else {
+        return Ok(marks);
+    };
+    mark_frames(alloc, words, symbols.frames_at(address), &mut marks)?;
     Ok(marks)
 }

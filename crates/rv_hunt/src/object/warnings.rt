@@ -1,8 +1,9 @@
 //! The warnings of a hunt, or of its table.
 ghost use Rattle.std.specs.Prelude.{◌≡◌, IfOk};
 
-use crate::page::parts::Outcome;
+use crate::page::parts::{Outcome, Tabled};
 use crate::saying::warnings::{Warning, gone_words, warning_words, warnings_of};
+use rv_engines::source_lines::MISS_WORDS;
 use rv_explain::symbol_table::SymbolTable;
 use rv_json::object::Json;
 use rv_memory::store::NoMemory;
@@ -39,20 +40,26 @@ pub(crate) fn warnings_at(
     warning_texts(json, alloc, symbols, outcome, &warnings)?.end()
 }
 
-/// The warning of a table, that a name has gone, where one has: the line of the list that has it.
-pub(crate) fn tabled_warnings(
-    json: Json,
-    alloc: Global,
-    gone: Option<u64>,
-) -> Result<Json, NoMemory>
+/// The warnings of a table: that a name has gone, by the line of the list that has it, and that the source lines have no frame of the image.
+pub(crate) fn tabled_warnings(json: Json, alloc: Global, tabled: &Tabled) -> Result<Json, NoMemory>
     ensures { IfOk result (λ more. more ≡ json) }
 {
-    let json = json.array_at("warnings")?;
+    let json = gone_text(json.array_at("warnings")?, alloc, tabled.gone)?;
+    if tabled.misses {
+        json.text(MISS_WORDS)?.end()
+    } else {
+        json.end()
+    }
+}
+
+fn gone_text(json: Json, alloc: Global, gone: Option<u64>) -> Result<Json, NoMemory>
+    ensures { IfOk result (λ more. more ≡ json) }
+{
     match gone {
         Some(line) => {
             let words = gone_words(alloc, line)?;
-            json.text(words.as_str())?.end()
+            json.text(words.as_str())
         }
-        None => json.end(),
+        None => Ok(json),
     }
 }

@@ -25,11 +25,13 @@ pub struct Outcome<'a> {
     pub ignored: &'a [(Key, RaceRow)],
     pub new: &'a [(Key, RaceRow)],
     pub gone: Option<u64>,
+    pub misses: bool,
     pub built: Built,
 }
 
 /// What is told of the table of a hunt: how many runs it is of, the rows of its races, those that are ignored, those that may be bugs and are
-/// not expected, and the first line of the list of expected ones with a name that the image lacks.
+/// not expected, the first line of the list of expected ones with a name that the image lacks, and whether the source lines have no
+/// frame of the image.
 #[derive(Clone, Copy)]
 pub struct Tabled<'a> {
     pub runs: u64,
@@ -37,6 +39,7 @@ pub struct Tabled<'a> {
     pub ignored: &'a [(Key, RaceRow)],
     pub new: &'a [(Key, RaceRow)],
     pub gone: Option<u64>,
+    pub misses: bool,
 }
 
 impl<'a> Model for Outcome<'a> {
@@ -45,5 +48,5 @@ impl<'a> Model for Outcome<'a> {
 
     ghost Value = { Came };
 
-    ghost view = { λ o. record { sites = o.sites; mix = o.mix; saw = o.saw.now; rows = o.rows.now; races = o.races.now; ignored = o.ignored.now; gone = is_some o.gone; built = o.built } };
+    ghost view = { λ o. record { sites = o.sites; mix = o.mix; saw = o.saw.now; rows = o.rows.now; races = o.races.now; ignored = o.ignored.now; gone = is_some o.gone; misses = o.misses; built = o.built } };
 }

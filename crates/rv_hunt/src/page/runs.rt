@@ -1,5 +1,5 @@
 //! What the runs saw, in tables.
-ghost use Rattle.std.specs.Prelude.{◌≡◌, ◌∷◌, is_some, IfOk};
+ghost use Rattle.std.specs.Prelude.{◌≡◌, ◌∷◌, ◌||◌, is_some, IfOk};
 ghost use Rattle.rv_hunt.specs.Outcome.{sampled_numbers, walk_numbers};
 ghost use Rattle.rv_hunt.specs.PageFacts as spec;
 ghost use Rattle.rv_markup.specs.declared.markup.Fact.TheVariants as fact;
@@ -13,13 +13,14 @@ use crate::page::elements::{
     number_column, number_words_cell,
 };
 use crate::page::near::near_table;
-use crate::page::parts::Outcome;
+use crate::page::parts::{Outcome, Tabled};
 use crate::row::RaceRow;
 use crate::saying::ended::{EndedRow, ended_rows, ways_words};
 use crate::saying::lines::{Seen, runs_seen, sampled_numbers, walk_numbers};
 use crate::saying::order::{of_class, reports_of};
 use crate::saying::warnings::{Warning, all_sampled, gone_words, warning_words, warnings_of};
 use crate::tally::Tally;
+use rv_engines::source_lines::MISS_WORDS;
 use rv_explain::block::RaceClass;
 use rv_explain::symbol_table::SymbolTable;
 use rv_markup::markup::Markup;
@@ -65,17 +66,52 @@ pub(crate) fn warnings_part(
     end_line(end_table(page)?)
 }
 
-/// The warning that a name of the list of expected races has gone, where one has.
-pub(crate) fn gone_part(page: Markup, alloc: Global, gone: Option<u64>) -> Result<Markup, NoMemory>
-    ensures { IfOk result (λ more. more ≡ record page { facts = spec.gone_facts (is_some gone) page.facts }) }
+/// The row of a warning.
+fn warning_row(page: Markup, words: &str) -> Result<Markup, NoMemory>
+    ensures { IfOk result (λ more. more ≡ page) }
 {
-    let Some(line) = gone else {
+    end_line(cell(begin_row(page)?, words.as_bytes())?)
+}
+
+/// The row that a name of the list of expected races has gone, where one has.
+fn gone_row(page: Markup, alloc: Global, gone: Option<u64>) -> Result<Markup, NoMemory>
+    ensures { IfOk result (λ more. more ≡ page) }
+{
+    match gone {
+        Some(line) => {
+            let words = gone_words(alloc, line)?;
+            warning_row(page, words.as_str())
+        }
+        None => Ok(page),
+    }
+}
+
+/// The row that the source lines have no frame of the image, where they have none.
+fn misses_row(page: Markup, misses: bool) -> Result<Markup, NoMemory>
+    ensures { IfOk result (λ more. more ≡ page) }
+{
+    if misses {
+        warning_row(page, MISS_WORDS)
+    } else {
+        Ok(page)
+    }
+}
+
+/// The warnings of a table, where there are any.
+pub(crate) fn tabled_warnings_part(
+    page: Markup,
+    alloc: Global,
+    tabled: &Tabled,
+) -> Result<Markup, NoMemory>
+    ensures { IfOk result (λ more. more ≡ record page { facts = spec.tabled_facts (is_some tabled.now.gone || tabled.now.misses) page.facts }) }
+{
+    if tabled.gone.is_none() && !tabled.misses {
         return Ok(page);
-    };
-    let words = gone_words(alloc, line)?;
+    }
     let page = begin_part(page, Place::Warnings, b"Warnings")?;
-    let page = begin_row(begin_rows(begin_table(page)?)?)?;
-    let page = end_line(cell(page, words.as_bytes())?)?;
+    let page = begin_rows(begin_table(page)?)?;
+    let page = gone_row(page, alloc, tabled.gone)?;
+    let page = misses_row(page, tabled.misses)?;
     end_line(end_table(page)?)
 }
 

@@ -1,5 +1,5 @@
 //! The page that `show` leaves: the races of a table, without what their runs saw.
-ghost use Rattle.std.specs.Prelude.{◌≡◌, ◌≤◌, is_some, length, IfOk};
+ghost use Rattle.std.specs.Prelude.{◌≡◌, ◌≤◌, ◌||◌, is_some, length, IfOk};
 ghost use Rattle.rv_hunt.specs.PageFacts as spec;
 ghost use Rattle.rv_markup.specs.Markup.{IsDocument};
 
@@ -10,7 +10,7 @@ use crate::page::begin_body;
 use crate::page::elements::end_line;
 use crate::page::parts::Tabled;
 use crate::page::races::{races_part, races_shown};
-use crate::page::runs::{apart_part, gone_part};
+use crate::page::runs::{apart_part, tabled_warnings_part};
 use crate::page::terms::terms_part;
 use crate::row::RaceRow;
 use crate::saying::lines::tabled_line;
@@ -43,11 +43,11 @@ pub(crate) fn tabled_page(
     requires shown { length shown.now ≤ length told.now }
     requires orders { length orders.now ≡ length shown.now }
     ensures { IfOk result (λ text. IsDocument text.items
-        (spec.table_facts (is_some tabled.now.gone) tabled.now.rows.now tabled.now.ignored.now told.now (length shown.now))) }
+        (spec.table_facts (is_some tabled.now.gone || tabled.now.misses) tabled.now.rows.now tabled.now.ignored.now told.now (length shown.now))) }
 {
     let summary = tabled_line(alloc, tabled)?;
     let page = link(begin_body(Markup::new(alloc), line, summary.as_bytes())?)?;
-    let page = gone_part(page, alloc, tabled.gone)?;
+    let page = tabled_warnings_part(page, alloc, tabled)?;
     let page = races_part(page, alloc, symbols, shown.len(), told, tabled.new)?;
     let page = races_shown(page, alloc, line, symbols, told, tabled.new, shown, orders)?;
     let page = terms_part(apart_part(page, alloc, tabled.rows, tabled.ignored)?)?;

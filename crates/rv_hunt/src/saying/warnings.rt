@@ -7,6 +7,7 @@ use crate::near::Fate;
 use crate::page::parts::{Outcome, Tabled};
 use crate::saying::ended::{Ways, ways_words};
 use crate::saying::unexpected::push_unexpected;
+use rv_engines::source_lines::MISS_WORDS;
 use rv_explain::symbol_table::SymbolTable;
 use rv_memory::store::NoMemory;
 use rv_tally::plans::Mix;
@@ -41,10 +42,12 @@ pub enum Warning {
     NoExit,
     /// A line of the list of expected races has a name that the image lacks.
     Gone,
+    /// The source lines have no frame of the image.
+    Missed,
 }
 
 /// All of them, in the order in which they are told.
-const WARNINGS: [Warning; 13] = [
+const WARNINGS: [Warning; 14] = [
     Warning::Compressed,
     Warning::Floating,
     Warning::NoSite,
@@ -58,6 +61,7 @@ const WARNINGS: [Warning; 13] = [
     Warning::WalkedInVain,
     Warning::NoExit,
     Warning::Gone,
+    Warning::Missed,
 ];
 
 /// Whether all runs are sampled ones.
@@ -114,6 +118,7 @@ fn holds(warning: Warning, outcome: &Outcome) -> bool
         Warning::WalkedInVain => saw.walked_in_vain(),
         Warning::NoExit => saw.exited_nowhere(),
         Warning::Gone => outcome.gone.is_some(),
+        Warning::Missed => outcome.misses,
     }
 }
 
@@ -132,7 +137,8 @@ fn voids(mix: Mix, warning: Warning) -> bool
         | Warning::ManyUntried
         | Warning::WalkedInVain
         | Warning::NoExit
-        | Warning::Gone => false,
+        | Warning::Gone
+        | Warning::Missed => false,
     }
 }
 
@@ -168,7 +174,7 @@ fn first_stop(alloc: Global, symbols: &SymbolTable, saw: &Hunted) -> Result<Stri
 /// The words of the warning that a name has gone.
 pub(crate) fn gone_words(alloc: Global, line: u64) -> Result<String, NoMemory> {
     Ok(format!(in alloc;
-        "line {line} of the list of --expect names what the image lacks, and fits no race: was it renamed?"
+        "line {line} of the list of --expect names what the image lacks, and fits no race: was it renamed, or does it need --lines?"
     )?)
 }
 
@@ -224,6 +230,7 @@ pub(crate) fn warning_words(
             "in most of the longest runs no hart exited: if the program ends, take more steps by --plan"
         }
         Warning::Gone => return gone_words(alloc, outcome.gone.unwrap_or(0)),
+        Warning::Missed => MISS_WORDS,
     };
     Ok(format!(in alloc; "{words}")?)
 }
@@ -244,7 +251,7 @@ pub(crate) fn first_notes(
     Ok(text)
 }
 
-/// The same of a table: the warning that a name has gone, if one has, and a line of each race that may be a bug and is not expected.
+/// The same of a table: the warnings that a name has gone, if one has, and that the source lines have no frame of the image, and a line of each race that may be a bug and is not expected.
 pub(crate) fn tabled_notes(
     alloc: Global,
     symbols: &SymbolTable,
@@ -254,6 +261,10 @@ pub(crate) fn tabled_notes(
     if let Some(line) = tabled.gone {
         let words = gone_words(alloc, line)?;
         let line = format!(in alloc; "rvcollide: warning: {words}\n")?;
+        text.extend_from_slice(line.as_bytes())?;
+    }
+    if tabled.misses {
+        let line = format!(in alloc; "rvcollide: warning: {MISS_WORDS}\n")?;
         text.extend_from_slice(line.as_bytes())?;
     }
     push_unexpected(alloc, &mut text, symbols, tabled.new)?;

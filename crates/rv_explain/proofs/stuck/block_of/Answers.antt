@@ -12,7 +12,7 @@ find_writers-requires c =
 
 pub returns-clause-harts : goal.returns-clause-harts
 returns-clause-harts c =
-    let start = first_state c.args.symbols.now.segments c.args.symbols.now.entry c.args.harts in
+    let start = first_state c.args.symbols.now.image.segments c.args.symbols.now.image.entry c.args.harts in
     let memory = c.args.machine.now.state.memory in
     let written : c.find_writers.new.reads ≡ map (map (with_writer start c.args.entries.now (length c.args.entries.now))) c.in_ok-reads.reads.items =
     c.in_ok-find_writers.ensures ∙ ap (λ s. map (map (with_writer s c.args.entries.now (length c.args.entries.now))) c.deref_mut.result.now) (rw c.image.ensures at c.in_ok-again.ensures.state) ∙ ap (map (map (with_writer start c.args.entries.now (length c.args.entries.now)))) c.deref_mut.ensures.value in

@@ -15,8 +15,8 @@ loop-h-preserved c =
     record {
       same = c.hart_of.ensures.same ∙ c.loop-h.invariant.same;
       count = pushed c.loop-h.harts.items c.push.new.self.items hart c.loop-h.h c.in_ok-push.ensures.items c.loop-h.invariant.count;
-      called = called_more c.args.symbols.now c.args.machine.now.state c.loop-h.harts.items c.push.new.self.items hart c.loop-h.h c.in_ok-push.ensures.items c.loop-h.invariant.count c.loop-h.invariant.called
-          (subst (λ (m : Guest). IsCalled c.args.symbols.now m.state c.loop-h.h hart) c.loop-h.invariant.same c.in_ok-hart_of.ensures.called);
+      called = called_more c.args.symbols.now.image c.args.machine.now.state c.loop-h.harts.items c.push.new.self.items hart c.loop-h.h c.in_ok-push.ensures.items c.loop-h.invariant.count c.loop-h.invariant.called
+          (subst (λ (m : Guest). IsCalled c.args.symbols.now.image m.state c.loop-h.h hart) c.loop-h.invariant.same c.in_ok-hart_of.ensures.called);
       shown = λ of are. rw c.in_ok-push.ensures.items
           (shown_more of harts c.args.reads.now c.loop-h.h doing c.loop-h.harts.items hart below are (c.loop-h.invariant.shown of are)
           (c.in_ok-hart_of.ensures.shown ∙ ap (λ d. does d (unwrap_or (slice_get c.args.reads.now c.loop-h.h) [])) (c.index-doing.ensures ∙ ap (λ n. get_or harts n doing) c.from.ensures)));

@@ -9,6 +9,6 @@ abbrev pub invariant-loop-h : goal.invariant-loop-h
 invariant-loop-h l = record {
   same : l.machine ≡ l.initial.machine;
   count : length l.harts.items ≡ l.h;
-  called : AreCalled l.symbols l.initial.machine.state l.harts.items;
+  called : AreCalled l.symbols.image l.initial.machine.state l.harts.items;
   shown : (of : Doing → List ReadBytes) → l.reads ≡ map of l.end.harts.items → map shown_as l.harts.items ≡ map (λ doing. does doing (of doing)) (take l.h l.end.harts.items);
 }

@@ -1,5 +1,6 @@
 use Rattle.std.proofs.Common.{◌∙◌, length, ap, refl}
 use Rattle.std.proofs.lemmas.Result.{err_from_is_err_and}
+use Rattle.rv_explain.specs.Naming.{Naming}
 use Rattle.rv_hunt.specs.Hunt.{Hunt}
 use Rattle.rv_hunt.specs.internal.Opened.{hunting_with}
 use Rattle.rv_hunt.proofs.MadeLemmas.{found_from, made_is, new_from, not_ok, outcome_is, races_from, table_from}
@@ -12,11 +13,13 @@ returns-clause-made g c =
     let races = races_from hunting c.args.saw.now c.in_ok-parted.parted.told.items c.deref.result.now _ c.deref.ensures.value c.in_ok-parted.ensures.told c.in_ok-races.ensures in
     let rows = c.deref-4.ensures.value ∙ c.in_ok-parted.ensures.told in
     let ignored = c.deref-6.ensures.value ∙ c.in_ok-parted.ensures.ignored in
-    let gone = rw (c.image.ensures, c.requires.symbols) at c.in_ok-gone.ensures in
-    let came = outcome_is hunting c.args.saw.now c.len.result c.mix.result c.deref-4.result.now c.deref-5.result.now c.deref-6.result.now _ _ sites (c.mix.ensures ∙ ap (λ (h : Hunt). h.given.mix) c.hunt.view_is) rows (c.deref-5.ensures.value ∙ races) ignored gone refl in
+    let image = c.image.ensures ∙ ap (λ (n : Naming). n.image) c.requires.symbols in
+    let gone = rw image at c.in_ok-gone.ensures in
+    let misses = rw (c.image-2.ensures ∙ ap (λ (n : Naming). n.image) c.requires.symbols) at c.lines_miss.ensures in
+    let came = outcome_is hunting c.args.saw.now c.len.result c.mix.result c.deref-4.result.now c.deref-5.result.now c.deref-6.result.now _ _ _ sites (c.mix.ensures ∙ ap (λ (h : Hunt). h.given.mix) c.hunt.view_is) rows (c.deref-5.ensures.value ∙ races) ignored gone misses refl in
     made_is _ hunting c.args.saw.now _ _ _ _ c.in_ok-parted.parted.told.items c.in_ok-races.races.items c.in_ok-told.told.items c.first_of.result.now c.in_ok-unexpected.unexpected.items _ c.deref-18.result.now c.deref-19.result.now c.deref-15.result.now c.args.symbols.now c.deref-21.result.now c.in_ok-shown.shown.items c.in_ok-orders.orders.items c.in_ok-stuck.stuck.shown.items _ _ _ _ c.requires.noted refl c.is_wrong.ensures c.in_ok-parted.ensures.told
     races
-    (rw (c.deref-2.ensures.value, c.requires.symbols) at c.in_ok-told.ensures)
+    (rw (c.deref-2.ensures.value, ap (λ (n : Naming). n.image) c.requires.symbols) at c.in_ok-told.ensures)
     (rw (c.full_of-most.ensures, c.is_some.ensures, c.shows_blocks.ensures, c.save_ends.ensures, c.stuck_ends.ensures.wanted, c.deref-8.ensures.value) at c.first_of.ensures)
     came c.in_ok-shown.ensures.shown c.in_ok-orders.ensures.shown
     (table_from c.args.options.now.shows _ _ _ _ _ _ _ _ _ _ _ _ c.heading_of-heading.ensures.image c.heading_of-heading.ensures.version c.heading_of-heading.ensures.seed c.heading_of-heading.ensures.given c.stretch_of-stretch.ensures c.in_ok-text.ensures)

@@ -1,5 +1,5 @@
 use Rattle.std.proofs.Common.{◌∙◌, ap, sym}
-use Rattle.rv_elf.specs.Contents.{Contents}
+use Rattle.rv_symbols.specs.Naming.{Naming}
 use Rattle.rv_symbols.proofs.Tables.{nearest-within}
 use Rattle.rv_symbols.specs.Symbols.{nearest}
 use Rattle.rv_symbols.specs.internal.Steps.{told_at, unless_before}
@@ -10,4 +10,4 @@ returns c =
     c.unless_before.ensures
     ∙ ap (unless_before c.args.segment.now) (c.told_at-symbol.ensures ∙ ap (λ steps. told_at steps c.args.address) c.deref.ensures.value ∙ c.self.invariant.nearest.told c.args.address)
     ∙ sym (nearest-within c.self.inside.image.now c.args.segment.now c.args.address)
-    ∙ ap (λ (image : Contents). nearest image c.args.segment.now c.args.address) c.self.view_is
+    ∙ ap (λ (naming : Naming). nearest naming.image c.args.segment.now c.args.address) c.self.view_is

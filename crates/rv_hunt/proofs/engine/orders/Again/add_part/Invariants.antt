@@ -10,7 +10,7 @@ abbrev pub invariant-loop-number : goal.invariant-loop-number
 invariant-loop-number l = record {
   made : AreMade l.self l.fn.made.items → AreMade l.self l.made.items;
   plan : numbers l.plan ≡ l.session.plan;
-  image : l.session.image ≡ l.self.symbols.now;
+  image : l.session.image ≡ l.self.symbols.now.image;
   reports : l.reports.items ≡ reports_of l.self (run_of l.session);
-  run : run_of l.session ≡ run_told l.self.symbols.now l.fn.left;
+  run : run_of l.session ≡ run_told l.self.symbols.now.image l.fn.left;
 }

@@ -10,7 +10,7 @@ use Rattle.rv_hunt.proofs.engine.shown.InFull.part.Goals as goal
 pub returns : goal.returns
 returns c =
     let full = c.args.self.now in
-    let session_is : run_of c.in-Ok.session ≡ run_told full.symbols.now c.args.run =
+    let session_is : run_of c.in-Ok.session ≡ run_told full.symbols.now.image c.args.run =
     ap run_of c.in-Ok.ensures.ok ∙ ap (λ (i : Contents). run_of (placed i (numbers c.args.run.plan) c.args.run.entries.items 0)) c.image-image.ensures
     in
     record {

@@ -1,0 +1,4 @@
+pub mod KeptLemmas
+pub mod PieceLemmas
+pub mod ReadLemmas
+pub mod TextLemmas

@@ -1,0 +1,3 @@
+pub mod LinesFault
+pub mod SourceLines
+pub mod internal
