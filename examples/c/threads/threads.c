@@ -15,6 +15,9 @@
 #define GUEST_WORDS "guest"
 #endif
 
+/* What waits is inlined: a report of a hart that waits for ever then names the call, such as pthread_mutex_lock, and its caller. */
+#define INLINED inline __attribute__((always_inline))
+
 #define HARTS 16u
 #define STACK_SIZE 0x10000u
 #define SECOND 1000000000u
@@ -53,7 +56,7 @@ static inline unsigned own_number(void)
 static inline struct hart *own(void) { return &harts[own_number()]; }
 
 /* Each call comes here, and each round of a wait: a hart ends once the program has. */
-static void rest(void)
+static INLINED void rest(void)
 {
     if (get(&ending) != 0) {
         leave(get(&ending) & 0xff);
@@ -90,7 +93,7 @@ int clock_gettime(clockid_t clock, struct timespec *now)
 static const struct timespec at_once = {0, -1};
 
 /* Makes an attempt until it answers another thing than EBUSY: again and again, or up to a time, or just once. */
-static int wait_for(int (*attempt)(void *), void *object, moment until)
+static INLINED int wait_for(int (*attempt)(void *), void *object, moment until)
 {
     for (;;) {
         rest();
@@ -104,7 +107,7 @@ static int wait_for(int (*attempt)(void *), void *object, moment until)
     }
 }
 
-static void wait_while(word *at, unsigned value)
+static INLINED void wait_while(word *at, unsigned value)
 {
     do {
         rest();
@@ -344,7 +347,7 @@ int pthread_mutex_init(pthread_mutex_t *mutex, const pthread_mutexattr_t *attr)
     return 0;
 }
 
-static int try_mutex(void *object)
+static INLINED int try_mutex(void *object)
 {
     pthread_mutex_t *mutex = object;
     unsigned id = get(&own()->id), kind = get(&mutex->kind), owner = replace(&mutex->owner, 0, id);
@@ -375,7 +378,7 @@ int pthread_mutex_unlock(pthread_mutex_t *mutex)
 
 /* ---- conditions: a hart says which one it waits for, and a signal takes that from one hart */
 
-static int try_woken(void *cond) { return get(&own()->waits_for) == of_pointer(cond) ? EBUSY : 0; }
+static INLINED int try_woken(void *cond) { return get(&own()->waits_for) == of_pointer(cond) ? EBUSY : 0; }
 
 int pthread_cond_timedwait(pthread_cond_t *cond, pthread_mutex_t *mutex, moment until)
 {
@@ -409,14 +412,14 @@ int pthread_cond_broadcast(pthread_cond_t *cond) { return wake(cond, HARTS); }
 
 #define WRITER -1u
 
-static int try_read(void *object)
+static INLINED int try_read(void *object)
 {
     word *holders = object;
     unsigned found = get(holders);
     return found != WRITER && replace(holders, found, found + 1) == found ? 0 : EBUSY;
 }
 
-static int try_alone(void *object) { return replace(object, 0, WRITER) == 0 ? 0 : EBUSY; }
+static INLINED int try_alone(void *object) { return replace(object, 0, WRITER) == 0 ? 0 : EBUSY; }
 
 int pthread_rwlock_init(pthread_rwlock_t *lock, const pthread_rwlockattr_t *attr) { return (void)attr, swap(&lock->holders, 0), 0; }
 int pthread_rwlock_destroy(pthread_rwlock_t *lock) { return get(&lock->holders) == 0 ? 0 : EBUSY; }
@@ -461,7 +464,7 @@ int pthread_barrier_wait(pthread_barrier_t *barrier)
 
 /* ---- semaphores */
 
-static int try_semaphore(void *object)
+static INLINED int try_semaphore(void *object)
 {
     word *value = object;
     unsigned found = get(value);
