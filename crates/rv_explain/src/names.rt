@@ -205,6 +205,12 @@ pub fn name_text(alloc: Global, symbols: &SymbolTable, address: u32) -> Result<V
     Ok(Names { symbols, most }.name(alloc, address)?.into_bytes())
 }
 
+/// Where an instruction comes from, as ` at ring.c:33`, or nothing where that isn't known.
+pub fn source_text(alloc: Global, symbols: &SymbolTable, address: u32) -> Result<String, NoMemory> {
+    let most = TEXT_NAME;
+    Names { symbols, most }.source(alloc, address)
+}
+
 /// The name of the function at an address, as `take`, or the address's eight digits.
 pub fn function_text(
     alloc: Global,

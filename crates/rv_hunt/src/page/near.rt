@@ -9,13 +9,12 @@ use crate::page::elements::{
     begin_row, begin_rows, begin_table, cell, code, column, end_line, end_table, number_cell,
     number_column,
 };
-use crate::saying::index::names_of;
-use rv_explain::names::address_text;
+use rv_explain::names::{address_text, name_text, source_text};
+use rv_explain::pieces::joined;
 use rv_explain::symbol_table::SymbolTable;
 use rv_markup::markup::Markup;
 use rv_markup::tag::{DETAILS, SUMMARY, TD};
 use rv_memory::store::NoMemory;
-use rv_report::key::Key;
 use rv_walk::near_pair::Addresses;
 use std::alloc::Global;
 
@@ -33,7 +32,14 @@ fn fate_words(fate: Fate) -> &'static [u8] {
     }
 }
 
-/// The row of a pair: both instructions, the data of its first access, what came of it, and how many probes there were.
+/// The name of an instruction and its source line.
+fn sourced_name(alloc: Global, symbols: &SymbolTable, address: u32) -> Result<Vec<u8>, NoMemory> {
+    let name = name_text(alloc, symbols, address)?;
+    let source = source_text(alloc, symbols, address)?;
+    joined(alloc, &[&name, source.as_bytes()])
+}
+
+/// The row of a pair: both instructions with their source lines, the data of its first access, what came of it, and how many probes there were.
 fn pair_row(
     page: Markup,
     alloc: Global,
@@ -43,11 +49,9 @@ fn pair_row(
     ensures { IfOk result (λ more. more ≡ record page { facts = fact.Number pair.now.1.tries ∷ page.facts }) }
 {
     let (addresses, row) = pair;
-    let key = Key {
-        first: addresses.lesser,
-        second: Some(addresses.greater),
-    };
-    let names = names_of(alloc, symbols, &key)?;
+    let first = sourced_name(alloc, symbols, addresses.lesser)?;
+    let second = sourced_name(alloc, symbols, addresses.greater)?;
+    let names = joined(alloc, &[&first, b" and ", &second])?;
     let data = address_text(alloc, symbols, row.address)?;
     let page = code(begin_row(page)?.begin(TD, &[])?, &names)?.end()?;
     let page = cell(cell(page, &data)?, fate_words(fate_by(row.best)))?;

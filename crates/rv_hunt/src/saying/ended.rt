@@ -4,7 +4,7 @@ ghost use Rattle.rv_hunt.specs.EndedRows as spec;
 
 use crate::tally::ended::Ended;
 use crate::tally::kinds::Kinds;
-use rv_explain::names::address_text;
+use rv_explain::names::{address_text, source_text};
 use rv_explain::order::cause_words;
 use rv_explain::symbol_table::SymbolTable;
 use rv_memory::store::NoMemory;
@@ -74,12 +74,14 @@ pub(crate) fn ways_words(
         Ways::One(End::Exited(code)) => Ok(format!(in alloc; "exited {code:08x}")?),
         Ways::One(End::Stopped(cause, pc)) => {
             let words = cause_words(cause);
-            Ok(format!(in alloc; "stopped by {words} at {pc:08x}")?)
+            let source = source_text(alloc, symbols, pc)?;
+            Ok(format!(in alloc; "stopped by {words} at {pc:08x}{source}")?)
         }
         Ways::One(End::Polls(pc)) => {
             let place = address_text(alloc, symbols, pc)?;
             let words = str::from_utf8(&place).unwrap_or("");
-            Ok(format!(in alloc; "waiting at {words}")?)
+            let source = source_text(alloc, symbols, pc)?;
+            Ok(format!(in alloc; "waiting at {words}{source}")?)
         }
         Ways::One(End::Idle) => Ok(format!(in alloc; "idle")?),
         Ways::One(End::Parked) => Ok(format!(in alloc; "parked")?),
