@@ -51,9 +51,3 @@ ignored_failed i l g e a b c y first next last = rw (first, next, last) (third i
 
 pub expected_failed : (i l g e a b c d y : Bool) → a ≡ (i || false) → b ≡ (l || false) → c ≡ (g || false) → d ≡ (e || y) → (((a || b) || c) || d) ≡ ((((i || l) || g) || e) || y)
 expected_failed i l g e a b c d y first next after last = rw (first, next, after, last) (fourth i l g e y)
-
--- neither of two with nothing more
-pub nothing_more : (a b : Bool) → ((a || false) || (b || false)) ≡ ((a || b) || false)
-nothing_more true b = refl
-nothing_more false true = refl
-nothing_more false false = refl

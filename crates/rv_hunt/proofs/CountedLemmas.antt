@@ -1,25 +1,29 @@
 -- The counts of the rows of tables that reports are added to.
-use Rattle.std.proofs.Common.{◌≡◌, ℕ, suc, zero, ◌+◌, ◌≤◌, ◌<◌, ◌^◌, Bool, true, false, cond, not, ◌&&◌, Option, Some, None, is_some, List, [], ◌∷◌, ◌++◌, All, filter_map, length, length-append, map, refl, sym, ap, ◌∙◌, arith}
+use Rattle.std.proofs.Common.{◌≡◌, ℕ, suc, zero, ◌+◌, ◌≤◌, ◌<◌, ◌^◌, Bool, true, false, cond, not, ◌&&◌, Option, Some, None, is_some, List, [], ◌∷◌, ◌++◌, All, filter_map, length, length-append, map, refl, sym, ap, ◌∙◌, rules, arith}
 use Rattle.std.specs.Prelude.{◌==◌, nat_eq, sum_by}
 use Rattle.std.specs.List.{fold}
 use Rattle.std.specs.Option.{option_eq, option_map_or}
+use Rattle.std.specs.Cmp.{IsEquivalence}
+use Rattle.std.specs.Cmp.Rules.{comparing}
 use Rattle.std.proofs.lemmas.Bool.{and_parts}
 use Rattle.std.proofs.lemmas.List.Sums.{sum_by-append, sum_by-cons}
 use Rattle.rv_collide.specs.Counts.{saturated}
-use Rattle.rv_hunt.proofs.MergeLemmas.{same_key_equiv}
 use Rattle.rv_hunt.proofs.SumLemmas.{sum_filter_map, sum_map}
-use Rattle.rv_hunt.specs.Changed as changed
-use Rattle.rv_hunt.specs.Hunted.{changed_from, changed_rows, rows_from, rows_of}
-use Rattle.rv_hunt.specs.Keyed.{added_by}
-use Rattle.rv_hunt.specs.Rows.{joined, row_of, table_of}
+use Rattle.rv_tables.specs.Changed as changed
+use Rattle.rv_search.specs.Hunted.{changed_from, changed_rows, rows_from, rows_of}
+use Rattle.rv_tables.specs.Keyed.{added_by}
+use Rattle.rv_tables.specs.Rows.{joined, row_of, table_of}
 use Rattle.rv_hunt.specs.ShownOnce.{count_of}
-use Rattle.rv_hunt.specs.ShownRows.{is_of_two}
-use Rattle.rv_hunt.specs.declared.changed.ChangedKey.{ChangedKey}
-use Rattle.rv_hunt.specs.declared.kept_run.KeptRun.{KeptRun}
-use Rattle.rv_hunt.specs.declared.kept_run.PartReport.{PartReport}
-use Rattle.rv_hunt.specs.declared.row.RaceRow.{RaceRow}
+use Rattle.rv_tables.specs.ShownRows.{is_of_two}
+use Rattle.rv_tables.specs.declared.changed.ChangedKey.{ChangedKey}
+use Rattle.rv_search.specs.declared.kept_run.KeptRun.{KeptRun}
+use Rattle.rv_tables.specs.declared.row.PartReport.{PartReport}
+use Rattle.rv_tables.specs.declared.row.RaceRow.{RaceRow}
 use Rattle.rv_report.specs.Races.{same_key}
 use Rattle.rv_report.specs.declared.key.Key.{Key}
+
+pub same_key_equiv : IsEquivalence same_key
+same_key_equiv = search (comparing, rules)
 
 abbrev pub Row : Type 0
 Row = Key × RaceRow

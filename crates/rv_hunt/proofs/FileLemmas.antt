@@ -3,13 +3,13 @@ use Rattle.std.proofs.Common.{◌≡◌, ℕ, List, Option, Some, None, Result, 
 use Rattle.std.specs.Prelude.{IfSome, IsOkAnd, option_and_then, option_map}
 use Rattle.std.specs.Result.{IsOk}
 use Rattle.rv_engines.specs.Built.{built_of}
-use Rattle.rv_hunt.specs.Hunt.{Hunt}
-use Rattle.rv_hunt.specs.Origin.{image_digits}
-use Rattle.rv_hunt.specs.RightEnds.{right_codes}
+use Rattle.rv_search.specs.Hunt.{Hunt}
+use Rattle.rv_tables.specs.Origin.{image_digits}
+use Rattle.rv_search.specs.RightEnds.{right_codes}
 use Rattle.rv_hunt.specs.engine.Asked.{Asked}
 use Rattle.rv_hunt.specs.engine.HuntFault.{IsTold}
 use Rattle.rv_hunt.specs.engine.Hunting.{Files, Hunting, IsHuntingOf, expected_in, hunt_of, ignored_in, naming_in}
-use Rattle.rv_hunt.specs.merge.Ignore.{aimed_in, naming_of}
+use Rattle.rv_tables.specs.merge.Ignore.{aimed_in, naming_of}
 use Rattle.rv_engines.specs.SourceFile as source
 use Rattle.rv_engines.specs.SourceFile.{source_in}
 use Rattle.rv_engines.specs.declared.source_lines.SourceFault.{SourceFault}
@@ -18,9 +18,9 @@ use Rattle.rv_hunt.specs.declared.engine.fault.HuntFault.TheVariants.{Command, I
 use Rattle.rv_hunt.specs.internal.Opened.{IsOpenTold}
 use Rattle.rv_hunt.proofs.OpenLemmas.{and_ok, is_ok}
 use Rattle.rv_lines.specs.SourceLines.{SourceLine}
-use Rattle.rv_hunt.specs.merge.FileFault as file
-use Rattle.rv_hunt.specs.declared.merge.fault.FileFault.{FileFault}
-use Rattle.rv_hunt.specs.declared.merge.ignore.Line.{Line}
+use Rattle.rv_tables.specs.merge.FileFault as file
+use Rattle.rv_tables.specs.declared.merge.fault.FileFault.{FileFault}
+use Rattle.rv_tables.specs.declared.merge.ignore.Line.{Line}
 
 -- the bytes of the files, where they are known
 abbrev pub files_in : Option (List ℕ) → Option (Option (List ℕ)) → Option (Option (List ℕ)) → Option (Option (List ℕ)) → Option Files

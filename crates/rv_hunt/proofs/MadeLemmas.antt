@@ -7,25 +7,25 @@ use Rattle.rv_campaign.specs.declared.pool.PoolFault.{PoolFault}
 use Rattle.rv_campaign.specs.declared.pool.PoolFault.TheVariants as pool
 use Rattle.rv_hunt.specs.declared.engine.fault.MakeFault.{MakeFault}
 use Rattle.rv_hunt.specs.internal.MakeFault.{is_write, of_pool}
-use Rattle.rv_hunt.specs.Hunted.{IsNoted}
-use Rattle.rv_hunt.specs.RightEnds.{EndsSeen, has_wrong_end}
+use Rattle.rv_search.specs.Hunted.{IsNoted}
+use Rattle.rv_search.specs.RightEnds.{EndsSeen, has_wrong_end}
 use Rattle.rv_hunt.specs.Warnings.{is_void}
 use Rattle.rv_hunt.specs.HuntObject.{hunt_facts}
 use Rattle.rv_hunt.specs.Outcome.{Outcome}
 use Rattle.rv_hunt.specs.PageFacts.{page_facts}
-use Rattle.rv_hunt.specs.ShownRows.{shown_rows}
+use Rattle.rv_tables.specs.ShownRows.{shown_rows}
 use Rattle.rv_hunt.specs.ToldOrder.{AreInOrder}
 use Rattle.rv_hunt.specs.declared.engine.found.Found.{Found}
 use Rattle.rv_hunt.specs.declared.engine.orders.ShownOrder.{ShownOrder}
 use Rattle.rv_hunt.specs.declared.engine.options.Shows.{Shows}
 use Rattle.rv_hunt.specs.declared.engine.shown.ShownRace.{ShownRace}
-use Rattle.rv_hunt.specs.declared.origin.Stretch.{Stretch}
-use Rattle.rv_hunt.specs.declared.hunted.Hunted.{Hunted}
-use Rattle.rv_hunt.specs.declared.merge.known.Known.{Known}
-use Rattle.rv_hunt.specs.declared.row.RaceRow.{RaceRow}
+use Rattle.rv_tables.specs.declared.origin.Stretch.{Stretch}
+use Rattle.rv_search.specs.declared.hunted.Hunted.{Hunted}
+use Rattle.rv_tables.specs.declared.merge.known.Known.{Known}
+use Rattle.rv_tables.specs.declared.row.RaceRow.{RaceRow}
 use Rattle.rv_hunt.specs.engine.Hunting.{Hunting, IsMade, IsTable, Showing, Texts, found_in, ignored_by, naming_in, new_in, origin_of, outcome, shown_in, told_in}
-use Rattle.rv_hunt.specs.merge.Known.{has_gone, new_races}
-use Rattle.rv_hunt.specs.merge.Listing.{list_text}
+use Rattle.rv_tables.specs.merge.Known.{has_gone, new_races}
+use Rattle.rv_tables.specs.merge.Listing.{list_text}
 use Rattle.rv_hunt.specs.engine.OrderShown.{AreOrdersShown}
 use Rattle.rv_hunt.specs.engine.Shown.{AreShown}
 use Rattle.rv_hunt.specs.engine.StuckShown.{AreStuckShown}

@@ -2,7 +2,7 @@
 use Rattle.std.proofs.Common.{◌≡◌, ℕ, ◌+◌, ◌<◌, List, [], ◌∷◌, ◌++◌, take, length, get_or, ap, sym, ◌∙◌, arith}
 use Rattle.std.proofs.lemmas.List.{length-take-le, take_more}
 use Rattle.rv_hunt.specs.HuntObject.{row_facts, rows_facts_from}
-use Rattle.rv_hunt.specs.declared.row.RaceRow.{RaceRow}
+use Rattle.rv_tables.specs.declared.row.RaceRow.{RaceRow}
 use Rattle.rv_json.specs.Object.{Member, Part}
 use Rattle.rv_report.specs.declared.key.Key.{Key}
 

@@ -3,7 +3,7 @@ use Rattle.std.proofs.Common.{◌≡◌, ℕ, List, Option, Some, None, Result, 
 use Rattle.std.specs.Prelude.{true, false, IfOk, IfSome, IsOkAnd}
 use Rattle.std.specs.Result.{IsOk}
 use Rattle.rv_elf.specs.Contents.{Contents}
-use Rattle.rv_hunt.specs.Hunt.{Hunt}
+use Rattle.rv_search.specs.Hunt.{Hunt}
 use Rattle.rv_memory.specs.Chain.{◌>>=◌}
 use Rattle.rv_engines.specs.Campaigns.{elements, listed, skipped}
 use Rattle.rv_engines.specs.CommandFault.{Refusal, Plain, NoThread, IsTold, is_thread, plainly, refusal}
@@ -19,11 +19,11 @@ use Rattle.rv_hunt.specs.engine.Hunting.{hunt_of, sought_in}
 use Rattle.rv_hunt.specs.declared.engine.fault.HuntFault.{HuntFault}
 use Rattle.rv_hunt.specs.declared.engine.fault.HuntFault.TheVariants.{Command, Ignored, Expected, Aimed, Lines}
 use Rattle.rv_hunt.specs.declared.engine.opening.Listed.{Listed}
-use Rattle.rv_hunt.specs.declared.merge.fault.FileFault.{FileFault}
-use Rattle.rv_hunt.specs.declared.merge.ignore.Line.{Line}
+use Rattle.rv_tables.specs.declared.merge.fault.FileFault.{FileFault}
+use Rattle.rv_tables.specs.declared.merge.ignore.Line.{Line}
 use Rattle.rv_hunt.specs.internal.Opened.{IsLineTold, IsOpenTold, hunt_by, hunt_with, hunt_with_names, hunt_with_sites, sought_with}
-use Rattle.rv_hunt.specs.merge.FileFault as file
-use Rattle.rv_hunt.specs.merge.Ignore.{aimed_in}
+use Rattle.rv_tables.specs.merge.FileFault as file
+use Rattle.rv_tables.specs.merge.Ignore.{aimed_in}
 
 -- ---- a refusal, where more steps would follow
 

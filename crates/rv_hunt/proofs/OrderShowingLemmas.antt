@@ -11,18 +11,18 @@ use Rattle.std.proofs.Math.Seq.{map-set_same}
 use Rattle.rv_campaign.specs.Pool as pool
 use Rattle.rv_collide.specs.declared.collider.Finished.{Finished}
 use Rattle.rv_elf.specs.Contents.{Contents}
-use Rattle.rv_hunt.specs.Hunt.{Hunt}
+use Rattle.rv_search.specs.Hunt.{Hunt}
 use Rattle.rv_hunt.specs.declared.engine.orders.Again.{Again}
 use Rattle.rv_hunt.specs.declared.engine.orders.PlacedTrial.{PlacedTrial}
 use Rattle.rv_hunt.specs.declared.engine.orders.ShownOrder.{ShownOrder}
 use Rattle.rv_hunt.specs.declared.engine.orders.WantedTrial.{WantedTrial}
-use Rattle.rv_hunt.specs.declared.orders.OrderRow.{OrderRow}
-use Rattle.rv_hunt.specs.declared.orders.TrialPlace.{TrialPlace}
-use Rattle.rv_hunt.specs.declared.row.RaceRow.{RaceRow}
+use Rattle.rv_tables.specs.declared.orders.OrderRow.{OrderRow}
+use Rattle.rv_tables.specs.declared.orders.TrialPlace.{TrialPlace}
+use Rattle.rv_tables.specs.declared.row.RaceRow.{RaceRow}
 use Rattle.rv_hunt.specs.engine.OrderShown.{AreOrdersShown, IsOrderShown, IsTrialIn, IsTrialShown}
 use Rattle.rv_hunt.specs.engine.Shown.{IsRunOf, run_told}
-use Rattle.rv_hunt.specs.Keyed.{row_at}
-use Rattle.rv_hunt.specs.Orders.{first_of}
+use Rattle.rv_tables.specs.Keyed.{row_at}
+use Rattle.rv_tables.specs.Orders.{first_of}
 use Rattle.rv_hunt.specs.internal.OrderShowing.{AreKnown, AreMade, AreOfRun, Full, IsOfPlace, IsPlaced, IsWanted, known_of}
 use Rattle.rv_report.specs.Races.{same_key}
 use Rattle.rv_report.specs.declared.key.Key.{Key}

@@ -2,7 +2,7 @@
 use Rattle.std.proofs.Common.{◌≡◌, ℕ, ◌+◌, ◌<◌, List, [], ◌∷◌, ◌++◌, map, take, length, get_or, ap, sym, ◌∙◌, refl, arith}
 use Rattle.std.proofs.lemmas.List.{length-take-le, take_more}
 use Rattle.rv_hunt.specs.PageFacts.{number_row_facts, numbers_facts, race_row_facts, race_rows_facts, rows_facts_from}
-use Rattle.rv_hunt.specs.declared.row.RaceRow.{RaceRow}
+use Rattle.rv_tables.specs.declared.row.RaceRow.{RaceRow}
 use Rattle.rv_hunt.specs.declared.saying.lines.Seen.{Seen}
 use Rattle.rv_markup.specs.Markup.{Written}
 use Rattle.rv_markup.specs.declared.markup.Fact.{Fact}

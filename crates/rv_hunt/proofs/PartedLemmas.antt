@@ -2,8 +2,8 @@
 use Rattle.std.proofs.Common.{◌≡◌, List, Result, Ok, Err, IfOk, ap, ◌∙◌}
 use Rattle.std.specs.Prelude.{Bool, filter}
 use Rattle.rv_explain.specs.Naming.{Naming}
-use Rattle.rv_hunt.specs.declared.row.RaceRow.{RaceRow}
-use Rattle.rv_hunt.specs.declared.merge.ignore.Line.{Line}
+use Rattle.rv_tables.specs.declared.row.RaceRow.{RaceRow}
+use Rattle.rv_tables.specs.declared.merge.ignore.Line.{Line}
 use Rattle.rv_report.specs.declared.key.Key.{Key}
 
 abbrev Row : Type 0

@@ -9,12 +9,12 @@ use Rattle.rv_collide.specs.declared.collider.Finished.{Finished}
 use Rattle.rv_elf.specs.Contents.{Contents}
 use Rattle.rv_explain.specs.Races.{Run, reports as reports_in}
 use Rattle.rv_races.specs.declared.races.Report.{Report}
-use Rattle.rv_hunt.specs.Hunt.{Hunt, IsSampledRun}
+use Rattle.rv_search.specs.Hunt.{Hunt, IsSampledRun}
 use Rattle.rv_hunt.specs.Remade.{is_told_by, race_by, race_in}
 use Rattle.rv_hunt.specs.declared.engine.shown.InFull.{InFull}
 use Rattle.rv_hunt.specs.declared.engine.shown.ShownPart.{ShownPart}
 use Rattle.rv_hunt.specs.declared.engine.shown.ShownRace.{ShownRace}
-use Rattle.rv_hunt.specs.declared.row.RaceRow.{RaceRow}
+use Rattle.rv_tables.specs.declared.row.RaceRow.{RaceRow}
 use Rattle.rv_hunt.specs.engine.Shown.{AreShown, IsPartOf, IsRaceShown, IsRunOf, IsShown, run_told}
 use Rattle.rv_hunt.specs.internal.Showing.{AreHeld, AreShownIn, AreSlots, Full, IsInSlot, IsOfRow, IsOfSchedule, IsPlaced, IsShownIn, IsShownPart, of_full}
 use Rattle.rv_report.specs.declared.key.Key.{Key}

@@ -11,8 +11,8 @@ use Rattle.rv_races.specs.declared.classes.RaceClass.{RaceClass}
 use Rattle.rv_races.specs.declared.classes.RaceClass.TheVariants.{Kept, Counter, Unwatched, Flag, Ordered, Atomic, Named}
 use Rattle.rv_hunt.specs.ShownOnce.{EachIsShownOnce}
 use Rattle.rv_hunt.specs.ToldOrder.{AreAt, group_of, is_of, standing_of, standings, standings_from}
-use Rattle.rv_hunt.specs.declared.orders.OrderRow.{OrderRow}
-use Rattle.rv_hunt.specs.declared.row.RaceRow.{RaceRow}
+use Rattle.rv_tables.specs.declared.orders.OrderRow.{OrderRow}
+use Rattle.rv_tables.specs.declared.row.RaceRow.{RaceRow}
 use Rattle.rv_hunt.specs.declared.saying.order.Group.{Group}
 use Rattle.rv_hunt.specs.declared.saying.order.Standing.{Standing}
 use Rattle.rv_report.specs.declared.key.Key.{Key}

@@ -10,24 +10,24 @@ use Rattle.std.proofs.lemmas.List.Sums.{get_or-le-sum_by, sum_by-cons}
 use Rattle.rv_collide.specs.Counts.{saturated}
 use Rattle.rv_elf.specs.Contents.{Contents}
 use Rattle.rv_explain.specs.Naming.{Naming}
-use Rattle.rv_hunt.proofs.CountedLemmas.{ChangedRow, Row, keys_differ, of_key, of_own, own_counts, table_count}
-use Rattle.rv_hunt.proofs.MergeLemmas.{AreApart, apart-added, none_alike, same_key_equiv}
+use Rattle.rv_hunt.proofs.CountedLemmas.{ChangedRow, Row, keys_differ, same_key_equiv, of_key, of_own, own_counts, table_count}
+use Rattle.rv_tables.specs.HuntLaws.{AreApart, RacesAreApart}
 use Rattle.rv_hunt.proofs.ShownLemmas.{each_is_shown_once, twice}
 use Rattle.rv_hunt.proofs.SumLemmas.{sum_both, sum_each, sum_filter, sum_filter_map, sum_map, sum_none}
-use Rattle.rv_hunt.specs.Changed.{changed_of}
-use Rattle.rv_hunt.specs.Hunted.{changed_from, rows_from, seen_in}
-use Rattle.rv_hunt.specs.Rows.{added, has_race, table_of}
+use Rattle.rv_tables.specs.Changed.{changed_of}
+use Rattle.rv_search.specs.Hunted.{changed_from, rows_from, seen_in}
+use Rattle.rv_tables.specs.Rows.{added, has_race, table_of}
 use Rattle.rv_hunt.specs.ShownOnce.{EachIsCountedOnce, count_of}
-use Rattle.rv_hunt.specs.ShownRows.{has_moved, has_pair, is_counted, is_of_two, joined_first, left, moves, place, placed, race_of, raised, shown_row, shown_rows, with_race}
+use Rattle.rv_tables.specs.ShownRows.{has_moved, has_pair, is_counted, is_of_two, joined_first, left, moves, place, placed, race_of, raised, shown_row, shown_rows, with_race}
 use Rattle.rv_hunt.specs.ToldOrder.{AreInOrder, of_class}
-use Rattle.rv_hunt.specs.declared.changed.ChangedKey.{ChangedKey}
-use Rattle.rv_hunt.specs.declared.hunted.Hunted.{Hunted}
-use Rattle.rv_hunt.specs.declared.kept_run.KeptRun.{KeptRun}
-use Rattle.rv_hunt.specs.declared.merge.ignore.Line.{Line}
-use Rattle.rv_hunt.specs.declared.orders.OrderRow.{OrderRow}
-use Rattle.rv_hunt.specs.declared.row.RaceRow.{RaceRow}
-use Rattle.rv_hunt.specs.declared.shown_rows.Placed.{Placed}
-use Rattle.rv_hunt.specs.merge.Ignore.{is_ignored, is_told}
+use Rattle.rv_tables.specs.declared.changed.ChangedKey.{ChangedKey}
+use Rattle.rv_search.specs.declared.hunted.Hunted.{Hunted}
+use Rattle.rv_search.specs.declared.kept_run.KeptRun.{KeptRun}
+use Rattle.rv_tables.specs.declared.merge.ignore.Line.{Line}
+use Rattle.rv_tables.specs.declared.orders.OrderRow.{OrderRow}
+use Rattle.rv_tables.specs.declared.row.RaceRow.{RaceRow}
+use Rattle.rv_tables.specs.declared.shown_rows.Placed.{Placed}
+use Rattle.rv_tables.specs.merge.Ignore.{is_ignored, is_told}
 use Rattle.rv_races.specs.declared.classes.RaceClass.TheVariants.{Named}
 use Rattle.rv_report.specs.Races.{same_key}
 use Rattle.rv_report.specs.declared.key.Key.{Key}
@@ -113,19 +113,18 @@ pub apart-filter : (p : Row → Bool) (rows : List Row) → AreApart rows → Ar
 apart-filter p [] apart = tt
 apart-filter p (e ∷ es) apart = apart_step p e es (p e) (lacks p e.0 es apart.0) (apart-filter p es apart.1)
 
-apart_from : (more es : List Row) → AreApart es → AreApart (fold added es more)
-apart_from [] es apart = apart
-apart_from (row ∷ more) es apart = apart_from more (added es row) (apart-added es row apart)
-
-pub apart-table : (rows : List Row) → AreApart (table_of rows)
-unfolding table_of
-apart-table rows = apart_from rows [] tt
-
 -- ---- what is counted for each row, and for all of them
 
 either_has : (a b : Bool) (n : ℕ) → (a ≡ true → b ≡ false) → cond a n 0 + cond b n 0 ≡ cond (a || b) n 0
 either_has true b n apart = rw (apart refl) (omega arith)
 either_has false b n apart = omega arith
+
+none_alike : (key other : Key) (es : List Row) → same_key key other ≡ true → has_race other es ≡ false → has_race key es ≡ false
+none_alike key other [] same none = refl
+none_alike key other (e ∷ es) same none =
+    let both = or_parts (same_key other e.0) (has_race other es) none in
+    let differ : same_key key e.0 ≡ false = same_key_equiv.congr key other e.0 same ∙ both.0 in
+    rw differ (none_alike key other es same both.1)
 
 pub for_each : {C : Type 0} (race : C → Key) (weight : C → ℕ) (cs : List C) (rows : List Row) → AreApart rows → sum_by (λ (row : Row). sum_by (λ c. cond (same_key (race c) row.0) (weight c) 0) cs) rows ≡ sum_by (λ c. cond (has_race (race c) rows) (weight c) 0) cs
 for_each race weight cs [] apart = sym (sum_none (λ c. cond (has_race (race c) []) (weight c) 0) (λ c. refl) cs)
@@ -335,34 +334,34 @@ shown_sum told cs apart few own =
 
 -- ---- the reports of a hunt
 
-own_of_runs : (p : Row → Bool) (first : ℕ) (runs : List KeptRun) → length (rows_from first runs) < 2 ^ 63 → All (OwnCounts (changed_of (changed_from first runs))) (filter p (table_of (rows_from first runs)))
-own_of_runs p first runs few k d lt =
+own_of_runs : RacesAreApart → (p : Row → Bool) (first : ℕ) (runs : List KeptRun) → length (rows_from first runs) < 2 ^ 63 → All (OwnCounts (changed_of (changed_from first runs))) (filter p (table_of (rows_from first runs)))
+own_of_runs apart p first runs few k d lt =
     let row = get_or (filter p (table_of (rows_from first runs))) k d in
-    let mine = All-filter p (AreAlone (table_of (rows_from first runs))) (table_of (rows_from first runs)) (alone (table_of (rows_from first runs)) (apart-table (rows_from first runs))) k d lt in
+    let mine = All-filter p (AreAlone (table_of (rows_from first runs))) (table_of (rows_from first runs)) (alone (table_of (rows_from first runs)) (apart (rows_from first runs))) k d lt in
     own_counts row.0 first runs few ∙ ap (cond (is_of_two row.0) 0) mine
 
-counted_in : (naming : Naming) (lines : List Line) (orders : List (Key × OrderRow)) (told : List Row) (first : ℕ) (runs : List KeptRun) → length (rows_from first runs) < 2 ^ 63
+counted_in : RacesAreApart → (naming : Naming) (lines : List Line) (orders : List (Key × OrderRow)) (told : List Row) (first : ℕ) (runs : List KeptRun) → length (rows_from first runs) < 2 ^ 63
     → AreInOrder naming.image orders (shown_rows (filter (is_told naming lines) (table_of (rows_from first runs))) (changed_of (changed_from first runs))) told
     → sum_by count_of told + (sum_by count_of (of_class Named (shown_rows (filter (is_told naming lines) (table_of (rows_from first runs))) (changed_of (changed_from first runs)))) + sum_by count_of (filter (is_ignored naming lines) (table_of (rows_from first runs)))) ≡ length (rows_from first runs)
-counted_in naming lines orders told first runs few order =
+counted_in apart naming lines orders told first runs few order =
     let table = table_of (rows_from first runs) in
     let kept = filter (is_told naming lines) table in
     let changed = changed_of (changed_from first runs) in
     let once = each_is_shown_once naming.image orders (shown_rows kept changed) told count_of order in
     let ignored = sum_by-filter_both (is_told naming lines) (is_ignored naming lines) (λ row. twice (is_ignored naming lines row)) count_of table in
     let count = table_count first runs few in
-    let same = shown_sum kept changed (apart-filter (is_told naming lines) table (apart-table (rows_from first runs))) (omega (arith, ignored, count, few)) (own_of_runs (is_told naming lines) first runs few) in
+    let same = shown_sum kept changed (apart-filter (is_told naming lines) table (apart (rows_from first runs))) (omega (arith, ignored, count, few)) (own_of_runs apart (is_told naming lines) first runs few) in
     omega (arith, once, ignored, count, same)
 
-counted_of : (naming : Naming) (lines : List Line) (told : List Row) (first : ℕ) (runs : List KeptRun) (hunted : Hunted) → hunted ≡ seen_in first runs → length (rows_from first runs) < 2 ^ 63
+counted_of : RacesAreApart → (naming : Naming) (lines : List Line) (told : List Row) (first : ℕ) (runs : List KeptRun) (hunted : Hunted) → hunted ≡ seen_in first runs → length (rows_from first runs) < 2 ^ 63
     → AreInOrder naming.image hunted.orders (shown_rows (filter (is_told naming lines) hunted.table) hunted.changed) told
     → sum_by count_of told + (sum_by count_of (of_class Named (shown_rows (filter (is_told naming lines) hunted.table) hunted.changed)) + sum_by count_of (filter (is_ignored naming lines) hunted.table)) ≡ length (rows_from first runs)
 unfolding seen_in
-counted_of naming lines told first runs hunted seen few order =
+counted_of apart naming lines told first runs hunted seen few order =
     let table : hunted.table ≡ table_of (rows_from first runs) = ap (λ (h : Hunted). h.table) seen in
     let changed : hunted.changed ≡ changed_of (changed_from first runs) = ap (λ (h : Hunted). h.changed) seen in
-    rw (table, changed) (counted_in naming lines hunted.orders told first runs few (rw (table, changed) at order))
+    rw (table, changed) (counted_in apart naming lines hunted.orders told first runs few (rw (table, changed) at order))
 
-pub each_is_counted_once : EachIsCountedOnce
-each_is_counted_once hunt hunted so_far naming lines told few order =
-    counted_of naming lines told hunt.first so_far.runs hunted so_far.seen few order
+pub each_is_counted_once : RacesAreApart → EachIsCountedOnce
+each_is_counted_once apart hunt hunted so_far naming lines told few order =
+    counted_of apart naming lines told hunt.first so_far.runs hunted so_far.seen few order

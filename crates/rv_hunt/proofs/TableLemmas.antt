@@ -17,9 +17,9 @@ use Rattle.rv_hunt.proofs.FileLemmas.{files_in}
 use Rattle.rv_hunt.proofs.OpenLemmas.{and_ok, is_ok, of_image, plainly_told}
 use Rattle.rv_hunt.specs.GivenRuns.{RunsGiven, given as runs_given, given_in, texts}
 use Rattle.rv_hunt.specs.declared.given.GivenRuns.{GivenRuns}
-use Rattle.rv_hunt.specs.Hunt.{Hunt}
+use Rattle.rv_search.specs.Hunt.{Hunt}
 use Rattle.rv_hunt.specs.HuntObject.{object_facts, table_sums}
-use Rattle.rv_hunt.specs.Origin.{image_digits, runs_of, words_in}
+use Rattle.rv_tables.specs.Origin.{image_digits, runs_of, words_in}
 use Rattle.rv_hunt.specs.PageFacts.{table_facts}
 use Rattle.rv_hunt.specs.ToldOrder.{AreInOrder}
 use Rattle.rv_hunt.specs.declared.engine.fault.HuntFault.TheVariants.{Command, Ignored, Expected, Aimed, Lines}
@@ -30,11 +30,11 @@ use Rattle.rv_hunt.specs.declared.engine.show.ShowFault.{ShowFault}
 use Rattle.rv_hunt.specs.declared.engine.show.ShowFault.TheVariants.{Table, Hunt as OfHunt}
 use Rattle.rv_hunt.specs.declared.engine.shown.ShownRace.{ShownRace}
 use Rattle.rv_hunt.specs.declared.engine.tabled.ShownTable.{ShownTable}
-use Rattle.rv_hunt.specs.declared.merge.fault.FileFault.{FileFault}
-use Rattle.rv_hunt.specs.declared.merge.ignore.Line.{Line}
-use Rattle.rv_hunt.specs.declared.merge.known.Known.{Known}
-use Rattle.rv_hunt.specs.declared.orders.OrderRow.{OrderRow}
-use Rattle.rv_hunt.specs.declared.row.RaceRow.{RaceRow}
+use Rattle.rv_tables.specs.declared.merge.fault.FileFault.{FileFault}
+use Rattle.rv_tables.specs.declared.merge.ignore.Line.{Line}
+use Rattle.rv_tables.specs.declared.merge.known.Known.{Known}
+use Rattle.rv_tables.specs.declared.orders.OrderRow.{OrderRow}
+use Rattle.rv_tables.specs.declared.row.RaceRow.{RaceRow}
 use Rattle.rv_hunt.specs.engine.Asked.{Asked}
 use Rattle.rv_hunt.specs.engine.Hunting.{Files, expected_in, found_in, ignored_in}
 use Rattle.rv_hunt.specs.engine.Shown.{AreShown}
@@ -47,10 +47,10 @@ use Rattle.rv_hunt.specs.declared.engine.remaking.RemakeFault.{RemakeFault}
 use Rattle.rv_hunt.specs.declared.engine.remaking.RemakeFault.TheVariants as remake
 use Rattle.rv_hunt.specs.internal.Opened.{hunt_by, hunt_with}
 use Rattle.rv_hunt.specs.internal.Remaking.{IsDevice, IsLateTold, IsRunFault, IsShownBy, of_folder, of_pool, of_remake, shown_by, shown_with}
-use Rattle.rv_hunt.specs.merge.FileFault as file
-use Rattle.rv_hunt.specs.merge.Ignore.{is_ignored, is_told, naming_of}
-use Rattle.rv_hunt.specs.merge.Known.{has_gone, new_races}
-use Rattle.rv_hunt.specs.merge.Listing.{list_text}
+use Rattle.rv_tables.specs.merge.FileFault as file
+use Rattle.rv_tables.specs.merge.Ignore.{is_ignored, is_told, naming_of}
+use Rattle.rv_tables.specs.merge.Known.{has_gone, new_races}
+use Rattle.rv_tables.specs.merge.Listing.{list_text}
 use Rattle.rv_json.specs.Object.{Member}
 use Rattle.rv_markup.specs.declared.markup.Fact.{Fact}
 use Rattle.rv_report.specs.declared.key.Key.{Key}

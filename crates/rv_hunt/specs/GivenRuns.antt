@@ -4,8 +4,8 @@ use Rattle.std.specs.Borrow.{Bor}
 use Rattle.std.specs.Str.{bytes_eq, is_utf8}
 use Rattle.rv_collide.specs.declared.plan.TheConstants.{DEFAULT_SLOTS, MOST_ARMS, MOST_PAUSE, MOST_STEPS}
 use Rattle.rv_hart.specs.declared.machine.TheConstants.{MOST_HARTS}
-use Rattle.rv_hunt.specs.HuntRead.{option_then}
-use Rattle.rv_hunt.specs.declared.engine.options.Sides.{Sides}
+use Rattle.rv_tables.specs.HuntRead.{option_then}
+use Rattle.rv_search.specs.declared.aim.Sides.{Sides}
 use Rattle.rv_hunt.specs.declared.given.GivenRuns.{GivenRuns}
 use Rattle.rv_hunt.specs.declared.given.Written.{Written as WrittenWords}
 use Rattle.rv_hunt.specs.declared.given.TheConstants.{MOST_GIVEN_SLOTS, SLOTS}

@@ -6,11 +6,11 @@ use Rattle.rv_explain.specs.Blocks.{class_word}
 use Rattle.rv_explain.specs.RaceObject.{RaceTold, race_facts}
 use Rattle.rv_hart.specs.declared.access.Access.{Access}
 use Rattle.rv_hunt.specs.Outcome.{Outcome}
-use Rattle.rv_hunt.specs.Tally.{pauses}
+use Rattle.rv_search.specs.Tally.{pauses}
 use Rattle.rv_hunt.specs.ToldOrder.{benign, bugs, is_of, of_class, reports_of, unwatched}
 use Rattle.rv_hunt.specs.declared.object.sums.Sums.{Sums as SumsGiven}
-use Rattle.rv_hunt.specs.declared.row.Accesses.{Accesses}
-use Rattle.rv_hunt.specs.declared.row.RaceRow.{RaceRow}
+use Rattle.rv_tables.specs.declared.row.Accesses.{Accesses}
+use Rattle.rv_tables.specs.declared.row.RaceRow.{RaceRow}
 use Rattle.rv_json.specs.Facts.{begins, counted, lists, nothing}
 use Rattle.rv_json.specs.Object.{Member}
 use Rattle.rv_races.specs.declared.classes.RaceClass.{RaceClass}

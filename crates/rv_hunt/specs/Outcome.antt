@@ -2,12 +2,12 @@
 use Rattle.std.specs.Prelude.{ℕ, ◌+◌, Bool, List, [], ◌∷◌, length}
 use Rattle.rv_collide.specs.Counts.{saturated}
 use Rattle.rv_engines.specs.declared.built.Built.{Built}
-use Rattle.rv_hunt.specs.Near.{how_many}
-use Rattle.rv_hunt.specs.Tally.{Tally, pauses_in}
-use Rattle.rv_hunt.specs.declared.hunted.Hunted.{Hunted}
-use Rattle.rv_hunt.specs.declared.near.Fate.TheVariants.{Met, Held, OthersWaited, NeverReached, Untried}
+use Rattle.rv_tables.specs.Near.{how_many}
+use Rattle.rv_search.specs.Tally.{Tally, pauses_in}
+use Rattle.rv_search.specs.declared.hunted.Hunted.{Hunted}
+use Rattle.rv_tables.specs.declared.near.Fate.TheVariants.{Met, Held, OthersWaited, NeverReached, Untried}
 use Rattle.rv_tally.specs.declared.plans.Mix.{Mix}
-use Rattle.rv_hunt.specs.declared.row.RaceRow.{RaceRow}
+use Rattle.rv_tables.specs.declared.row.RaceRow.{RaceRow}
 use Rattle.rv_report.specs.declared.key.Key.{Key}
 
 -- How many sites the image has without those that are skipped, what its runs are, what they saw, the rows of its races, these as

@@ -3,17 +3,17 @@
 use Rattle.std.specs.Prelude.{ℕ, zero, suc, ◌+◌, ◌==◌, ◌&&◌, Bool, true, false, nat_le, if◌then◌else◌, List, [], ◌∷◌, length, take}
 use Rattle.std.specs.List.{fold}
 use Rattle.rv_races.specs.declared.classes.RaceClass.TheVariants.{Named}
-use Rattle.rv_hunt.specs.EndedRows.{ended_rows}
-use Rattle.rv_hunt.specs.Near.{unmet}
+use Rattle.rv_search.specs.EndedRows.{ended_rows}
+use Rattle.rv_tables.specs.Near.{unmet}
 use Rattle.rv_hunt.specs.Outcome.{Outcome, sampled_numbers, walk_numbers}
-use Rattle.rv_hunt.specs.Tally.{Ended as HowEnded}
+use Rattle.rv_search.specs.Tally.{Ended as HowEnded}
 use Rattle.rv_hunt.specs.ToldOrder.{of_class, reports_of}
 use Rattle.rv_hunt.specs.Warnings.{all_sampled, warnings_of}
-use Rattle.rv_hunt.specs.declared.hunted.Hunted.{Hunted}
-use Rattle.rv_hunt.specs.declared.near.NearRow.{NearRow}
+use Rattle.rv_search.specs.declared.hunted.Hunted.{Hunted}
+use Rattle.rv_tables.specs.declared.near.NearRow.{NearRow}
 use Rattle.rv_hunt.specs.declared.page.near.TheConstants.{MOST_ROWS}
-use Rattle.rv_hunt.specs.declared.row.RaceRow.{RaceRow}
-use Rattle.rv_hunt.specs.declared.saying.ended.EndedRow.{EndedRow}
+use Rattle.rv_tables.specs.declared.row.RaceRow.{RaceRow}
+use Rattle.rv_search.specs.declared.ended.EndedRow.{EndedRow}
 use Rattle.rv_hunt.specs.declared.saying.lines.Seen as lines
 use Rattle.rv_markup.specs.declared.markup.Fact.{Fact}
 use Rattle.rv_markup.specs.declared.markup.Fact.TheVariants.{Target, Link, Number}

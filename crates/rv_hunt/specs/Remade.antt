@@ -4,7 +4,7 @@ use Rattle.rv_explain.specs.Classes.{rank}
 use Rattle.rv_explain.specs.Races.{Run, reports}
 use Rattle.rv_races.specs.declared.races.Race.{Race}
 use Rattle.rv_races.specs.declared.races.Report.{Report}
-use Rattle.rv_hunt.specs.declared.row.RaceRow.{RaceRow}
+use Rattle.rv_tables.specs.declared.row.RaceRow.{RaceRow}
 use Rattle.rv_report.specs.Races.{same_key}
 use Rattle.rv_report.specs.declared.key.Key.{Key}
 

@@ -4,15 +4,15 @@ use Rattle.std.specs.Prelude.{◌≡◌, ℕ, ◌+◌, ◌^◌, ◌<◌, List, f
 use Rattle.rv_elf.specs.Contents.{Contents}
 use Rattle.rv_explain.specs.Naming.{Naming}
 use Rattle.rv_races.specs.declared.classes.RaceClass.TheVariants.{Named}
-use Rattle.rv_hunt.specs.Hunt.{Hunt}
-use Rattle.rv_hunt.specs.Hunted.{IsSoFar, rows_from}
-use Rattle.rv_hunt.specs.ShownRows.{shown_rows}
+use Rattle.rv_search.specs.Hunt.{Hunt}
+use Rattle.rv_search.specs.Hunted.{IsSoFar, rows_from}
+use Rattle.rv_tables.specs.ShownRows.{shown_rows}
 use Rattle.rv_hunt.specs.ToldOrder.{AreInOrder, of_class}
-use Rattle.rv_hunt.specs.declared.hunted.Hunted.{Hunted}
-use Rattle.rv_hunt.specs.declared.merge.ignore.Line.{Line}
-use Rattle.rv_hunt.specs.declared.orders.OrderRow.{OrderRow}
-use Rattle.rv_hunt.specs.declared.row.RaceRow.{RaceRow}
-use Rattle.rv_hunt.specs.merge.Ignore.{is_ignored, is_told}
+use Rattle.rv_search.specs.declared.hunted.Hunted.{Hunted}
+use Rattle.rv_tables.specs.declared.merge.ignore.Line.{Line}
+use Rattle.rv_tables.specs.declared.orders.OrderRow.{OrderRow}
+use Rattle.rv_tables.specs.declared.row.RaceRow.{RaceRow}
+use Rattle.rv_tables.specs.merge.Ignore.{is_ignored, is_told}
 use Rattle.rv_report.specs.declared.key.Key.{Key}
 
 -- Whatever is summed over races, as the reports that they count, or one for a race: those that are shown one by one and those of

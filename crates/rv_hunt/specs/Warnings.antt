@@ -1,11 +1,11 @@
 -- Where a clean answer of a hunt would mean nothing.
 use Rattle.std.specs.Prelude.{ℕ, ◌*◌, ◌==◌, ◌&&◌, Bool, true, false, not, nat_le, nat_lt, List, [], ◌∷◌, filter, length}
 use Rattle.std.specs.List.{list_any}
-use Rattle.rv_hunt.specs.Near.{how_many}
+use Rattle.rv_tables.specs.Near.{how_many}
 use Rattle.rv_hunt.specs.Outcome.{Outcome}
-use Rattle.rv_hunt.specs.Tally.{Tally, pauses}
-use Rattle.rv_hunt.specs.declared.hunted.Hunted.{Hunted}
-use Rattle.rv_hunt.specs.declared.near.Fate.TheVariants.{Untried}
+use Rattle.rv_search.specs.Doubts.{armed_few, exited_nowhere, made_no_pause, most_lost, most_trapped, passed_no_step, walked_in_vain}
+use Rattle.rv_search.specs.declared.hunted.Hunted.{Hunted}
+use Rattle.rv_tables.specs.declared.near.Fate.TheVariants.{Untried}
 use Rattle.rv_tally.specs.declared.plans.Mix.{Mix}
 use Rattle.rv_tally.specs.declared.plans.Mix.TheVariants.{Mixed, Sampled, Walks}
 use Rattle.rv_hunt.specs.declared.saying.warnings.Warning.{Warning}
@@ -15,35 +15,11 @@ use Rattle.rv_hunt.specs.declared.saying.warnings.Warning.TheVariants.{Compresse
 abbrev pub has_no_site : ℕ → Bool
 has_no_site sites = sites == 0
 
--- no pause was made
-abbrev pub made_no_pause : Tally → Bool
-made_no_pause t = pauses t == 0
-
--- more than half of so many
-abbrev pub is_most : ℕ → ℕ → Bool
-is_most some all = nat_lt all (2 * some)
-
--- in most of the longest runs a trap stopped a hart
-abbrev pub most_trapped : Tally → Bool
-most_trapped t = is_most t.longest.trapped t.longest.runs
-
--- in most of the longest runs a trap stopped each hart, before one was paused
-abbrev pub most_lost : Tally → Bool
-most_lost t = is_most t.longest.lost t.longest.runs
-
--- pauses were made, and within none of them another hart made a step
-abbrev pub passed_no_step : Tally → Bool
-passed_no_step t = nat_le 1 (pauses t) && t.counts.passed == 0
-
 -- all runs are sampled ones
 abbrev pub all_sampled : Mix → Bool
 all_sampled Mixed = false
 all_sampled Sampled = true
 all_sampled Walks = false
-
--- fewer than half of the image's sites were ever armed: said where all runs are sampled ones
-abbrev pub armed_few : ℕ → Tally → Bool
-armed_few sites t = nat_lt (2 * length t.armed) sites
 
 -- walks saw no near pair
 abbrev pub saw_no_pair : Hunted → Bool
@@ -52,14 +28,6 @@ saw_no_pair saw = nat_le 1 saw.tally.walks && length saw.near == 0
 -- more than half of the near pairs were not probed, nor met
 abbrev pub tried_few : Hunted → Bool
 tried_few saw = nat_lt (length saw.near) (2 * how_many saw.table saw.near Untried)
-
--- most walks of the most harts made all steps that a walk may make, and saw no near pair
-abbrev pub walked_in_vain : Tally → Bool
-walked_in_vain t = is_most t.widest.spent t.widest.walks
-
--- in most of the runs whose plan has the most steps no hart exited
-abbrev pub exited_nowhere : Tally → Bool
-exited_nowhere t = is_most t.longest.exitless t.longest.runs
 
 -- the warning holds of what a hunt came to
 abbrev pub holds : Outcome → Warning → Bool

@@ -17,12 +17,12 @@ use crate::object::stuck::stuck_at;
 use crate::object::sums::{hunt_sums, sums_at, table_sums};
 use crate::object::warnings::{tabled_warnings, warnings_at};
 use crate::page::parts::{Outcome, Tabled};
-use crate::row::RaceRow;
 use rv_explain::object::head::{Head, head_members};
 use rv_explain::symbol_table::SymbolTable;
 use rv_json::object::Json;
 use rv_memory::store::NoMemory;
 use rv_report::key::Key;
+use rv_tables::row::RaceRow;
 use std::alloc::Global;
 
 mod ended;

@@ -16,7 +16,6 @@ use crate::page::runs::{aside_part, ended_part, seen_part, warnings_part};
 use crate::page::stuck::stuck_part;
 use crate::page::style::RULES;
 use crate::page::terms::terms_part;
-use crate::row::RaceRow;
 use crate::saying::lines::summary_line;
 use rv_explain::symbol_table::SymbolTable;
 use rv_markup::markup::Markup;
@@ -26,6 +25,7 @@ use rv_markup::tag::{
 };
 use rv_memory::store::NoMemory;
 use rv_report::key::Key;
+use rv_tables::row::RaceRow;
 use std::alloc::Global;
 
 mod code;

@@ -1,5 +1,4 @@
 //! What a hunt says at its end. Each text is made whole, since nothing of it is written before all of it is there.
-pub mod ended;
 pub(crate) mod index;
 pub mod lines;
 pub mod order;

@@ -17,9 +17,9 @@ use Rattle.rv_engines.specs.declared.sentences.FaultLine.{FaultLine}
 use Rattle.rv_engines.specs.Sentences.{line_output}
 use Rattle.rv_engines.specs.Shown.{shown}
 use Rattle.std.specs.Fmt.{decimal, radix_digits}
-use Rattle.rv_hunt.specs.merge.FileFaultText as file
-use Rattle.rv_hunt.specs.declared.merge.fault.FileFault.{FileFault}
-use Rattle.rv_hunt.specs.declared.merge.fault.FileFault.TheVariants as files
+use Rattle.rv_tables.specs.merge.FileFaultText as file
+use Rattle.rv_tables.specs.declared.merge.fault.FileFault.{FileFault}
+use Rattle.rv_tables.specs.declared.merge.fault.FileFault.TheVariants as files
 use Rattle.rvcollide.specs.System as system
 use Rattle.rvcollide.specs.declared.system.SystemSaid.{SystemSaid}
 use Rattle.rvcollide.specs.declared.file_line.FileLine.{FileLine}

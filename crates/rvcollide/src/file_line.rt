@@ -6,7 +6,7 @@ use crate::folder::Saved;
 use crate::system::SystemSaid;
 use rv_engines::fault::Fault;
 use rv_engines::shown::Shown;
-use rv_hunt::merge::fault::{FileFault, sentence};
+use rv_tables::merge::fault::{FileFault, sentence};
 use std::fmt;
 
 /// A file or a folder, or a schedule in a folder.

@@ -13,7 +13,7 @@ use rv_engines::fault::Fault;
 use rv_engines::run::fault::CommandFault;
 use rv_engines::sentences::{FaultLine, Paths};
 use rv_hunt::engine::fault::HuntFault;
-use rv_hunt::merge::fault::FileFault;
+use rv_tables::merge::fault::FileFault;
 
 const WRITE: FileFault = FileFault::Plain(Fault::Write);
 

@@ -6,10 +6,10 @@ use crate::progress::Progress;
 use crate::system::SystemSaid;
 use rv_command::command::hunt::HuntLine;
 use rv_engines::new_file::NewFile;
-use rv_hunt::hunt::{Draft, Watch};
-use rv_hunt::hunted::Hunted;
 use rv_memory::store::NoMemory;
 use rv_report::key::Key;
+use rv_search::hunt::{Draft, Watch};
+use rv_search::hunted::Hunted;
 use rv_tally::limit::Limit;
 use std::alloc::Global;
 

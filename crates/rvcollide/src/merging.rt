@@ -13,10 +13,10 @@ use crate::system::Stream;
 use rv_command::arguments::{TablePath, TablePaths};
 use rv_engines::fault::Fault;
 use rv_engines::run::fault::CommandFault;
-use rv_hunt::merge::listing::plain_names;
-use rv_hunt::merge::run_merge;
 use rv_memory::buffered::Buffered;
 use rv_memory::flagged::Flagged;
+use rv_tables::merge::listing::plain_names;
+use rv_tables::merge::run_merge;
 
 /// What is told where a table doesn't say what it is of.
 const NOT_OF_ONE: &str =

@@ -1,11 +1,11 @@
 -- What the options of `hunt` ask for.
 use Rattle.std.specs.Prelude.{ℕ, ◌≤◌, Option, option_map, List}
-use Rattle.rv_hunt.specs.Hunt.{AreNumbers}
+use Rattle.rv_search.specs.Hunt.{AreNumbers}
 use Rattle.rv_tally.specs.GoesOn.{IsLimit}
 use Rattle.rv_tally.specs.Plans.{Given}
 use Rattle.rv_tally.specs.declared.limit.Limit.{Limit}
 use Rattle.rv_hunt.specs.declared.engine.options.HuntOptions.{HuntOptions}
-use Rattle.rv_hunt.specs.declared.engine.options.Sides.{Sides}
+use Rattle.rv_search.specs.declared.aim.Sides.{Sides}
 use Rattle.rv_hunt.specs.declared.engine.options.TheConstants.{MOST_WORKERS}
 
 -- What is given of the runs' plans, their seed, the number of the first, how far the hunt goes, the names, the addresses and

@@ -6,18 +6,18 @@ use Rattle.rv_elf.specs.Contents.{Contents}
 use Rattle.rv_explain.specs.Naming.{Naming}
 use Rattle.rv_lines.specs.SourceLines.{SourceLine}
 use Rattle.rv_hunt.specs.HuntObject.{hunt_facts}
-use Rattle.rv_hunt.specs.HuntText.{table_text}
-use Rattle.rv_hunt.specs.Hunt.{Hunt}
-use Rattle.rv_hunt.specs.Hunted.{IsHunted}
-use Rattle.rv_hunt.specs.Origin.{Origin, image_digits, last_line, stretch_on}
+use Rattle.rv_tables.specs.HuntText.{table_text}
+use Rattle.rv_search.specs.Hunt.{Hunt}
+use Rattle.rv_search.specs.Hunted.{IsHunted}
+use Rattle.rv_tables.specs.Origin.{Origin, image_digits, last_line, stretch_on}
 use Rattle.rv_hunt.specs.Outcome.{Outcome}
 use Rattle.rv_hunt.specs.PageFacts.{page_facts}
-use Rattle.rv_hunt.specs.RightEnds.{has_wrong_end, right_codes}
-use Rattle.rv_hunt.specs.ShownRows.{shown_rows}
+use Rattle.rv_search.specs.RightEnds.{has_wrong_end, right_codes}
+use Rattle.rv_tables.specs.ShownRows.{shown_rows}
 use Rattle.rv_hunt.specs.ToldOrder.{AreInOrder, benign, bugs}
 use Rattle.rv_hunt.specs.Warnings.{is_void}
-use Rattle.rv_hunt.specs.declared.hunted.Hunted.{Hunted}
-use Rattle.rv_hunt.specs.declared.row.RaceRow.{RaceRow}
+use Rattle.rv_search.specs.declared.hunted.Hunted.{Hunted}
+use Rattle.rv_tables.specs.declared.row.RaceRow.{RaceRow}
 use Rattle.rv_memory.specs.Flagged.{device, has_failed}
 use Rattle.rv_memory.specs.Chain.{◌>>=◌}
 use Rattle.rv_sample.specs.Sites.{sites}
@@ -39,13 +39,13 @@ use Rattle.rv_hunt.specs.declared.engine.inputs.Inputs.{Inputs}
 use Rattle.rv_hunt.specs.declared.engine.options.HuntOptions.{HuntOptions}
 use Rattle.rv_hunt.specs.declared.engine.options.Shows.{Shows}
 use Rattle.rv_hunt.specs.declared.engine.options.Shows.TheVariants.{Text, Table}
-use Rattle.rv_hunt.specs.merge.Ignore.{aimed_in, ignores_of, is_ignored, is_told, naming_of}
-use Rattle.rv_hunt.specs.merge.Known.{has_gone, known_of, new_races}
-use Rattle.rv_hunt.specs.merge.Listing.{list_text}
-use Rattle.rv_hunt.specs.merge.Merge.{bytes_if}
-use Rattle.rv_hunt.specs.declared.merge.known.Known.{Known}
-use Rattle.rv_hunt.specs.declared.merge.fault.FileFault.{FileFault}
-use Rattle.rv_hunt.specs.declared.merge.ignore.Line.{Line}
+use Rattle.rv_tables.specs.merge.Ignore.{aimed_in, ignores_of, is_ignored, is_told, naming_of}
+use Rattle.rv_tables.specs.merge.Known.{has_gone, known_of, new_races}
+use Rattle.rv_tables.specs.merge.Listing.{list_text}
+use Rattle.rv_tables.specs.merge.Merge.{bytes_if}
+use Rattle.rv_tables.specs.declared.merge.known.Known.{Known}
+use Rattle.rv_tables.specs.declared.merge.fault.FileFault.{FileFault}
+use Rattle.rv_tables.specs.declared.merge.ignore.Line.{Line}
 use Rattle.rv_json.specs.Object.{Member}
 use Rattle.rv_markup.specs.declared.markup.Fact.{Fact}
 use Rattle.rv_report.specs.declared.key.Key.{Key}

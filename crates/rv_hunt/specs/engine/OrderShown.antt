@@ -6,14 +6,14 @@ use Rattle.rv_explain.specs.Blocks.{shown_of}
 use Rattle.rv_explain.specs.Order.{IsOrder}
 use Rattle.rv_explain.specs.Races.{Run, reports}
 use Rattle.rv_explain.specs.declared.order.TrialNumbers.{TrialNumbers}
-use Rattle.rv_hunt.specs.Hunt.{Hunt}
-use Rattle.rv_hunt.specs.Keyed.{row_at}
-use Rattle.rv_hunt.specs.Orders.{first_of}
+use Rattle.rv_search.specs.Hunt.{Hunt}
+use Rattle.rv_tables.specs.Keyed.{row_at}
+use Rattle.rv_tables.specs.Orders.{first_of}
 use Rattle.rv_hunt.specs.engine.Shown.{IsRunOf, run_told}
 use Rattle.rv_hunt.specs.declared.engine.orders.MadeTrial.{MadeTrial}
 use Rattle.rv_hunt.specs.declared.engine.orders.ShownOrder.{ShownOrder}
-use Rattle.rv_hunt.specs.declared.orders.OrderRow.{OrderRow}
-use Rattle.rv_hunt.specs.declared.orders.TrialPlace.{TrialPlace}
+use Rattle.rv_tables.specs.declared.orders.OrderRow.{OrderRow}
+use Rattle.rv_tables.specs.declared.orders.TrialPlace.{TrialPlace}
 use Rattle.rv_races.specs.declared.races.Race.{Race}
 use Rattle.rv_report.specs.Races.{same_key}
 use Rattle.rv_report.specs.declared.key.Key.{Key}

@@ -4,7 +4,7 @@ use Rattle.rv_collide.specs.declared.entry.Entry.{Entry}
 use Rattle.rv_explain.specs.Stuck.{IsShownEnd}
 use Rattle.rv_explain.specs.declared.stuck.StuckBlock.{StuckBlock}
 use Rattle.rv_hart.specs.State.{start as first_state}
-use Rattle.rv_hunt.specs.Hunt.{Hunt}
+use Rattle.rv_search.specs.Hunt.{Hunt}
 use Rattle.rv_hunt.specs.declared.engine.stuck_ends.ShownStuck.{ShownStuck}
 
 -- A schedule of the image, with so many harts, ends in a stuck state, and what each of its harts does there is shown.

@@ -9,9 +9,9 @@ use Rattle.rv_engines.specs.SourceFile.{lines_miss, source_in}
 use Rattle.rv_explain.specs.Naming.{Naming}
 use Rattle.rv_lines.specs.SourceLines.{SourceLine}
 use Rattle.rv_hunt.specs.GivenRuns.{RunsGiven, given_in, mix_of, slots_of}
-use Rattle.rv_hunt.specs.Hunt.{Hunt}
+use Rattle.rv_search.specs.Hunt.{Hunt}
 use Rattle.rv_hunt.specs.HuntObject.{object_facts, table_sums}
-use Rattle.rv_hunt.specs.Origin.{Origin, image_digits, other_than, runs_of, words_in}
+use Rattle.rv_tables.specs.Origin.{Origin, image_digits, other_than, runs_of, words_in}
 use Rattle.rv_hunt.specs.PageFacts.{table_facts}
 use Rattle.rv_hunt.specs.ToldOrder.{AreInOrder}
 use Rattle.rv_hunt.specs.declared.engine.fault.HuntFault.{HuntFault}
@@ -21,23 +21,23 @@ use Rattle.rv_hunt.specs.declared.engine.show.ShowFault.{ShowFault}
 use Rattle.rv_hunt.specs.declared.engine.show.ShowFault.TheVariants as show
 use Rattle.rv_hunt.specs.declared.engine.shown.ShownRace.{ShownRace}
 use Rattle.rv_hunt.specs.declared.engine.tabled.ShownTable.{ShownTable}
-use Rattle.rv_hunt.specs.declared.fault.TableKind.{TableKind}
-use Rattle.rv_hunt.specs.declared.fault.TableKind.TheVariants as kind
-use Rattle.rv_hunt.specs.declared.merge.fault.FileFault.{FileFault}
-use Rattle.rv_hunt.specs.declared.merge.fault.FileFault.TheVariants.{Table}
-use Rattle.rv_hunt.specs.declared.merge.ignore.Line.{Line}
-use Rattle.rv_hunt.specs.declared.merge.known.Known.{Known}
-use Rattle.rv_hunt.specs.declared.origin_line.ReadTable.{ReadTable}
-use Rattle.rv_hunt.specs.declared.row.RaceRow.{RaceRow}
+use Rattle.rv_tables.specs.declared.fault.TableKind.{TableKind}
+use Rattle.rv_tables.specs.declared.fault.TableKind.TheVariants as kind
+use Rattle.rv_tables.specs.declared.merge.fault.FileFault.{FileFault}
+use Rattle.rv_tables.specs.declared.merge.fault.FileFault.TheVariants.{Table}
+use Rattle.rv_tables.specs.declared.merge.ignore.Line.{Line}
+use Rattle.rv_tables.specs.declared.merge.known.Known.{Known}
+use Rattle.rv_tables.specs.declared.origin_line.ReadTable.{ReadTable}
+use Rattle.rv_tables.specs.declared.row.RaceRow.{RaceRow}
 use Rattle.rv_hunt.specs.engine.Asked.{Asked}
 use Rattle.rv_hunt.specs.engine.HuntFault as hunting
 use Rattle.rv_hunt.specs.engine.Hunting.{Files, expected_in, found_in, hunt_of, ignored_in}
 use Rattle.rv_hunt.specs.engine.Shown.{AreShown}
-use Rattle.rv_hunt.specs.merge.FileFault as file
-use Rattle.rv_hunt.specs.merge.Ignore.{is_ignored, is_told, naming_of}
-use Rattle.rv_hunt.specs.merge.Known.{has_gone, new_races}
-use Rattle.rv_hunt.specs.merge.Listing.{list_text}
-use Rattle.rv_hunt.specs.merge.TableFiles.{hunt_table}
+use Rattle.rv_tables.specs.merge.FileFault as file
+use Rattle.rv_tables.specs.merge.Ignore.{is_ignored, is_told, naming_of}
+use Rattle.rv_tables.specs.merge.Known.{has_gone, new_races}
+use Rattle.rv_tables.specs.merge.Listing.{list_text}
+use Rattle.rv_tables.specs.merge.TableFiles.{hunt_table}
 use Rattle.rv_json.specs.Object.{Member}
 use Rattle.rv_markup.specs.declared.markup.Fact.{Fact}
 use Rattle.rv_memory.specs.Chain.{◌>>=◌}

@@ -5,14 +5,14 @@ use Rattle.rv_elf.specs.Contents.{Contents}
 use Rattle.rv_engines.specs.Campaigns.{elements, listed, skipped}
 use Rattle.rv_engines.specs.CommandFault as command
 use Rattle.rv_engines.specs.CommandFault.{Refusal}
-use Rattle.rv_hunt.specs.Hunt.{Hunt}
+use Rattle.rv_search.specs.Hunt.{Hunt}
 use Rattle.rv_memory.specs.Chain.{◌>>=◌}
 use Rattle.rv_sample.specs.Sites.{sites}
 use Rattle.rv_hunt.specs.engine.Asked.{Asked}
 use Rattle.rv_hunt.specs.engine.HuntFault.{IsAimKnown, is_plain_refusal}
 use Rattle.rv_hunt.specs.engine.Hunting.{Hunting, Texts, hunt_of, sought_in}
-use Rattle.rv_hunt.specs.merge.FileFault as file
-use Rattle.rv_hunt.specs.merge.Ignore.{aimed_in}
+use Rattle.rv_tables.specs.merge.FileFault as file
+use Rattle.rv_tables.specs.merge.Ignore.{aimed_in}
 use Rattle.rv_hunt.specs.declared.engine.fault.HuntFault.{HuntFault}
 use Rattle.rv_hunt.specs.declared.engine.fault.HuntFault.TheVariants.{Command, Ignored, Expected, Aimed, Lines}
 use Rattle.rv_hunt.specs.declared.engine.lists.Lists.{Lists}

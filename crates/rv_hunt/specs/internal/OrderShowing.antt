@@ -3,17 +3,17 @@ use Rattle.std.specs.Prelude.{◌≡◌, ℕ, All, None, Some, List, Vec, slice_
 use Rattle.std.specs.declared.alloc.Global.{Global}
 use Rattle.rv_explain.specs.Races.{Run, reports}
 use Rattle.rv_races.specs.declared.races.Report.{Report}
-use Rattle.rv_hunt.specs.Hunt.{Hunt}
-use Rattle.rv_hunt.specs.Keyed.{row_at}
+use Rattle.rv_search.specs.Hunt.{Hunt}
+use Rattle.rv_tables.specs.Keyed.{row_at}
 use Rattle.rv_hunt.specs.engine.OrderShown.{AreOrdersShown, IsTrialShown}
-use Rattle.rv_hunt.specs.Orders.{first_of}
+use Rattle.rv_tables.specs.Orders.{first_of}
 use Rattle.rv_hunt.specs.declared.engine.orders.Again.{Again}
 use Rattle.rv_hunt.specs.declared.engine.orders.PlacedTrial.{PlacedTrial}
 use Rattle.rv_hunt.specs.declared.engine.orders.ShownOrder.{ShownOrder}
 use Rattle.rv_hunt.specs.declared.engine.orders.WantedTrial.{WantedTrial}
-use Rattle.rv_hunt.specs.declared.orders.OrderRow.{OrderRow}
-use Rattle.rv_hunt.specs.declared.orders.TrialPlace.{TrialPlace}
-use Rattle.rv_hunt.specs.declared.row.RaceRow.{RaceRow}
+use Rattle.rv_tables.specs.declared.orders.OrderRow.{OrderRow}
+use Rattle.rv_tables.specs.declared.orders.TrialPlace.{TrialPlace}
+use Rattle.rv_tables.specs.declared.row.RaceRow.{RaceRow}
 use Rattle.rv_report.specs.Races.{same_key}
 use Rattle.rv_report.specs.declared.key.Key.{Key}
 

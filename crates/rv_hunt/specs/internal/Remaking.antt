@@ -4,15 +4,15 @@ use Rattle.rv_campaign.specs.declared.pool.PoolFault.{PoolFault}
 use Rattle.rv_elf.specs.Contents.{Contents}
 use Rattle.rv_engines.specs.SourceFile as source
 use Rattle.rv_engines.specs.SourceFile.{source_in}
-use Rattle.rv_hunt.specs.merge.Ignore.{naming_of}
+use Rattle.rv_tables.specs.merge.Ignore.{naming_of}
 use Rattle.rv_lines.specs.SourceLines.{SourceLine}
 use Rattle.rv_engines.specs.CommandFault as command
 use Rattle.rv_engines.specs.declared.fault.Fault.TheVariants as plain
 use Rattle.rv_engines.specs.declared.run.fault.CommandFault.{CommandFault}
 use Rattle.rv_engines.specs.declared.run.fault.CommandFault.TheVariants as fault
 use Rattle.rv_hunt.specs.GivenRuns.{RunsGiven, given_in}
-use Rattle.rv_hunt.specs.Hunt.{Hunt}
-use Rattle.rv_hunt.specs.Origin.{words_in}
+use Rattle.rv_search.specs.Hunt.{Hunt}
+use Rattle.rv_tables.specs.Origin.{words_in}
 use Rattle.rv_hunt.specs.declared.engine.fault.HuntFault.TheVariants.{Command, Ignored, Expected, Aimed, Lines}
 use Rattle.rv_hunt.specs.declared.engine.fault.MakeFault.{MakeFault}
 use Rattle.rv_hunt.specs.declared.engine.folder.FolderFault.{FolderFault}
@@ -23,15 +23,15 @@ use Rattle.rv_hunt.specs.declared.engine.remaking.RemakeFault.TheVariants as rem
 use Rattle.rv_hunt.specs.declared.engine.show.ShowFault.{ShowFault}
 use Rattle.rv_hunt.specs.declared.engine.show.ShowFault.TheVariants.{Table, Hunt as OfHunt}
 use Rattle.rv_hunt.specs.declared.engine.tabled.ShownTable.{ShownTable}
-use Rattle.rv_hunt.specs.declared.fault.TableKind.TheVariants as kind
-use Rattle.rv_hunt.specs.declared.merge.fault.FileFault.{FileFault}
-use Rattle.rv_hunt.specs.declared.merge.fault.FileFault.TheVariants as file_fault
+use Rattle.rv_tables.specs.declared.fault.TableKind.TheVariants as kind
+use Rattle.rv_tables.specs.declared.merge.fault.FileFault.{FileFault}
+use Rattle.rv_tables.specs.declared.merge.fault.FileFault.TheVariants as file_fault
 use Rattle.rv_hunt.specs.engine.Asked.{Asked}
 use Rattle.rv_hunt.specs.engine.Hunting.{expected_in, ignored_in}
 use Rattle.rv_hunt.specs.engine.TableShown.{TableShown, asked_by, last_fault}
 use Rattle.rv_hunt.specs.internal.MakeFault as make
 use Rattle.rv_hunt.specs.internal.Opened.{hunt_by, hunt_with}
-use Rattle.rv_hunt.specs.merge.FileFault as file
+use Rattle.rv_tables.specs.merge.FileFault as file
 
 -- ---- the faults
 

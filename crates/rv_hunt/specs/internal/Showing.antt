@@ -9,8 +9,8 @@ use Rattle.rv_races.specs.declared.races.Report.{Report}
 use Rattle.rv_hunt.specs.declared.engine.shown.InFull.{InFull}
 use Rattle.rv_hunt.specs.declared.engine.shown.ShownRace.{ShownRace}
 use Rattle.rv_hunt.specs.declared.engine.shown.ShownPart.{ShownPart}
-use Rattle.rv_hunt.specs.declared.row.RaceRow.{RaceRow}
-use Rattle.rv_hunt.specs.Hunt.{Hunt}
+use Rattle.rv_tables.specs.declared.row.RaceRow.{RaceRow}
+use Rattle.rv_search.specs.Hunt.{Hunt}
 use Rattle.rv_hunt.specs.engine.Shown.{IsRaceShown, IsShown, run_told}
 use Rattle.rv_report.specs.declared.key.Key.{Key}
 

@@ -1,19 +1,19 @@
 //! The schedules of races while a hunt goes on: the parts of runs that the races are told by are made again.
 ghost use Rattle.std.specs.Prelude.{◌≡◌, ◌≤◌, length};
-ghost use Rattle.rv_hunt.specs.internal.RunWalk.{AreProbesOf, IsBegin, IsRunWalk};
+ghost use Rattle.rv_search.specs.RunWalk.{AreProbesOf, IsBegin, IsRunWalk};
 ghost use Rattle.rv_walk.specs.declared.course.TheConstants.{MOST_WALKED};
 
 use crate::engine::shown::written;
-use crate::hunt::Hunt;
-use crate::kept_run::sampled_run;
-use crate::row::RaceRow;
-use crate::run_walk::{Repeats, RunWalk, begin_of, drawn_pairs, probes_of, walk_of};
 use rv_campaign::{Jobs, PoolFault, all_made};
 use rv_collide::schedule::laws::legal_is_writable;
 use rv_hart::machine::Machine;
 use rv_memory::paged::Paged;
 use rv_memory::store::NoMemory;
 use rv_report::key::Key;
+use rv_search::hunt::Hunt;
+use rv_search::kept_run::sampled_run;
+use rv_search::run_walk::{Repeats, RunWalk, begin_of, drawn_pairs, probes_of, walk_of};
+use rv_tables::row::RaceRow;
 use rv_walk::code::Marks;
 use rv_walk::near_pair::NearPair;
 use rv_walk::probes::Probes;

@@ -4,11 +4,10 @@
 //! classes and then by their runs. At each tenth of what was asked for the page, the list, the table and the object are kept anew. What wants
 //! memory for that and gets none is left out, since the hunt goes on.
 ghost use Rattle.std.specs.Prelude.{◌≡◌, ◌≤◌, false, IfOk, OnOk};
-ghost use Rattle.rv_hunt.specs.Hunt.{IsHunt};
-ghost use Rattle.rv_hunt.specs.Hunted as spec;
+ghost use Rattle.rv_search.specs.Hunt.{IsHunt};
+ghost use Rattle.rv_search.specs.Hunted as spec;
 
 use crate::code_seen::{CodeSeen, code_seen};
-use crate::done::Done;
 use crate::engine::early::{PartText, parts_of, texts_of};
 use crate::engine::lists::Lists;
 use crate::engine::making::shown_of;
@@ -16,16 +15,9 @@ use crate::engine::meetings::Meetings;
 use crate::engine::options::{HuntOptions, MOST_WORKERS};
 use crate::engine::stuck_ends::StuckEnds;
 use crate::engine::texts::{heading_of, stretch_of, table_of};
-use crate::hunt::{Along, Draft, Hunt, Watch};
-use crate::hunted::Hunted;
-use crate::merge::known::{gone, new_races};
-use crate::merge::listing::list_of;
-use crate::merge::parted::{Parted, part_rows};
-use crate::noted::Noted;
 use crate::object::{Beside, object_text};
 use crate::page::page_text;
 use crate::page::parts::Outcome;
-use crate::row::RaceRow;
 use crate::saying::order::told_rows;
 use indexmap::IndexMap;
 use rv_campaign::PoolFault;
@@ -35,6 +27,14 @@ use rv_explain::classes::rank;
 use rv_explain::symbol_table::SymbolTable;
 use rv_memory::store::NoMemory;
 use rv_report::key::Key;
+use rv_search::done::Done;
+use rv_search::hunt::{Along, Draft, Hunt, Watch};
+use rv_search::hunted::Hunted;
+use rv_search::noted::Noted;
+use rv_tables::merge::known::{gone, new_races};
+use rv_tables::merge::listing::list_of;
+use rv_tables::merge::parted::{Parted, part_rows};
+use rv_tables::row::RaceRow;
 use std::alloc::Global;
 use std::sync::Wait;
 use std::thread::Threads;

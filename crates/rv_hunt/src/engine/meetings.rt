@@ -1,9 +1,4 @@
 //! Races that are told the moment that they are met, while a hunt goes on.
-use crate::hunt::Watch;
-use crate::hunted::Hunted;
-use crate::merge::ignore::Ignores;
-use crate::merge::parted::part_rows;
-use crate::row::RaceRow;
 use rv_explain::block::RaceClass;
 use rv_explain::blocks::class_word;
 use rv_explain::classes::rank;
@@ -11,6 +6,11 @@ use rv_explain::names::{function_text, variable_text};
 use rv_explain::symbol_table::SymbolTable;
 use rv_memory::store::NoMemory;
 use rv_report::key::Key;
+use rv_search::hunt::Watch;
+use rv_search::hunted::Hunted;
+use rv_tables::merge::ignore::Ignores;
+use rv_tables::merge::parted::part_rows;
+use rv_tables::row::RaceRow;
 use rv_text::decimal::Decimal;
 use std::alloc::Global;
 

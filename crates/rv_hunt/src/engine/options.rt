@@ -1,10 +1,11 @@
 //! What `hunt` is asked for, beside its files.
 ghost use Rattle.std.specs.Prelude.{◌≡◌, ◌≤◌, ◌↔◌, true};
-ghost use Rattle.rv_hunt.specs.Hunt.{AreNumbers};
+ghost use Rattle.rv_search.specs.Hunt.{AreNumbers};
 ghost use Rattle.rv_tally.specs.GoesOn.{IsLimit};
 ghost use Rattle.rv_hunt.specs.engine.Asked.{AreLegal};
 
 use crate::engine::found::Checks;
+use rv_search::aim::Sides;
 use rv_tally::limit::{Limit, MOST_BUDGET};
 use rv_tally::plans::{Lengths, Plans};
 
@@ -49,13 +50,6 @@ pub struct SaidOptions<'a> {
     pub lengths: Option<Lengths>,
     pub ignore: Option<&'a str>,
     pub expect: Option<&'a str>,
-}
-
-/// Two sides of a race, each the name of a symbol or an address, as a line of an ignore list has them.
-#[derive(Clone, Copy)]
-pub struct Sides<'a> {
-    pub one: &'a str,
-    pub other: &'a str,
 }
 
 /// The options of `hunt`.

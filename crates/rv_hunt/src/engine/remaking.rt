@@ -2,15 +2,15 @@
 ghost use Rattle.std.specs.Prelude.{◌≡◌, ◌≤◌, ⊤, IfOk, map};
 ghost use Rattle.rv_hunt.specs.engine.TableShown.{part_less, without_place};
 
-use crate::hunt::Hunt;
-use crate::kept_run::{KeptRun, PartReport};
-use crate::row::{Accesses, RaceRow, row_of};
-use crate::table::HuntTable;
 use indexmap::IndexMap;
 use rv_campaign::{Jobs, PoolFault, all_made};
 use rv_explain::classes::rank;
 use rv_memory::store::NoMemory;
 use rv_report::key::Key;
+use rv_search::hunt::Hunt;
+use rv_search::kept_run::KeptRun;
+use rv_tables::row::{Accesses, PartReport, RaceRow, row_of};
+use rv_tables::table::HuntTable;
 use rv_walk::code::Marks;
 use std::alloc::Global;
 use std::sync::Wait;

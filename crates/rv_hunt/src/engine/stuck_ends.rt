@@ -3,20 +3,20 @@ ghost use Rattle.std.specs.Prelude.{◌≡◌, ◌≤◌, IfOk, IfSome, is_some,
 ghost use Rattle.rv_collide.specs.Grammar.{IsWritable};
 ghost use Rattle.rv_collide.specs.Numbers.{numbers};
 ghost use Rattle.rv_hunt.specs.engine.StuckShown.{AreStuckShown, IsStuckBlock};
-ghost use Rattle.rv_hunt.specs.internal.RunWalk.{AreProbesOf, IsBegin, IsRunWalk};
+ghost use Rattle.rv_search.specs.RunWalk.{AreProbesOf, IsBegin, IsRunWalk};
 ghost use Rattle.rv_walk.specs.declared.course.TheConstants.{MOST_WALKED};
 
 use crate::engine::beside::{Schedule, of_walk, save};
 use crate::engine::folder::{Beside, Folder};
-use crate::hunt::Hunt;
-use crate::run_walk::{Repeats, RunWalk, begin_of, drawn_pairs, probes_of, walk_of};
-use crate::stuck::{StuckRow, StuckTable};
 use rv_collide::schedule::laws::legal_is_writable;
 use rv_explain::stuck::{StuckBlock, stuck_block};
 use rv_explain::symbol_table::SymbolTable;
 use rv_hart::machine::Machine;
 use rv_memory::paged::Paged;
 use rv_memory::store::NoMemory;
+use rv_search::hunt::Hunt;
+use rv_search::run_walk::{Repeats, RunWalk, begin_of, drawn_pairs, probes_of, walk_of};
+use rv_search::stuck::{StuckRow, StuckTable};
 use rv_walk::code::Marks;
 use rv_walk::near_pair::NearPair;
 use rv_walk::probes::Probes;

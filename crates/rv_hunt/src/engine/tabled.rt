@@ -1,18 +1,18 @@
 //! The table that `show` reads: of its image, by its version, and with a last line.
 ghost use Rattle.std.specs.Prelude.{◌≡◌, ◌||◌, false, Ok, Err, IfOk, IfErr, IfSome, None};
 ghost use Rattle.rv_memory.specs.Flagged as flag;
-ghost use Rattle.rv_hunt.specs.merge.FileFault.{IsTold, fails_by, is_read, is_write};
+ghost use Rattle.rv_tables.specs.merge.FileFault.{IsTold, fails_by, is_read, is_write};
 ghost use Rattle.rv_hunt.specs.engine.TableShown as spec;
 ghost use Rattle.rv_hunt.specs.internal.Remaking as internal;
 
 use crate::engine::show::ShowFault;
-use crate::fault::{TableFault, TableKind};
-use crate::merge::fault::FileFault;
-use crate::merge::table_file::read_hunt_table;
-use crate::origin::Origin;
-use crate::origin_line::ReadTable;
-use crate::table::HuntTable;
 use rv_memory::flagged::Flagged;
+use rv_tables::fault::{TableFault, TableKind};
+use rv_tables::merge::fault::FileFault;
+use rv_tables::merge::table_file::read_hunt_table;
+use rv_tables::origin::Origin;
+use rv_tables::origin_line::ReadTable;
+use rv_tables::table::HuntTable;
 use std::alloc::Global;
 use std::io::Read;
 

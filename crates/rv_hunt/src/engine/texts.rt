@@ -1,34 +1,34 @@
 //! The texts of what a hunt came to. All of it is made before a byte is written.
 ghost use Rattle.std.specs.Prelude.{◌≡◌, ◌∷◌, ◌++◌, ◌||◌, [], Some, is_err, IfOk, OnOk};
 ghost use Rattle.std.specs.Io.KnownBytes.{Appends};
-ghost use Rattle.rv_hunt.specs.HuntText as table;
-ghost use Rattle.rv_hunt.specs.Origin.{last_line, stretch_on};
+ghost use Rattle.rv_tables.specs.HuntText as table;
+ghost use Rattle.rv_tables.specs.Origin.{last_line, stretch_on};
 
 use crate::engine::onward::{push_gdb_line, push_keep_line, push_stuck_gdb_line};
 use crate::engine::options::LineParts;
 use crate::engine::orders::ShownOrder;
 use crate::engine::shown::ShownRace;
 use crate::engine::stuck_ends::ShownStuck;
-use crate::hunt::Hunt;
-use crate::hunted::Hunted;
-use crate::orders::OrderTable;
-use crate::origin::{Heading, Stretch, stretch_on, write_line};
 use crate::page::parts::{Outcome, Tabled};
-use crate::row::RaceRow;
 use crate::saying::index::push_index;
 use crate::saying::lines::{push_behind, push_counted, summary_line, tabled_line};
 use crate::saying::orders::shown_rows;
 use crate::saying::stuck::stuck_block_lines;
 use crate::saying::unexpected::{is_among, mark};
 use crate::saying::warnings::first_notes;
-use crate::table::write_table;
-use crate::tally::Tally;
 use rv_explain::blocks::ordered_text;
 use rv_explain::symbol_table::SymbolTable;
 use rv_memory::flagged::{Flagged, WriteFault};
 use rv_memory::output::Output;
 use rv_memory::store::NoMemory;
 use rv_report::key::Key;
+use rv_search::hunt::Hunt;
+use rv_search::hunted::Hunted;
+use rv_search::tally::Tally;
+use rv_tables::orders::OrderTable;
+use rv_tables::origin::{Heading, Stretch, stretch_on, write_line};
+use rv_tables::row::RaceRow;
+use rv_tables::table::write_table;
 use std::alloc::Global;
 
 /// The block of a race of that number, and how to go there.

@@ -3,12 +3,12 @@ ghost use Rattle.std.specs.Prelude.{◌≡◌, IfOk};
 
 use crate::object::schedules::{ENDED, schedule_name};
 use crate::page::parts::Outcome;
-use crate::saying::ended::{EndedRow, Ways, ended_rows};
 use rv_explain::object::places::place_at;
 use rv_explain::order::cause_words;
 use rv_explain::symbol_table::SymbolTable;
 use rv_json::object::Json;
 use rv_memory::store::NoMemory;
+use rv_search::ended::{EndedRow, Ways, ended_rows};
 use rv_tally::end::End;
 use std::alloc::Global;
 

@@ -1,10 +1,11 @@
 //! The options of a hunt.
 ghost use Rattle.std.specs.Prelude.{◌≡◌, IfOk};
 
-use crate::engine::options::{HuntOptions, Sides};
+use crate::engine::options::HuntOptions;
 use crate::saying::warnings::all_sampled;
 use rv_json::object::Json;
 use rv_memory::store::NoMemory;
+use rv_search::aim::Sides;
 use rv_tally::limit::Limit;
 use rv_tally::plans::Lengths;
 

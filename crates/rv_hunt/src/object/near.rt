@@ -1,14 +1,14 @@
 //! The near pairs of a hunt's walks, and what came of them.
 ghost use Rattle.std.specs.Prelude.{◌≡◌, IfOk};
 
-use crate::hunted::Hunted;
-use crate::near::{Fate, NearRow, fate_by};
 use crate::page::parts::Outcome;
 use crate::saying::warnings::all_sampled;
 use rv_explain::object::places::place_at;
 use rv_explain::symbol_table::SymbolTable;
 use rv_json::object::Json;
 use rv_memory::store::NoMemory;
+use rv_search::hunted::Hunted;
+use rv_tables::near::{Fate, NearRow, fate_by};
 use rv_walk::near_pair::Addresses;
 use std::alloc::Global;
 

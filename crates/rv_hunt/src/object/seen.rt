@@ -4,9 +4,9 @@ ghost use Rattle.std.specs.Prelude.{◌≡◌, IfOk};
 use crate::code_seen::CodeSeen;
 use crate::page::parts::Outcome;
 use crate::saying::warnings::all_sampled;
-use crate::tally::Tally;
 use rv_json::object::Json;
 use rv_memory::store::NoMemory;
+use rv_search::tally::Tally;
 
 /// The sites, and how the pauses of sampled runs ended.
 fn sampled_members(json: Json, sites: u64, saw: &Tally) -> Result<Json, NoMemory>

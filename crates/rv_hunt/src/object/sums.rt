@@ -4,13 +4,13 @@ ghost use Rattle.rv_hunt.specs.HuntObject as spec;
 ghost use Rattle.rv_hunt.specs.ToldOrder as order;
 
 use crate::page::parts::{Outcome, Tabled};
-use crate::row::RaceRow;
 use crate::saying::order::{benign, bugs, is_of, of_class, reports_of, unwatched};
 use rv_explain::block::RaceClass;
 use rv_explain::object::race::class_name;
 use rv_json::object::Json;
 use rv_memory::store::NoMemory;
 use rv_report::key::Key;
+use rv_tables::row::RaceRow;
 use std::alloc::Global;
 
 /// What the sums are of: the races as they are shown, those that are ignored, and how many reports, endings and runs there are. Of a table

@@ -3,8 +3,6 @@ ghost use Rattle.std.specs.Prelude.{◌≡◌, ◌∷◌, IfOk, take};
 ghost use Rattle.rv_hunt.specs.PageFacts as spec;
 ghost use Rattle.rv_markup.specs.declared.markup.Fact.TheVariants as fact;
 
-use crate::hunted::Hunted;
-use crate::near::{Fate, NearRow, fate_by};
 use crate::page::elements::{
     begin_row, begin_rows, begin_table, cell, code, column, end_line, end_table, number_cell,
     number_column,
@@ -15,6 +13,8 @@ use rv_explain::symbol_table::SymbolTable;
 use rv_markup::markup::Markup;
 use rv_markup::tag::{DETAILS, SUMMARY, TD};
 use rv_memory::store::NoMemory;
+use rv_search::hunted::Hunted;
+use rv_tables::near::{Fate, NearRow, fate_by};
 use rv_walk::near_pair::Addresses;
 use std::alloc::Global;
 

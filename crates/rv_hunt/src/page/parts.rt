@@ -1,11 +1,11 @@
 //! What the page is made of.
 use crate::code_seen::CodeSeen;
-use crate::end_runs::EndRuns;
 use crate::engine::stuck_ends::StuckEnds;
-use crate::hunted::Hunted;
-use crate::row::RaceRow;
 use rv_engines::built::Built;
 use rv_report::key::Key;
+use rv_search::end_runs::EndRuns;
+use rv_search::hunted::Hunted;
+use rv_tables::row::RaceRow;
 use rv_tally::plans::Mix;
 use std::marker::Model;
 

@@ -8,13 +8,11 @@ use crate::engine::options::LineParts;
 use crate::engine::orders::ShownOrder;
 use crate::engine::shown::ShownRace;
 use crate::engine::texts::race_text;
-use crate::expected::is_likely_benign;
 use crate::page::elements::{
     begin_part, begin_row, begin_rows, begin_table, cell, class, code, column, end_line, end_table,
     number_cell, number_column,
 };
 use crate::page::orders::order_part;
-use crate::row::RaceRow;
 use crate::saying::index::names_of;
 use crate::saying::unexpected::{is_among, mark};
 use rv_explain::block::RaceClass;
@@ -25,6 +23,8 @@ use rv_markup::markup::Markup;
 use rv_markup::tag::{DETAILS, FIGURE, H3, LINK, P, PRE, Place, SECTION, SUMMARY, TD};
 use rv_memory::store::NoMemory;
 use rv_report::key::Key;
+use rv_tables::expected::is_likely_benign;
+use rv_tables::row::RaceRow;
 use std::alloc::Global;
 
 /// How many races of a page have a picture.

@@ -5,8 +5,6 @@ ghost use Rattle.rv_hunt.specs.PageFacts as spec;
 ghost use Rattle.rv_markup.specs.declared.markup.Fact.TheVariants as fact;
 
 use crate::code_seen::CodeSeen;
-use crate::end_runs::EndRuns;
-use crate::hunted::Hunted;
 use crate::page::code::code_table;
 use crate::page::elements::{
     begin_part, begin_row, begin_rows, begin_table, cell, column, end_line, end_table, number_cell,
@@ -14,12 +12,9 @@ use crate::page::elements::{
 };
 use crate::page::near::near_table;
 use crate::page::parts::{Outcome, Tabled};
-use crate::row::RaceRow;
-use crate::saying::ended::{EndedRow, ended_rows, ways_words};
 use crate::saying::lines::{Seen, runs_seen, sampled_numbers, walk_numbers};
 use crate::saying::order::{of_class, reports_of};
 use crate::saying::warnings::{Warning, all_sampled, gone_words, warning_words, warnings_of};
-use crate::tally::Tally;
 use rv_engines::source_lines::MISS_WORDS;
 use rv_explain::block::RaceClass;
 use rv_explain::symbol_table::SymbolTable;
@@ -27,6 +22,11 @@ use rv_markup::markup::Markup;
 use rv_markup::tag::Place;
 use rv_memory::store::NoMemory;
 use rv_report::key::Key;
+use rv_search::end_runs::EndRuns;
+use rv_search::ended::{EndedRow, ended_rows, ways_words};
+use rv_search::hunted::Hunted;
+use rv_search::tally::Tally;
+use rv_tables::row::RaceRow;
 use std::alloc::Global;
 
 /// A row of each warning.

@@ -7,11 +7,11 @@ use crate::engine::texts::stuck_end_text;
 use crate::page::elements::end_line;
 use crate::page::parts::Outcome;
 use crate::saying::lines::counted;
-use crate::tally::Tally;
 use rv_explain::symbol_table::SymbolTable;
 use rv_markup::markup::Markup;
 use rv_markup::tag::{H2, P, PRE, SECTION};
 use rv_memory::store::NoMemory;
+use rv_search::tally::Tally;
 use std::alloc::Global;
 
 /// A block of each stuck end that is shown.

@@ -12,13 +12,13 @@ use crate::page::parts::Tabled;
 use crate::page::races::{races_part, races_shown};
 use crate::page::runs::{apart_part, tabled_warnings_part};
 use crate::page::terms::terms_part;
-use crate::row::RaceRow;
 use crate::saying::lines::tabled_line;
 use rv_explain::symbol_table::SymbolTable;
 use rv_markup::markup::Markup;
 use rv_markup::tag::{LINK, NAV, Place};
 use rv_memory::store::NoMemory;
 use rv_report::key::Key;
+use rv_tables::row::RaceRow;
 use std::alloc::Global;
 
 /// A link to the races.

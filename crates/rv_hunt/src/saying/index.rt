@@ -1,6 +1,4 @@
 //! The index of a hunt's races: a line of each.
-use crate::orders::OrderTable;
-use crate::row::RaceRow;
 use crate::saying::lines::counted;
 use crate::saying::orders::order_word;
 use crate::saying::unexpected::{is_among, mark};
@@ -10,6 +8,8 @@ use rv_explain::pieces::joined;
 use rv_explain::symbol_table::SymbolTable;
 use rv_memory::store::NoMemory;
 use rv_report::key::Key;
+use rv_tables::orders::OrderTable;
+use rv_tables::row::RaceRow;
 use rv_text::decimal::Decimal;
 use std::alloc::Global;
 

@@ -4,18 +4,18 @@ ghost use Rattle.rv_hunt.specs.Outcome as spec;
 ghost use Rattle.rv_hunt.specs.declared.saying.lines.Seen.{Seen};
 
 use crate::code_seen::CodeSeen;
-use crate::hunted::Hunted;
-use crate::near::Fate;
 use crate::page::parts::{Outcome, Tabled};
-use crate::row::RaceRow;
-use crate::saying::ended::{ended_rows, ways_words};
 use crate::saying::order::{benign, bugs, of_class, reports_of, unwatched};
 use crate::saying::warnings::all_sampled;
-use crate::tally::Tally;
 use rv_explain::block::RaceClass;
 use rv_explain::symbol_table::SymbolTable;
 use rv_memory::store::NoMemory;
 use rv_report::key::Key;
+use rv_search::ended::{ended_rows, ways_words};
+use rv_search::hunted::Hunted;
+use rv_search::tally::Tally;
+use rv_tables::near::Fate;
+use rv_tables::row::RaceRow;
 use std::alloc::Global;
 
 /// How many races no data breakpoint watched, where there are any.

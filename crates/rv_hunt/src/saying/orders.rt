@@ -1,9 +1,9 @@
 //! What is said of the order of a race's accesses.
 use crate::engine::orders::ShownOrder;
-use crate::orders::{Order, OrderRow};
 use rv_explain::order::{CopyText, OrderCounts, copies_of, counted_rows};
 use rv_explain::symbol_table::SymbolTable;
 use rv_memory::store::NoMemory;
+use rv_tables::orders::{Order, OrderRow};
 use std::alloc::Global;
 
 /// The word for what the order of a race's accesses makes.

@@ -1,10 +1,10 @@
 //! The lines of a stuck end.
 use crate::engine::stuck_ends::ShownStuck;
-use crate::stuck::StuckRow;
-use crate::tally::Tally;
 use rv_explain::stuck::stuck_lines;
 use rv_explain::symbol_table::SymbolTable;
 use rv_memory::store::NoMemory;
+use rv_search::stuck::StuckRow;
+use rv_search::tally::Tally;
 use std::alloc::Global;
 
 /// In how many walks and probes it was met, and where first.

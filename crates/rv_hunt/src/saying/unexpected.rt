@@ -1,9 +1,9 @@
 //! What is said of races that may be bugs and are not expected.
-use crate::merge::listing::{NEW, push_line};
-use crate::row::RaceRow;
 use rv_explain::symbol_table::SymbolTable;
 use rv_memory::store::NoMemory;
 use rv_report::key::Key;
+use rv_tables::merge::listing::{NEW, push_line};
+use rv_tables::row::RaceRow;
 use std::alloc::Global;
 
 /// Whether the race is one of these.

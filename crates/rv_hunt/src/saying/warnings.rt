@@ -2,14 +2,14 @@
 ghost use Rattle.std.specs.Prelude.{◌≡◌, IfOk};
 ghost use Rattle.rv_hunt.specs.Warnings as spec;
 
-use crate::hunted::Hunted;
-use crate::near::Fate;
 use crate::page::parts::{Outcome, Tabled};
-use crate::saying::ended::{Ways, ways_words};
 use crate::saying::unexpected::push_unexpected;
 use rv_engines::source_lines::MISS_WORDS;
 use rv_explain::symbol_table::SymbolTable;
 use rv_memory::store::NoMemory;
+use rv_search::ended::{Ways, ways_words};
+use rv_search::hunted::Hunted;
+use rv_tables::near::Fate;
 use rv_tally::plans::Mix;
 use std::alloc::Global;
 

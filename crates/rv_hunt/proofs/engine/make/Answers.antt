@@ -5,7 +5,7 @@ use Rattle.rv_hunt.proofs.EngineLemmas.{make_told, made_known, write_same}
 use Rattle.rv_hunt.specs.engine.Asked.{asked}
 use Rattle.rv_hunt.specs.engine.Hunting.{files_of, showing_of}
 use Rattle.rv_hunt.specs.engine.Late.{IfListed, IfPaged, IfSaved, IfWritten}
-use Rattle.rv_hunt.specs.RightEnds.{right_codes}
+use Rattle.rv_search.specs.RightEnds.{right_codes}
 use Rattle.rv_hunt.specs.internal.Opened.{hunt_in, hunting_with, texts_in}
 use Rattle.rv_hunt.proofs.engine.make.Goals as goal
 

@@ -6,4 +6,4 @@ pub returns-clause-shown : goal.returns-clause-shown
 returns-clause-shown c = each_is_shown_once
 
 pub returns-clause-counted : goal.returns-clause-counted
-returns-clause-counted c = each_is_counted_once
+returns-clause-counted c = each_is_counted_once c.races_are_apart.ensures

@@ -1,5 +1,5 @@
 -- the probes are of the same walk
-use Rattle.rv_hunt.specs.internal.RunWalk.{AreProbesOf}
+use Rattle.rv_search.specs.RunWalk.{AreProbesOf}
 use Rattle.rv_hunt.proofs.engine.early.probed.Given as goal
 
 abbrev pub invariant-loop-part : goal.invariant-loop-part

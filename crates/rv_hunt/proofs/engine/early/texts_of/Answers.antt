@@ -1,8 +1,8 @@
 use denote.Param.Send.{sendable}
 use Rattle.std.proofs.Crossing.{crosses}
 use Rattle.std.proofs.MapsCrossing.{crosses as crossing_maps}
-use Rattle.rv_hunt.proofs.aim.Aim.TheSendSync as aim
-use Rattle.rv_hunt.proofs.row.RaceRow.TheSendSync as row
+use Rattle.rv_search.proofs.aim.Aim.TheSendSync as aim
+use Rattle.rv_tables.proofs.row.RaceRow.TheSendSync as row
 use Rattle.rv_report.proofs.key.Key.TheSendSync as key
 use Rattle.rv_hunt.proofs.engine.early.texts_of.Goals as goal
 

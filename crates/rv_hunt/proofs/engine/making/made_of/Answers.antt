@@ -1,7 +1,7 @@
 use Rattle.std.proofs.Common.{◌∙◌, length, ap, refl}
 use Rattle.std.proofs.lemmas.Result.{err_from_is_err_and}
 use Rattle.rv_explain.specs.Naming.{Naming}
-use Rattle.rv_hunt.specs.Hunt.{Hunt}
+use Rattle.rv_search.specs.Hunt.{Hunt}
 use Rattle.rv_hunt.specs.internal.Opened.{hunting_with}
 use Rattle.rv_hunt.proofs.MadeLemmas.{found_from, made_is, new_from, not_ok, outcome_is, races_from, table_from}
 use Rattle.rv_hunt.proofs.engine.making.made_of.Goals as goal

@@ -1,6 +1,6 @@
 use Rattle.std.proofs.Common.{◌∙◌}
 use Rattle.rv_hunt.proofs.PartedLemmas.{parted_is}
-use Rattle.rv_hunt.specs.merge.Ignore.{is_ignored, is_told}
+use Rattle.rv_tables.specs.merge.Ignore.{is_ignored, is_told}
 use Rattle.rv_hunt.proofs.engine.making.parted_rows.Goals as goal
 
 pub returns-clause-told : goal.returns-clause-told

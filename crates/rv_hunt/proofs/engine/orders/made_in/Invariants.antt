@@ -1,6 +1,6 @@
 -- the trials so far, of the same walk
 use Rattle.rv_hunt.specs.internal.OrderShowing.{AreMade}
-use Rattle.rv_hunt.specs.internal.RunWalk.{AreProbesOf}
+use Rattle.rv_search.specs.RunWalk.{AreProbesOf}
 use Rattle.rv_hunt.proofs.engine.orders.made_in.Given as goal
 
 abbrev pub invariant-loop-part : goal.invariant-loop-part

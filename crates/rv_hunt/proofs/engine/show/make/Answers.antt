@@ -3,8 +3,8 @@ use Rattle.rv_memory.specs.Flagged.{device}
 use Rattle.rv_hunt.proofs.TableLemmas.{late_told, read_as, show_known, table_told}
 use Rattle.rv_hunt.specs.engine.Late.{IfListed, IfPaged, IfSaved, IfWritten}
 use Rattle.rv_hunt.specs.engine.TableShown.{table_in}
-use Rattle.rv_hunt.specs.merge.FileFault as file
-use Rattle.rv_hunt.specs.merge.Merge.{bytes_if}
+use Rattle.rv_tables.specs.merge.FileFault as file
+use Rattle.rv_tables.specs.merge.Merge.{bytes_if}
 use Rattle.rv_hunt.proofs.engine.show.make.Goals as goal
 
 pub returns-in-Err-read_shown-clause-refused : goal.returns-in-Err-read_shown-clause-refused

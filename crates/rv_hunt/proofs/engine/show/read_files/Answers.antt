@@ -1,4 +1,4 @@
-use Rattle.rv_hunt.specs.merge.Merge.{bytes_if}
+use Rattle.rv_tables.specs.merge.Merge.{bytes_if}
 use Rattle.rv_hunt.proofs.TableLemmas.{late_ignored}
 use Rattle.rv_hunt.proofs.engine.show.read_files.Goals as goal
 

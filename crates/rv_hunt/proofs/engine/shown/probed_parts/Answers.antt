@@ -1,6 +1,6 @@
 use Rattle.std.proofs.Common.{subst, sym}
 use Rattle.rv_hunt.proofs.ShowingLemmas.{more_parts, no_part}
-use Rattle.rv_hunt.specs.internal.RunWalk.{AreProbesOf}
+use Rattle.rv_search.specs.RunWalk.{AreProbesOf}
 use Rattle.rv_hunt.specs.internal.Showing.{AreShownIn}
 use Rattle.rv_hunt.proofs.engine.shown.probed_parts.Goals as goal
 

@@ -1,5 +1,5 @@
 -- the parts so far, of the same walk
-use Rattle.rv_hunt.specs.internal.RunWalk.{AreProbesOf}
+use Rattle.rv_search.specs.RunWalk.{AreProbesOf}
 use Rattle.rv_hunt.specs.internal.Showing.{AreShownIn}
 use Rattle.rv_hunt.proofs.engine.shown.probed_parts.Given as goal
 

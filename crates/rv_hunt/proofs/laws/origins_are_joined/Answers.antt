@@ -1,5 +1,0 @@
-use Rattle.rv_hunt.proofs.MergeLemmas.{origins_joined}
-use Rattle.rv_hunt.proofs.laws.origins_are_joined.Goals as goal
-
-pub returns : goal.returns
-returns c = origins_joined

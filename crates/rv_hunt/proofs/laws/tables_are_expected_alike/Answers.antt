@@ -1,5 +1,0 @@
-use Rattle.rv_hunt.proofs.KnownLemmas.{expected_alike}
-use Rattle.rv_hunt.proofs.laws.tables_are_expected_alike.Goals as goal
-
-pub returns : goal.returns
-returns c = expected_alike

@@ -1,8 +1,0 @@
--- the races so far that are new
-use Rattle.std.proofs.Common.{◌≡◌, filter, take}
-use Rattle.rv_hunt.specs.declared.merge.known.Known.TheVariants as known
-use Rattle.rv_hunt.specs.merge.Known as spec
-use Rattle.rv_hunt.proofs.merge.known.new_by.Given as goal
-
-abbrev pub invariant-loop-race : goal.invariant-loop-race
-invariant-loop-race l = l.found.items ≡ filter (spec.is_new l.symbols (known.Lines l.lines)) (take l.race-index l.races)

@@ -1,6 +1,0 @@
-use Rattle.std.proofs.Common.{take}
-use Rattle.rv_hunt.proofs.NumberLemmas.{SoFar}
-use Rattle.rv_hunt.proofs.number.read_digits.Given as goal
-
-abbrev pub invariant-loop-byte : goal.invariant-loop-byte
-invariant-loop-byte l = SoFar l.number (take l.byte-index l.text)

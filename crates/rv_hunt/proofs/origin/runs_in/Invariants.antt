@@ -1,7 +1,0 @@
--- the runs of the stretches so far
-use Rattle.std.proofs.Common.{◌≡◌, take}
-use Rattle.rv_hunt.specs.Origin.{runs_of}
-use Rattle.rv_hunt.proofs.origin.runs_in.Given as goal
-
-abbrev pub invariant-loop-stretch : goal.invariant-loop-stretch
-invariant-loop-stretch l = l.runs ≡ runs_of (take l.stretch-index l.stretches)

@@ -1,6 +1,0 @@
-use Rattle.std.proofs.Common.{◌≡◌, take}
-use Rattle.rv_hunt.specs.Tally.{with_addresses}
-use Rattle.rv_hunt.proofs.tally.addresses.Addresses.add_all.Given as goal
-
-abbrev pub invariant-loop-address : goal.invariant-loop-address
-invariant-loop-address l = l.self ≡ with_addresses l.initial.self (take l.address-index l.addresses)

@@ -1,6 +1,0 @@
-use Rattle.std.proofs.Common.{◌≡◌, take}
-use Rattle.rv_hunt.specs.Tally.{all_ended}
-use Rattle.rv_hunt.proofs.tally.ended.Ended.add_all.Given as goal
-
-abbrev pub invariant-loop-end : goal.invariant-loop-end
-invariant-loop-end l = l.self ≡ all_ended l.initial.self (take l.end-index l.ends)

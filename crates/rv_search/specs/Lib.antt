@@ -1,0 +1,13 @@
+pub mod Doubts
+pub mod EndedRows
+pub mod Hunt
+pub mod Hunted
+pub mod HuntedLaws
+pub mod KeptRun
+pub mod Kinds
+pub mod RightEnds
+pub mod RunWalk
+pub mod Summary
+pub mod Sums
+pub mod Tally
+pub mod internal

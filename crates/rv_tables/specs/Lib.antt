@@ -1,0 +1,15 @@
+pub mod Changed
+pub mod Expected
+pub mod HuntLaws
+pub mod HuntRead
+pub mod HuntReadLaws
+pub mod HuntText
+pub mod Keyed
+pub mod Near
+pub mod Orders
+pub mod Origin
+pub mod OriginRead
+pub mod Rows
+pub mod ShownRows
+pub mod internal
+pub mod merge

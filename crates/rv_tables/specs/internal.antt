@@ -1,0 +1,5 @@
+-- What only private contracts cite: no reader has to believe it.
+pub mod Adding
+pub mod Shaped
+pub mod Sought
+pub mod Words
