@@ -1,6 +1,4 @@
-//! Drivers, runs by threads, and campaigns.
+//! Runs by threads, and campaigns.
 mod campaign;
-mod driver;
-mod entries;
 mod images;
 mod locked;

@@ -1,5 +1,5 @@
-//! The tests of the core and of what stands on it alone: rv_collide; rv_drive, rv_locked and rv_campaign; rv_prune and
-//! rv_report; and rv_debug.
+//! The tests of rv_collide, rv_campaign, rv_locked and rv_prune that no script makes, of what no contract says: how large an entry is, runs
+//! and campaigns by threads under gates, and the rules of a flag and of a counter just met and just missed.
 //!
 //! They stand in a crate of their own, so that these are not proved a second time with their tests.
 #![tactic(auto)]
@@ -7,25 +7,9 @@
 #[cfg(test)]
 mod assertion;
 #[cfg(test)]
-mod calls;
-#[cfg(test)]
 mod campaigns;
 #[cfg(test)]
-mod debugger;
-#[cfg(test)]
 mod entry;
-#[cfg(test)]
-mod names;
 pub mod parts;
 #[cfg(test)]
-mod plan;
-#[cfg(test)]
-mod reports;
-#[cfg(test)]
-mod rows;
-#[cfg(test)]
-mod samples;
-#[cfg(test)]
-mod schedule;
-#[cfg(test)]
-mod texts;
+mod prune;

@@ -1,12 +1,13 @@
-//! The images that the engines are tried with.
-use crate::parts::zeros;
-use rv_elf::{Image, Symbol, write};
+//! Images whose code and data are padded with zeros.
+ghost use Rattle.std.specs.Prelude.{◌≡◌, [], true};
+
+use rv_elf::{Image, Symbol};
 use rv_memory::region::Region;
 use std::alloc::Global;
 use std::process::Abort;
 
 /// The bytes of words.
-pub fn bytes_of(rt: &impl Abort, alloc: Global, words: &[u32]) -> Vec<u8> {
+fn bytes_of(rt: &impl Abort, alloc: Global, words: &[u32]) -> Vec<u8> {
     let mut bytes = Vec::new(alloc);
     for word in words {
         bytes
@@ -16,43 +17,10 @@ pub fn bytes_of(rt: &impl Abort, alloc: Global, words: &[u32]) -> Vec<u8> {
     bytes
 }
 
-/// Words at 00010000, R and X, and W where they may be written.
-fn code(rt: &impl Abort, alloc: Global, words: &[u32], w: bool) -> Region {
-    let bytes = bytes_of(rt, alloc, words);
-    let len = bytes.len();
-    assert!(rt; 1 <= len && len <= 65_536);
-    Region {
-        start: 0x10000,
-        bytes,
-        len: len as u32,
-        r: true,
-        w,
-        x: true,
-    }
-}
-
-/// The code of words, and the data.
-fn segments(rt: &impl Abort, alloc: Global, words: &[u32], w: bool) -> Vec<Region> {
-    let code = code(rt, alloc, words, w);
-    let data = zeros(alloc, 0x20000, 4096, false);
-    vec![in alloc; code, data].expect(rt, "memory")
-}
-
-/// An image of words that may be written where `w` says so, and of no symbol.
-pub fn image_of(rt: &impl Abort, alloc: Global, words: &[u32], w: bool) -> Image {
-    let segments = segments(rt, alloc, words, w);
-    Image::new(0x10000, segments, Vec::new(alloc)).expect(rt, "an image")
-}
-
-/// Its file.
-pub fn file_of(rt: &impl Abort, alloc: Global, words: &[u32], w: bool) -> Vec<u8> {
-    write(alloc, &image_of(rt, alloc, words, w)).expect(rt, "memory")
-}
-
 /// A symbol's name, value, size and type.
 pub type Named = (&'static str, u32, u32, u8);
 
-pub fn symbols_of(rt: &impl Abort, alloc: Global, rows: &[Named]) -> Vec<Symbol> {
+fn symbols_of(rt: &impl Abort, alloc: Global, rows: &[Named]) -> Vec<Symbol> {
     let mut symbols = Vec::new(alloc);
     for (name, value, size, kind) in rows {
         symbols
@@ -67,16 +35,26 @@ pub fn symbols_of(rt: &impl Abort, alloc: Global, rows: &[Named]) -> Vec<Symbol>
     symbols
 }
 
-/// Four bytes at 00020000, and another.
-const WORD_AND_BYTE: [Named; 2] = [("word", 0x20000, 4, 1), ("byte", 0x20004, 0, 1)];
-
-fn named_image_of(rt: &impl Abort, alloc: Global, words: &[u32]) -> Image {
-    let segments = segments(rt, alloc, words, false);
-    let symbols = symbols_of(rt, alloc, &WORD_AND_BYTE);
-    Image::new(0x10000, segments, symbols).expect(rt, "an image")
+/// Zero bytes that may be read and written, and executed where that is said.
+fn zeros(alloc: Global, start: u32, len: u32, x: bool) -> Region
+    ensures { result ≡ record { start = start; bytes = []; len = len; r = true; w = true; x = x } }
+{
+    Region {
+        start,
+        bytes: Vec::new(alloc),
+        len,
+        r: true,
+        w: true,
+        x,
+    }
 }
 
-/// The file of an image of words, and of those symbols.
-pub fn named_file_of(rt: &impl Abort, alloc: Global, words: &[u32]) -> Vec<u8> {
-    write(alloc, &named_image_of(rt, alloc, words)).expect(rt, "memory")
+/// These words and zeros in 4,096 bytes from 00010000 on, as many zeros from 00020000 on, and these symbols.
+pub fn image(rt: &impl Abort, alloc: Global, words: &[u32], rows: &[Named]) -> Image {
+    let mut code = zeros(alloc, 0x10000, 4096, true);
+    code.bytes = bytes_of(rt, alloc, words);
+    let data = zeros(alloc, 0x20000, 4096, false);
+    let segments = vec![in alloc; code, data].expect(rt, "memory");
+    let symbols = symbols_of(rt, alloc, rows);
+    Image::new(0x10000, segments, symbols).expect(rt, "an image")
 }

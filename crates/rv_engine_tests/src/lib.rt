@@ -1,45 +1,16 @@
-//! The tests of the engines, of the command line, of rv_explain and rv_hunt, and of what serves a saved run to GDB. What the
-//! built program can show of `explain` and `hunt` is in `tests/explain` and `tests/hunts`.
+//! The tests that no script of `tests/` makes, of what no contract says: that each fault is listed with its sentence, and what of
+//! rv_explain, rv_symbols and rv_races the built program has no use for. All else is tried on the built program, in `tests/program`,
+//! `tests/explain`, `tests/hunts`, `tests/tables` and `tests/talks`.
 //!
-//! They stand in a crate of their own, so that the engines are not proved a second time with their tests. What a must-fail
-//! edit changes stands outside the tests.
+//! They stand in a crate of their own, so that what they try is not proved a second time with its tests. What a must-fail edit changes
+//! stands outside the tests.
 #![tactic(auto)]
 
 #[cfg(test)]
-mod asm;
-#[cfg(test)]
 mod assertion;
-#[cfg(test)]
-mod command;
-#[cfg(test)]
-mod debug;
-#[cfg(test)]
-mod devices;
-#[cfg(test)]
-mod exhibit;
 #[cfg(test)]
 mod explain;
 #[cfg(test)]
-mod gdb;
-#[cfg(test)]
-mod hunt;
+mod faults;
 #[cfg(test)]
 mod images;
-pub mod kept;
-#[cfg(test)]
-mod list;
-#[cfg(test)]
-mod padded;
-pub mod parts;
-#[cfg(test)]
-mod replay;
-#[cfg(test)]
-mod run;
-#[cfg(test)]
-mod sentences;
-#[cfg(test)]
-mod shown;
-#[cfg(test)]
-mod threads;
-#[cfg(test)]
-mod words;

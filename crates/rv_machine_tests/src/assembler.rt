@@ -1,12 +1,3 @@
-//! Images, and the assembler and its listing.
-mod assembly;
+//! A file that is written, and the assembler's lines.
 mod images;
 mod lines;
-mod listing;
-mod loading;
-mod outside;
-mod refusals;
-mod samples;
-mod sources;
-mod statements;
-mod symbols;

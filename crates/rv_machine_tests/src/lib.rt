@@ -1,6 +1,6 @@
-//! The tests of rv_hart, rv_words, rv_waits, rv_stuck, rv_orders and rv_break, and of rv_elf and rv_asm: steps of machines, worked out
-//! from the RISC-V Unprivileged ISA, the texts that harts are shown in, lists of instruction words, breakpoints, images, the
-//! assembler, harts that wait, machines that are stuck, and both orders of two steps.
+//! The tests of rv_hart, rv_waits, rv_orders, rv_break, rv_elf and rv_asm that no script makes, of what no contract says: that common steps are
+//! made by the quick way, which addresses may be armed at one look, when waiting is seen, trials that are cut off, a file with symbols byte for byte,
+//! and lines at the ends of the addresses.
 //!
 //! They stand in a crate of their own, so that these are not proved a second time with their tests.
 #![tactic(auto)]
@@ -10,33 +10,13 @@ mod assembler;
 #[cfg(test)]
 mod assertion;
 #[cfg(test)]
-mod atomics;
-#[cfg(test)]
 mod breaks;
 #[cfg(test)]
-mod causes;
-#[cfg(test)]
-mod corners;
-#[cfg(test)]
-mod edges;
-#[cfg(test)]
 mod machines;
-#[cfg(test)]
-mod operations;
 #[cfg(test)]
 mod orders;
 pub mod parts;
 #[cfg(test)]
-mod products;
-#[cfg(test)]
 mod quick;
 #[cfg(test)]
-mod sharing;
-#[cfg(test)]
-mod stuck;
-#[cfg(test)]
-mod texts;
-#[cfg(test)]
 mod waits;
-#[cfg(test)]
-mod words;

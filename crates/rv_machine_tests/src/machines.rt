@@ -1,5 +1,5 @@
 //! The machines that are tried.
-ghost use Rattle.std.specs.Prelude.{◌≡◌, All, length};
+ghost use Rattle.std.specs.Prelude.{All};
 ghost use Rattle.rv_memory.specs.Extent.{IsExtent};
 
 use rv_hart::machine::{MOST_HARTS, Machine};
@@ -90,15 +90,6 @@ pub fn two(rt: &impl Abort, alloc: Global, first: Region, second: Region) -> Vec
     all.push(first).expect(rt, "memory");
     all.push(second).expect(rt, "memory");
     all
-}
-
-/// Steps of the harts in turn, each of which is made.
-pub fn run(rt: &impl Abort, machine: &mut Machine<Flat>, steps: &[u8])
-    ensures { length machine.new.state.harts ≡ length machine.old.state.harts }
-{
-    for h in steps {
-        assert!(rt; machine.step(*h).is_ok(), "step of hart {h}");
-    }
 }
 
 /// So many steps of one hart, each of which is made.

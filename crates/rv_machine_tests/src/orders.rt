@@ -6,7 +6,6 @@ use rv_orders::{Trial, trial};
 use std::alloc::Global;
 use std::process::Abort;
 
-mod refused;
 mod trials;
 
 /// A machine that runs words from 00010000 on, which may be written, with 4,096 zeros from 00020000 on.

@@ -1,4 +1,4 @@
-//! Harts that wait, and harts that don't.
+//! When harts are seen to wait, and that those do. (tests/instructions has the rounds of small programs.)
 ghost use Rattle.std.specs.Prelude.{◌≡◌, ◌<◌, length};
 ghost use Rattle.rv_waits.specs.Watch.{IsWatchOf};
 
@@ -13,72 +13,8 @@ use rv_waits::watch::Watch;
 use std::alloc::Global;
 use std::process::Abort;
 
-/// `jal x0,0`
-const PARKED: [u32; 1] = [0x0000_006f];
-
-/// All others but two begin with `lui x6,0x20`. `lw x5,0(x6)`, `beq x5,x0,-4`
-const LOADS: [u32; 3] = [0x0002_0337, 0x0003_2283, 0xfe02_8ee3];
-
-/// `amoor.w x5,x0,(x6)`, `beq x5,x0,-4`
-const ORS: [u32; 3] = [0x0002_0337, 0x4003_22af, 0xfe02_8ee3];
-
-/// `lr.w x5,(x6)`, `beq x5,x0,-4`
-const RESERVES: [u32; 3] = [0x0002_0337, 0x1003_22af, 0xfe02_8ee3];
-
-/// `lr.w x5,(x6)`, `sc.w x7,x5,(x6)`, `jal x0,-8`
-const CONDITIONAL: [u32; 4] = [0x0002_0337, 0x1003_22af, 0x1853_23af, 0xff9f_f06f];
-
-/// `addi x5,x5,-1`, `bne x5,x0,-4`
-const COUNTS: [u32; 2] = [0xfff2_8293, 0xfe02_9ee3];
-
-/// `sw x0,0(x6)`, `jal x0,-4`
-const STORES: [u32; 3] = [0x0002_0337, 0x0003_2023, 0xffdf_f06f];
-
-/// `addi x17,x0,1`, `ecall`, `jal x0,-4`
-const PRINTS: [u32; 3] = [0x0010_0893, 0x0000_0073, 0xffdf_f06f];
-
-/// `jal x1,8`, `jal x0,-4`, and what is called: `lw x5,0(x6)`, `jalr x0,0(x1)`
-const CALLS: [u32; 5] = [
-    0x0002_0337,
-    0x0080_00ef,
-    0xffdf_f06f,
-    0x0003_2283,
-    0x0000_8067,
-];
-
-/// Nine times `lw x5,..(x6)`, of a word each, and `jal x0,-36`
-const NINE: [u32; 11] = [
-    0x0002_0337,
-    0x0003_2283,
-    0x0043_2283,
-    0x0083_2283,
-    0x00c3_2283,
-    0x0103_2283,
-    0x0143_2283,
-    0x0183_2283,
-    0x01c3_2283,
-    0x0203_2283,
-    0xfddf_f06f,
-];
-
-/// `addi x7,x0,1`, `sw x7,8(x6)`, and then a round of ten as a compiler leaves it that keeps each value in memory: `sw x6,12(x6)`,
-/// `lw x5,12(x6)`, `lw x5,0(x5)`, `sw x5,16(x6)`, `lw x5,16(x6)`, `sltiu x5,x5,1`, `andi x5,x5,255`, `sb x5,20(x6)`,
-/// `lbu x5,20(x6)`, `bne x5,x0,-36`
-const KEEPS: [u32; 13] = [
-    0x0002_0337,
-    0x0010_0393,
-    0x0073_2423,
-    0x0063_2623,
-    0x00c3_2283,
-    0x0002_a283,
-    0x0053_2823,
-    0x0103_2283,
-    0x0012_b293,
-    0x0ff2_f293,
-    0x0053_0a23,
-    0x0143_4283,
-    0xfc02_9ee3,
-];
+/// `lui x6,0x20`
+const FIRST: u32 = 0x0002_0337;
 
 /// What is told of a round: its steps, whether it polls, and whether its ranges were too many.
 fn told(round: Option<Round>) -> Option<(u32, bool, bool)> {
@@ -86,38 +22,6 @@ fn told(round: Option<Round>) -> Option<(u32, bool, bool)> {
         Some(it) => Some((it.steps, it.polls, it.touched.is_all)),
         None => None,
     }
-}
-
-/// The round of hart 0 after three steps, by steps of the machine.
-fn tried(rt: &impl Abort, alloc: Global, words: &[u32]) -> Option<(u32, bool, bool)> {
-    let mut machine = machine(rt, alloc, words, &[0], 1);
-    tried_on(rt, &mut machine)
-}
-
-fn tried_on(rt: &impl Abort, machine: &mut Machine<Flat>) -> Option<(u32, bool, bool)> {
-    assert!(rt; machine.harts() == 1);
-    for _ in 0..3 {
-        assert!(rt; machine.step(0).is_ok());
-    }
-    assert!(rt; machine.harts() == 1);
-    told(round_of(machine, 0, 100))
-}
-
-/// The round of hart 0 that a watch sees first in so many steps.
-fn watched(rt: &impl Abort, alloc: Global, words: &[u32], most: u32) -> Option<(u32, bool, bool)> {
-    let mut machine = machine(rt, alloc, words, &[0], 1);
-    watched_on(rt, alloc, &mut machine, most)
-}
-
-fn watched_on(
-    rt: &impl Abort,
-    alloc: Global,
-    machine: &mut Machine<Flat>,
-    most: u32,
-) -> Option<(u32, bool, bool)> {
-    assert!(rt; machine.harts() == 1);
-    let mut watch = Watch::new(alloc, machine).expect(rt, "memory");
-    seen(machine, &mut watch, most)
 }
 
 /// The first round of hart 0 that the watch sees as it steps.
@@ -135,43 +39,6 @@ fn seen(machine: &mut Machine<Flat>, watch: &mut Watch, most: u32) -> Option<(u3
         }
     }
     None
-}
-
-/// Each program's round as it is tried, and as it is watched for 100 steps.
-#[test]
-fn rounds(rt: HostRuntime) {
-    let alloc = rt.alloc();
-    assert_round(&rt, alloc, &PARKED, Some((1, false, false)), "jal x0,0");
-    assert_round(&rt, alloc, &LOADS, Some((2, true, false)), "a load");
-    assert_round(&rt, alloc, &ORS, Some((2, true, false)), "amoor.w of x0");
-    assert_round(&rt, alloc, &RESERVES, Some((2, true, false)), "lr.w");
-    assert_round(&rt, alloc, &CONDITIONAL, None, "an SC");
-    assert_round(&rt, alloc, &COUNTS, None, "a count-down");
-    assert_round(
-        &rt,
-        alloc,
-        &STORES,
-        Some((2, false, false)),
-        "a store of the same value",
-    );
-    assert_round(&rt, alloc, &PRINTS, None, "a hart that prints");
-    assert_round(&rt, alloc, &CALLS, Some((4, true, false)), "a call");
-    assert_round(&rt, alloc, &NINE, Some((10, true, true)), "nine words");
-    let kept = watched(&rt, alloc, &KEEPS, 100);
-    assert_is(&rt, kept, Some((10, true, false)), "values kept in memory");
-}
-
-fn assert_round(
-    rt: &impl Abort,
-    alloc: Global,
-    words: &[u32],
-    wanted: Option<(u32, bool, bool)>,
-    what: &str,
-) {
-    let by_trial = tried(rt, alloc, words);
-    let by_watch = watched(rt, alloc, words, 100);
-    assert_is(rt, by_trial, wanted, what);
-    assert_is(rt, by_watch, wanted, what);
 }
 
 /// `addi x0,x0,0`, and `jal x0,-16380`.
@@ -326,7 +193,7 @@ fn draw(row: &mut u32) -> u32 {
 /// Six drawn instructions, without end.
 fn drawn_words(row: &mut u32) -> [u32; 8] {
     let mut words = [
-        LOADS[0],
+        FIRST,
         NOTHING,
         NOTHING,
         NOTHING,

@@ -13,7 +13,7 @@ pub const P: [u32; 4] = [0x0002_0337, 0x00a3_2023, 0x0003_2283, 0x0000_0073];
 pub const ONE_STORE: [u32; 3] = [0x0002_0337, 0x00a3_2023, 0x0000_0073];
 
 /// Words at 00010000, R and X.
-pub fn code(rt: &impl Abort, alloc: Global, words: &[u32]) -> Region {
+fn code(rt: &impl Abort, alloc: Global, words: &[u32]) -> Region {
     let mut bytes = Vec::new(alloc);
     for word in words {
         bytes

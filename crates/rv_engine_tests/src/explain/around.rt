@@ -1,7 +1,6 @@
 //! Numbers that no command line has.
-use super::bytes_of;
 use crate::assertion::assert_is;
-use crate::padded::image;
+use crate::images::image;
 use rv_collide::entry::Entry::{self, Armed, Paused, Resumed, Stepped};
 use rv_collide::plan::Plan;
 use rv_debug::session::Session;
@@ -10,6 +9,7 @@ use rv_explain::blocks::block_text;
 use rv_explain::explain::blocks_asked;
 use rv_explain::races::races_in;
 use rv_explain::symbol_table::SymbolTable;
+use rv_prune::named_bytes::NamedBytes;
 use std::alloc::Global;
 use std::process::Abort;
 
@@ -53,7 +53,7 @@ fn told(
 ) -> Option<Vec<u8>> {
     let plan = Plan::new(2, 100, 1, 10, 4).expect(rt, "a plan");
     let entries = Vec::from_slice(alloc, &ENTRIES).expect(rt, "memory");
-    let none = bytes_of(rt, alloc, &[]);
+    let none = NamedBytes::of(alloc, Vec::new(alloc)).expect(rt, "bytes");
     let symbols = SymbolTable::new(alloc, image).expect(rt, "memory");
     let mut session = Session::new(alloc, image, plan, entries).expect(rt, "a session");
     let found = races_in(alloc, image, &session, &none).expect(rt, "races");

@@ -1,7 +1,6 @@
 //! A table of symbols finds by halves what a walk over them finds. (`tests/explain` has the names of addresses.)
 use crate::assertion::assert_is;
-use crate::images::Named;
-use crate::padded::image;
+use crate::images::{Named, image};
 use rv_elf::{Image, Symbol};
 use rv_explain::symbol_table::SymbolTable;
 use rv_explain::symbols::symbol_of;

@@ -1,16 +1,13 @@
 //! Runs by threads: that the workers run side by side, that they end, and what is told of them.
 use super::gates::{Counts, Holds, Keeps, Meets, Shut};
-use super::{FOUR_AND_FOUR, image};
 use crate::assertion::assert_is;
-use crate::campaigns::entries::ONE_SITE;
-use crate::campaigns::images::{ONE_STORE, P, plan};
+use crate::campaigns::images::{ONE_STORE, P, image, plan};
 use rv_collide::collider::{Collider, Finished};
 use rv_collide::entry::Entry::{self, Paused, Stepped};
 use rv_collide::plan::Plan;
 use rv_collide::replay::replay;
 use rv_elf::Image;
 use rv_hart::hart::Status;
-use rv_locked::gate::FreeGate;
 use rv_locked::threads::{RunFault, run_threads};
 use rv_memory::flat::Flat;
 use std::alloc::Global;
@@ -111,6 +108,18 @@ fn each_of_sixteen_harts_has_a_thread_of_its_own(rt: HostRuntime) {
     let image = image(&rt, rt.alloc(), &P);
     assert_meets(&rt, rt.alloc(), &image, 16, 64);
 }
+
+/// Four steps of hart 0, then four of hart 1.
+const FOUR_AND_FOUR: [Entry; 8] = [
+    Stepped(0),
+    Stepped(0),
+    Stepped(0),
+    Stepped(0),
+    Stepped(1),
+    Stepped(1),
+    Stepped(1),
+    Stepped(1),
+];
 
 /// Four steps of hart 1, then four of hart 0.
 const THE_OTHER_FIRST: [Entry; 8] = [
@@ -224,59 +233,4 @@ fn a_gate_shuts_while_a_hart_is_paused(rt: HostRuntime) {
     let wanted = Shut { hart: 1, number: 2 };
     assert_is(&rt, closed, Some((1, wanted)), "what the gate refused");
     assert_is(&rt, gate.counts(), (2, 2), "counts");
-}
-
-fn assert_one_site<R: Threads + Wait + Sync + Abort>(
-    rt: &R,
-    alloc: Global,
-    image: &Image,
-    plan: Plan,
-    seed: u64,
-) {
-    let told = run_threads(rt, alloc, image, plan, seed, &FreeGate).expect(rt, "a run");
-    assert_is(rt, told.entries.as_slice(), &ONE_SITE, "entries");
-    assert_is(rt, told.endings.len(), 2, "endings");
-}
-
-#[test]
-fn one_site_and_one_thread(rt: HostRuntime) {
-    let alloc = rt.alloc();
-    let image = image(&rt, alloc, &ONE_STORE);
-    let plan = plan(&rt, 1, 10, 2, 5);
-    for seed in [0, 1, 4_294_967_295] {
-        assert_one_site(&rt, alloc, &image, plan, seed);
-    }
-}
-
-/// A hart that makes all steps of its plan, and is paused as often as the plan arms: each of its entries has a
-/// place in its list.
-#[test]
-fn a_hart_spends_its_steps_with_pauses(rt: HostRuntime) {
-    let alloc = rt.alloc();
-    let image = image(&rt, alloc, &ONE_STORE);
-    let plan = plan(&rt, 1, 3, 2, 5);
-    assert_one_site(&rt, alloc, &image, plan, 7);
-}
-
-fn assert_race<R: Threads + Wait + Sync + Abort>(
-    rt: &R,
-    alloc: Global,
-    image: &Image,
-    plan: Plan,
-    seed: u64,
-) {
-    let told = run_threads(rt, alloc, image, plan, seed, &FreeGate).expect(rt, "a run");
-    assert_told_again(rt, alloc, image, plan, &told);
-}
-
-/// Two harts that race, whose pauses end as the threads come: each schedule is replayed to the same endings
-/// and output.
-#[test]
-fn schedules_of_races_are_told_again(rt: HostRuntime) {
-    let alloc = rt.alloc();
-    let image = image(&rt, alloc, &P);
-    let plan = plan(&rt, 2, 20, 4, 2);
-    for seed in 0..200 {
-        assert_race(&rt, alloc, &image, plan, seed);
-    }
 }

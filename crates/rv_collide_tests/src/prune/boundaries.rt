@@ -44,7 +44,7 @@ static LOADS: [(Load, Class); 14] = [
 
 fn flag(rt: &impl Abort, alloc: Global, load: &Load) -> Class {
     let ending = hit(loads(0x10000, load.1), 0x10000, load.2, load.3);
-    class_in(rt, alloc, &load.0, &ending, &[])
+    class_in(rt, alloc, &load.0, &ending)
 }
 
 #[test]
@@ -76,7 +76,7 @@ fn other_code_is_no_flag(rt: HostRuntime) {
         assert_is(&rt, (words, class), (words, Class::Kept), "words");
     }
     let ending = hit(loads(0x10004, 4), 0x10000, 0, 2);
-    let class = class_in(&rt, rt.alloc(), &[0x73, LW], &ending, &[]);
+    let class = class_in(&rt, rt.alloc(), &[0x73, LW], &ending);
     assert_is(&rt, class, Class::Kept, "the last word of its segment");
 }
 
@@ -88,7 +88,7 @@ fn a_store_is_no_flag(rt: HostRuntime) {
         ..loads(0x10000, 4)
     };
     let ending = hit(access, 0x10000, 0, 2);
-    let class = class_in(&rt, rt.alloc(), &[LW, MASK_1], &ending, &[]);
+    let class = class_in(&rt, rt.alloc(), &[LW, MASK_1], &ending);
     assert_is(
         &rt,
         class,
@@ -130,7 +130,7 @@ const TRIPLES: [([u32; 3], Class); 13] = [
 fn triples(rt: HostRuntime) {
     let ending = hit(loads(0x10000, 4), 0x10008, 0, 1);
     for (words, want) in &TRIPLES {
-        let class = class_in(&rt, rt.alloc(), words, &ending, &[]);
+        let class = class_in(&rt, rt.alloc(), words, &ending);
         assert_is(&rt, (words, class), (words, *want), "words");
     }
 }
@@ -157,8 +157,8 @@ fn classes_at(rt: &impl Abort, alloc: Global, pc: u32, met: u32) -> (Class, Clas
         verdict: Verdict::Changed,
         ..ending
     };
-    let of_hit = class_with(rt, alloc, &image, &ending, &[]);
-    (of_hit, class_with(rt, alloc, &image, &changed, &[]))
+    let of_hit = class_with(rt, alloc, &image, &ending);
+    (of_hit, class_with(rt, alloc, &image, &changed))
 }
 
 /// A change that no hart was seen to make is kept wherever it is.
@@ -175,7 +175,7 @@ fn places_of_triples(rt: HostRuntime) {
 fn class_at(rt: &impl Abort, alloc: Global, start: u32, segments: Vec<Region>) -> Class {
     let image = Image::new(start, segments, Vec::new(alloc)).expect(rt, "an image");
     let ending = hit(loads(start, 4), start.wrapping_add(8), 0, 1);
-    class_with(rt, alloc, &image, &ending, &[])
+    class_with(rt, alloc, &image, &ending)
 }
 
 /// The first bytes of a segment.

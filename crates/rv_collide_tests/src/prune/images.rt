@@ -1,4 +1,5 @@
 //! The images of the tests.
+use crate::parts::zeros;
 use rv_elf::Image;
 use rv_memory::region::Region;
 use std::alloc::Global;
@@ -24,22 +25,9 @@ pub fn segment(rt: &impl Abort, alloc: Global, start: u32, words: &[u32]) -> Reg
     }
 }
 
-/// An image of a segment at 00010000, and 4,096 zero bytes at 00020000.
-pub fn image_of(rt: &impl Abort, alloc: Global, code: Region) -> Image {
-    let zeros = Region {
-        start: 0x20000,
-        bytes: Vec::new(alloc),
-        len: 4096,
-        r: true,
-        w: true,
-        x: false,
-    };
-    let segments = vec![in alloc; code, zeros].expect(rt, "memory");
-    Image::new(0x10000, segments, Vec::new(alloc)).expect(rt, "an image")
-}
-
-/// The same of words that may not be written.
+/// An image of words at 00010000, which may not be written, and 4,096 zero bytes at 00020000.
 pub fn image(rt: &impl Abort, alloc: Global, words: &[u32]) -> Image {
     let code = segment(rt, alloc, 0x10000, words);
-    image_of(rt, alloc, code)
+    let segments = vec![in alloc; code, zeros(alloc, 0x20000, 4096)].expect(rt, "memory");
+    Image::new(0x10000, segments, Vec::new(alloc)).expect(rt, "an image")
 }

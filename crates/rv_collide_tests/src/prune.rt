@@ -1,46 +1,30 @@
-//! Classes of endings, the rules that make them, and the ranges of names.
+//! Classes of endings, and the rules that make them.
 mod boundaries;
-mod named;
-mod ordered;
-mod rows;
+mod images;
 
 use crate::assertion::assert_is;
 use crate::parts::access;
-use crate::reports::images::{image, segment};
+use crate::prune::images::{image, segment};
 use rv_break::claim::Seen;
 use rv_collide::ending::{Ending, Verdict};
-use rv_elf::{Image, Symbol};
+use rv_elf::Image;
 use rv_hart::access::Access;
 use rv_memory::region::Region;
 use rv_prune::class::Class;
 use rv_prune::named_bytes::NamedBytes;
-use rv_prune::names::{NamesFault, ranges};
 use rv_prune::pruning::classify;
 use std::alloc::Global;
 use std::process::Abort;
 
-/// The class of an ending in an image of words at 00010000, where these ranges are listed.
-fn class_in(
-    rt: &impl Abort,
-    alloc: Global,
-    words: &[u32],
-    ending: &Ending,
-    ranges: &[(u32, u32)],
-) -> Class {
-    class_with(rt, alloc, &image(rt, alloc, words), ending, ranges)
+/// The class of an ending in an image of words at 00010000.
+fn class_in(rt: &impl Abort, alloc: Global, words: &[u32], ending: &Ending) -> Class {
+    class_with(rt, alloc, &image(rt, alloc, words), ending)
 }
 
-/// The class of an ending in an image, where these ranges are listed.
-fn class_with(
-    rt: &impl Abort,
-    alloc: Global,
-    image: &Image,
-    ending: &Ending,
-    ranges: &[(u32, u32)],
-) -> Class {
-    let listed = ranges.to_vec(alloc).expect(rt, "ranges");
-    let bytes = NamedBytes::of(alloc, listed).expect(rt, "bytes");
-    classify(image, ending, &bytes)
+/// The class of an ending in an image.
+fn class_with(rt: &impl Abort, alloc: Global, image: &Image, ending: &Ending) -> Class {
+    let none = NamedBytes::of(alloc, Vec::new(alloc)).expect(rt, "memory");
+    classify(image, ending, &none)
 }
 
 /// A load of so many bytes from 00020000 on.

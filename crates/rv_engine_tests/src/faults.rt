@@ -1,136 +1,24 @@
+//! What `help faults` lists: of each fault its sentence, as the fault's line has it. (A script can't bring about all of them, and the
+//! commands that tell a name alone tell no sentence.)
 use crate::assertion::assert_is;
 use rv_asm::{AsmFault, AsmKind};
 use rv_campaign::NumberFault;
 use rv_collide::refused::Refused;
 use rv_collide::replay::Why;
 use rv_collide::schedule::{ScheduleFault, ScheduleKind};
-use rv_command::command::commands::COMMANDS;
-use rv_command::command::exhibit::MOST_ENDING;
-use rv_command::command::explain::{DEFAULT_AROUND, MOST_AROUND, MOST_AROUND_IN_PICTURE};
-use rv_command::command::help::{FAULTS, OVERVIEW};
-use rv_command::command::{Notice, notice_of};
+use rv_command::command::help::FAULTS;
 use rv_elf::LoadFault;
 use rv_engines::fault::{Fault, ThreadsFault};
 use rv_engines::run::fault::CommandFault;
 use rv_engines::sentences::sentence;
-use rv_hart::machine::{MOST_HARTS, StepFault};
-use rv_memory::flagged::INPUT_LIMIT;
+use rv_hart::machine::StepFault;
 use rv_report::exhibit::ExhibitFault;
 use std::alloc::Global;
 use std::process::Abort;
 
-/// The text of the answer to a line.
-fn answer(rt: &impl Abort, alloc: Global, words: &[&str]) -> String {
-    match notice_of(alloc, words) {
-        Ok(Notice::Answer(text)) => text,
-        _ => panic!(rt; "no answer"),
-    }
-}
-
 /// How often a text stands in another.
 fn count(text: &str, part: &str) -> usize {
     text.split(part).count().saturating_sub(1)
-}
-
-/// What asks for the help of the program.
-const HELP: [&str; 3] = ["--help", "-h", "help"];
-
-fn assert_in_overview(rt: &impl Abort, alloc: Global, command: &str) {
-    let row = format!(in alloc; "\n  {command} ").expect(rt, "memory");
-    assert_is(rt, count(OVERVIEW, row.as_str()), 1, command);
-}
-
-/// The commands of the help are those of the table, each once, and it has none besides but `help`.
-#[test]
-fn overview_has_each_command(rt: HostRuntime) {
-    let alloc = rt.alloc();
-    for line in &HELP {
-        let text = answer(&rt, alloc, &["rvcollide", *line]);
-        assert_is(&rt, text.as_str(), OVERVIEW, line);
-    }
-    for command in &COMMANDS {
-        assert_in_overview(&rt, alloc, command.name);
-    }
-    let (commands, _) = OVERVIEW
-        .split_once("\nOptions:\n")
-        .expect(&rt, "no options");
-    let rows = count(commands, "\n  ");
-    assert_is(&rt, rows, COMMANDS.len() + 1, "the rows");
-}
-
-/// What stands in each example, behind its name.
-const IN_EXAMPLES: [&str; 6] = [
-    "\nExit status: 0 ",
-    " 1 ",
-    " 2 ",
-    "\n3 ",
-    " 4 ",
-    "help faults",
-];
-
-fn assert_has_example(rt: &impl Abort, command: &str, text: &str, name: &str) {
-    let example = match text.split_once("\nExample:\n") {
-        Some((_, example)) => example,
-        None => "",
-    };
-    assert_is(rt, example.contains(name), true, command);
-    for part in &IN_EXAMPLES {
-        assert_is(rt, example.contains(*part), true, command);
-    }
-}
-
-/// Each command's help has an example that begins with its name, and the exit statuses.
-#[test]
-fn each_help_has_an_example(rt: HostRuntime) {
-    let alloc = rt.alloc();
-    for command in &COMMANDS {
-        let name = format!(in alloc; "rvcollide {}", command.name).expect(&rt, "memory");
-        let text = answer(&rt, alloc, &["rvcollide", command.name, "--help"]);
-        assert_has_example(&rt, command.name, text.as_str(), name.as_str());
-    }
-}
-
-/// Asserts that a part stands once in the help of a command.
-fn assert_helps(rt: &impl Abort, alloc: Global, command: &str, part: &str) {
-    let text = answer(rt, alloc, &["rvcollide", command, "--help"]);
-    assert_is(rt, count(text.as_str(), part), 1, part);
-}
-
-/// Numbers in the texts are those of the code. `run`'s tests have those of its options.
-#[test]
-fn help_has_the_limits(rt: HostRuntime) {
-    let alloc = rt.alloc();
-    let harts = format!(in alloc; "number of harts, 1 to {}\n", MOST_HARTS).expect(&rt, "memory");
-    assert_helps(&rt, alloc, "words", harts.as_str());
-    let bytes = format!(in alloc; "at most {} bytes", INPUT_LIMIT).expect(&rt, "memory");
-    assert_helps(&rt, alloc, "list", bytes.as_str());
-    let larger = format!(in alloc; "larger than {} bytes\n", INPUT_LIMIT).expect(&rt, "memory");
-    assert_is(&rt, count(FAULTS, larger.as_str()), 1, "the input's limit");
-    let ending = format!(in alloc; ": 0 to {}\n", MOST_ENDING).expect(&rt, "memory");
-    assert_helps(&rt, alloc, "exhibit", ending.as_str());
-    let around = format!(in alloc;
-        "0 to {}, with --picture 0 to {} [default: {}]\n",
-        MOST_AROUND, MOST_AROUND_IN_PICTURE, DEFAULT_AROUND
-    )
-    .expect(&rt, "memory");
-    assert_helps(&rt, alloc, "explain", around.as_str());
-}
-
-/// Lines that are near to it.
-const NO_FAULTS: [[&str; 3]; 3] = [
-    ["", "help", "fault"],
-    ["", "faults", "help"],
-    ["help", "faults", "x"],
-];
-
-#[test]
-fn help_faults_is_answered(rt: HostRuntime) {
-    let text = answer(&rt, rt.alloc(), &["rvcollide", "help", "faults"]);
-    assert_is(&rt, text.as_str(), FAULTS, "help faults");
-    for words in &NO_FAULTS {
-        let refused = matches!(notice_of(rt.alloc(), words), Ok(Notice::Refusal(_)));
-        assert_is(&rt, (*words, refused), (*words, true), "another line");
-    }
 }
 
 /// The rows of a heading in the list of faults.

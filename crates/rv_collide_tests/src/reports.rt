@@ -1,4 +1,0 @@
-//! Classes, race tables and exhibits.
-mod images;
-mod prune;
-mod report;
