@@ -202,18 +202,7 @@ pub(crate) fn block_lines(
 }
 
 /// The block of race K, for people: lines in ASCII, each with an LF. `run_words` stands at the end of the first: what the
-/// command says of the run, empty or from a comma on.
-pub fn block_text(
-    alloc: Global,
-    symbols: &SymbolTable,
-    run_words: &[u8],
-    race: u64,
-    block: &Block,
-) -> Result<Vec<u8>, NoMemory> {
-    ordered_text(alloc, symbols, run_words, race, block, &[])
-}
-
-/// The same with the rows of `order_rows` below the line of the bytes.
+/// command says of the run, empty or from a comma on. The rows of `order_rows` stand below the line of the bytes.
 pub fn ordered_text(
     alloc: Global,
     symbols: &SymbolTable,

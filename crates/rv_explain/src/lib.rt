@@ -2,7 +2,7 @@
 //!
 //! To the layer above, `race_block` makes the `Block` of a race of a run and `blocks_asked` those of a run, which are the
 //! values of `specs/BlockOf.antt`; `row_here` is what is told of an entry; `stuck_block` makes that of a schedule's end where it is
-//! stuck, by `specs/Stuck.antt`; `order_of` tries both orders of a race's accesses, by `specs/Order.antt`. `block_text`,
+//! stuck, by `specs/Stuck.antt`; `order_of` tries both orders of a race's accesses, by `specs/Order.antt`.
 //! `ordered_text`, `stuck_text` and `picture` write a block for people, which knows no file: `tests/explain` and `tests/program`
 //! compare their bytes, and a picture is proved to be well-formed markup.
 #![tactic(auto)]

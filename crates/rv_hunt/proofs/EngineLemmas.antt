@@ -4,10 +4,10 @@ use Rattle.std.specs.Prelude.{IfSome}
 use Rattle.rv_engines.specs.CommandFault as command
 use Rattle.rv_engines.specs.declared.run.fault.CommandFault.{CommandFault}
 use Rattle.rv_hunt.proofs.OpenLemmas.{is_ok}
-use Rattle.rv_hunt.specs.engine.Asked.{Asked}
+use Rattle.rv_shown.specs.Asked.{Asked}
 use Rattle.rv_hunt.specs.engine.HuntFault as fault
 use Rattle.rv_hunt.specs.engine.Hunting.{Files, Hunting, IsHuntingOf, IsMade, IsTold, Showing, Texts, hunt_of}
-use Rattle.rv_hunt.specs.declared.engine.found.Found.{Found}
+use Rattle.rv_shown.specs.declared.found.Found.{Found}
 use Rattle.rv_hunt.specs.declared.engine.fault.HuntFault.TheVariants.{Command}
 use Rattle.rv_hunt.specs.declared.engine.fault.MakeFault.{MakeFault}
 use Rattle.rv_hunt.specs.declared.engine.fault.MakeFault.TheVariants.{NoMemory, NoThread, Write}

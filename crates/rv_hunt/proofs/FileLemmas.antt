@@ -6,7 +6,7 @@ use Rattle.rv_engines.specs.Built.{built_of}
 use Rattle.rv_search.specs.Hunt.{Hunt}
 use Rattle.rv_tables.specs.Origin.{image_digits}
 use Rattle.rv_search.specs.RightEnds.{right_codes}
-use Rattle.rv_hunt.specs.engine.Asked.{Asked}
+use Rattle.rv_shown.specs.Asked.{Asked}
 use Rattle.rv_hunt.specs.engine.HuntFault.{IsTold}
 use Rattle.rv_hunt.specs.engine.Hunting.{Files, Hunting, IsHuntingOf, expected_in, hunt_of, ignored_in, naming_in}
 use Rattle.rv_tables.specs.merge.Ignore.{aimed_in, naming_of}

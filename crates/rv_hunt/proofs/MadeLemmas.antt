@@ -9,16 +9,16 @@ use Rattle.rv_hunt.specs.declared.engine.fault.MakeFault.{MakeFault}
 use Rattle.rv_hunt.specs.internal.MakeFault.{is_write, of_pool}
 use Rattle.rv_search.specs.Hunted.{IsNoted}
 use Rattle.rv_search.specs.RightEnds.{EndsSeen, has_wrong_end}
-use Rattle.rv_hunt.specs.Warnings.{is_void}
-use Rattle.rv_hunt.specs.HuntObject.{hunt_facts}
-use Rattle.rv_hunt.specs.Outcome.{Outcome}
-use Rattle.rv_hunt.specs.PageFacts.{page_facts}
+use Rattle.rv_shown.specs.Warnings.{is_void}
+use Rattle.rv_shown.specs.HuntObject.{hunt_facts}
+use Rattle.rv_shown.specs.Outcome.{Outcome}
+use Rattle.rv_shown.specs.PageFacts.{page_facts}
 use Rattle.rv_tables.specs.ShownRows.{shown_rows}
-use Rattle.rv_hunt.specs.ToldOrder.{AreInOrder}
-use Rattle.rv_hunt.specs.declared.engine.found.Found.{Found}
-use Rattle.rv_hunt.specs.declared.engine.orders.ShownOrder.{ShownOrder}
-use Rattle.rv_hunt.specs.declared.engine.options.Shows.{Shows}
-use Rattle.rv_hunt.specs.declared.engine.shown.ShownRace.{ShownRace}
+use Rattle.rv_shown.specs.ToldOrder.{AreInOrder}
+use Rattle.rv_shown.specs.declared.found.Found.{Found}
+use Rattle.rv_shown.specs.declared.shown.ShownOrder.{ShownOrder}
+use Rattle.rv_shown.specs.declared.options.Shows.{Shows}
+use Rattle.rv_shown.specs.declared.shown.ShownRace.{ShownRace}
 use Rattle.rv_tables.specs.declared.origin.Stretch.{Stretch}
 use Rattle.rv_search.specs.declared.hunted.Hunted.{Hunted}
 use Rattle.rv_tables.specs.declared.merge.known.Known.{Known}
@@ -29,7 +29,7 @@ use Rattle.rv_tables.specs.merge.Listing.{list_text}
 use Rattle.rv_hunt.specs.engine.OrderShown.{AreOrdersShown}
 use Rattle.rv_hunt.specs.engine.Shown.{AreShown}
 use Rattle.rv_hunt.specs.engine.StuckShown.{AreStuckShown}
-use Rattle.rv_hunt.specs.declared.engine.stuck_ends.ShownStuck.{ShownStuck}
+use Rattle.rv_shown.specs.declared.shown.ShownStuck.{ShownStuck}
 use Rattle.rv_engines.specs.declared.built.Built.{Built}
 use Rattle.rv_json.specs.Object.{Member}
 use Rattle.rv_markup.specs.declared.markup.Fact.{Fact}

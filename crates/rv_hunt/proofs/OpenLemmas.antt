@@ -11,7 +11,7 @@ use Rattle.rv_engines.specs.Fault.{IsToldFault}
 use Rattle.rv_engines.specs.Images.{image_of}
 use Rattle.rv_engines.specs.declared.fault.Fault.{Fault}
 use Rattle.rv_engines.specs.declared.fault.Fault.TheVariants.{Read, Write, NoMemory}
-use Rattle.rv_hunt.specs.engine.Asked.{Asked}
+use Rattle.rv_shown.specs.Asked.{Asked}
 use Rattle.rv_engines.specs.declared.run.fault.CommandFault.{CommandFault}
 use Rattle.rv_engines.specs.declared.run.fault.CommandFault.TheVariants as run
 use Rattle.rv_hunt.specs.engine.HuntFault.{is_plain_refusal}

@@ -14,7 +14,7 @@ use Rattle.rv_elf.specs.Contents.{Contents}
 use Rattle.rv_search.specs.Hunt.{Hunt}
 use Rattle.rv_hunt.specs.declared.engine.orders.Again.{Again}
 use Rattle.rv_hunt.specs.declared.engine.orders.PlacedTrial.{PlacedTrial}
-use Rattle.rv_hunt.specs.declared.engine.orders.ShownOrder.{ShownOrder}
+use Rattle.rv_shown.specs.declared.shown.ShownOrder.{ShownOrder}
 use Rattle.rv_hunt.specs.declared.engine.orders.WantedTrial.{WantedTrial}
 use Rattle.rv_tables.specs.declared.orders.OrderRow.{OrderRow}
 use Rattle.rv_tables.specs.declared.orders.TrialPlace.{TrialPlace}

@@ -13,7 +13,7 @@ use Rattle.rv_search.specs.Hunt.{Hunt, IsSampledRun}
 use Rattle.rv_hunt.specs.Remade.{is_told_by, race_by, race_in}
 use Rattle.rv_hunt.specs.declared.engine.shown.InFull.{InFull}
 use Rattle.rv_hunt.specs.declared.engine.shown.ShownPart.{ShownPart}
-use Rattle.rv_hunt.specs.declared.engine.shown.ShownRace.{ShownRace}
+use Rattle.rv_shown.specs.declared.shown.ShownRace.{ShownRace}
 use Rattle.rv_tables.specs.declared.row.RaceRow.{RaceRow}
 use Rattle.rv_hunt.specs.engine.Shown.{AreShown, IsPartOf, IsRaceShown, IsRunOf, IsShown, run_told}
 use Rattle.rv_hunt.specs.internal.Showing.{AreHeld, AreShownIn, AreSlots, Full, IsInSlot, IsOfRow, IsOfSchedule, IsPlaced, IsShownIn, IsShownPart, of_full}

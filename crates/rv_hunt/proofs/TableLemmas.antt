@@ -18,24 +18,24 @@ use Rattle.rv_hunt.proofs.OpenLemmas.{and_ok, is_ok, of_image, plainly_told}
 use Rattle.rv_hunt.specs.GivenRuns.{RunsGiven, given as runs_given, given_in, texts}
 use Rattle.rv_hunt.specs.declared.given.GivenRuns.{GivenRuns}
 use Rattle.rv_search.specs.Hunt.{Hunt}
-use Rattle.rv_hunt.specs.HuntObject.{object_facts, table_sums}
+use Rattle.rv_shown.specs.HuntObject.{object_facts, table_sums}
 use Rattle.rv_tables.specs.Origin.{image_digits, runs_of, words_in}
-use Rattle.rv_hunt.specs.PageFacts.{table_facts}
-use Rattle.rv_hunt.specs.ToldOrder.{AreInOrder}
+use Rattle.rv_shown.specs.PageFacts.{table_facts}
+use Rattle.rv_shown.specs.ToldOrder.{AreInOrder}
 use Rattle.rv_hunt.specs.declared.engine.fault.HuntFault.TheVariants.{Command, Ignored, Expected, Aimed, Lines}
-use Rattle.rv_hunt.specs.declared.engine.found.Found.{Found}
+use Rattle.rv_shown.specs.declared.found.Found.{Found}
 use Rattle.rv_hunt.specs.declared.engine.lists.Lists.{Lists as ListsRead}
 use Rattle.rv_hunt.specs.declared.engine.opening.Listed.{Listed}
 use Rattle.rv_hunt.specs.declared.engine.show.ShowFault.{ShowFault}
 use Rattle.rv_hunt.specs.declared.engine.show.ShowFault.TheVariants.{Table, Hunt as OfHunt}
-use Rattle.rv_hunt.specs.declared.engine.shown.ShownRace.{ShownRace}
+use Rattle.rv_shown.specs.declared.shown.ShownRace.{ShownRace}
 use Rattle.rv_hunt.specs.declared.engine.tabled.ShownTable.{ShownTable}
 use Rattle.rv_tables.specs.declared.merge.fault.FileFault.{FileFault}
 use Rattle.rv_tables.specs.declared.merge.ignore.Line.{Line}
 use Rattle.rv_tables.specs.declared.merge.known.Known.{Known}
 use Rattle.rv_tables.specs.declared.orders.OrderRow.{OrderRow}
 use Rattle.rv_tables.specs.declared.row.RaceRow.{RaceRow}
-use Rattle.rv_hunt.specs.engine.Asked.{Asked}
+use Rattle.rv_shown.specs.Asked.{Asked}
 use Rattle.rv_hunt.specs.engine.Hunting.{Files, expected_in, found_in, ignored_in}
 use Rattle.rv_hunt.specs.engine.Shown.{AreShown}
 use Rattle.rv_hunt.specs.engine.TableShown.{IsMade, IsOfRuns, IsShownOf, IsTold, TableShown, asked_by, facts_of, ignored_of, is_of_files, naming_in, table_in, told_of, unmet, unsaid, without_place}

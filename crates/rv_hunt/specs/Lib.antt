@@ -1,10 +1,4 @@
 pub mod GivenRuns
-pub mod HuntObject
-pub mod Outcome
-pub mod PageFacts
 pub mod Remade
-pub mod ShownOnce
-pub mod ToldOrder
-pub mod Warnings
 pub mod engine
 pub mod internal

@@ -1,6 +1,4 @@
 -- What the engine of `hunt` makes: its text, its files and its page, and why it makes none.
-pub mod Asked
-pub mod Checks
 pub mod FolderFault
 pub mod HuntFault
 pub mod Hunting

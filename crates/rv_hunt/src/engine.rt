@@ -6,7 +6,7 @@ ghost use Rattle.std.specs.Prelude.{◌≡◌, ◌||◌, true, false, is_err, is
 ghost use Rattle.std.specs.Io.KnownBytes.{Appends, Keeps};
 ghost use Rattle.rv_memory.specs.Buffered as buffer;
 ghost use Rattle.rv_engines.specs.Campaigns.{passes};
-ghost use Rattle.rv_hunt.specs.engine.Asked.{AreLegal, asked};
+ghost use Rattle.rv_shown.specs.Asked.{AreLegal, asked};
 ghost use Rattle.rv_hunt.specs.engine.HuntFault.{IsTold, fails_by, is_of_files, is_read, is_write};
 ghost use Rattle.rv_hunt.specs.engine.Hunting as spec;
 ghost use Rattle.rv_hunt.specs.engine.Late.{IfListed, IfPaged, IfSaved, IfWritten};
@@ -15,18 +15,18 @@ ghost use Rattle.rv_hunt.specs.internal.Opened.{hunt_in, hunting_with, texts_in}
 
 use crate::engine::fault::HuntFault;
 use crate::engine::folder::Folder;
-use crate::engine::found::Found;
 use crate::engine::inputs::Inputs;
 use crate::engine::lists::{Lists, read_ignored, read_known};
 use crate::engine::making::{Made, make_hunt};
 use crate::engine::opening::{Opened, open};
-use crate::engine::options::HuntOptions;
 use rv_engines::new_file::NewFile;
 use rv_engines::source_lines::read_source_if;
 use rv_memory::buffered::Buffered;
 use rv_memory::flagged::WriteFault;
 use rv_memory::output::Output;
 use rv_search::hunt::Watch;
+use rv_shown::found::Found;
+use rv_shown::options::HuntOptions;
 use std::alloc::Global;
 use std::io::{Read, Write};
 use std::sync::Wait;
@@ -36,23 +36,20 @@ mod beside;
 mod early;
 pub mod fault;
 pub mod folder;
-pub mod found;
 pub mod inputs;
 mod keeping;
 mod lists;
 mod making;
 mod meetings;
-mod onward;
 mod opening;
-pub mod options;
 pub mod orders;
 pub mod remaking;
 pub mod show;
 mod showing;
 pub mod shown;
 pub mod stuck_ends;
+mod table_text;
 mod tabled;
-pub(crate) mod texts;
 
 /// Writes the notes to their last byte, and then the text.
 fn publish<W: Write, E: Write>(

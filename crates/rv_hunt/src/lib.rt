@@ -1,13 +1,7 @@
-//! Hunts as people see them: the races of many runs, what is told of them, and what is made of a table.
+//! The engines of `hunt` and `show`: what is made of many runs, or of a table, and written.
 //!
-//! The engines of `hunt` and `show` are `engine.rt`, with `specs/engine/`. The page of a hunt is `page.rt`, and what it states
-//! is `specs/PageFacts.antt`.
+//! They are `engine.rt`, with `specs/engine/`. What a table says of its runs is read by `given.rt`. Texts, page and JSON are `rv_shown`'s.
 #![tactic(auto)]
 
-pub mod code_seen;
 pub mod engine;
 pub mod given;
-pub mod laws;
-pub mod object;
-pub mod page;
-pub mod saying;

@@ -38,23 +38,7 @@ unfoldable pub class_of : Contents → List (ℕ × ℕ) → Judged → RaceClas
 class_of image ranges judged =
     class_by judged.ending.verdict (class_as image ranges (record judged.ending { verdict = judged.verdict }))
 
--- of two reports of one race the class that the race has: kept before counter, unwatched, flag, ordered, atomic and named
-abbrev pub stronger : RaceClass → RaceClass → RaceClass
-stronger Kept other = Kept
-stronger one Kept = Kept
-stronger Counter other = Counter
-stronger one Counter = Counter
-stronger Unwatched other = Unwatched
-stronger one Unwatched = Unwatched
-stronger Flag other = Flag
-stronger one Flag = Flag
-stronger Ordered other = Ordered
-stronger one Ordered = Ordered
-stronger Atomic other = Atomic
-stronger one Atomic = Atomic
-stronger Named Named = Named
-
--- its place in that order
+-- the place of a class in the order kept, counter, unwatched, flag, ordered, atomic and named: a race that has reports of two has the class of the first
 abbrev pub rank : RaceClass → ℕ
 rank Kept = 0
 rank Counter = 1

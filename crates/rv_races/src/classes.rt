@@ -62,22 +62,7 @@ pub fn class_of(image: &Image, ranges: &NamedBytes, judged: &Judged) -> RaceClas
     }
 }
 
-/// The class of a race that has reports of both: kept before counter, unwatched, flag, ordered, atomic and named.
-pub fn stronger(one: RaceClass, other: RaceClass) -> RaceClass
-    ensures { result ≡ spec.stronger one other }
-{
-    match (one, other) {
-        (RaceClass::Kept, _) | (_, RaceClass::Kept) => RaceClass::Kept,
-        (RaceClass::Counter, _) | (_, RaceClass::Counter) => RaceClass::Counter,
-        (RaceClass::Unwatched, _) | (_, RaceClass::Unwatched) => RaceClass::Unwatched,
-        (RaceClass::Flag, _) | (_, RaceClass::Flag) => RaceClass::Flag,
-        (RaceClass::Ordered, _) | (_, RaceClass::Ordered) => RaceClass::Ordered,
-        (RaceClass::Atomic, _) | (_, RaceClass::Atomic) => RaceClass::Atomic,
-        (RaceClass::Named, RaceClass::Named) => RaceClass::Named,
-    }
-}
-
-/// The place of a class in that order.
+/// The place of a class in the order kept, counter, unwatched, flag, ordered, atomic, named: a race that has reports of two has the class of the first.
 pub fn rank(class: RaceClass) -> u8
     ensures { result ≡ spec.rank class }
 {

@@ -1,5 +1,4 @@
 pub mod Choices
-pub mod Chosen
 pub mod Merging
 pub mod NameLemmas
 pub mod Tables

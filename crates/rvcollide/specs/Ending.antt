@@ -1,9 +1,9 @@
 -- How a hunt's exit status follows from what it found.
 use Rattle.std.specs.Prelude.{Result, Ok, Err, if◌then◌else◌}
 use Rattle.rv_command.specs.declared.command.hunt.HuntLine.{HuntLine}
-use Rattle.rv_hunt.specs.declared.engine.found.Checks.{Checks}
-use Rattle.rv_hunt.specs.declared.engine.found.Found.{Found}
-use Rattle.rv_hunt.specs.engine.Checks.{are_met, are_void}
+use Rattle.rv_shown.specs.declared.found.Checks.{Checks}
+use Rattle.rv_shown.specs.declared.found.Found.{Found}
+use Rattle.rv_shown.specs.Checks.{are_met, are_void}
 use Rattle.rvcollide.specs.declared.failure.Failure.{Failure}
 use Rattle.rvcollide.specs.declared.failure.Failure.TheVariants as failure
 

@@ -3,11 +3,11 @@ use Rattle.std.specs.Prelude.{ℕ, ◌≡◌, Bool, not, option_map, unwrap_or, 
 use Rattle.rv_collide.specs.declared.plan.TheConstants.{DEFAULT_SLOTS}
 use Rattle.rv_command.specs.HuntLine.{sides}
 use Rattle.rv_command.specs.declared.command.hunt.HuntLine.{HuntLine}
-use Rattle.rv_hunt.specs.engine.Asked as engine
-use Rattle.rv_hunt.specs.declared.engine.options.HuntOptions.{HuntOptions}
-use Rattle.rv_hunt.specs.declared.engine.options.LineParts.{LineParts}
-use Rattle.rv_hunt.specs.declared.engine.options.Shows.{Shows}
-use Rattle.rv_hunt.specs.declared.engine.options.Shows.TheVariants.{Table, Text}
+use Rattle.rv_shown.specs.Asked as engine
+use Rattle.rv_shown.specs.declared.options.HuntOptions.{HuntOptions}
+use Rattle.rv_shown.specs.declared.options.LineParts.{LineParts}
+use Rattle.rv_shown.specs.declared.options.Shows.{Shows}
+use Rattle.rv_shown.specs.declared.options.Shows.TheVariants.{Table, Text}
 use Rattle.rv_tally.specs.declared.plans.Mix.{Mix}
 use Rattle.rv_tally.specs.declared.plans.Mix.TheVariants.{Mixed, Sampled, Walks}
 use Rattle.rv_hunt.specs.declared.given.TheConstants.{SLOTS}

@@ -9,7 +9,7 @@ use Rattle.rv_engines.specs.declared.fault.Fault.TheVariants as fault
 use Rattle.rv_engines.specs.declared.run.fault.CommandFault.{CommandFault}
 use Rattle.rv_engines.specs.declared.run.fault.CommandFault.TheVariants.{Plain, NoThread}
 use Rattle.rv_search.specs.Hunt.{Hunt}
-use Rattle.rv_hunt.specs.engine.Asked.{Asked}
+use Rattle.rv_shown.specs.Asked.{Asked}
 use Rattle.rv_hunt.specs.engine.Hunting.{Files, Hunting, IsHuntingOf, expected_in, hunt_of, ignored_in, sought_in}
 use Rattle.rv_hunt.specs.declared.engine.fault.HuntFault.{HuntFault}
 use Rattle.rv_hunt.specs.declared.engine.fault.HuntFault.TheVariants.{Command, Ignored, Expected, Aimed, Lines}

@@ -5,17 +5,17 @@ use Rattle.std.specs.Option.{option_map_or}
 use Rattle.rv_elf.specs.Contents.{Contents}
 use Rattle.rv_explain.specs.Naming.{Naming}
 use Rattle.rv_lines.specs.SourceLines.{SourceLine}
-use Rattle.rv_hunt.specs.HuntObject.{hunt_facts}
+use Rattle.rv_shown.specs.HuntObject.{hunt_facts}
 use Rattle.rv_tables.specs.HuntText.{table_text}
 use Rattle.rv_search.specs.Hunt.{Hunt}
 use Rattle.rv_search.specs.Hunted.{IsHunted}
 use Rattle.rv_tables.specs.Origin.{Origin, image_digits, last_line, stretch_on}
-use Rattle.rv_hunt.specs.Outcome.{Outcome}
-use Rattle.rv_hunt.specs.PageFacts.{page_facts}
+use Rattle.rv_shown.specs.Outcome.{Outcome}
+use Rattle.rv_shown.specs.PageFacts.{page_facts}
 use Rattle.rv_search.specs.RightEnds.{has_wrong_end, right_codes}
 use Rattle.rv_tables.specs.ShownRows.{shown_rows}
-use Rattle.rv_hunt.specs.ToldOrder.{AreInOrder, benign, bugs}
-use Rattle.rv_hunt.specs.Warnings.{is_void}
+use Rattle.rv_shown.specs.ToldOrder.{AreInOrder, benign, bugs}
+use Rattle.rv_shown.specs.Warnings.{is_void}
 use Rattle.rv_search.specs.declared.hunted.Hunted.{Hunted}
 use Rattle.rv_tables.specs.declared.row.RaceRow.{RaceRow}
 use Rattle.rv_memory.specs.Flagged.{device, has_failed}
@@ -27,18 +27,18 @@ use Rattle.rv_engines.specs.CommandFault.{Refusal, plainly}
 use Rattle.rv_engines.specs.Images.{image_of}
 use Rattle.rv_engines.specs.SourceFile.{lines_miss, source_in}
 use Rattle.rv_engines.specs.declared.built.Built.{Built}
-use Rattle.rv_hunt.specs.engine.Asked.{Asked}
+use Rattle.rv_shown.specs.Asked.{Asked}
 use Rattle.rv_hunt.specs.engine.OrderShown.{AreOrdersShown}
 use Rattle.rv_hunt.specs.engine.Shown.{AreShown}
 use Rattle.rv_hunt.specs.engine.StuckShown.{AreStuckShown}
-use Rattle.rv_hunt.specs.declared.engine.stuck_ends.ShownStuck.{ShownStuck}
-use Rattle.rv_hunt.specs.declared.engine.orders.ShownOrder.{ShownOrder}
-use Rattle.rv_hunt.specs.declared.engine.shown.ShownRace.{ShownRace}
-use Rattle.rv_hunt.specs.declared.engine.found.Found.{Found}
+use Rattle.rv_shown.specs.declared.shown.ShownStuck.{ShownStuck}
+use Rattle.rv_shown.specs.declared.shown.ShownOrder.{ShownOrder}
+use Rattle.rv_shown.specs.declared.shown.ShownRace.{ShownRace}
+use Rattle.rv_shown.specs.declared.found.Found.{Found}
 use Rattle.rv_hunt.specs.declared.engine.inputs.Inputs.{Inputs}
-use Rattle.rv_hunt.specs.declared.engine.options.HuntOptions.{HuntOptions}
-use Rattle.rv_hunt.specs.declared.engine.options.Shows.{Shows}
-use Rattle.rv_hunt.specs.declared.engine.options.Shows.TheVariants.{Text, Table}
+use Rattle.rv_shown.specs.declared.options.HuntOptions.{HuntOptions}
+use Rattle.rv_shown.specs.declared.options.Shows.{Shows}
+use Rattle.rv_shown.specs.declared.options.Shows.TheVariants.{Text, Table}
 use Rattle.rv_tables.specs.merge.Ignore.{aimed_in, ignores_of, is_ignored, is_told, naming_of}
 use Rattle.rv_tables.specs.merge.Known.{has_gone, known_of, new_races}
 use Rattle.rv_tables.specs.merge.Listing.{list_text}

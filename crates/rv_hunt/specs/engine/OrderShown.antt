@@ -10,8 +10,8 @@ use Rattle.rv_search.specs.Hunt.{Hunt}
 use Rattle.rv_tables.specs.Keyed.{row_at}
 use Rattle.rv_tables.specs.Orders.{first_of}
 use Rattle.rv_hunt.specs.engine.Shown.{IsRunOf, run_told}
-use Rattle.rv_hunt.specs.declared.engine.orders.MadeTrial.{MadeTrial}
-use Rattle.rv_hunt.specs.declared.engine.orders.ShownOrder.{ShownOrder}
+use Rattle.rv_shown.specs.declared.shown.MadeTrial.{MadeTrial}
+use Rattle.rv_shown.specs.declared.shown.ShownOrder.{ShownOrder}
 use Rattle.rv_tables.specs.declared.orders.OrderRow.{OrderRow}
 use Rattle.rv_tables.specs.declared.orders.TrialPlace.{TrialPlace}
 use Rattle.rv_races.specs.declared.races.Race.{Race}

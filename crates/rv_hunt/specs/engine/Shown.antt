@@ -12,7 +12,7 @@ use Rattle.rv_races.specs.declared.races.Race.{Race}
 use Rattle.rv_search.specs.Hunt.{Hunt, IsSampledRun, IsWalkOf}
 use Rattle.rv_hunt.specs.Remade.{race_in}
 use Rattle.rv_tables.specs.declared.row.RaceRow.{RaceRow}
-use Rattle.rv_hunt.specs.declared.engine.shown.ShownRace.{ShownRace}
+use Rattle.rv_shown.specs.declared.shown.ShownRace.{ShownRace}
 use Rattle.rv_hunt.specs.declared.engine.shown.TheConstants.{AROUND}
 use Rattle.rv_report.specs.declared.key.Key.{Key}
 use Rattle.rv_tally.specs.Plans.{is_sampled}

@@ -5,7 +5,7 @@ use Rattle.rv_explain.specs.Stuck.{IsShownEnd}
 use Rattle.rv_explain.specs.declared.stuck.StuckBlock.{StuckBlock}
 use Rattle.rv_hart.specs.State.{start as first_state}
 use Rattle.rv_search.specs.Hunt.{Hunt}
-use Rattle.rv_hunt.specs.declared.engine.stuck_ends.ShownStuck.{ShownStuck}
+use Rattle.rv_shown.specs.declared.shown.ShownStuck.{ShownStuck}
 
 -- A schedule of the image, with so many harts, ends in a stuck state, and what each of its harts does there is shown.
 pub record IsStuckBlock (hunt : Hunt) (block : StuckBlock) : Type 0 where

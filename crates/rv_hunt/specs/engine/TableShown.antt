@@ -10,16 +10,16 @@ use Rattle.rv_explain.specs.Naming.{Naming}
 use Rattle.rv_lines.specs.SourceLines.{SourceLine}
 use Rattle.rv_hunt.specs.GivenRuns.{RunsGiven, given_in, mix_of, slots_of}
 use Rattle.rv_search.specs.Hunt.{Hunt}
-use Rattle.rv_hunt.specs.HuntObject.{object_facts, table_sums}
+use Rattle.rv_shown.specs.HuntObject.{object_facts, table_sums}
 use Rattle.rv_tables.specs.Origin.{Origin, image_digits, other_than, runs_of, words_in}
-use Rattle.rv_hunt.specs.PageFacts.{table_facts}
-use Rattle.rv_hunt.specs.ToldOrder.{AreInOrder}
+use Rattle.rv_shown.specs.PageFacts.{table_facts}
+use Rattle.rv_shown.specs.ToldOrder.{AreInOrder}
 use Rattle.rv_hunt.specs.declared.engine.fault.HuntFault.{HuntFault}
 use Rattle.rv_hunt.specs.declared.engine.fault.HuntFault.TheVariants.{Command, Ignored, Expected, Aimed, Lines}
-use Rattle.rv_hunt.specs.declared.engine.found.Found.{Found}
+use Rattle.rv_shown.specs.declared.found.Found.{Found}
 use Rattle.rv_hunt.specs.declared.engine.show.ShowFault.{ShowFault}
 use Rattle.rv_hunt.specs.declared.engine.show.ShowFault.TheVariants as show
-use Rattle.rv_hunt.specs.declared.engine.shown.ShownRace.{ShownRace}
+use Rattle.rv_shown.specs.declared.shown.ShownRace.{ShownRace}
 use Rattle.rv_hunt.specs.declared.engine.tabled.ShownTable.{ShownTable}
 use Rattle.rv_tables.specs.declared.fault.TableKind.{TableKind}
 use Rattle.rv_tables.specs.declared.fault.TableKind.TheVariants as kind
@@ -29,7 +29,7 @@ use Rattle.rv_tables.specs.declared.merge.ignore.Line.{Line}
 use Rattle.rv_tables.specs.declared.merge.known.Known.{Known}
 use Rattle.rv_tables.specs.declared.origin_line.ReadTable.{ReadTable}
 use Rattle.rv_tables.specs.declared.row.RaceRow.{RaceRow}
-use Rattle.rv_hunt.specs.engine.Asked.{Asked}
+use Rattle.rv_shown.specs.Asked.{Asked}
 use Rattle.rv_hunt.specs.engine.HuntFault as hunting
 use Rattle.rv_hunt.specs.engine.Hunting.{Files, expected_in, found_in, hunt_of, ignored_in}
 use Rattle.rv_hunt.specs.engine.Shown.{AreShown}

@@ -8,7 +8,7 @@ use Rattle.rv_engines.specs.CommandFault.{Refusal}
 use Rattle.rv_search.specs.Hunt.{Hunt}
 use Rattle.rv_memory.specs.Chain.{◌>>=◌}
 use Rattle.rv_sample.specs.Sites.{sites}
-use Rattle.rv_hunt.specs.engine.Asked.{Asked}
+use Rattle.rv_shown.specs.Asked.{Asked}
 use Rattle.rv_hunt.specs.engine.HuntFault.{IsAimKnown, is_plain_refusal}
 use Rattle.rv_hunt.specs.engine.Hunting.{Hunting, Texts, hunt_of, sought_in}
 use Rattle.rv_tables.specs.merge.FileFault as file

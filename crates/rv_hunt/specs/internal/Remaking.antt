@@ -26,7 +26,7 @@ use Rattle.rv_hunt.specs.declared.engine.tabled.ShownTable.{ShownTable}
 use Rattle.rv_tables.specs.declared.fault.TableKind.TheVariants as kind
 use Rattle.rv_tables.specs.declared.merge.fault.FileFault.{FileFault}
 use Rattle.rv_tables.specs.declared.merge.fault.FileFault.TheVariants as file_fault
-use Rattle.rv_hunt.specs.engine.Asked.{Asked}
+use Rattle.rv_shown.specs.Asked.{Asked}
 use Rattle.rv_hunt.specs.engine.Hunting.{expected_in, ignored_in}
 use Rattle.rv_hunt.specs.engine.TableShown.{TableShown, asked_by, last_fault}
 use Rattle.rv_hunt.specs.internal.MakeFault as make

@@ -7,7 +7,7 @@ use Rattle.rv_collide.specs.declared.collider.Finished.{Finished}
 use Rattle.rv_explain.specs.Races.{Run, reports}
 use Rattle.rv_races.specs.declared.races.Report.{Report}
 use Rattle.rv_hunt.specs.declared.engine.shown.InFull.{InFull}
-use Rattle.rv_hunt.specs.declared.engine.shown.ShownRace.{ShownRace}
+use Rattle.rv_shown.specs.declared.shown.ShownRace.{ShownRace}
 use Rattle.rv_hunt.specs.declared.engine.shown.ShownPart.{ShownPart}
 use Rattle.rv_tables.specs.declared.row.RaceRow.{RaceRow}
 use Rattle.rv_search.specs.Hunt.{Hunt}

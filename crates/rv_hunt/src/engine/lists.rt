@@ -2,17 +2,17 @@
 ghost use Rattle.std.specs.Prelude.{◌≡◌, ◌||◌, false, Ok, IfOk, IfErr, IfSome};
 ghost use Rattle.std.specs.Option.{option_map_or};
 ghost use Rattle.rv_memory.specs.Flagged as flag;
-ghost use Rattle.rv_hunt.specs.engine.Asked.{asked};
+ghost use Rattle.rv_shown.specs.Asked.{asked};
 ghost use Rattle.rv_hunt.specs.engine.Hunting as spec;
 ghost use Rattle.rv_tables.specs.merge.FileFault.{IsTold, fails_by, is_read, is_write};
 ghost use Rattle.rv_tables.specs.merge.Ignore.{aimed_in, naming_of};
 ghost use Rattle.rv_tables.specs.merge.Merge as merge;
 
-use crate::engine::options::HuntOptions;
 use rv_elf::Image;
 use rv_engines::built::Built;
 use rv_lines::lines::SourceLines;
 use rv_memory::flagged::Flagged;
+use rv_shown::options::HuntOptions;
 use rv_tables::merge::fault::FileFault;
 use rv_tables::merge::ignore::{Ignores, aimed, read_ignores};
 use rv_tables::merge::known::{self, Known};

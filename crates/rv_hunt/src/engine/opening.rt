@@ -6,7 +6,7 @@ ghost use Rattle.rv_engines.specs.CommandFault.{IsTold, refusal, fails_by, is_re
 ghost use Rattle.rv_engines.specs.Fault as plain;
 ghost use Rattle.rv_engines.specs.Images.{image_of};
 ghost use Rattle.rv_tables.specs.Origin.{image_digits};
-ghost use Rattle.rv_hunt.specs.engine.Asked.{asked};
+ghost use Rattle.rv_shown.specs.Asked.{asked};
 ghost use Rattle.rv_hunt.specs.engine.HuntFault as hunt;
 ghost use Rattle.rv_hunt.specs.engine.Hunting.{hunt_of};
 ghost use Rattle.rv_hunt.specs.internal.Opened as spec;
@@ -15,7 +15,6 @@ ghost use Rattle.rv_tables.specs.merge.Ignore.{aimed_in};
 
 use crate::engine::fault::HuntFault;
 use crate::engine::lists::read_aim;
-use crate::engine::options::HuntOptions;
 use rv_elf::Image;
 use rv_engines::built::{Built, built_of};
 use rv_engines::digest::digest_of;
@@ -25,6 +24,7 @@ use rv_engines::run::fault::CommandFault;
 use rv_engines::run::lists::{read_named, read_skipped};
 use rv_memory::flagged::{Flagged, INPUT_LIMIT, read_whole};
 use rv_prune::named_bytes::NamedBytes;
+use rv_shown::options::HuntOptions;
 use rv_tables::merge::ignore::Ignores;
 use rv_tables::origin::image_digits;
 use std::alloc::Global;

@@ -22,8 +22,7 @@ use rv_collide::collider::Finished;
 use rv_collide::entry::Entry;
 use rv_collide::plan::Plan;
 use rv_debug::session::Session;
-use rv_explain::block::Block;
-use rv_explain::order::{OrderTrials, TrialNumbers, order_of};
+use rv_explain::order::{TrialNumbers, order_of};
 use rv_explain::race_block::race_block;
 use rv_explain::races::{Race, Report, reports_in};
 use rv_explain::symbol_table::SymbolTable;
@@ -33,7 +32,8 @@ use rv_memory::store::NoMemory;
 use rv_report::key::Key;
 use rv_search::hunt::Hunt;
 use rv_search::run_walk::{Repeats, RunWalk, begin_of, drawn_pairs, probes_of, walk_of};
-use rv_tables::orders::{OrderRow, OrderTable, TrialPlace};
+use rv_shown::shown::{MadeTrial, ShownOrder};
+use rv_tables::orders::{OrderTable, TrialPlace};
 use rv_tables::row::RaceRow;
 use rv_walk::code::Marks;
 use rv_walk::near_pair::NearPair;
@@ -44,22 +44,6 @@ use std::thread::Threads;
 
 /// How many runs are made together for each worker.
 const RUNS_OF_A_WORKER: usize = 2;
-
-/// A trial that was made again: the block of its report, and what came of it. The block's second access is that of the hart that is first in the
-/// first copy.
-#[derive(Drop)]
-pub struct MadeTrial {
-    pub block: Block,
-    pub order: OrderTrials,
-}
-
-/// What is shown of the order of a race: its trials, where it was tried, and the first by which some hart ended otherwise.
-#[derive(Drop)]
-pub struct ShownOrder {
-    pub key: Key,
-    pub row: Option<OrderRow>,
-    pub made: Option<MadeTrial>,
-}
 
 /// The trial of the race at a place of those that are shown, made again, the harts that stepped before it, and how many harts its run has.
 #[derive(Drop)]

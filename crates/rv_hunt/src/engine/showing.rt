@@ -5,10 +5,11 @@ ghost use Rattle.rv_hunt.specs.engine.Shown.{AreShown};
 ghost use Rattle.rv_hunt.specs.internal.Showing as spec;
 
 use crate::engine::folder::{Folder, FolderFault};
-use crate::engine::shown::{InFull, Showers, ShownPart, ShownRace};
+use crate::engine::shown::{InFull, Showers, ShownPart};
 use rv_campaign::{PoolFault, all_made};
 use rv_memory::store::NoMemory;
 use rv_search::hunt::Watch;
+use rv_shown::shown::ShownRace;
 use std::alloc::Global;
 use std::sync::Wait;
 use std::thread::Threads;

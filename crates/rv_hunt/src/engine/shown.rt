@@ -20,7 +20,6 @@ use rv_collide::plan::Plan;
 use rv_collide::schedule::laws::legal_is_writable;
 use rv_collide::schedule::write_schedule;
 use rv_debug::session::Session;
-use rv_explain::block::Block;
 use rv_explain::classes::rank;
 use rv_explain::race_block::race_block;
 use rv_explain::races::{Race, Report, reports_in};
@@ -33,6 +32,7 @@ use rv_report::key::Key;
 use rv_search::hunt::Hunt;
 use rv_search::kept_run::sampled_run;
 use rv_search::run_walk::{Repeats, RunWalk, begin_of, drawn_pairs, probes_of, walk_of};
+use rv_shown::shown::ShownRace;
 use rv_tables::row::RaceRow;
 use rv_walk::code::Marks;
 use rv_walk::near_pair::NearPair;
@@ -41,13 +41,6 @@ use std::alloc::Global;
 
 /// How many entries are told before and after each place of a block.
 pub const AROUND: u32 = 3;
-
-/// A race that is shown in full: its block, and how many harts its run has.
-#[derive(Drop)]
-pub struct ShownRace {
-    pub block: Block,
-    pub harts: u8,
-}
 
 /// A part of a run of a hunt.
 #[derive(Clone, Copy)]

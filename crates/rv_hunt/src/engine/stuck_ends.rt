@@ -17,27 +17,11 @@ use rv_memory::store::NoMemory;
 use rv_search::hunt::Hunt;
 use rv_search::run_walk::{Repeats, RunWalk, begin_of, drawn_pairs, probes_of, walk_of};
 use rv_search::stuck::{StuckRow, StuckTable};
+use rv_shown::shown::{ShownStuck, StuckEnds};
 use rv_walk::code::Marks;
 use rv_walk::near_pair::NearPair;
 use rv_walk::probes::Probes;
 use std::alloc::Global;
-
-/// A stuck end that is shown in full: how often and where it was met, whether each walk of the most harts ended so, how many entries
-/// its schedule has, and its block.
-#[derive(Drop)]
-pub struct ShownStuck {
-    pub row: StuckRow,
-    pub is_every: bool,
-    pub entries: usize,
-    pub block: StuckBlock,
-}
-
-/// The stuck ends of a hunt: how many there are, and those that are shown in full.
-#[derive(Drop)]
-pub struct StuckEnds {
-    pub count: usize,
-    pub shown: Vec<ShownStuck>,
-}
 
 /// The schedule of the probe of a pair, from the walk's begin on.
 fn of_probe(

@@ -2,7 +2,7 @@ use Rattle.std.proofs.Common.{◌∙◌, ap, sym}
 use Rattle.std.specs.Prelude.{◌||◌, is_some}
 use Rattle.rv_engines.specs.CommandFault as command
 use Rattle.rv_hunt.proofs.EngineLemmas.{make_told, made_known, write_same}
-use Rattle.rv_hunt.specs.engine.Asked.{asked}
+use Rattle.rv_shown.specs.Asked.{asked}
 use Rattle.rv_hunt.specs.engine.Hunting.{files_of, showing_of}
 use Rattle.rv_hunt.specs.engine.Late.{IfListed, IfPaged, IfSaved, IfWritten}
 use Rattle.rv_search.specs.RightEnds.{right_codes}

@@ -3,7 +3,7 @@ use Rattle.rv_memory.specs.Flagged as flag
 use Rattle.rv_tables.specs.merge.Merge as merge
 use Rattle.rv_hunt.proofs.BoolLemmas.{image_failed, expected_failed, ignored_failed, lines_failed}
 use Rattle.rv_hunt.proofs.FileLemmas.{expected_told, hunting_known, ignored_told, lines_told, open_told}
-use Rattle.rv_hunt.specs.engine.Asked.{asked}
+use Rattle.rv_shown.specs.Asked.{asked}
 use Rattle.rv_hunt.specs.internal.Opened.{hunt_in}
 use Rattle.rv_hunt.proofs.engine.read.Goals as goal
 

@@ -1,6 +1,6 @@
 use Rattle.std.proofs.Common.{refl}
 use Rattle.rv_memory.specs.Flagged as flag
-use Rattle.rv_hunt.specs.engine.Asked.{asked}
+use Rattle.rv_shown.specs.Asked.{asked}
 use Rattle.rv_hunt.proofs.OpenLemmas.{file_refused, hunt_known, line_refused}
 use Rattle.rv_hunt.proofs.engine.opening.open.Goals as goal
 

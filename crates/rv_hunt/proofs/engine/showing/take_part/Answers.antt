@@ -1,6 +1,6 @@
 use Rattle.std.proofs.Common.{◌∙◌, ℕ, List, All, Some, subst, sym}
 use Rattle.std.proofs.lemmas.List.Elements.{All-pop}
-use Rattle.rv_hunt.specs.declared.engine.shown.ShownRace.{ShownRace}
+use Rattle.rv_shown.specs.declared.shown.ShownRace.{ShownRace}
 use Rattle.rv_hunt.specs.internal.Showing.{Full, IsOfSchedule, IsShownIn}
 use Rattle.rv_hunt.proofs.engine.showing.take_part.Goals as goal
 
