@@ -53,14 +53,14 @@ impl AsmKind {
 }
 
 /// The sections of a source.
-#[derive(Clone, Copy, Debug, PartialEq, Eq)]
+#[derive(Clone, Copy)]
 pub enum Section {
     Text,
     Data,
 }
 
 /// A name: a letter, `_`, `.` or `$`, then these or digits; at most 255 bytes.
-#[derive(Debug, Drop)]
+#[derive(Drop)]
 pub struct Name<'s> {
     bytes: &'s [u8],
 }
@@ -98,14 +98,14 @@ impl<'s> Name<'s> {
 }
 
 /// What stands for 32 bits: a label, for its address, or a number modulo 2^32.
-#[derive(Debug, Drop)]
+#[derive(Drop)]
 pub enum Expression<'s> {
     Label(Name<'s>),
     Number(u32),
 }
 
 /// A statement without a fault of its own.
-#[derive(Debug, Drop)]
+#[derive(Drop)]
 pub enum Statement<'s> {
     /// One instruction.
     Instr(Instr),
@@ -138,7 +138,7 @@ pub enum Statement<'s> {
 
 /// A line: the label that it defines, and its statement, if it has one, or the first fault of the
 /// statement by rank. A line with a faulty statement keeps its label.
-#[derive(Debug, Drop)]
+#[derive(Drop)]
 pub struct Line<'s> {
     pub label: Option<Name<'s>>,
     pub statement: Result<Option<Statement<'s>>, AsmKind>,

@@ -16,7 +16,7 @@ pub struct Seen {
 
 /// A claimed data breakpoint: the hart that claimed it, the access that it watches, and the first
 /// conflicting access that another hart has made since.
-#[derive(Clone, Copy, Debug, PartialEq, Eq)]
+#[derive(Clone, Copy)]
 pub struct Claim {
     pub hart: u8,
     pub access: Access,

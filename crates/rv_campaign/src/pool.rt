@@ -36,7 +36,7 @@ pub trait Jobs: Sync {
 }
 
 /// Why jobs are not made: growth was refused, or a worker could not be started.
-#[derive(Clone, Copy, Debug, Drop, PartialEq, Eq)]
+#[derive(Clone, Copy, Drop, PartialEq, Eq)]
 pub enum PoolFault {
     NoMemory,
     NoThread,
@@ -62,7 +62,7 @@ impl<T: Drop> From<AllocFailed<T>> for PoolFault {
 
 /// A job that is to be made. In their order the longest come first: how much shorter it is than the longest could be, and its
 /// place.
-#[derive(Clone, Copy, Debug, Drop, PartialEq, Eq, PartialOrd, Ord)]
+#[derive(Clone, Copy, Drop, PartialEq, Eq, PartialOrd, Ord)]
 struct Turn {
     shorter: u32,
     place: u32,

@@ -32,7 +32,7 @@ pub enum CampaignFault<S> {
 }
 
 /// Why the numbers of a campaign are refused.
-#[derive(Clone, Copy, Debug, PartialEq, Eq)]
+#[derive(Clone, Copy, PartialEq, Eq)]
 pub enum NumberFault {
     TooLarge,
     Runs,

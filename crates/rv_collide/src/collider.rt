@@ -33,7 +33,7 @@ mod sharing;
 
 /// What an accepted turn was: a step of the hart, or its pause with the slot that watches it, if one was
 /// free.
-#[derive(Clone, Copy, Debug, PartialEq, Eq)]
+#[derive(Clone, Copy)]
 pub enum Turned {
     Stepped(Event),
     Paused(Option<u8>),

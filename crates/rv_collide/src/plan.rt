@@ -21,7 +21,7 @@ pub const DEFAULT_SLOTS: u8 = 4;
 /// at most (1 to 1,000,000), how many addresses are armed in all at most (0 to 4096), how many steps of
 /// other harts a pause lasts at least (1 to 65,535), and how many slots there are, each of which watches one
 /// pause (1 to 8).
-#[derive(Clone, Copy, Debug, PartialEq, Eq)]
+#[derive(Clone, Copy)]
 pub struct Plan {
     pub harts: u8,
     pub steps: u32,

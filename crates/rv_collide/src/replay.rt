@@ -29,7 +29,7 @@ pub enum Why {
 
 /// Why a list of entries is no schedule of an image and a plan: the first entry that is not what a call
 /// would add there; or memory was refused.
-#[derive(Clone, Copy, Debug, PartialEq, Eq)]
+#[derive(Clone, Copy, Debug)]
 pub enum ReplayFault {
     NoMemory,
     Entry { place: u32, why: Why },

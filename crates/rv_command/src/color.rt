@@ -8,7 +8,7 @@ ghost use Rattle.rv_command.specs.internal.Colors.{line_with};
 use std::alloc::Global;
 
 /// When classes, errors and warnings have colours.
-#[derive(Clone, Copy, Debug, PartialEq, Eq)]
+#[derive(Clone, Copy)]
 pub enum Color {
     /// Where a terminal shows them, and its user wants them.
     Auto,

@@ -55,7 +55,7 @@ use std::alloc::{AllocError, Global};
 use std::fmt::Display;
 
 /// What a command line asks for.
-#[derive(Clone, Copy, Debug, PartialEq, Eq)]
+#[derive(Clone, Copy)]
 pub enum Job<'a> {
     /// `words`: run the words of the standard input.
     Words,
@@ -136,7 +136,7 @@ pub enum Job<'a> {
 pub const VERSION: &str = "0.1.0";
 
 /// Why a command line gives no job.
-#[derive(Clone, Copy, Debug, PartialEq, Eq)]
+#[derive(Clone, Copy)]
 pub enum LineFault {
     /// The words are no command with its arguments.
     Line,

@@ -5,7 +5,7 @@ ghost use Rattle.rv_command.specs.Status as spec;
 use std::fmt;
 
 /// How the program ends.
-#[derive(Clone, Copy, Debug, PartialEq, Eq)]
+#[derive(Clone, Copy, PartialEq, Eq)]
 pub enum Status {
     Done,
     /// An input is refused.

@@ -13,7 +13,7 @@ const MOST_BYTES: u32 = 256;
 const MOST_LINES: u32 = 64;
 
 /// What a line asks of the session.
-#[derive(Clone, Copy, Debug, PartialEq, Eq)]
+#[derive(Clone, Copy)]
 pub enum Command {
     /// `g N`: to place N.
     Go(u32),

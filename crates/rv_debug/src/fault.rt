@@ -5,7 +5,7 @@ ghost use Rattle.rv_debug.specs.declared.fault.TalkFault.TheVariants as fault_is
 use rv_memory::flagged::WriteFault;
 
 /// Why a talk stops before `q` and the end of its input.
-#[derive(Clone, Copy, Debug, PartialEq, Eq)]
+#[derive(Clone, Copy)]
 pub enum TalkFault {
     /// The input has more bytes than an input may have.
     TooLong,

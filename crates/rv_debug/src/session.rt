@@ -34,7 +34,7 @@ use std::alloc::Global;
 use std::marker::Model;
 
 /// Why a command is not answered. Each leaves the session at its place.
-#[derive(Clone, Copy, Debug, PartialEq, Eq)]
+#[derive(Clone, Copy)]
 pub enum SessionFault {
     /// There is no such place in the schedule.
     NoPlace = 1,

@@ -24,7 +24,7 @@ pub trait Gate: Sync {
 }
 
 /// The gate that always lets in.
-#[derive(Clone, Copy, Debug, Drop)]
+#[derive(Clone, Copy, Drop)]
 pub struct FreeGate;
 
 impl Gate for FreeGate {

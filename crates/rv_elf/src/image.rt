@@ -19,7 +19,7 @@ use std::marker::Model;
 /// multiple of 4, and its word lies in a segment that may be executed. A symbol's type is 0 to 2 and
 /// its name is not empty and without a zero byte; at 17 bytes and its name for each, the symbols need
 /// at most 67,108,864 bytes.
-#[derive(Debug, Drop)]
+#[derive(Drop)]
 pub struct Image {
     entry: u32,
     segments: Vec<Region>,

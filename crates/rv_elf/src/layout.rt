@@ -16,7 +16,7 @@ pub const SYMBOL_ENTRY_SIZE: usize = 16;
 
 /// The ELF header, without the bytes that are the same in every file that is written and are never
 /// read: the ABI and its padding.
-#[derive(Clone, Copy, Debug)]
+#[derive(Clone, Copy)]
 pub struct FileHeader {
     pub ei_mag: u32,
     pub ei_class: u8,
@@ -38,7 +38,7 @@ pub struct FileHeader {
 }
 
 /// A program header: where the bytes of a segment lie in the file and in memory.
-#[derive(Clone, Copy, Debug)]
+#[derive(Clone, Copy)]
 pub struct ProgramHeader {
     pub p_type: u32,
     pub p_offset: u32,
@@ -51,7 +51,7 @@ pub struct ProgramHeader {
 }
 
 /// A section header.
-#[derive(Clone, Copy, Debug)]
+#[derive(Clone, Copy)]
 pub struct SectionHeader {
     pub sh_name: u32,
     pub sh_type: u32,
@@ -66,7 +66,7 @@ pub struct SectionHeader {
 }
 
 /// An entry of a symbol table.
-#[derive(Clone, Copy, Debug)]
+#[derive(Clone, Copy)]
 pub struct SymbolEntry {
     pub st_name: u32,
     pub st_value: u32,

@@ -7,7 +7,7 @@ use std::marker::Model;
 
 /// A symbol: its name, the address that it stands for, its size in bytes, and its type by the numbers
 /// of the System V ABI: 0 no type, 1 an object, 2 a function.
-#[derive(Debug, Drop)]
+#[derive(Drop)]
 pub struct Symbol {
     pub name: String,
     pub value: u32,

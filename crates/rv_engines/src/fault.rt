@@ -19,14 +19,14 @@ use std::fmt;
 
 /// Why a run by threads is refused: a thread cannot be started, or what a thread recorded is not its hart's part
 /// of the schedule.
-#[derive(Clone, Copy, Debug, PartialEq, Eq)]
+#[derive(Clone, Copy)]
 pub enum ThreadsFault {
     NoThread,
     Stray,
 }
 
 /// Why a command does not write its text.
-#[derive(Clone, Copy, Debug, PartialEq, Eq)]
+#[derive(Clone, Copy)]
 pub enum Fault {
     /// The first malformed line of an input of `words`, from 1 on.
     Line(u32),

@@ -18,7 +18,7 @@ use std::fmt;
 
 /// The files of a command as its line names them: the image, the schedule where it has one, and the one whose device
 /// failed, where one did.
-#[derive(Clone, Copy, Debug, PartialEq, Eq)]
+#[derive(Clone, Copy)]
 pub struct Paths<'a> {
     pub image: &'a str,
     pub schedule: Option<&'a str>,
@@ -26,7 +26,7 @@ pub struct Paths<'a> {
 }
 
 /// A fault with the file that is at fault, where one is.
-#[derive(Clone, Copy, Debug, PartialEq, Eq)]
+#[derive(Clone, Copy)]
 pub struct FaultLine<'a> {
     pub file: Option<&'a str>,
     pub fault: CommandFault<'a>,

@@ -18,7 +18,7 @@ use std::alloc::Global;
 use std::io::Read;
 
 /// Why a file of source lines is refused, or a device failed.
-#[derive(Clone, Copy, Debug, PartialEq, Eq)]
+#[derive(Clone, Copy)]
 pub enum SourceFault {
     /// The file is too long, a device failed, or memory is out.
     Plain(Fault),

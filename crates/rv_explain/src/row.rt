@@ -2,7 +2,7 @@ use rv_collide::entry::Entry;
 use rv_hart::access::Access;
 
 /// Whether a hart goes on after an entry.
-#[derive(Clone, Copy, Debug, PartialEq, Eq)]
+#[derive(Clone, Copy)]
 pub enum After {
     GoesOn,
     Exited,
@@ -12,7 +12,7 @@ pub enum After {
 /// What is told of an entry. Of a step or a pause: the address of the hart's instruction, the word that memory had
 /// there where it had all four bytes, and the access that the step made; whether the hart goes on; and the
 /// report's bytes after the entry.
-#[derive(Clone, Copy, Debug, PartialEq, Eq)]
+#[derive(Clone, Copy)]
 pub struct Row {
     pub place: u32,
     pub entry: Entry,

@@ -31,7 +31,7 @@ pub(crate) use called::least_pc;
 pub use text::{stuck_lines, stuck_text};
 
 /// A step that wrote: its hart, its place among the schedule's entries, and its instruction's address.
-#[derive(Clone, Copy, Debug, PartialEq, Eq)]
+#[derive(Clone, Copy)]
 pub struct Writer {
     pub hart: u8,
     pub entry: u32,
@@ -40,7 +40,7 @@ pub struct Writer {
 
 /// 1, 2 or 4 bytes that a round reads: what they are, as a little-endian number, and the last step that wrote one of them, where
 /// there was one.
-#[derive(Clone, Copy, Debug, PartialEq, Eq)]
+#[derive(Clone, Copy)]
 pub struct ReadBytes {
     pub first: u32,
     pub size: u8,

@@ -39,7 +39,7 @@ impl Cause {
 }
 
 /// Whether a hart runs, and else how it ended.
-#[derive(Clone, Copy, Debug, PartialEq, Eq)]
+#[derive(Clone, Copy, PartialEq, Eq)]
 pub enum Status {
     Running,
     Exited(u32),

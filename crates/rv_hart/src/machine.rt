@@ -42,7 +42,7 @@ pub const OUTPUT_LIMIT: u32 = 1_000_000;
 
 /// Why a step is refused, tested in this order: there is no hart of the number; it exited or stopped; it
 /// would print a byte that the output has no room for; the store was refused memory.
-#[derive(Clone, Copy, Debug, PartialEq, Eq)]
+#[derive(Clone, Copy, Debug)]
 pub enum StepFault {
     NoHart,
     NotRunning,

@@ -6,7 +6,7 @@ ghost use Rattle.rv_isa.specs.Operands as spec;
 use crate::form::Form;
 
 /// What an instruction says beside its operation. A field that the format has not is 0 or false.
-#[derive(Clone, Copy, Debug, PartialEq, Eq)]
+#[derive(Clone, Copy)]
 pub struct Operands {
     pub rd: u8,
     pub rs1: u8,

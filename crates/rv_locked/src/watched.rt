@@ -23,7 +23,7 @@ use std::alloc::Global;
 use std::marker::Model;
 
 /// What a call for a hart's turn did: a step of the hart, its pause, or nothing, since the hart isn't able.
-#[derive(Clone, Copy, Debug, PartialEq, Eq)]
+#[derive(Clone, Copy)]
 pub enum Taken {
     Stepped(Event),
     Paused,
@@ -32,7 +32,7 @@ pub enum Taken {
 
 /// The hart whose list of places is not the schedule's, or hart 0 where the image, the plan or the seed is
 /// another.
-#[derive(Clone, Copy, Debug, PartialEq, Eq)]
+#[derive(Clone, Copy)]
 pub struct Stray {
     pub hart: u8,
 }

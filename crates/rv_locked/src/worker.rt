@@ -40,7 +40,7 @@ impl<G: Gate> Model for Record<G> {
 }
 
 /// What a worker does next.
-#[derive(Clone, Copy, PartialEq, Eq)]
+#[derive(Clone, Copy)]
 enum Next {
     Enter,
     Wait,

@@ -10,7 +10,7 @@ use std::alloc::Global;
 use std::marker::Model;
 
 /// What is told of a markup beside its text: the places that it has, those that it links to, and the numbers that it shows.
-#[derive(Clone, Copy, Debug)]
+#[derive(Clone, Copy)]
 pub enum Fact {
     Target(Place),
     Link(Place),

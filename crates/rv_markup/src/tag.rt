@@ -4,7 +4,7 @@
 ghost use Rattle.std.specs.Prelude.{◌≡◌};
 
 /// The name of an element.
-#[derive(Clone, Copy, Debug)]
+#[derive(Clone, Copy)]
 pub struct Tag {
     name: &'static [u8],
 }
@@ -78,7 +78,7 @@ impl Tag {
 }
 
 /// The name of an attribute.
-#[derive(Clone, Copy, Debug)]
+#[derive(Clone, Copy)]
 pub struct Name {
     name: &'static [u8],
 }
@@ -154,14 +154,14 @@ impl Name {
 }
 
 /// A name with its value, whatever bytes that has.
-#[derive(Clone, Copy, Debug)]
+#[derive(Clone, Copy)]
 pub struct Attribute<'a> {
     pub name: Name,
     pub value: &'a [u8],
 }
 
 /// A place in a page that links name: one of its parts, or the race of a number.
-#[derive(Clone, Copy, Debug, PartialEq, Eq)]
+#[derive(Clone, Copy)]
 pub enum Place {
     Warnings,
     Races,

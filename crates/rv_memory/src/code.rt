@@ -5,7 +5,7 @@ use crate::region::Region;
 
 /// An executable region: its place, its start, and how many of the addresses from there on begin a word that lies in it.
 /// Where they are 0, it is no region.
-#[derive(Clone, Copy, Debug)]
+#[derive(Clone, Copy)]
 pub(crate) struct Code {
     pub place: usize,
     pub start: u32,

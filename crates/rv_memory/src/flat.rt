@@ -16,7 +16,7 @@ use std::marker::Model;
 
 /// The store that keeps every byte of its regions, the zeros too. It takes its memory when it is
 /// made, and none after.
-#[derive(Debug, Drop)]
+#[derive(Drop)]
 pub struct Flat {
     regions: Vec<Region>,
     /// Where an access looks for its region, from its block on.

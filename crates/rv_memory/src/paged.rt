@@ -23,7 +23,7 @@ pub mod pages;
 
 /// One region, its bytes in pages that stand at multiples of a page's size. Two regions in one page keep a
 /// page each.
-#[derive(Debug, Drop)]
+#[derive(Drop)]
 pub struct Table {
     start: u32,
     pages: Pages,
@@ -42,7 +42,7 @@ impl Model for Table {
 }
 
 /// The store whose pages may be shared with others. A store into a shared page wants memory for an own copy.
-#[derive(Debug, Drop)]
+#[derive(Drop)]
 pub struct Paged {
     tables: Vec<Table>,
     /// Where an access looks for its region, from its address on.

@@ -7,7 +7,7 @@ use std::marker::Model;
 /// A stretch of guest memory: `bytes`, then zeros up to `len` bytes, from the address `start` on.
 /// `r`, `w` and `x` are its permissions. A caller gives it at least one byte (`1 <= len`) and no more
 /// bytes than it is long (`bytes.len() <= len`).
-#[derive(Debug, Drop)]
+#[derive(Drop)]
 pub struct Region {
     pub start: u32,
     pub bytes: Vec<u8>,

@@ -13,7 +13,7 @@ use std::alloc::Global;
 
 /// What a hart came to: it exited with a code; it stopped, for a cause and at an address; in a copy that is over it polls, from the
 /// least address of its round on, or is parked; in one that is cut off it is running.
-#[derive(Clone, Copy, Debug, PartialEq, Eq)]
+#[derive(Clone, Copy, PartialEq, Eq)]
 pub enum HartEnd {
     Exited(u32),
     Stopped { cause: Cause, pc: u32 },

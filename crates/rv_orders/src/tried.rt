@@ -7,7 +7,7 @@ use rv_memory::store::ByteStore;
 
 /// What came of one order: the harts that stepped, the first two of which are the two, and what each hart came to. A copy is over where
 /// no hart runs, or all that run wait; else it was cut off.
-#[derive(Debug, PartialEq, Eq, Drop)]
+#[derive(Drop)]
 pub struct Tried {
     pub harts: Vec<u8>,
     pub is_over: bool,
@@ -15,7 +15,7 @@ pub struct Tried {
 }
 
 /// What came of both orders, and how that differs.
-#[derive(Debug, PartialEq, Eq, Drop)]
+#[derive(Drop)]
 pub struct Trial {
     pub first: Tried,
     pub second: Tried,

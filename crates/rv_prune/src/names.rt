@@ -8,7 +8,7 @@ use rv_memory::store::NoMemory;
 use std::alloc::Global;
 
 /// Why there are no ranges: the first name without a symbol, or else want of memory.
-#[derive(Clone, Copy, Debug, PartialEq, Eq)]
+#[derive(Clone, Copy)]
 pub enum NamesFault {
     /// No symbol of the image has the name at this index.
     Unknown(usize),

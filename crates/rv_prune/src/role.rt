@@ -1,5 +1,5 @@
 /// What an instruction is to the order of accesses.
-#[derive(Clone, Copy, Debug, PartialEq, Eq)]
+#[derive(Clone, Copy)]
 pub enum Role {
     /// LR, SC or an AMO.
     Atomic,

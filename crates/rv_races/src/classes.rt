@@ -11,7 +11,7 @@ use rv_prune::ordered::{is_atomic, is_ordered};
 use rv_prune::pruning::classify;
 
 /// What a race counts as: the first of these that one of its reports is.
-#[derive(Clone, Copy, Debug, PartialEq, Eq)]
+#[derive(Clone, Copy)]
 pub enum RaceClass {
     Kept,
     Counter,

@@ -23,7 +23,7 @@ use rv_report::exhibiting::writes_over;
 use std::alloc::Global;
 
 /// An ending, and the verdict that it is judged by: of one that found its bytes changed the hit of the last store to them.
-#[derive(Clone, Copy, Debug)]
+#[derive(Clone, Copy)]
 pub struct Judged {
     pub ending: Ending,
     pub verdict: Verdict,

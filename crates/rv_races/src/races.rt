@@ -15,7 +15,7 @@ use std::alloc::Global;
 
 /// An ending that is a report: its number among the endings of its run, what it is about, what it counts as, and the verdict that it
 /// is judged by.
-#[derive(Clone, Copy, Debug)]
+#[derive(Clone, Copy)]
 pub struct Report {
     pub number: u32,
     pub key: Key,

@@ -14,7 +14,7 @@ use thiserror::Error;
 
 /// A report that whoever has the image can check with the plain machine alone: the harts of a list of steps from the
 /// start, and the accesses that its last two steps make. They conflict, and the harts of those two steps differ.
-#[derive(Debug, Drop)]
+#[derive(Drop)]
 pub struct Exhibit {
     pub harts: Vec<u8>,
     /// The access that the other hart made.

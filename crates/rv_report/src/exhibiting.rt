@@ -84,7 +84,7 @@ pub fn endings_are_of_pauses()
 }
 
 /// The access that a report names beside the paused one, and its place.
-#[derive(Clone, Copy, Debug)]
+#[derive(Clone, Copy)]
 struct Other {
     place: u32,
     access: Access,

@@ -6,7 +6,7 @@ use rv_collide::ending::{Ending, Verdict};
 
 /// The key of a row: the addresses of the two instructions whose accesses met, the lower first; of an
 /// ending that only found its bytes changed the paused instruction's address alone.
-#[derive(Clone, Copy, Debug, PartialEq, Eq, Hash)]
+#[derive(Clone, Copy, PartialEq, Eq, Hash)]
 pub struct Key {
     pub first: u32,
     pub second: Option<u32>,

@@ -6,7 +6,7 @@ use rand_pcg::Lcg64Xsh32;
 use std::marker::Model;
 
 /// The generator of a seed and a stream, whose words are each given once, in their order.
-#[derive(Debug, Drop)]
+#[derive(Drop)]
 pub struct Generator {
     state: Lcg64Xsh32,
     seed: u64,

@@ -8,7 +8,7 @@ use std::alloc::Global;
 use std::marker::Model;
 
 /// The sites of an image in ascending order, each once.
-#[derive(Debug, Drop)]
+#[derive(Drop)]
 pub struct Sampler {
     sites: Vec<u32>,
 }

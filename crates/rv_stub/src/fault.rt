@@ -9,7 +9,7 @@ use rv_engines::run::fault::CommandFault;
 use rv_engines::sentences::{FaultLine, Paths};
 
 /// The image or the schedule is refused; or the talk over the run that they say is stopped.
-#[derive(Clone, Copy, Debug, PartialEq, Eq)]
+#[derive(Clone, Copy)]
 pub enum GdbFault {
     Files(Fault),
     Talk(TalkFault),

@@ -11,7 +11,7 @@ use rv_waits::touched::Range;
 use std::alloc::Global;
 
 /// What a hart does: it has exited or stopped, it goes round and reads no data, or it polls.
-#[derive(Debug, PartialEq, Eq, Drop)]
+#[derive(Drop)]
 pub enum Act {
     Exited,
     Stopped,
@@ -21,7 +21,7 @@ pub enum Act {
 
 /// Of a hart that polls: the least address of an instruction of its round, and the bytes that the round reads, each range once, in
 /// ascending order of their first addresses, then of their sizes.
-#[derive(Debug, PartialEq, Eq, Drop)]
+#[derive(Drop)]
 pub struct Polled {
     pub pc: u32,
     pub reads: Vec<Range>,

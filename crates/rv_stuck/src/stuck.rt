@@ -14,7 +14,7 @@ pub const MOST_ROUND: u32 = 4096;
 
 /// One step of a round: the instruction's address, its word, which is None where the four bytes do not lie wholly in one
 /// region, and the access that it makes, if any.
-#[derive(Clone, Copy, Debug, PartialEq, Eq)]
+#[derive(Clone, Copy)]
 pub struct RoundStep {
     pub pc: u32,
     pub word: Option<u32>,
@@ -22,7 +22,7 @@ pub struct RoundStep {
 }
 
 /// What a hart does at a stuck end. A hart that waits goes round these steps for ever.
-#[derive(Debug, PartialEq, Eq, Drop)]
+#[derive(Drop)]
 pub enum Doing {
     Exited,
     Stopped,
@@ -30,7 +30,7 @@ pub enum Doing {
 }
 
 /// What each hart of a stuck machine does, in the order of the harts.
-#[derive(Debug, PartialEq, Eq, Drop)]
+#[derive(Drop)]
 pub struct StuckEnd {
     pub harts: Vec<Doing>,
 }

@@ -18,7 +18,7 @@ use std::marker::Model;
 
 /// The race of a changed report, which is of one instruction, and that of the pair which its block names: its own again where it
 /// names no store.
-#[derive(Clone, Copy, Debug, PartialEq, Eq, Hash)]
+#[derive(Clone, Copy, PartialEq, Eq, Hash)]
 pub struct ChangedKey {
     pub own: Key,
     pub pair: Key,

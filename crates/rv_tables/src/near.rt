@@ -26,7 +26,7 @@ pub struct NearRow {
 
 /// What came of a near pair: a report is of its two instructions; or none is, and of its probes one held a hart, or in one a hart
 /// came there only while all others waited, or none came there; or it was not probed.
-#[derive(Clone, Copy, Debug, PartialEq, Eq)]
+#[derive(Clone, Copy)]
 pub enum Fate {
     Met,
     Held,

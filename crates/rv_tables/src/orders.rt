@@ -47,7 +47,7 @@ pub struct OrderRow {
 
 /// What the order of a race's accesses makes: harts end otherwise by some trial; none does, and they print otherwise by some; by none,
 /// and memory differs by some; all trials end alike; or there was none.
-#[derive(Clone, Copy, Debug, PartialEq, Eq)]
+#[derive(Clone, Copy)]
 pub enum Order {
     Matters,
     Prints,

@@ -6,7 +6,7 @@ ghost use Rattle.rv_tally.specs.GoesOn as spec;
 pub const MOST_BUDGET: u64 = 1_000_000_000_000_000;
 
 /// How far a hunt goes: just so many runs, or as many as a budget of steps allows.
-#[derive(Clone, Copy, Debug, PartialEq, Eq)]
+#[derive(Clone, Copy)]
 pub enum Limit {
     Runs(u64),
     Budget(u64),

@@ -10,7 +10,7 @@ use std::marker::Model;
 
 /// The lengths of a run: how many steps its harts make together at most (1 to 1,000,000), how many addresses are armed
 /// in all at most (0 to 4096), and how many steps of other harts a pause lasts at least (1 to 65,535).
-#[derive(Clone, Copy, Debug, PartialEq, Eq)]
+#[derive(Clone, Copy)]
 pub struct Lengths {
     pub steps: u32,
     pub arms: u32,
@@ -18,7 +18,7 @@ pub struct Lengths {
 }
 
 /// What the runs of a hunt are: of each four three walks and a sampled run, sampled runs alone, or walks alone.
-#[derive(Clone, Copy, Debug, PartialEq, Eq)]
+#[derive(Clone, Copy)]
 pub enum Mix {
     Mixed,
     Sampled,

@@ -10,7 +10,7 @@ use std::marker::Model;
 const MOST_DIGITS: usize = 20;
 
 /// The decimal digits of a number, without leading zeros. It takes no memory.
-#[derive(Debug, Drop)]
+#[derive(Drop)]
 pub struct Decimal {
     digits: [u8; MOST_DIGITS],
     first: usize,

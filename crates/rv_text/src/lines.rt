@@ -9,7 +9,7 @@ const LINE_FEED: u8 = 10;
 
 /// The lines of a text that are still to be taken, from its front on. An LF ends a line, and only the
 /// last line may lack its own.
-#[derive(Debug, Drop)]
+#[derive(Drop)]
 pub struct Lines<'a> {
     rest: &'a [u8],
 }

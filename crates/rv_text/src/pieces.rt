@@ -7,7 +7,7 @@ use std::marker::Model;
 
 /// The pieces of a text that are still to be taken, from its front on. A separator stands between
 /// two pieces, so that an empty text is one empty piece.
-#[derive(Debug, Drop)]
+#[derive(Drop)]
 pub struct Pieces<'a> {
     rest: Option<&'a [u8]>,
     separator: u8,

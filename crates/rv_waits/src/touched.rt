@@ -10,7 +10,7 @@ use rv_hart::access::Access;
 pub const MOST_RANGES: usize = 8;
 
 /// `size` bytes of data from `first` on; none where `size` is 0.
-#[derive(Clone, Copy, Debug, PartialEq, Eq)]
+#[derive(Clone, Copy, PartialEq, Eq)]
 pub struct Range {
     pub first: u32,
     pub size: u8,

@@ -31,7 +31,7 @@ pub enum Over {
 
 /// How far a walk goes: how many steps it makes at least where two harts or more are awake, and how many turns a burst has at most,
 /// each at least 1.
-#[derive(Clone, Copy, Debug, PartialEq, Eq)]
+#[derive(Clone, Copy)]
 pub struct Course {
     pub steps: u32,
     pub burst: u32,

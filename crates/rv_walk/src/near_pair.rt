@@ -13,14 +13,14 @@ pub const FAR: u32 = 4000;
 pub const MOST_KEPT: u32 = 8;
 
 /// Two accesses that a walk made, the first before the second: of different harts, of bytes that both have, at least one a write.
-#[derive(Clone, Copy, Debug, PartialEq, Eq)]
+#[derive(Clone, Copy, PartialEq, Eq)]
 pub struct NearPair {
     pub first: Seen,
     pub second: Seen,
 }
 
 /// The addresses of two instructions, the lesser first. They may be the same.
-#[derive(Clone, Copy, Debug, PartialEq, Eq, PartialOrd, Ord, Hash)]
+#[derive(Clone, Copy, PartialEq, Eq, PartialOrd, Ord, Hash)]
 pub struct Addresses {
     pub lesser: u32,
     pub greater: u32,

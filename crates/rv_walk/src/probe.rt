@@ -27,7 +27,7 @@ use std::marker::Model;
 
 /// What came of a probe, from the least to the most: no hart came to one of its instructions; one did, but only while all others
 /// that run waited; one was held there.
-#[derive(Clone, Copy, Debug, PartialEq, Eq, PartialOrd, Ord)]
+#[derive(Clone, Copy, PartialEq, Eq, PartialOrd, Ord)]
 pub enum Reached {
     Never,
     OthersWaited,

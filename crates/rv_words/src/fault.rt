@@ -6,7 +6,7 @@ use rv_memory::store::NoMemory;
 use std::alloc::AllocFailed;
 
 /// Why the text of a list of instruction words leads to no machine.
-#[derive(Clone, Copy, Debug, PartialEq, Eq)]
+#[derive(Clone, Copy)]
 pub enum WordsFault {
     /// The first malformed line, from 1 on.
     Line(u32),

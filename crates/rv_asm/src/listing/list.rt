@@ -17,7 +17,7 @@ use rv_memory::store::NoMemory;
 use std::alloc::Global;
 
 /// Why a listing is not whole. What was written before is not said.
-#[derive(Clone, Copy, Debug, PartialEq, Eq)]
+#[derive(Clone, Copy)]
 pub enum ListFault {
     /// The writer failed.
     Write = 1,

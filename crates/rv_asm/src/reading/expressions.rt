@@ -11,7 +11,7 @@ use std::marker::Model;
 
 /// The values of a `.word` or a `.byte` that are still to be taken, from its front on. They are kept as
 /// the text that they are spelled in and take no memory.
-#[derive(Debug, Drop)]
+#[derive(Drop)]
 pub struct Expressions<'s> {
     pieces: Pieces<'s>,
 }

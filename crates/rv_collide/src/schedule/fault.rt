@@ -5,7 +5,7 @@ use thiserror::Error;
 
 /// The first line with a fault, from 1 on, and its fault. Where the reader failed or memory was out, the
 /// line is the one that was being read.
-#[derive(Clone, Copy, Debug, PartialEq, Eq)]
+#[derive(Clone, Copy)]
 pub struct ScheduleFault {
     pub line: u32,
     pub kind: ScheduleKind,

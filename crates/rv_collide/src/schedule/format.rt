@@ -6,7 +6,7 @@ use crate::plan::{DEFAULT_SLOTS, MOST_SLOTS};
 
 /// The formats. The second says the plan's slots and is the one that is written. The first doesn't, and is read as
 /// `DEFAULT_SLOTS`.
-#[derive(Clone, Copy, Debug, PartialEq, Eq)]
+#[derive(Clone, Copy)]
 pub enum Format {
     First,
     Second,

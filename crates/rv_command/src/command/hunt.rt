@@ -56,7 +56,7 @@ pub const BUDGET: NumberOption = NumberOption {
 };
 
 /// What `hunt` is asked for, beside its image.
-#[derive(Clone, Copy, Debug, PartialEq, Eq)]
+#[derive(Clone, Copy)]
 pub struct HuntLine<'a> {
     /// How many harts each run has; without it they go by turns.
     pub harts: Option<u8>,

@@ -19,7 +19,7 @@ use crate::arguments::{
 use clap::ArgMatches;
 
 /// What `show` is asked for, beside its image and its table. What its runs are the table says.
-#[derive(Clone, Copy, Debug, PartialEq, Eq)]
+#[derive(Clone, Copy)]
 pub struct ShowLine<'a> {
     /// How many threads make the runs; without it as many as there are processors.
     pub workers: Option<u8>,

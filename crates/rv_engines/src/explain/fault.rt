@@ -8,7 +8,7 @@ use crate::source_lines::SourceFault;
 use rv_memory::store::NoMemory;
 
 /// Why `explain` writes nothing.
-#[derive(Clone, Copy, Debug, PartialEq, Eq)]
+#[derive(Clone, Copy)]
 pub enum ExplainFault<'a> {
     /// The image, the schedule, the list of names or the race is refused, or a device failed.
     Command(CommandFault<'a>),

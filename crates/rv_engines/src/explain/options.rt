@@ -6,7 +6,7 @@ pub struct About<'a> {
 }
 
 /// The options of `explain`.
-#[derive(Clone, Copy, Debug, PartialEq, Eq)]
+#[derive(Clone, Copy)]
 pub struct ExplainOptions<'a> {
     /// Symbols, separated by commas, whose bytes' races are told as named.
     pub named: Option<&'a str>,

@@ -12,7 +12,7 @@ use std::convert::Infallible;
 use std::fmt;
 
 /// Why `run`, or another command, does not write its text. A text of a list stays where the command line has it.
-#[derive(Clone, Copy, Debug, PartialEq, Eq)]
+#[derive(Clone, Copy)]
 pub enum CommandFault<'a> {
     /// A fault that any command may tell.
     Plain(Fault),

@@ -15,13 +15,13 @@ use std::rc::Rc;
 pub const PAGE_SIZE: usize = 4_096;
 
 /// Where the bytes are kept. No store writes into shared ones.
-#[derive(Debug, Drop)]
+#[derive(Drop)]
 pub enum Kept {
     Own(Box<[u8; PAGE_SIZE]>),
     Shared(Rc<[u8; PAGE_SIZE]>),
 }
 
-#[derive(Debug, Drop)]
+#[derive(Drop)]
 pub struct Page {
     kept: Kept,
 }

@@ -11,7 +11,7 @@ use crate::store::NoMemory;
 use std::alloc::Global;
 use std::marker::Model;
 
-#[derive(Debug, Drop)]
+#[derive(Drop)]
 pub struct Pages {
     pages: Vec<Page>,
 }
