@@ -1,6 +1,6 @@
 // Preloaded by tests/growths. It counts the growths of a process, the calls that ask for memory, refuses the one whose number
 // is in GROWTH, and with GROWTH_ON all later ones too, and writes to the file at GROWTH_TOLD who asked for the first of them: the
-// program, or the library by its name. With GROWTH_MARKS it counts those alone that stand between the marks that rv_probe writes,
+// program, or the library by its name. With GROWTH_MARKS it counts those alone that stand between the marks that rv_growths writes,
 // and at the second mark it writes to the file at GROWTH_THREADS how many threads there are.
 #define _GNU_SOURCE
 #include <dirent.h>

@@ -1,7 +1,7 @@
 //! Calls on images and their texts.
 use crate::failure::Failure;
 use crate::fixtures::{SOURCE, image};
-use crate::probed::{Probed, probe};
+use crate::measured::{Measured, measure};
 use crate::refusal::Refusal;
 use crate::shown::{write_address, write_bytes, write_image};
 use rv_asm::{assemble, line_of, list};
@@ -18,7 +18,7 @@ struct Loading {
     file: Vec<u8>,
 }
 
-impl Probed for Loading {
+impl Measured for Loading {
     type Answer = Image;
 
     fn call(&mut self) -> Result<Image, Refusal> {
@@ -32,7 +32,7 @@ impl Probed for Loading {
 
 pub(crate) fn loads<O: Output>(alloc: Global, screen: &mut O) -> Result<(), Failure> {
     let file = write(alloc, &image(alloc)?)?;
-    probe(screen, Loading { alloc, file })
+    measure(screen, Loading { alloc, file })
 }
 
 /// What is made of an image.
@@ -60,7 +60,7 @@ struct OfImage {
     asked: Asked,
 }
 
-impl Probed for OfImage {
+impl Measured for OfImage {
     type Answer = Made;
 
     fn call(&mut self) -> Result<Made, Refusal> {
@@ -99,7 +99,7 @@ fn write_ranges<O: Output>(screen: &mut O, ranges: &[(u32, u32)]) -> Result<(), 
 
 fn asks<O: Output>(alloc: Global, screen: &mut O, asked: Asked) -> Result<(), Failure> {
     let image = image(alloc)?;
-    probe(
+    measure(
         screen,
         OfImage {
             alloc,
@@ -130,7 +130,7 @@ struct Assembling {
     alloc: Global,
 }
 
-impl Probed for Assembling {
+impl Measured for Assembling {
     type Answer = Image;
 
     fn call(&mut self) -> Result<Image, Refusal> {
@@ -143,7 +143,7 @@ impl Probed for Assembling {
 }
 
 pub(crate) fn assembles<O: Output>(alloc: Global, screen: &mut O) -> Result<(), Failure> {
-    probe(screen, Assembling { alloc })
+    measure(screen, Assembling { alloc })
 }
 
 #[derive(Drop)]
@@ -151,7 +151,7 @@ struct Line {
     alloc: Global,
 }
 
-impl Probed for Line {
+impl Measured for Line {
     type Answer = String;
 
     fn call(&mut self) -> Result<String, Refusal> {
@@ -164,7 +164,7 @@ impl Probed for Line {
 }
 
 pub(crate) fn tells_a_line<O: Output>(alloc: Global, screen: &mut O) -> Result<(), Failure> {
-    probe(screen, Line { alloc })
+    measure(screen, Line { alloc })
 }
 
 /// How many bytes there is room for in each of the writers of a listing.
@@ -178,7 +178,7 @@ struct Listing {
     rooms: Vec<Vec<u8>>,
 }
 
-impl Probed for Listing {
+impl Measured for Listing {
     type Answer = Vec<u8>;
 
     fn call(&mut self) -> Result<Vec<u8>, Refusal> {
@@ -206,7 +206,7 @@ fn rooms(alloc: Global) -> Result<Vec<Vec<u8>>, Refusal> {
 pub(crate) fn lists<O: Output>(alloc: Global, screen: &mut O) -> Result<(), Failure> {
     let rooms = rooms(alloc)?;
     let image = image(alloc)?;
-    probe(
+    measure(
         screen,
         Listing {
             alloc,

@@ -1,7 +1,7 @@
 //! Calls that make what goes on apart, and the one that puts what it leaves behind what was before.
 use crate::failure::Failure;
 use crate::fixtures::{HIT, begun, image, schedule};
-use crate::probed::{Probed, probe};
+use crate::measured::{Measured, measure};
 use crate::refusal::Refusal;
 use crate::shown::{DATA, write_address, write_collider, write_machine, write_number, write_told};
 use rv_collide::collider::{Collider, Finished};
@@ -23,7 +23,7 @@ struct Storing<S: Fork> {
     store: S,
 }
 
-impl<S: Fork> Probed for Storing<S> {
+impl<S: Fork> Measured for Storing<S> {
     type Answer = S;
 
     fn call(&mut self) -> Result<S, Refusal> {
@@ -54,7 +54,7 @@ pub(crate) fn forks_a_store<S: Fork, O: Output>(
     screen: &mut O,
 ) -> Result<(), Failure> {
     let store: S = store_of_the_image(alloc)?;
-    probe(screen, Storing { store })
+    measure(screen, Storing { store })
 }
 
 /// A core from which detectors go on.
@@ -64,7 +64,7 @@ struct Going<S: Fork> {
     core: Collider<S>,
 }
 
-impl<S: Fork> Probed for Going<S> {
+impl<S: Fork> Measured for Going<S> {
     type Answer = Detector<S>;
 
     fn call(&mut self) -> Result<Detector<S>, Refusal> {
@@ -96,7 +96,7 @@ pub(crate) fn forks_a_core<S: Fork, O: Output>(
     screen: &mut O,
 ) -> Result<(), Failure> {
     let core: Collider<S> = begun(alloc)?;
-    probe(screen, Going { alloc, core })
+    measure(screen, Going { alloc, core })
 }
 
 /// More entries than a row has.
@@ -111,7 +111,7 @@ struct Joining {
     left: Vec<Finished>,
 }
 
-impl Probed for Joining {
+impl Measured for Joining {
     type Answer = Finished;
 
     fn call(&mut self) -> Result<Finished, Refusal> {
@@ -161,5 +161,5 @@ fn before_a_join(alloc: Global) -> Result<Joining, Refusal> {
 }
 
 pub(crate) fn joins<O: Output>(alloc: Global, screen: &mut O) -> Result<(), Failure> {
-    probe(screen, before_a_join(alloc)?)
+    measure(screen, before_a_join(alloc)?)
 }

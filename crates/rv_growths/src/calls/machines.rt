@@ -1,7 +1,7 @@
 //! Calls on machines and their memories.
 use crate::failure::Failure;
 use crate::fixtures::{begun, image, machine};
-use crate::probed::{Probed, probe};
+use crate::measured::{Measured, measure};
 use crate::refusal::Refusal;
 use crate::shown::{write_collider, write_machine};
 use rv_collide::collider::{Collider, Turned};
@@ -21,7 +21,7 @@ struct Beginning {
     image: Image,
 }
 
-impl Probed for Beginning {
+impl Measured for Beginning {
     type Answer = Machine<Flat>;
 
     fn call(&mut self) -> Result<Machine<Flat>, Refusal> {
@@ -36,7 +36,7 @@ impl Probed for Beginning {
 
 pub(crate) fn begins<O: Output>(alloc: Global, screen: &mut O) -> Result<(), Failure> {
     let image = image(alloc)?;
-    probe(screen, Beginning { alloc, image })
+    measure(screen, Beginning { alloc, image })
 }
 
 /// How many bytes a shared machine may print.
@@ -54,7 +54,7 @@ struct Sharing {
     machine: Machine<Paged>,
 }
 
-impl Probed for Sharing {
+impl Measured for Sharing {
     type Answer = Machine<Paged>;
 
     fn call(&mut self) -> Result<Machine<Paged>, Refusal> {
@@ -72,7 +72,7 @@ impl Probed for Sharing {
 
 pub(crate) fn shares<O: Output>(alloc: Global, screen: &mut O) -> Result<(), Failure> {
     let machine = machine(alloc)?;
-    probe(screen, Sharing { machine })
+    measure(screen, Sharing { machine })
 }
 
 /// A machine that stands before a store into pages that another machine shares.
@@ -82,7 +82,7 @@ struct Stepping {
     other: Machine<Paged>,
 }
 
-impl Probed for Stepping {
+impl Measured for Stepping {
     type Answer = Event;
 
     fn call(&mut self) -> Result<Event, Refusal> {
@@ -118,7 +118,7 @@ fn before_a_step(alloc: Global) -> Result<Stepping, Refusal> {
 }
 
 pub(crate) fn steps<O: Output>(alloc: Global, screen: &mut O) -> Result<(), Failure> {
-    probe(screen, before_a_step(alloc)?)
+    measure(screen, before_a_step(alloc)?)
 }
 
 /// A core that stands before a store into pages that another machine shares.
@@ -128,7 +128,7 @@ struct Turning {
     other: Machine<Paged>,
 }
 
-impl Probed for Turning {
+impl Measured for Turning {
     type Answer = Turned;
 
     fn call(&mut self) -> Result<Turned, Refusal> {
@@ -155,5 +155,5 @@ fn before_a_turn(alloc: Global) -> Result<Turning, Refusal> {
 }
 
 pub(crate) fn turns<O: Output>(alloc: Global, screen: &mut O) -> Result<(), Failure> {
-    probe(screen, before_a_turn(alloc)?)
+    measure(screen, before_a_turn(alloc)?)
 }

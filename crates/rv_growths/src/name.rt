@@ -1,8 +1,8 @@
 //! The calls, by the words that name them.
 ghost use Rattle.std.specs.Prelude.{◌≡◌};
-ghost use Rattle.rv_probe.specs.Names as spec;
+ghost use Rattle.rv_growths.specs.Names as spec;
 
-/// A call that is probed.
+/// A call that is measured.
 #[derive(Clone, Copy)]
 pub enum Name {
     Load,

@@ -2,9 +2,9 @@
 use Rattle.std.specs.Prelude.{ℕ, List, Option, codes}
 use Rattle.std.specs.List.{find}
 use Rattle.std.specs.Str.{bytes_eq}
-use Rattle.rv_probe.specs.declared.name.TheConstants.{NAMES}
-use Rattle.rv_probe.specs.declared.name.Name.{Name}
-use Rattle.rv_probe.specs.declared.name.Name.TheVariants as call
+use Rattle.rv_growths.specs.declared.name.TheConstants.{NAMES}
+use Rattle.rv_growths.specs.declared.name.Name.{Name}
+use Rattle.rv_growths.specs.declared.name.Name.TheVariants as call
 
 abbrev pub text_of : Name → List ℕ
 text_of call.Load = codes "load"

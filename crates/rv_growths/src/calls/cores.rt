@@ -1,7 +1,7 @@
 //! Calls on schedules and cores.
 use crate::failure::Failure;
 use crate::fixtures::{HIT, OVERLAP, image, new_core, plan, schedule};
-use crate::probed::{Probed, probe};
+use crate::measured::{Measured, measure};
 use crate::refusal::Refusal;
 use crate::shown::{write_collider, write_entries, write_told};
 use rv_campaign::run_one;
@@ -26,7 +26,7 @@ struct Reading {
     alloc: Global,
 }
 
-impl Probed for Reading {
+impl Measured for Reading {
     type Answer = (Plan, Vec<Entry>);
 
     fn call(&mut self) -> Result<(Plan, Vec<Entry>), Refusal> {
@@ -42,7 +42,7 @@ impl Probed for Reading {
 }
 
 pub(crate) fn reads_a_schedule<O: Output>(alloc: Global, screen: &mut O) -> Result<(), Failure> {
-    probe(screen, Reading { alloc })
+    measure(screen, Reading { alloc })
 }
 
 /// What is made of an image and a plan.
@@ -69,7 +69,7 @@ struct OfPlan {
     asked: Asked,
 }
 
-impl Probed for OfPlan {
+impl Measured for OfPlan {
     type Answer = Made;
 
     fn call(&mut self) -> Result<Made, Refusal> {
@@ -92,7 +92,7 @@ impl Probed for OfPlan {
 
 fn asks<O: Output>(alloc: Global, screen: &mut O, plan: Plan, asked: Asked) -> Result<(), Failure> {
     let image = image(alloc)?;
-    probe(
+    measure(
         screen,
         OfPlan {
             alloc,
@@ -123,7 +123,7 @@ struct Replaying {
     entries: Vec<Entry>,
 }
 
-impl Probed for Replaying {
+impl Measured for Replaying {
     type Answer = Collider<Flat>;
 
     fn call(&mut self) -> Result<Collider<Flat>, Refusal> {
@@ -147,7 +147,7 @@ fn replay_of_a_hit(alloc: Global) -> Result<Replaying, Refusal> {
 }
 
 pub(crate) fn replays<O: Output>(alloc: Global, screen: &mut O) -> Result<(), Failure> {
-    probe(screen, replay_of_a_hit(alloc)?)
+    measure(screen, replay_of_a_hit(alloc)?)
 }
 
 /// A core over plain memory, and the calls of a schedule that it has not made yet.
@@ -157,7 +157,7 @@ struct Overlapping {
     entries: Vec<Entry>,
 }
 
-impl Probed for Overlapping {
+impl Measured for Overlapping {
     type Answer = ();
 
     fn call(&mut self) -> Result<(), Refusal> {
@@ -199,7 +199,7 @@ fn overlap(alloc: Global) -> Result<Overlapping, Refusal> {
 
 /// The calls of a core over plain memory, none of which asks for memory.
 pub(crate) fn takes_no_memory<O: Output>(alloc: Global, screen: &mut O) -> Result<(), Failure> {
-    probe(screen, overlap(alloc)?)
+    measure(screen, overlap(alloc)?)
 }
 
 /// The report of a replayed hit.
@@ -208,7 +208,7 @@ struct Exhibiting {
     replaying: Replaying,
 }
 
-impl Probed for Exhibiting {
+impl Measured for Exhibiting {
     type Answer = Exhibit;
 
     fn call(&mut self) -> Result<Exhibit, Refusal> {
@@ -223,7 +223,7 @@ impl Probed for Exhibiting {
 
 pub(crate) fn exhibits<O: Output>(alloc: Global, screen: &mut O) -> Result<(), Failure> {
     let replaying = replay_of_a_hit(alloc)?;
-    probe(screen, Exhibiting { replaying })
+    measure(screen, Exhibiting { replaying })
 }
 
 #[derive(Drop)]
@@ -232,7 +232,7 @@ struct Adding {
     ending: Ending,
 }
 
-impl Probed for Adding {
+impl Measured for Adding {
     type Answer = ();
 
     fn call(&mut self) -> Result<(), Refusal> {
@@ -261,5 +261,5 @@ fn ending(alloc: Global) -> Result<Ending, Refusal> {
 pub(crate) fn adds_an_ending<O: Output>(alloc: Global, screen: &mut O) -> Result<(), Failure> {
     let ending = ending(alloc)?;
     let table = RaceTable::new(alloc);
-    probe(screen, Adding { table, ending })
+    measure(screen, Adding { table, ending })
 }

@@ -1,7 +1,7 @@
 //! Calls that start threads.
 use crate::failure::Failure;
 use crate::fixtures::{image, plan};
-use crate::probed::{BEGIN, END, Probed, probe};
+use crate::measured::{BEGIN, END, Measured, measure};
 use crate::refusal::Refusal;
 use crate::shown::write_told;
 use rv_campaign::campaign;
@@ -25,7 +25,7 @@ struct Campaigning<'a, R: Threads + Wait> {
     plan: Plan,
 }
 
-impl<R: Threads + Wait> Probed for Campaigning<'_, R> {
+impl<R: Threads + Wait> Measured for Campaigning<'_, R> {
     type Answer = Vec<Finished>;
 
     fn call(&mut self) -> Result<Vec<Finished>, Refusal> {
@@ -58,7 +58,7 @@ pub(crate) fn campaigns<R: Threads + Wait, O: Output>(
 ) -> Result<(), Failure> {
     let plan = plan(2, 100, 4, 5)?;
     let image = image(alloc)?;
-    probe(
+    measure(
         screen,
         Campaigning {
             rt,
@@ -70,7 +70,7 @@ pub(crate) fn campaigns<R: Threads + Wait, O: Output>(
 }
 
 /// A run by three threads without a pause: how many turns they take does not hang on how they are scheduled. It is no
-/// `Probed`, since a method of a trait cannot ask that the runtime may be shared.
+/// `Measured`, since a method of a trait cannot ask that the runtime may be shared.
 pub(crate) fn runs<R: Threads + Wait + Sync, O: Output>(
     rt: &R,
     alloc: Global,

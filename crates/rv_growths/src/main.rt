@@ -1,17 +1,17 @@
-//! `rv_probe`: makes the calls of the libraries that ask for memory, one by one, and tells what each answers and what its
+//! `rv_growths`: makes the calls of the libraries that ask for memory, one by one, and tells what each answers and what its
 //! caller holds before and after it.
 //!
 //! It is for `tests/growths`, which refuses the growths of a call: within a crate none can be refused. So a call stands
-//! between two marks, the probe asks for no memory of its own there, and a call that is refused is made once more.
+//! between two marks, the program asks for no memory of its own there, and a call that is refused is made once more.
 //!
-//! `rv_probe CALL` makes one of the calls of `src/name.rt`, and `rv_probe all` makes all of them.
+//! `rv_growths CALL` makes one of the calls of `src/name.rt`, and `rv_growths all` makes all of them.
 #![tactic(auto)]
 
 mod calls;
 mod failure;
 mod fixtures;
+mod measured;
 mod name;
-mod probed;
 mod refusal;
 mod shown;
 
@@ -35,7 +35,7 @@ fn main(rt: HostRuntime) -> ExitCode {
     match run(&rt, rt.alloc(), word.as_str(), &mut screen) {
         Ok(()) => ExitCode::SUCCESS,
         Err(failure) => {
-            let _ = eprintln!(rt; "rv_probe: {failure}");
+            let _ = eprintln!(rt; "rv_growths: {failure}");
             ExitCode::from(1)
         }
     }

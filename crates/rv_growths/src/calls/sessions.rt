@@ -1,7 +1,7 @@
 //! Calls on the session of a hit.
 use crate::failure::Failure;
 use crate::fixtures::{HIT, image, schedule, session};
-use crate::probed::{Probed, probe};
+use crate::measured::{Measured, measure};
 use crate::refusal::Refusal;
 use crate::shown::{DATA, write_bytes, write_number, write_session};
 use rv_collide::entry::Entry;
@@ -24,7 +24,7 @@ struct Beginning {
     lists: Vec<Vec<Entry>>,
 }
 
-impl Probed for Beginning {
+impl Measured for Beginning {
     type Answer = Session;
 
     fn call(&mut self) -> Result<Session, Refusal> {
@@ -60,7 +60,7 @@ fn lists(alloc: Global) -> Result<(Plan, Vec<Vec<Entry>>), Refusal> {
 pub(crate) fn begins<O: Output>(alloc: Global, screen: &mut O) -> Result<(), Failure> {
     let (plan, lists) = lists(alloc)?;
     let image = image(alloc)?;
-    probe(
+    measure(
         screen,
         Beginning {
             alloc,
@@ -98,7 +98,7 @@ struct Asking {
     asked: Asked,
 }
 
-impl Probed for Asking {
+impl Measured for Asking {
     type Answer = Told;
 
     fn call(&mut self) -> Result<Told, Refusal> {
@@ -137,7 +137,7 @@ fn write_lines<O: Output>(screen: &mut O, lines: &[String]) -> Result<(), WriteF
 /// Asks the session at a place.
 fn asks<O: Output>(alloc: Global, screen: &mut O, place: u32, asked: Asked) -> Result<(), Failure> {
     let session = session(alloc, place)?;
-    probe(
+    measure(
         screen,
         Asking {
             alloc,

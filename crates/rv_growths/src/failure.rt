@@ -1,10 +1,10 @@
-//! Why the probe ends before its last call.
+//! Why the program ends before its last call.
 use crate::refusal::Refusal;
 use rv_memory::flagged::WriteFault;
 use rv_memory::store::NoMemory;
 use std::fmt;
 
-/// Why the probe ends before its last call.
+/// Why the program ends before its last call.
 #[derive(Clone, Copy)]
 pub enum Failure {
     /// The word names no call.

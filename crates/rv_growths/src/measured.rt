@@ -11,7 +11,7 @@ pub(crate) const BEGIN: &[u8] = b"growths begin\n";
 pub(crate) const END: &[u8] = b"growths end\n";
 
 /// A call, with what its caller holds. It may be made twice.
-pub(crate) trait Probed {
+pub(crate) trait Measured {
     type Answer: Drop;
 
     /// Makes the call, and asks for no memory beside it.
@@ -28,45 +28,48 @@ pub(crate) trait Probed {
 
 /// Makes the call of a row, and once more where it is refused, and writes what it answers each time and what its caller
 /// holds before and after.
-pub(crate) fn probe<P: Probed + Drop, O: Output>(
+pub(crate) fn measure<P: Measured + Drop, O: Output>(
     screen: &mut O,
     mut row: P,
 ) -> Result<(), Failure> {
     make_calls(screen, &mut row)
 }
 
-fn make_calls<P: Probed, O: Output>(screen: &mut O, probed: &mut P) -> Result<(), Failure> {
+fn make_calls<P: Measured, O: Output>(screen: &mut O, measured: &mut P) -> Result<(), Failure> {
     screen.put(b"before\n")?;
-    probed.write_held(screen)?;
-    if is_refused(screen, probed)? {
-        let again = probed.call();
-        tell(screen, probed, &again)?;
+    measured.write_held(screen)?;
+    if is_refused(screen, measured)? {
+        let again = measured.call();
+        tell(screen, measured, &again)?;
     }
     Ok(())
 }
 
 /// Makes a call between the marks, writes what it answers, and says whether it was refused.
-fn is_refused<P: Probed, O: Output>(screen: &mut O, probed: &mut P) -> Result<bool, WriteFault> {
+fn is_refused<P: Measured, O: Output>(
+    screen: &mut O,
+    measured: &mut P,
+) -> Result<bool, WriteFault> {
     screen.put(BEGIN)?;
-    let answered = probed.call();
-    end(screen, probed, &answered)?;
+    let answered = measured.call();
+    end(screen, measured, &answered)?;
     Ok(answered.is_err())
 }
 
 /// Writes the mark behind a call, and what it answered.
-fn end<P: Probed, O: Output>(
+fn end<P: Measured, O: Output>(
     screen: &mut O,
-    probed: &P,
+    measured: &P,
     answered: &Result<P::Answer, Refusal>,
 ) -> Result<(), WriteFault> {
     screen.put(END)?;
-    tell(screen, probed, answered)
+    tell(screen, measured, answered)
 }
 
 /// Writes what a call answered, and what its caller holds now.
-fn tell<P: Probed, O: Output>(
+fn tell<P: Measured, O: Output>(
     screen: &mut O,
-    probed: &P,
+    measured: &P,
     answered: &Result<P::Answer, Refusal>,
 ) -> Result<(), WriteFault> {
     match answered {
@@ -77,5 +80,5 @@ fn tell<P: Probed, O: Output>(
         Err(refusal) => put_pieces(screen, &[b"refused ", refusal.text(), b"\n"])?,
     }
     screen.put(b"after\n")?;
-    probed.write_held(screen)
+    measured.write_held(screen)
 }
