@@ -4,10 +4,10 @@ use Rattle.std.specs.List.{list_all}
 use Rattle.clap.specs.Walk.{is_empty}
 use Rattle.clap.specs.Words.{Row, Text, first_of}
 use Rattle.rv_text.specs.Pieces.{pieces_of}
-use Rattle.rv_tally.specs.declared.limit.Limit.{Limit}
-use Rattle.rv_tally.specs.declared.limit.Limit.TheVariants.{Runs, Budget}
-use Rattle.rv_tally.specs.declared.limit.TheConstants.{MOST_BUDGET}
-use Rattle.rv_tally.specs.declared.plans.Lengths.{Lengths}
+use Rattle.rv_plans.specs.declared.limit.Limit.{Limit}
+use Rattle.rv_plans.specs.declared.limit.Limit.TheVariants.{Runs, Budget}
+use Rattle.rv_plans.specs.declared.limit.TheConstants.{MOST_BUDGET}
+use Rattle.rv_plans.specs.declared.plans.Lengths.{Lengths}
 use Rattle.rv_campaign.specs.declared.runs.TheConstants.{MOST_WORKERS}
 use Rattle.rv_collide.specs.declared.plan.TheConstants.{MOST_ARMS, MOST_PAUSE, MOST_STEPS}
 use Rattle.rv_break.specs.declared.claim.TheConstants.{MOST_SLOTS}

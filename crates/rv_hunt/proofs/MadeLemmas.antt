@@ -34,7 +34,7 @@ use Rattle.rv_engines.specs.declared.built.Built.{Built}
 use Rattle.rv_json.specs.Object.{Member}
 use Rattle.rv_markup.specs.declared.markup.Fact.{Fact}
 use Rattle.rv_report.specs.declared.key.Key.{Key}
-use Rattle.rv_tally.specs.declared.plans.Mix.{Mix}
+use Rattle.rv_plans.specs.declared.plans.Mix.{Mix}
 
 abbrev Row : Type 0
 Row = Key × RaceRow

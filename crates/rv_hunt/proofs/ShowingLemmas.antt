@@ -18,7 +18,7 @@ use Rattle.rv_tables.specs.declared.row.RaceRow.{RaceRow}
 use Rattle.rv_hunt.specs.engine.Shown.{AreShown, IsPartOf, IsRaceShown, IsRunOf, IsShown, run_told}
 use Rattle.rv_hunt.specs.internal.Showing.{AreHeld, AreShownIn, AreSlots, Full, IsInSlot, IsOfRow, IsOfSchedule, IsPlaced, IsShownIn, IsShownPart, of_full}
 use Rattle.rv_report.specs.declared.key.Key.{Key}
-use Rattle.rv_tally.specs.Plans.{is_sampled}
+use Rattle.rv_plans.specs.Plans.{is_sampled}
 
 abbrev Row : Type 0
 Row = Key × RaceRow

@@ -9,9 +9,9 @@ use Rattle.rv_search.specs.declared.aim.Sides.{Sides}
 use Rattle.rv_hunt.specs.declared.given.GivenRuns.{GivenRuns}
 use Rattle.rv_hunt.specs.declared.given.Written.{Written as WrittenWords}
 use Rattle.rv_hunt.specs.declared.given.TheConstants.{MOST_GIVEN_SLOTS, SLOTS}
-use Rattle.rv_tally.specs.declared.plans.Lengths.{Lengths}
-use Rattle.rv_tally.specs.declared.plans.Mix.{Mix}
-use Rattle.rv_tally.specs.declared.plans.Mix.TheVariants.{Mixed, Sampled, Walks}
+use Rattle.rv_plans.specs.declared.plans.Lengths.{Lengths}
+use Rattle.rv_plans.specs.declared.plans.Mix.{Mix}
+use Rattle.rv_plans.specs.declared.plans.Mix.TheVariants.{Mixed, Sampled, Walks}
 use Rattle.rv_text.specs.Decimal.{decimal_of}
 use Rattle.rv_text.specs.Numeral.{up_to}
 use Rattle.rv_text.specs.Pieces.{pieces_of}

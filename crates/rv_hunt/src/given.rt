@@ -4,8 +4,8 @@ ghost use Rattle.std.specs.Option.{option_copied};
 ghost use Rattle.rv_hunt.specs.GivenRuns as spec;
 
 use rv_collide::plan::{DEFAULT_SLOTS, MOST_ARMS, MOST_HARTS, MOST_PAUSE, MOST_SLOTS, MOST_STEPS};
+use rv_plans::plans::{Lengths, Mix};
 use rv_search::aim::Sides;
-use rv_tally::plans::{Lengths, Mix};
 use rv_text::decimal::read_decimal;
 use rv_text::pieces::Pieces;
 use std::str;

@@ -26,11 +26,11 @@ use Rattle.rv_tables.specs.declared.orders.OrderRow.{OrderRow}
 use Rattle.rv_tables.specs.declared.row.RaceRow.{RaceRow}
 use Rattle.rv_search.specs.internal.Lots.{with_run}
 use Rattle.rv_report.specs.declared.key.Key.{Key}
-use Rattle.rv_tally.specs.GoesOn.{goes_on}
+use Rattle.rv_plans.specs.GoesOn.{goes_on}
 use Rattle.rv_collide.specs.Counts.{saturated}
 use Rattle.rv_search.specs.Tally.{Tally, added, cost, is_hopeless, nothing, reached, tally_of}
-use Rattle.rv_tally.specs.declared.limit.Limit.{Limit}
-use Rattle.rv_tally.specs.declared.limit.Limit.TheVariants.{Runs, Budget}
+use Rattle.rv_plans.specs.declared.limit.Limit.{Limit}
+use Rattle.rv_plans.specs.declared.limit.Limit.TheVariants.{Runs, Budget}
 use Rattle.rv_search.specs.declared.summary.Summary.{Summary}
 use Rattle.rv_walk.specs.declared.near_pair.Addresses.{Addresses}
 

@@ -31,17 +31,17 @@ use Rattle.rv_search.specs.declared.kept_run.KeptRun.{KeptRun}
 use Rattle.rv_tables.specs.declared.row.RaceRow.{RaceRow}
 use Rattle.rv_search.specs.internal.Lots.{with_run}
 use Rattle.rv_report.specs.declared.key.Key.{Key}
-use Rattle.rv_tally.specs.Plans.{is_sampled, plan_of}
+use Rattle.rv_plans.specs.Plans.{is_sampled, plan_of}
 use Rattle.rv_tables.specs.declared.row.PartReport.{PartReport}
-use Rattle.rv_tally.specs.declared.limit.Limit.{Limit}
-use Rattle.rv_tally.specs.declared.limit.Limit.TheVariants.{Runs}
+use Rattle.rv_plans.specs.declared.limit.Limit.{Limit}
+use Rattle.rv_plans.specs.declared.limit.Limit.TheVariants.{Runs}
 use Rattle.rv_walk.specs.declared.probes.Part.{Part}
-use Rattle.rv_tally.specs.declared.plans.Mix.{Mix}
-use Rattle.rv_tally.specs.declared.plans.Mix.TheVariants.{Sampled}
+use Rattle.rv_plans.specs.declared.plans.Mix.{Mix}
+use Rattle.rv_plans.specs.declared.plans.Mix.TheVariants.{Sampled}
 use Rattle.rv_search.specs.Summary.{IsSampledSummary, armed_in, counts_of, ends, paused_at}
 use Rattle.rv_search.specs.Tally.{Tally, added, all_ended, exits, longest_with, one_if, pauses_in, run_end, sum, traps, widest_after, with_addresses}
 use Rattle.rv_search.specs.declared.tally.counts.Counts.{Counts}
-use Rattle.rv_tally.specs.declared.end.End.{End}
+use Rattle.rv_search.specs.declared.end.End.{End}
 use Rattle.rv_search.specs.declared.summary.Summary.{Summary}
 
 -- ---- what is kept of a sampled run, but for how its lists lie in memory

@@ -6,7 +6,7 @@ use Rattle.std.specs.Option.{option_to_list}
 use Rattle.std.proofs.Math.Bool.{or_assoc}
 use Rattle.std.proofs.lemmas.List.Folds.{list_any_more}
 use Rattle.rv_search.specs.RightEnds.{EndsSeen, code_of, is_wrong_end}
-use Rattle.rv_tally.specs.declared.end.End.{End}
+use Rattle.rv_search.specs.declared.end.End.{End}
 
 consed : {Y : Type 0} (o : Option Y) (ys : List Y) → cons_option o ys ≡ option_to_list o ++ ys
 consed None ys = refl

@@ -19,7 +19,7 @@ use Rattle.rv_search.specs.Summary.{counts_of, end_of, end_with, ends, has_step_
 use Rattle.rv_search.specs.Tally.{one_if}
 use Rattle.rv_search.specs.declared.tally.counts.Counts.{Counts}
 use Rattle.rv_search.specs.internal.Counting.{with_ending}
-use Rattle.rv_tally.specs.declared.end.End.{End}
+use Rattle.rv_search.specs.declared.end.End.{End}
 
 -- ---- one more of a list
 

@@ -6,7 +6,7 @@ use Rattle.rv_search.specs.declared.ended.EndedRow.{EndedRow}
 use Rattle.rv_search.specs.declared.ended.Ways.{Ways}
 use Rattle.rv_search.specs.declared.ended.Ways.TheVariants.{One, OtherExits, OtherStops, OtherWaits}
 use Rattle.rv_search.specs.declared.tally.kinds.Kind.{Kind}
-use Rattle.rv_tally.specs.declared.end.End.TheVariants.{OutOfSteps}
+use Rattle.rv_search.specs.declared.end.End.TheVariants.{OutOfSteps}
 
 abbrev pub row_of : Kind → EndedRow
 row_of kind = record { ways = One kind.end; harts = kind.count }

@@ -4,9 +4,9 @@ use Rattle.rv_campaign.specs.Kept.{Source}
 use Rattle.rv_campaign.specs.Run.{IsRunOver}
 use Rattle.rv_collide.specs.declared.collider.Finished.{Finished}
 use Rattle.rv_hart.specs.State.{start as first_state}
-use Rattle.rv_tally.specs.Plans.{Given, plan_of}
-use Rattle.rv_tally.specs.declared.limit.Limit.{Limit}
-use Rattle.rv_tally.specs.declared.limit.Limit.TheVariants.{Runs, Budget}
+use Rattle.rv_plans.specs.Plans.{Given, plan_of}
+use Rattle.rv_plans.specs.declared.limit.Limit.{Limit}
+use Rattle.rv_plans.specs.declared.limit.Limit.TheVariants.{Runs, Budget}
 use Rattle.rv_walk.specs.Walked.{Walked}
 
 -- What is asked of a hunt: what its runs are made of, what is given of their plans, the ranges of the listed names and of those in

@@ -16,7 +16,7 @@ use Rattle.rv_tables.specs.declared.near.NearRow.{NearRow}
 use Rattle.rv_tables.specs.declared.orders.OrderRow.{OrderRow}
 use Rattle.rv_tables.specs.declared.row.RaceRow.{RaceRow}
 use Rattle.rv_report.specs.declared.key.Key.{Key}
-use Rattle.rv_tally.specs.GoesOn.{goes_on}
+use Rattle.rv_plans.specs.GoesOn.{goes_on}
 use Rattle.rv_walk.specs.declared.near_pair.Addresses.{Addresses}
 
 -- ---- what runs saw

@@ -10,8 +10,8 @@ use Rattle.rv_tables.specs.declared.row.PartReport.{PartReport}
 use Rattle.rv_tables.specs.declared.row.RaceRow.{RaceRow}
 use Rattle.rv_report.specs.Races.{same_key}
 use Rattle.rv_report.specs.declared.key.Key.{Key}
-use Rattle.rv_tally.specs.declared.limit.Limit.TheVariants.{Runs}
-use Rattle.rv_tally.specs.declared.plans.Mix.TheVariants.{Sampled}
+use Rattle.rv_plans.specs.declared.limit.Limit.TheVariants.{Runs}
+use Rattle.rv_plans.specs.declared.plans.Mix.TheVariants.{Sampled}
 
 -- What a hunt of sampled runs sees follows from what is asked of it, however its runs are made.
 abbrev pub OneResult : Type 0

@@ -17,7 +17,7 @@ use Rattle.rv_tables.specs.declared.near.NearRow.{NearRow}
 use Rattle.rv_tables.specs.declared.orders.TriedOrder.{TriedOrder}
 use Rattle.rv_tables.specs.Near.{probed_pair, seen_pair}
 use Rattle.rv_tables.specs.Rows.{saturated_word}
-use Rattle.rv_tally.specs.Plans.{is_sampled, plan_of}
+use Rattle.rv_plans.specs.Plans.{is_sampled, plan_of}
 use Rattle.rv_walk.specs.Part.{IsPart}
 use Rattle.rv_walk.specs.Told.{AreTold}
 use Rattle.rv_walk.specs.Walked.{Walked}

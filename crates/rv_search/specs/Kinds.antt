@@ -3,8 +3,8 @@ use Rattle.std.specs.Prelude.{ℕ, ◌+◌, ◌==◌, ◌&&◌, Bool, nat_lt, if
 use Rattle.std.specs.List.{list_any}
 use Rattle.rv_collide.specs.Counts.{saturated}
 use Rattle.rv_hart.specs.Cause.{number}
-use Rattle.rv_tally.specs.declared.end.End.{End}
-use Rattle.rv_tally.specs.declared.end.End.TheVariants.{Exited, Stopped, Polls, Idle, Parked, OutOfSteps}
+use Rattle.rv_search.specs.declared.end.End.{End}
+use Rattle.rv_search.specs.declared.end.End.TheVariants.{Exited, Stopped, Polls, Idle, Parked, OutOfSteps}
 use Rattle.rv_search.specs.declared.tally.kinds.Kind.{Kind}
 use Rattle.rv_search.specs.declared.tally.kinds.Mark.{Mark}
 

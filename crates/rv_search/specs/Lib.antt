@@ -10,4 +10,5 @@ pub mod RunWalk
 pub mod Summary
 pub mod Sums
 pub mod Tally
+pub mod Ways
 pub mod internal

@@ -2,8 +2,8 @@
 use Rattle.std.specs.Prelude.{ℕ, Bool, true, false, not, ◌==◌, Option, Some, None, List, [], ◌∷◌, filter_map}
 use Rattle.std.specs.List.{list_any}
 use Rattle.rv_search.specs.declared.kept_run.KeptRun.{KeptRun}
-use Rattle.rv_tally.specs.declared.end.End.{End}
-use Rattle.rv_tally.specs.declared.end.End.TheVariants.{Exited, Stopped, Polls, Idle, Parked, OutOfSteps}
+use Rattle.rv_search.specs.declared.end.End.{End}
+use Rattle.rv_search.specs.declared.end.End.TheVariants.{Exited, Stopped, Polls, Idle, Parked, OutOfSteps}
 use Rattle.rv_text.specs.Numeral.{number_of, up_to}
 use Rattle.rv_text.specs.Pieces.{pieces_of}
 

@@ -4,7 +4,7 @@ use Rattle.rv_hart.specs.Run.{run}
 use Rattle.rv_hart.specs.State.{Guest, State, start as first_state}
 use Rattle.rv_search.specs.Hunt.{Hunt, IsWalkOf}
 use Rattle.rv_search.specs.declared.run_walk.RunWalk.{RunWalk}
-use Rattle.rv_tally.specs.Plans.{plan_of}
+use Rattle.rv_plans.specs.Plans.{plan_of}
 use Rattle.rv_walk.specs.Told.{AreTold}
 use Rattle.rv_walk.specs.Walked.{Walked}
 use Rattle.rv_walk.specs.declared.course.TheConstants.{MOST_WALKED}

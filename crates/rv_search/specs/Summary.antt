@@ -19,8 +19,8 @@ use Rattle.rv_hart.specs.declared.hart.Status.{Status}
 use Rattle.rv_hart.specs.declared.hart.Status.TheVariants as status
 use Rattle.rv_search.specs.Sums.{no_counts, sum}
 use Rattle.rv_search.specs.declared.tally.counts.Counts.{Counts}
-use Rattle.rv_tally.specs.declared.end.End.{End}
-use Rattle.rv_tally.specs.declared.end.End.TheVariants as end
+use Rattle.rv_search.specs.declared.end.End.{End}
+use Rattle.rv_search.specs.declared.end.End.TheVariants as end
 use Rattle.rv_search.specs.declared.summary.Summary.{Summary}
 use Rattle.rv_walk.specs.Walked.{Walked}
 use Rattle.rv_walk.specs.declared.probes.Part.{Part}

@@ -11,11 +11,11 @@ use Rattle.rv_search.specs.declared.tally.Longest.{Longest}
 use Rattle.rv_search.specs.declared.tally.RunEnd.{RunEnd}
 use Rattle.rv_search.specs.declared.tally.Widest.{Widest}
 use Rattle.rv_search.specs.declared.tally.counts.Counts.{Counts}
-use Rattle.rv_tally.specs.Ways.{way}
-use Rattle.rv_tally.specs.declared.end.End.{End}
-use Rattle.rv_tally.specs.declared.end.Way.{Way}
-use Rattle.rv_tally.specs.declared.end.Way.TheVariants.{Exit, Trap, Wait, Spent}
-use Rattle.rv_tally.specs.declared.limit.Reached.{Reached}
+use Rattle.rv_search.specs.Ways.{way}
+use Rattle.rv_search.specs.declared.end.End.{End}
+use Rattle.rv_search.specs.declared.end.Way.{Way}
+use Rattle.rv_search.specs.declared.end.Way.TheVariants.{Exit, Trap, Wait, Spent}
+use Rattle.rv_plans.specs.declared.limit.Reached.{Reached}
 
 -- ---- how harts ended
 

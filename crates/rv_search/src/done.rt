@@ -2,7 +2,7 @@
 ghost use Rattle.std.specs.Prelude.{◌≤◌};
 
 use crate::hunted::Hunted;
-use rv_tally::limit::Limit;
+use rv_plans::limit::Limit;
 
 /// How much of some work is done, and how much there is of it.
 #[derive(Clone, Copy)]

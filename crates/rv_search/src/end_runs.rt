@@ -5,10 +5,10 @@ ghost use Rattle.std.specs.Option.{option_to_list};
 ghost use Rattle.rv_search.specs.RightEnds as spec;
 ghost use Rattle.rv_text.specs.Pieces.{pieces_of};
 
+use crate::end::{End, Way};
 use crate::ended::Ways;
 use crate::tally::kinds::{MOST_TOLD, is_same};
 use rv_memory::store::NoMemory;
-use rv_tally::end::{End, Way};
 use rv_text::numeral::read_number;
 use rv_text::pieces::Pieces;
 use std::alloc::Global;

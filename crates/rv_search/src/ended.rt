@@ -2,13 +2,13 @@
 ghost use Rattle.std.specs.Prelude.{◌≡◌, ◌++◌, IfOk, OnOk};
 ghost use Rattle.rv_search.specs.EndedRows as spec;
 
+use crate::end::End;
 use crate::tally::ended::Ended;
 use crate::tally::kinds::Kinds;
 use rv_explain::names::{address_text, source_text};
 use rv_explain::order::cause_words;
 use rv_explain::symbol_table::SymbolTable;
 use rv_memory::store::NoMemory;
-use rv_tally::end::End;
 use std::alloc::Global;
 use std::str;
 

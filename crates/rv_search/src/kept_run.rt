@@ -9,7 +9,7 @@ ghost use Rattle.rv_hart.specs.State.{start as first_state};
 ghost use Rattle.rv_search.specs.Hunt.{IsSampledRun};
 ghost use Rattle.rv_search.specs.internal.Gathered.{AreGathered};
 ghost use Rattle.rv_search.specs.RunWalk.{IsBegin, IsRunWalk};
-ghost use Rattle.rv_tally.specs.Plans.{plan_of};
+ghost use Rattle.rv_plans.specs.Plans.{plan_of};
 
 use crate::gathered::Gathered;
 use crate::hunt::Hunt;

@@ -6,6 +6,7 @@
 
 pub mod aim;
 pub mod done;
+pub mod end;
 pub mod end_runs;
 pub mod ended;
 mod gathered;

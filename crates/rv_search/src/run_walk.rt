@@ -2,6 +2,7 @@
 ghost use Rattle.std.specs.Prelude.{◌≡◌, IfOk};
 ghost use Rattle.rv_search.specs.RunWalk as spec;
 
+use crate::end::End;
 use crate::hunt::Hunt;
 use crate::stuck::is_reported;
 use crate::summary::end_with;
@@ -11,7 +12,6 @@ use rv_memory::paged::Paged;
 use rv_memory::store::NoMemory;
 use rv_sample::Generator;
 use rv_stuck::{Act, acts_of};
-use rv_tally::end::End;
 use rv_walk::code::{Executed, Marks};
 use rv_walk::course::{Course, MOST_WALKED, Over, burst_of, go};
 use rv_walk::drawn::{drawn, repeated};

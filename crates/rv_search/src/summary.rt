@@ -8,6 +8,7 @@ ghost use Rattle.rv_hart.specs.State.{State};
 ghost use Rattle.rv_search.specs.Summary as spec;
 ghost use Rattle.rv_search.specs.internal.Counting as internal;
 
+use crate::end::End;
 use crate::tally::counts::{Counts, raised};
 use rv_collide::collider::{Collider, Finished};
 use rv_collide::ending::{Ending, Verdict};
@@ -15,7 +16,6 @@ use rv_collide::entry::Entry;
 use rv_hart::hart::Status;
 use rv_memory::flat::Flat;
 use rv_memory::store::NoMemory;
-use rv_tally::end::End;
 use std::alloc::Global;
 
 /// What is counted of a run: how many steps its plan allows, and how its harts ended, in their order; of a sampled run the

@@ -4,13 +4,13 @@ ghost use Rattle.rv_collide.specs.Counts.{saturated};
 ghost use Rattle.rv_search.specs.Tally as spec;
 ghost use Rattle.rv_search.specs.Doubts as doubt;
 
+use crate::end::{End, Way};
 use crate::summary::Summary;
 use crate::tally::addresses::Addresses;
 use crate::tally::counts::{Counts, raised, sum};
 use crate::tally::ended::Ended;
 use rv_memory::store::NoMemory;
-use rv_tally::end::{End, Way};
-use rv_tally::limit::Reached;
+use rv_plans::limit::Reached;
 use std::alloc::Global;
 use std::marker::Model;
 

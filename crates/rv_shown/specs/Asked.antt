@@ -1,9 +1,9 @@
 -- What the options of `hunt` ask for.
 use Rattle.std.specs.Prelude.{ℕ, ◌≤◌, Option, option_map, List}
 use Rattle.rv_search.specs.Hunt.{AreNumbers}
-use Rattle.rv_tally.specs.GoesOn.{IsLimit}
-use Rattle.rv_tally.specs.Plans.{Given}
-use Rattle.rv_tally.specs.declared.limit.Limit.{Limit}
+use Rattle.rv_plans.specs.GoesOn.{IsLimit}
+use Rattle.rv_plans.specs.Plans.{Given}
+use Rattle.rv_plans.specs.declared.limit.Limit.{Limit}
 use Rattle.rv_shown.specs.declared.options.HuntOptions.{HuntOptions}
 use Rattle.rv_search.specs.declared.aim.Sides.{Sides}
 use Rattle.rv_shown.specs.declared.options.TheConstants.{MOST_WORKERS}

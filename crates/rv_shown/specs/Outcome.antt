@@ -6,7 +6,7 @@ use Rattle.rv_tables.specs.Near.{how_many}
 use Rattle.rv_search.specs.Tally.{Tally, pauses_in}
 use Rattle.rv_search.specs.declared.hunted.Hunted.{Hunted}
 use Rattle.rv_tables.specs.declared.near.Fate.TheVariants.{Met, Held, OthersWaited, NeverReached, Untried}
-use Rattle.rv_tally.specs.declared.plans.Mix.{Mix}
+use Rattle.rv_plans.specs.declared.plans.Mix.{Mix}
 use Rattle.rv_tables.specs.declared.row.RaceRow.{RaceRow}
 use Rattle.rv_report.specs.declared.key.Key.{Key}
 

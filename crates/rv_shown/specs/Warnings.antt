@@ -6,8 +6,8 @@ use Rattle.rv_shown.specs.Outcome.{Outcome}
 use Rattle.rv_search.specs.Doubts.{armed_few, exited_nowhere, made_no_pause, most_lost, most_trapped, passed_no_step, walked_in_vain}
 use Rattle.rv_search.specs.declared.hunted.Hunted.{Hunted}
 use Rattle.rv_tables.specs.declared.near.Fate.TheVariants.{Untried}
-use Rattle.rv_tally.specs.declared.plans.Mix.{Mix}
-use Rattle.rv_tally.specs.declared.plans.Mix.TheVariants.{Mixed, Sampled, Walks}
+use Rattle.rv_plans.specs.declared.plans.Mix.{Mix}
+use Rattle.rv_plans.specs.declared.plans.Mix.TheVariants.{Mixed, Sampled, Walks}
 use Rattle.rv_shown.specs.declared.saying.warnings.Warning.{Warning}
 use Rattle.rv_shown.specs.declared.saying.warnings.Warning.TheVariants.{Compressed, Floating, NoSite, NoPause, Lost, Trapped, NoOtherStep, FewArmed, NoNear, ManyUntried, WalkedInVain, NoExit, Gone, Missed}
 

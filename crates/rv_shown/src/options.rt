@@ -1,13 +1,13 @@
 //! What `hunt` is asked for, beside its files.
 ghost use Rattle.std.specs.Prelude.{◌≡◌, ◌≤◌, ◌↔◌, true};
 ghost use Rattle.rv_search.specs.Hunt.{AreNumbers};
-ghost use Rattle.rv_tally.specs.GoesOn.{IsLimit};
+ghost use Rattle.rv_plans.specs.GoesOn.{IsLimit};
 ghost use Rattle.rv_shown.specs.Asked.{AreLegal};
 
 use crate::found::Checks;
+use rv_plans::limit::{Limit, MOST_BUDGET};
+use rv_plans::plans::{Lengths, Plans};
 use rv_search::aim::Sides;
-use rv_tally::limit::{Limit, MOST_BUDGET};
-use rv_tally::plans::{Lengths, Plans};
 
 /// What a hunt writes to its standard output.
 #[derive(Clone, Copy)]

@@ -11,5 +11,6 @@ pub mod Origin
 pub mod OriginRead
 pub mod Rows
 pub mod ShownRows
+pub mod Strongest
 pub mod internal
 pub mod merge

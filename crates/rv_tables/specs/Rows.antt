@@ -13,7 +13,7 @@ use Rattle.rv_races.specs.declared.races.Report.{Report}
 use Rattle.rv_collide.specs.Counts.{saturated}
 use Rattle.rv_report.specs.Races.{same_key}
 use Rattle.rv_report.specs.declared.key.Key.{Key}
-pub use Rattle.rv_tally.specs.Strongest as strongest
+pub use Rattle.rv_tables.specs.Strongest as strongest
 
 -- A place has 32 bits; that of a run is far less.
 abbrev pub saturated_word : ℕ → ℕ

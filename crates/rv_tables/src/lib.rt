@@ -24,5 +24,6 @@ pub mod origin_line;
 pub mod reading;
 pub mod row;
 pub mod shown_rows;
+mod strongest;
 pub mod table;
 mod texts;

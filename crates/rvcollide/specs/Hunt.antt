@@ -8,8 +8,8 @@ use Rattle.rv_shown.specs.declared.options.HuntOptions.{HuntOptions}
 use Rattle.rv_shown.specs.declared.options.LineParts.{LineParts}
 use Rattle.rv_shown.specs.declared.options.Shows.{Shows}
 use Rattle.rv_shown.specs.declared.options.Shows.TheVariants.{Table, Text}
-use Rattle.rv_tally.specs.declared.plans.Mix.{Mix}
-use Rattle.rv_tally.specs.declared.plans.Mix.TheVariants.{Mixed, Sampled, Walks}
+use Rattle.rv_plans.specs.declared.plans.Mix.{Mix}
+use Rattle.rv_plans.specs.declared.plans.Mix.TheVariants.{Mixed, Sampled, Walks}
 use Rattle.rv_hunt.specs.declared.given.TheConstants.{SLOTS}
 
 -- what is shown

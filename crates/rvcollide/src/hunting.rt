@@ -27,11 +27,11 @@ use rv_hunt::engine::run_hunt;
 use rv_hunt::given::SLOTS;
 use rv_memory::buffered::Buffered;
 use rv_memory::flagged::Flagged;
+use rv_plans::plans::{Mix, Plans};
 use rv_search::aim::Sides;
 use rv_search::hunt::Watch;
 use rv_shown::found::{Checks, Found};
 use rv_shown::options::{HuntOptions, LineParts, MOST_WORKERS, Shows};
-use rv_tally::plans::{Mix, Plans};
 use std::sync::Wait;
 use std::thread::{Threads, available_parallelism};
 

@@ -7,10 +7,10 @@ use crate::system::SystemSaid;
 use rv_command::command::hunt::HuntLine;
 use rv_engines::new_file::NewFile;
 use rv_memory::store::NoMemory;
+use rv_plans::limit::Limit;
 use rv_report::key::Key;
 use rv_search::hunt::{Draft, Watch};
 use rv_search::hunted::Hunted;
-use rv_tally::limit::Limit;
 use std::alloc::Global;
 
 /// The paths of the texts that are made anew while the hunt goes on: of those that are wanted what is no device and no pipe.

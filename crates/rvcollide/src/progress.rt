@@ -1,9 +1,9 @@
 //! What is told on the standard error while runs are made: a terminal has one line that moves, and above it each race the moment that it is met;
 //! another stream has a line for each tenth, where that is asked for. Nothing of it depends on time.
 use crate::painted::tell_painted;
+use rv_plans::limit::Limit;
 use rv_search::done::Done;
 use rv_search::hunted::Hunted;
-use rv_tally::limit::Limit;
 use rv_text::decimal::read_decimal;
 use std::alloc::{AllocError, Global};
 use std::env;

@@ -20,10 +20,10 @@ use rv_hunt::engine::remaking::WatchRuns;
 use rv_hunt::engine::show::{ShowFault, ShowOptions, run_show};
 use rv_memory::buffered::Buffered;
 use rv_memory::flagged::Flagged;
+use rv_plans::limit::Limit;
 use rv_search::hunt::Watch;
 use rv_search::hunted::Hunted;
 use rv_shown::options::{LineParts, MOST_WORKERS};
-use rv_tally::limit::Limit;
 use std::sync::Wait;
 use std::thread::Threads;
 

@@ -5,8 +5,8 @@ use rv_command::arguments::{Aim, FolderPath, ImagePath};
 use rv_command::command::VERSION;
 use rv_command::command::hunt::{DEFAULT_SEED, HuntLine};
 use rv_engines::shown::Shown;
+use rv_plans::plans::Lengths;
 use rv_shown::options::{LineParts, SaidOptions};
-use rv_tally::plans::Lengths;
 use std::alloc::{AllocError, Global};
 
 /// Parts of a line, as messages show them.

@@ -15,8 +15,8 @@ use crate::arguments::{
 };
 use clap::ArgMatches;
 use rv_collide::plan::{MOST_ARMS, MOST_PAUSE, MOST_STEPS};
-use rv_tally::limit::{Limit, MOST_BUDGET};
-use rv_tally::plans::Lengths;
+use rv_plans::limit::{Limit, MOST_BUDGET};
+use rv_plans::plans::Lengths;
 use rv_text::pieces::Pieces;
 
 /// The seed where the line gives none.

@@ -15,7 +15,7 @@ use Rattle.rv_tables.specs.declared.row.RaceRow.{RaceRow}
 use Rattle.rv_shown.specs.declared.shown.ShownRace.{ShownRace}
 use Rattle.rv_hunt.specs.declared.engine.shown.TheConstants.{AROUND}
 use Rattle.rv_report.specs.declared.key.Key.{Key}
-use Rattle.rv_tally.specs.Plans.{is_sampled}
+use Rattle.rv_plans.specs.Plans.{is_sampled}
 use Rattle.rv_walk.specs.Part.{IsPart, IsWhole}
 use Rattle.rv_walk.specs.Walked.{Walked}
 use Rattle.rv_walk.specs.declared.probes.Part.{Part}

@@ -42,7 +42,7 @@ use Rattle.rv_json.specs.Object.{Member}
 use Rattle.rv_markup.specs.declared.markup.Fact.{Fact}
 use Rattle.rv_memory.specs.Chain.{◌>>=◌}
 use Rattle.rv_report.specs.declared.key.Key.{Key}
-use Rattle.rv_tally.specs.declared.limit.Limit.TheVariants.{Runs}
+use Rattle.rv_plans.specs.declared.limit.Limit.TheVariants.{Runs}
 
 -- ---- the table
 

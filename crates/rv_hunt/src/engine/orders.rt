@@ -11,7 +11,7 @@ ghost use Rattle.rv_hunt.specs.engine.OrderShown as spec;
 ghost use Rattle.rv_hunt.specs.engine.Shown.{IsRunOf};
 ghost use Rattle.rv_hunt.specs.internal.OrderShowing as internal;
 ghost use Rattle.rv_search.specs.RunWalk.{AreProbesOf, IsBegin, IsRunWalk};
-ghost use Rattle.rv_tally.specs.Plans.{is_sampled};
+ghost use Rattle.rv_plans.specs.Plans.{is_sampled};
 ghost use Rattle.rv_walk.specs.declared.course.TheConstants.{MOST_WALKED};
 
 use crate::engine::beside::{Schedule, save};

@@ -9,7 +9,7 @@ ghost use Rattle.rv_explain.specs.Races as races;
 ghost use Rattle.rv_hunt.specs.Remade.{is_told_by};
 ghost use Rattle.rv_hunt.specs.engine.Shown.{IsRaceShown};
 ghost use Rattle.rv_search.specs.RunWalk.{AreProbesOf, IsBegin, IsRunWalk};
-ghost use Rattle.rv_tally.specs.Plans.{is_sampled};
+ghost use Rattle.rv_plans.specs.Plans.{is_sampled};
 ghost use Rattle.rv_walk.specs.declared.course.TheConstants.{MOST_WALKED};
 ghost use Rattle.rv_hunt.specs.internal.Showing as internal;
 

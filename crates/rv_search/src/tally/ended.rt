@@ -2,9 +2,9 @@
 ghost use Rattle.std.specs.Prelude.{◌≡◌, OnOk};
 ghost use Rattle.rv_search.specs.Tally as spec;
 
+use crate::end::{End, Way};
 use crate::tally::kinds::Kinds;
 use rv_memory::store::NoMemory;
-use rv_tally::end::{End, Way};
 use std::alloc::Global;
 use std::marker::Model;
 

@@ -3,8 +3,8 @@ ghost use Rattle.std.specs.Prelude.{◌≡◌, OnErr, OnOk, map};
 ghost use Rattle.std.specs.List.{list_any};
 ghost use Rattle.rv_search.specs.Kinds as spec;
 
+use crate::end::End;
 use rv_memory::store::NoMemory;
-use rv_tally::end::End;
 use std::alloc::Global;
 use std::marker::Model;
 

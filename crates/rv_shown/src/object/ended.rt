@@ -8,8 +8,8 @@ use rv_explain::order::cause_words;
 use rv_explain::symbol_table::SymbolTable;
 use rv_json::object::Json;
 use rv_memory::store::NoMemory;
+use rv_search::end::End;
 use rv_search::ended::{EndedRow, Ways, ended_rows};
-use rv_tally::end::End;
 use std::alloc::Global;
 
 /// The word for ways of ending.

@@ -5,9 +5,9 @@ use crate::options::HuntOptions;
 use crate::saying::warnings::all_sampled;
 use rv_json::object::Json;
 use rv_memory::store::NoMemory;
+use rv_plans::limit::Limit;
+use rv_plans::plans::Lengths;
 use rv_search::aim::Sides;
-use rv_tally::limit::Limit;
-use rv_tally::plans::Lengths;
 
 /// The elements of a list with a comma between two.
 fn pieces(json: Json, list: &str) -> Result<Json, NoMemory>

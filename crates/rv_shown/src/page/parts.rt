@@ -2,11 +2,11 @@
 use crate::code_seen::CodeSeen;
 use crate::shown::StuckEnds;
 use rv_engines::built::Built;
+use rv_plans::plans::Mix;
 use rv_report::key::Key;
 use rv_search::end_runs::EndRuns;
 use rv_search::hunted::Hunted;
 use rv_tables::row::RaceRow;
-use rv_tally::plans::Mix;
 use std::marker::Model;
 
 /// What a hunt came to: how many sites there are, what its runs are, what they saw, how much of the code they executed, in which

@@ -7,10 +7,10 @@ use crate::saying::unexpected::push_unexpected;
 use rv_engines::source_lines::MISS_WORDS;
 use rv_explain::symbol_table::SymbolTable;
 use rv_memory::store::NoMemory;
+use rv_plans::plans::Mix;
 use rv_search::ended::{Ways, ways_words};
 use rv_search::hunted::Hunted;
 use rv_tables::near::Fate;
-use rv_tally::plans::Mix;
 use std::alloc::Global;
 
 /// Why a clean answer would mean nothing.

@@ -5,7 +5,7 @@ use Rattle.rv_collide.specs.Plan.{Numbers}
 use Rattle.rv_search.proofs.WalkLemmas.{all_more, gone_by, of_walk, tried_so}
 use Rattle.rv_search.specs.Hunt.{Hunt}
 use Rattle.rv_search.specs.KeptRun.{begin}
-use Rattle.rv_tally.specs.Plans.{plan_of}
+use Rattle.rv_plans.specs.Plans.{plan_of}
 use Rattle.rv_search.specs.RunWalk.{AreProbesOf}
 use Rattle.rv_walk.specs.Part.{IsPart}
 use Rattle.rv_search.proofs.kept_run.gathered.Goals as goal

@@ -3,7 +3,7 @@ use Rattle.rv_collide.specs.Grammar.{IsWritable}
 use Rattle.rv_collide.specs.Plan.{IsPlan, Numbers}
 use Rattle.rv_collide.specs.Stored.{setting_of}
 use Rattle.rv_collide.specs.declared.entry.Entry.{Entry}
-use Rattle.rv_tally.specs.Plans.{plan_of}
+use Rattle.rv_plans.specs.Plans.{plan_of}
 use Rattle.rv_search.proofs.kept_run.sampled_run.Goals as goal
 
 pub returns-clause-run : goal.returns-clause-run

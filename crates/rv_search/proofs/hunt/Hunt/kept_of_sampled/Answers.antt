@@ -6,7 +6,7 @@ use Rattle.rv_search.specs.Hunt.{Hunt}
 use Rattle.rv_search.specs.KeptRun.{begin, in_part, reports_by}
 use Rattle.rv_races.specs.declared.judged.Judged.{Judged}
 use Rattle.rv_search.proofs.WalkLemmas.{same_ends}
-use Rattle.rv_tally.specs.Plans.{plan_of}
+use Rattle.rv_plans.specs.Plans.{plan_of}
 use Rattle.rv_search.proofs.hunt.Hunt.kept_of_sampled.Goals as goal
 
 pub returns : goal.returns

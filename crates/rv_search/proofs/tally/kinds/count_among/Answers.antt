@@ -3,7 +3,7 @@ use Rattle.std.proofs.lemmas.List.{get_or_default}
 use Rattle.std.proofs.lemmas.List.Edits.{map_over_more}
 use Rattle.rv_search.specs.Kinds.{counted}
 use Rattle.rv_search.specs.declared.tally.kinds.Kind.{Kind}
-use Rattle.rv_tally.specs.declared.end.End.TheVariants.{Exited}
+use Rattle.rv_search.specs.declared.end.End.TheVariants.{Exited}
 use Rattle.rv_search.proofs.tally.kinds.count_among.Goals as goal
 
 pub loop-kind-preserved : goal.loop-kind-preserved

@@ -1,5 +1,0 @@
-use Rattle.std.proofs.Common.{rules}
-use Rattle.rv_tally.proofs.end.End.way.Goals as goal
-
-pub returns-in-Stopped : goal.returns-in-Stopped
-returns-in-Stopped c = search rules

@@ -1,4 +1,0 @@
-pub mod GoesOn
-pub mod Plans
-pub mod Strongest
-pub mod Ways
