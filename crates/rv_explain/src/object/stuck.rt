@@ -80,20 +80,23 @@ fn waiting_members(
     read_objects(json, alloc, symbols, &waiting.reads)?.end()
 }
 
+/// The code with which a hart exited.
+fn exit_code(left: &HartLeft) -> Option<u32> {
+    match left.status {
+        Status::Exited(code) => Some(code),
+        Status::Running | Status::Stopped(_) => None,
+    }
+}
+
 /// A hart that has exited.
 fn exited_members(json: Json, left: Option<&HartLeft>) -> Result<Json, NoMemory>
     ensures { IfOk result (λ more. more ≡ json) }
 {
-    let code = match left {
-        Some(
-            HartLeft {
-                status: Status::Exited(code),
-                ..
-            },
-        ) => Some(*code),
-        _ => None,
+    let json = json.text_at("how", "exited")?;
+    let json = match left {
+        Some(left) => json.digits_if("code", exit_code(left))?,
+        None => json.nothing_at("code")?,
     };
-    let json = json.text_at("how", "exited")?.digits_if("code", code)?;
     let json = json.nothing_at("cause")?.nothing_at("at")?;
     json.nothing_at("instructions")?.nothing_at("reads")
 }
