@@ -16,7 +16,7 @@ use Rattle.rv_command.specs.declared.command.exhibit.TheConstants.{MOST_ENDING}
 use Rattle.rv_command.specs.declared.command.hunt.TheConstants.{MOST_CODE}
 use Rattle.rv_command.specs.declared.command.Notice.{Notice}
 use Rattle.rv_command.specs.declared.command.Notice.TheVariants.{Answer, Refusal}
-use Rattle.rv_engines.specs.Shown.{shown}
+use Rattle.rv_faults.specs.Shown.{shown}
 
 -- What is written of a line that gives no job.
 

@@ -13,7 +13,7 @@ ghost use Rattle.rv_command.specs.Command as spec;
 ghost use Rattle.rv_command.specs.Given.{IsGiven};
 ghost use Rattle.rv_command.specs.Notice as notice;
 ghost use Rattle.rv_command.specs.ClapProgram as known;
-ghost use Rattle.rv_engines.specs.Shown.{shown as escaped};
+ghost use Rattle.rv_faults.specs.Shown.{shown as escaped};
 
 pub mod commands;
 pub mod complaint;
@@ -50,7 +50,7 @@ use clap::{ArgMatches, Command, Error};
 use rv_collide::plan::Plan;
 use rv_engines::explain::options::ExplainOptions;
 use rv_engines::run::options::Options;
-use rv_engines::shown::Shown;
+use rv_faults::shown::Shown;
 use std::alloc::{AllocError, Global};
 use std::fmt::Display;
 

@@ -8,9 +8,9 @@ use Rattle.rv_debug.specs.Placed.{Placed, moved, setting}
 use Rattle.rv_debug.specs.declared.fault.TalkFault.{TalkFault}
 use Rattle.rv_debug.specs.declared.fault.TalkFault.TheVariants.{TooLong, Read, Write}
 use Rattle.rv_engines.specs.Debug.{IsDebugRefusal, IsOfTalk, IsTalkOver, start_of}
-use Rattle.rv_engines.specs.Fault.{fault_of_talk, is_read}
+use Rattle.rv_faults.specs.Fault.{fault_of_talk, is_read}
 use Rattle.rv_engines.specs.Replay.{IfKnown, IsReplayRefusal, run_of}
-use Rattle.rv_engines.specs.declared.fault.Fault.{Fault}
+use Rattle.rv_faults.specs.declared.fault.Fault.{Fault}
 
 at_start : (p : Placed) → p.place ≡ 0 → p ≡ start_of (stored p.image p.plan p.entries)
 at_start p first = ap (λ n. moved p n) first

@@ -15,11 +15,11 @@ use Rattle.rv_report.specs.declared.exhibit.Exhibit.{Exhibit as Shown}
 use Rattle.rv_report.specs.declared.exhibit.ExhibitFault.{ExhibitFault}
 use Rattle.rv_report.specs.declared.exhibit.ExhibitFault.TheVariants as why_none
 use Rattle.rv_engines.specs.Exhibits.{IsCertificate, IsCertified, IsExhibitRefusal}
-use Rattle.rv_engines.specs.Fault.{fault_of_exhibit}
+use Rattle.rv_faults.specs.Fault.{fault_of_exhibit}
 use Rattle.rv_engines.specs.Images.{image_of, told_load}
 use Rattle.rv_engines.specs.Replay.{IfKnown, IsReplayRefusal, run_of, told_schedule}
-use Rattle.rv_engines.specs.declared.fault.Fault.{Fault}
-use Rattle.rv_engines.specs.declared.fault.Fault.TheVariants.{Entry, Exhibit, TooLong}
+use Rattle.rv_faults.specs.declared.fault.Fault.{Fault}
+use Rattle.rv_faults.specs.declared.fault.Fault.TheVariants.{Entry, Exhibit, TooLong}
 
 -- ---- no file is refused for an ending without an exhibit
 

@@ -21,17 +21,17 @@ use Rattle.rv_prune.specs.Ranges.{is_unknown, ranges}
 use Rattle.rv_engines.proofs.ReplayLemmas.{entry_told}
 use Rattle.rv_engines.specs.Asking.{Asking}
 use Rattle.rv_engines.specs.Campaigns.{IfWanted, elements, listed, unless_some}
-use Rattle.rv_engines.specs.CommandFault.{Refusal, Plain, Name, NoThread, NoRace, IsTold, is_thread, plainly, refusal}
+use Rattle.rv_faults.specs.CommandFault.{Refusal, Plain, Name, NoThread, NoRace, IsTold, is_thread, plainly, refusal}
 use Rattle.rv_engines.specs.Explains.{IsAnObject, IsDrawn, IsExplainRefusal, IsExplainTold, IsObjected, IsOfLegal, SaysMiss, explain_of, if_drawn, of_command, of_fault, of_lines, run_in, shown_in, shown_in_run, unless_none}
-use Rattle.rv_engines.specs.Fault.{fault_of_replay}
+use Rattle.rv_faults.specs.Fault.{fault_of_replay}
 use Rattle.rv_engines.specs.Replay.{IfKnown, IsReplayRefusal, run_of}
 use Rattle.rv_engines.specs.declared.explain.opening.Opened.{Opened}
-use Rattle.rv_engines.specs.declared.fault.Fault.{Fault}
-use Rattle.rv_engines.specs.declared.fault.Fault.TheVariants.{Read, Write, NoMemory}
+use Rattle.rv_faults.specs.declared.fault.Fault.{Fault}
+use Rattle.rv_faults.specs.declared.fault.Fault.TheVariants.{Read, Write, NoMemory}
 use Rattle.rv_engines.specs.declared.explain.fault.ExplainFault.{ExplainFault}
-use Rattle.rv_engines.specs.declared.run.fault.CommandFault.{CommandFault}
-use Rattle.rv_engines.specs.declared.source_lines.SourceFault.{SourceFault}
-use Rattle.rv_engines.specs.SourceFile as source
+use Rattle.rv_faults.specs.declared.command.CommandFault.{CommandFault}
+use Rattle.rv_faults.specs.declared.source_lines.SourceFault.{SourceFault}
+use Rattle.rv_faults.specs.SourceFile as source
 use Rattle.rv_engines.specs.internal.Opened.{AreFound}
 
 -- ---- the files

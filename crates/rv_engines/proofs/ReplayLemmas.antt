@@ -16,11 +16,11 @@ use Rattle.rv_elf.specs.Contents.{Contents}
 use Rattle.rv_elf.specs.Loaded.{loaded}
 use Rattle.rv_elf.specs.declared.fault.LoadFault.{LoadFault}
 use Rattle.rv_memory.specs.Chain.{◌>>=◌}
-use Rattle.rv_engines.specs.Fault.{IsToldFault, fault_of_replay}
+use Rattle.rv_faults.specs.Fault.{IsToldFault, fault_of_replay}
 use Rattle.rv_engines.specs.Images.{image_of, told_load}
 use Rattle.rv_engines.specs.Replay.{IfKnown, IsReplayRefusal, IsShown, run_of, told_schedule}
-use Rattle.rv_engines.specs.declared.fault.Fault.{Fault}
-use Rattle.rv_engines.specs.declared.fault.Fault.TheVariants.{Entry, TooLong, Read, Write, NoMemory}
+use Rattle.rv_faults.specs.declared.fault.Fault.{Fault}
+use Rattle.rv_faults.specs.declared.fault.Fault.TheVariants.{Entry, TooLong, Read, Write, NoMemory}
 
 -- ---- a refusal, where more steps would follow
 

@@ -23,11 +23,11 @@ use Rattle.rv_sample.specs.Sites.{sites}
 use Rattle.rv_report.specs.TableText.{table_text}
 use Rattle.rv_engines.specs.Request.{Request}
 use Rattle.rv_engines.specs.Campaigns.{Campaign, IsHunted, campaign_of, elements, listed, skipped, unless_some}
-use Rattle.rv_engines.specs.Fault.{IsToldFault}
+use Rattle.rv_faults.specs.Fault.{IsToldFault}
 use Rattle.rv_engines.specs.Images.{image_of}
-use Rattle.rv_engines.specs.CommandFault.{Refusal, Plain, Campaign as Numbered, NoThread, IsTold, is_thread, plainly, refusal_of_campaign}
-use Rattle.rv_engines.specs.declared.fault.Fault.{Fault}
-use Rattle.rv_engines.specs.declared.fault.Fault.TheVariants.{Read, Write, NoMemory}
+use Rattle.rv_faults.specs.CommandFault.{Refusal, Plain, Campaign as Numbered, NoThread, IsTold, is_thread, plainly, refusal_of_campaign}
+use Rattle.rv_faults.specs.declared.fault.Fault.{Fault}
+use Rattle.rv_faults.specs.declared.fault.Fault.TheVariants.{Read, Write, NoMemory}
 use Rattle.rv_engines.specs.declared.run.hunting.Hunted.{Hunted}
 use Rattle.rv_engines.specs.internal.Hunted.{IsReady, hunt_of}
 

@@ -15,7 +15,7 @@ use Rattle.rv_prune.specs.Ranges.{is_unknown, ranges, unknown}
 use Rattle.rv_text.specs.Hexadecimal.{word_of}
 use Rattle.rv_text.specs.Pieces.{pieces_of}
 use Rattle.rv_engines.specs.Campaigns.{is_malformed, listed, skipped, unless_some}
-use Rattle.rv_engines.specs.CommandFault.{Skip, Name}
+use Rattle.rv_faults.specs.CommandFault.{Skip, Name}
 
 -- ---- an item, whatever stands for one past the end
 

@@ -6,7 +6,7 @@ use Rattle.std.specs.Str.Lossy.{utf8_valid_len}
 use Rattle.std.proofs.lemmas.Bool.Decides.{nat_tests}
 use Rattle.std.proofs.lemmas.Str.{utf8_valid_len-IsUtf8, utf8_valid_len-IsValidUpTo}
 use Rattle.rv_engines.specs.Sources.{line_after, unless_other}
-use Rattle.rv_engines.specs.declared.fault.Fault.TheVariants.{Asm}
+use Rattle.rv_faults.specs.declared.fault.Fault.TheVariants.{Asm}
 use Rattle.rv_asm.specs.declared.statement.AsmKind.TheVariants.{Word}
 
 pub is_text : (bytes : List ℕ) → IsUtf8 bytes → unless_other bytes ≡ Ok bytes

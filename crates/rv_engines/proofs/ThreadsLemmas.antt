@@ -14,11 +14,11 @@ use Rattle.rv_elf.specs.declared.fault.LoadFault.{LoadFault}
 use Rattle.rv_locked.specs.Threaded.{IsThreaded}
 use Rattle.rv_memory.specs.Chain.{◌>>=◌}
 use Rattle.rv_memory.specs.declared.flagged.TheConstants.{INPUT_LIMIT}
-use Rattle.rv_engines.specs.Fault.{IsToldFault}
+use Rattle.rv_faults.specs.Fault.{IsToldFault}
 use Rattle.rv_engines.specs.Images.{image_of, told_load}
 use Rattle.rv_engines.specs.Threads.{IsRunByThreads, IsThreadsRefusal}
-use Rattle.rv_engines.specs.declared.fault.Fault.{Fault}
-use Rattle.rv_engines.specs.declared.fault.Fault.TheVariants.{Threads, TooLong}
+use Rattle.rv_faults.specs.declared.fault.Fault.{Fault}
+use Rattle.rv_faults.specs.declared.fault.Fault.TheVariants.{Threads, TooLong}
 
 pub threaded_is_writable : LegalIsWritable → (image : Contents) (plan : Numbers) (seed : ℕ) (told : Finished) → IsThreaded image plan seed told → IsWritable (numbers told.plan) told.entries.items
 threaded_is_writable writable image plan seed told is =

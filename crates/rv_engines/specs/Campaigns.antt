@@ -17,7 +17,7 @@ use Rattle.rv_text.specs.Hexadecimal.{word_of}
 use Rattle.rv_text.specs.Pieces.{pieces_of}
 use Rattle.rv_engines.specs.Images.{image_of}
 use Rattle.rv_engines.specs.Request.{Request}
-use Rattle.rv_engines.specs.CommandFault.{Refusal, Skip, Name, Campaign as Numbered, plainly}
+use Rattle.rv_faults.specs.CommandFault.{Refusal, Skip, Name, Campaign as Numbered, plainly}
 
 -- ---- the lists
 

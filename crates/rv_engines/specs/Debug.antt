@@ -6,8 +6,8 @@ use Rattle.rv_debug.specs.Placed.{Placed, placed}
 use Rattle.rv_debug.specs.declared.fault.TalkFault.{TalkFault}
 use Rattle.rv_debug.specs.declared.fault.TalkFault.TheVariants as talk
 use Rattle.rv_engines.specs.Replay.{IsReplayRefusal, run_of}
-use Rattle.rv_engines.specs.declared.fault.Fault.{Fault}
-use Rattle.rv_engines.specs.declared.fault.Fault.TheVariants.{TooLong, Read, Write}
+use Rattle.rv_faults.specs.declared.fault.Fault.{Fault}
+use Rattle.rv_faults.specs.declared.fault.Fault.TheVariants.{TooLong, Read, Write}
 
 -- the run at its first place
 abbrev pub start_of : Stored → Placed

@@ -6,10 +6,10 @@ use Rattle.rv_report.specs.Exhibit.{IsExhibit, IsExhibitFault}
 use Rattle.rv_report.specs.ExhibitText.{exhibit_text}
 use Rattle.rv_report.specs.SideBySide.{StandSideBySide}
 use Rattle.rv_report.specs.declared.exhibit.Exhibit.{Exhibit as Shown}
-use Rattle.rv_engines.specs.Fault.{IsToldFault}
+use Rattle.rv_faults.specs.Fault.{IsToldFault}
 use Rattle.rv_engines.specs.Replay.{run_of}
-use Rattle.rv_engines.specs.declared.fault.Fault.{Fault}
-use Rattle.rv_engines.specs.declared.fault.Fault.TheVariants.{Entry, Exhibit}
+use Rattle.rv_faults.specs.declared.fault.Fault.{Fault}
+use Rattle.rv_faults.specs.declared.fault.Fault.TheVariants.{Entry, Exhibit}
 
 -- The exhibit of the run's ending of the number. Its list, run from the start on the plain machine, ends in its two
 -- accesses.

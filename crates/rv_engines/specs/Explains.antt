@@ -12,16 +12,16 @@ use Rattle.rv_markup.specs.Markup.{IsDocument}
 use Rattle.rv_memory.specs.Chain.{◌>>=◌}
 use Rattle.rv_engines.specs.Asking.{Asking}
 use Rattle.rv_engines.specs.Campaigns.{elements, listed}
-use Rattle.rv_engines.specs.CommandFault as reading
-use Rattle.rv_engines.specs.CommandFault.{Refusal, Plain, NoRace, plainly, refusal}
-use Rattle.rv_engines.specs.SourceFile as source
+use Rattle.rv_faults.specs.CommandFault as reading
+use Rattle.rv_faults.specs.CommandFault.{Refusal, Plain, NoRace, plainly, refusal}
+use Rattle.rv_faults.specs.SourceFile as source
 use Rattle.rv_engines.specs.declared.explain.fault.ExplainFault.{ExplainFault}
 use Rattle.rv_engines.specs.declared.explain.fault.ExplainFault.TheVariants.{Command, Lines}
-use Rattle.rv_engines.specs.declared.fault.Fault.{Fault}
-use Rattle.rv_engines.specs.declared.fault.Fault.TheVariants as plain
-use Rattle.rv_engines.specs.declared.run.fault.CommandFault.{CommandFault}
-use Rattle.rv_engines.specs.declared.run.fault.CommandFault.TheVariants as command
-use Rattle.rv_engines.specs.declared.source_lines.SourceFault.{SourceFault}
+use Rattle.rv_faults.specs.declared.fault.Fault.{Fault}
+use Rattle.rv_faults.specs.declared.fault.Fault.TheVariants as plain
+use Rattle.rv_faults.specs.declared.command.CommandFault.{CommandFault}
+use Rattle.rv_faults.specs.declared.command.CommandFault.TheVariants as command
+use Rattle.rv_faults.specs.declared.source_lines.SourceFault.{SourceFault}
 use Rattle.rv_engines.specs.Replay.{IsReplayRefusal, run_of}
 
 -- the run that is told of

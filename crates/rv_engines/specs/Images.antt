@@ -5,9 +5,9 @@ use Rattle.rv_elf.specs.Contents.{Contents}
 use Rattle.rv_elf.specs.Loaded.{loaded}
 use Rattle.rv_elf.specs.declared.fault.LoadFault.{LoadFault}
 use Rattle.rv_memory.specs.Chain.{◌>>=◌}
-use Rattle.rv_engines.specs.Words.{unless_long}
-use Rattle.rv_engines.specs.declared.fault.Fault.{Fault}
-use Rattle.rv_engines.specs.declared.fault.Fault.TheVariants.{Load}
+use Rattle.rv_faults.specs.Fault.{unless_long}
+use Rattle.rv_faults.specs.declared.fault.Fault.{Fault}
+use Rattle.rv_faults.specs.declared.fault.Fault.TheVariants.{Load}
 
 abbrev pub told_load : {A : Type 0} → Result A LoadFault → Result A Fault
 told_load (Ok image) = Ok image

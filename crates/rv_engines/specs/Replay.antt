@@ -11,10 +11,10 @@ use Rattle.rv_collide.specs.declared.schedule.fault.ScheduleFault.{ScheduleFault
 use Rattle.rv_hart.specs.State.{State}
 use Rattle.rv_hart.specs.Texts.{state_text}
 use Rattle.rv_memory.specs.Chain.{◌>>=◌}
-use Rattle.rv_engines.specs.Fault.{IsToldFault}
+use Rattle.rv_faults.specs.Fault.{IsToldFault}
 use Rattle.rv_engines.specs.Images.{image_of}
-use Rattle.rv_engines.specs.declared.fault.Fault.{Fault}
-use Rattle.rv_engines.specs.declared.fault.Fault.TheVariants.{Schedule, Entry}
+use Rattle.rv_faults.specs.declared.fault.Fault.{Fault}
+use Rattle.rv_faults.specs.declared.fault.Fault.TheVariants.{Schedule, Entry}
 
 -- ---- what the files say
 

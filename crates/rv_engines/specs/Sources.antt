@@ -6,10 +6,10 @@ use Rattle.rv_asm.specs.declared.fault.AsmFault.{AsmFault}
 use Rattle.rv_asm.specs.declared.statement.AsmKind.TheVariants.{Word}
 use Rattle.rv_elf.specs.Written.{written}
 use Rattle.rv_memory.specs.Chain.{◌>>=◌}
-use Rattle.rv_engines.specs.Fault.{fault_of_asm}
-use Rattle.rv_engines.specs.Words.{unless_long}
-use Rattle.rv_engines.specs.declared.fault.Fault.{Fault}
-use Rattle.rv_engines.specs.declared.fault.Fault.TheVariants.{Asm}
+use Rattle.rv_faults.specs.Fault.{fault_of_asm}
+use Rattle.rv_faults.specs.Fault.{unless_long}
+use Rattle.rv_faults.specs.declared.fault.Fault.{Fault}
+use Rattle.rv_faults.specs.declared.fault.Fault.TheVariants.{Asm}
 
 -- the line after these bytes, from 1 on
 abbrev pub line_after : List ℕ → ℕ

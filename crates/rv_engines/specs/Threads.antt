@@ -7,10 +7,10 @@ use Rattle.rv_collide.specs.Texts.{finished_text}
 use Rattle.rv_collide.specs.declared.collider.Finished.{Finished}
 use Rattle.rv_elf.specs.Contents.{Contents}
 use Rattle.rv_locked.specs.Threaded.{IsThreaded}
-use Rattle.rv_engines.specs.Fault.{IsToldFault}
+use Rattle.rv_faults.specs.Fault.{IsToldFault}
 use Rattle.rv_engines.specs.Images.{image_of}
-use Rattle.rv_engines.specs.declared.fault.Fault.{Fault}
-use Rattle.rv_engines.specs.declared.fault.Fault.TheVariants.{Threads}
+use Rattle.rv_faults.specs.declared.fault.Fault.{Fault}
+use Rattle.rv_faults.specs.declared.fault.Fault.TheVariants.{Threads}
 
 -- This is one that a run of the image by threads may leave; its endings and its turns are written, and its schedule
 -- is saved. Which of them it is, the threads decide.

@@ -1,18 +1,12 @@
 -- What `words` writes of its input, or the fault that it tells.
-use Rattle.std.specs.Prelude.{ℕ, nat_lt, if◌then◌else◌, Result, Ok, Err, List, length}
+use Rattle.std.specs.Prelude.{ℕ, Result, Ok, Err, List}
 use Rattle.rv_hart.specs.State.{State}
 use Rattle.rv_hart.specs.Texts.{state_text}
 use Rattle.rv_words.specs.WordsGuest as guest
 use Rattle.rv_words.specs.declared.fault.WordsFault.{WordsFault}
 use Rattle.rv_memory.specs.Chain.{◌>>=◌}
-use Rattle.rv_memory.specs.declared.flagged.TheConstants.{INPUT_LIMIT}
-use Rattle.rv_engines.specs.Fault.{fault_of_words}
-use Rattle.rv_engines.specs.declared.fault.Fault.{Fault}
-use Rattle.rv_engines.specs.declared.fault.Fault.TheVariants.{TooLong}
-
--- the bytes, unless they are more than an input may have
-abbrev pub unless_long : List ℕ → Result (List ℕ) Fault
-unless_long bytes = if nat_lt INPUT_LIMIT (length bytes) then Err TooLong else Ok bytes
+use Rattle.rv_faults.specs.Fault.{fault_of_words, unless_long}
+use Rattle.rv_faults.specs.declared.fault.Fault.{Fault}
 
 abbrev pub told_words : {A : Type 0} → Result A WordsFault → Result A Fault
 told_words (Ok a) = Ok a

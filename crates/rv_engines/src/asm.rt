@@ -1,13 +1,13 @@
 //! The engine of `asm`: a source in, the file of its image out.
 ghost use Rattle.std.specs.Prelude.{◌≡◌, ◌≤◌, ◌||◌, false, Ok, IfOk, IfErr, IfSome, OnOk, IsOkAnd, length};
 ghost use Rattle.rv_memory.specs.Flagged as flag;
-ghost use Rattle.rv_engines.specs.Fault.{IsToldFault, fails_by, is_read, is_write};
+ghost use Rattle.rv_faults.specs.Fault.{IsToldFault, fails_by, is_read, is_write};
 ghost use Rattle.rv_engines.specs.Sources as spec;
 
-use crate::fault::Fault;
 use crate::new_file::NewFile;
 use rv_asm::{AsmFault, AsmKind, assemble};
 use rv_elf::write;
+use rv_faults::fault::Fault;
 use rv_memory::flagged::{Flagged, INPUT_LIMIT, read_whole};
 use std::alloc::Global;
 use std::io::Read;

@@ -1,12 +1,12 @@
 //! Images that commands read.
 ghost use Rattle.std.specs.Prelude.{◌≡◌, ◌≤◌, ◌||◌, false, Ok, IfOk, IfErr, IfSome, length};
 ghost use Rattle.rv_memory.specs.Flagged as flag;
-ghost use Rattle.rv_engines.specs.Fault.{IsToldFault, fails_by, is_read, is_write};
+ghost use Rattle.rv_faults.specs.Fault.{IsToldFault, fails_by, is_read, is_write};
 ghost use Rattle.rv_engines.specs.Images as spec;
 
 use crate::digest::digest_of;
-use crate::fault::Fault;
 use rv_elf::{Image, load};
+use rv_faults::fault::Fault;
 use rv_memory::flagged::{Flagged, INPUT_LIMIT, read_whole};
 use std::alloc::Global;
 use std::io::Read;

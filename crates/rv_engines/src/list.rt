@@ -3,13 +3,13 @@ ghost use Rattle.std.specs.Prelude.{◌≡◌, ◌||◌, IfErr, IfSome, OnOk, Is
 ghost use Rattle.std.specs.Io.KnownBytes.{Appends, Keeps};
 ghost use Rattle.rv_memory.specs.Buffered as buffer;
 ghost use Rattle.rv_memory.specs.Flagged as flag;
-ghost use Rattle.rv_engines.specs.Fault.{IsToldFault, fails_by, is_read, is_write};
-ghost use Rattle.rv_engines.specs.FaultText.{status};
+ghost use Rattle.rv_faults.specs.Fault.{IsToldFault, fails_by, is_read, is_write};
+ghost use Rattle.rv_faults.specs.FaultText.{status};
 ghost use Rattle.rv_engines.specs.Images as spec;
 
-use crate::fault::Fault;
 use crate::image::read_image;
 use rv_asm::list;
+use rv_faults::fault::Fault;
 use rv_memory::buffered::Buffered;
 use rv_memory::flagged::Flagged;
 use std::alloc::Global;

@@ -1,7 +1,6 @@
 //! The command `run`: a campaign of seeded runs of an image, its race table, and the schedule of one run.
 
 pub mod engine;
-pub mod fault;
 mod hunting;
 pub mod lists;
 pub mod options;

@@ -1,11 +1,10 @@
 -- What is shown of a race, as values.
-use Rattle.std.specs.Prelude.{ℕ, List, codes}
+use Rattle.std.specs.Prelude.{ℕ, List}
 use Rattle.rv_collide.specs.declared.ending.Ending.{Ending}
 use Rattle.rv_explain.specs.declared.block.Block.{Block}
 use Rattle.rv_explain.specs.declared.block.Side.{Side}
 use Rattle.rv_explain.specs.declared.row.Shown.{Shown}
 use Rattle.rv_races.specs.declared.classes.RaceClass.{RaceClass}
-use Rattle.rv_races.specs.declared.classes.RaceClass.TheVariants.{Kept, Counter, Unwatched, Flag, Ordered, Atomic, Named}
 
 -- What is shown of a race: a block, with its lines as a list.
 pub record RaceShown : Type 0 where
@@ -29,13 +28,3 @@ shown_of block = record {
   second = block.second;
   lines = block.lines.items;
 }
-
--- the word of a class
-abbrev pub class_word : RaceClass → List ℕ
-class_word Kept = codes "kept"
-class_word Counter = codes "counter"
-class_word Unwatched = codes "unwatched"
-class_word Flag = codes "flag"
-class_word Ordered = codes "ordered"
-class_word Atomic = codes "atomic"
-class_word Named = codes "named"

@@ -4,7 +4,6 @@ pub mod Caller
 pub mod Explained
 pub mod Frame
 pub mod Meeting
-pub mod Names
 pub mod Order
 pub mod Pieces
 pub mod RaceObject

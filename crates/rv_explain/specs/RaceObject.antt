@@ -1,6 +1,6 @@
 -- What is told of a race as JSON. Each function puts what a part tells before what was told so far, so that the last stands first.
 use Rattle.std.specs.Prelude.{ℕ, Option, Some, None, option_map, List, ◌∷◌, codes}
-use Rattle.rv_explain.specs.Blocks.{class_word}
+use Rattle.rv_races.specs.Classes.{class_word}
 use Rattle.rv_explain.specs.declared.object.race.AccessSaid.{AccessSaid}
 use Rattle.rv_explain.specs.declared.object.race.RaceSaid.{RaceSaid}
 use Rattle.rv_races.specs.declared.classes.RaceClass.{RaceClass}

@@ -1,7 +1,5 @@
 //! The text of a race's block: which two instructions, how often, on which variable; what each hart did; the bytes; and the
 //! entries around it.
-ghost use Rattle.std.specs.Prelude.{◌≡◌};
-ghost use Rattle.rv_explain.specs.Blocks as spec;
 
 use crate::block::{Block, RaceClass, Side};
 use crate::names::{Names, TEXT_NAME, add_caller};
@@ -10,26 +8,12 @@ use rv_collide::ending::Verdict;
 use rv_memory::store::NoMemory;
 use rv_prune::ordered::role_at;
 use rv_prune::role::Role;
+use rv_races::classes::class_word;
 use rv_symbols::symbol_table::SymbolTable;
 use std::alloc::Global;
 
 /// The names of the columns.
 const COLUMNS: &[u8] = b"    entry  hart  event      bytes     instruction";
-
-/// The word of a class.
-pub fn class_word(class: RaceClass) -> &'static [u8]
-    ensures { result.now ≡ spec.class_word class }
-{
-    match class {
-        RaceClass::Kept => b"kept",
-        RaceClass::Counter => b"counter",
-        RaceClass::Unwatched => b"unwatched",
-        RaceClass::Flag => b"flag",
-        RaceClass::Ordered => b"ordered",
-        RaceClass::Atomic => b"atomic",
-        RaceClass::Named => b"named",
-    }
-}
 
 /// The two instructions, the lower address first; of a change the paused one alone.
 fn pair_text(alloc: Global, names: &Names, block: &Block) -> Result<String, NoMemory> {

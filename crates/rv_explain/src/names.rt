@@ -1,14 +1,12 @@
 //! How an address is written: by its symbol, as Linux writes addresses in its own reports.
-ghost use Rattle.std.specs.Prelude.{◌≡◌, ◌++◌, IfOk, OnOk, codes};
-ghost use Rattle.rv_explain.specs.Names as spec;
+ghost use Rattle.std.specs.Prelude.{◌≡◌};
 ghost use Rattle.rv_hart.specs.Arithmetic.{minus};
-ghost use Rattle.rv_text.specs.Hexadecimal.{byte_digits};
 
 use crate::instruction::instruction_line;
 use crate::source::{at_text, inlined_row};
 use rv_memory::store::NoMemory;
+use rv_symbols::escaped::escaped;
 use rv_symbols::symbol_table::SymbolTable;
-use rv_text::hexadecimal::byte_digits;
 use std::alloc::Global;
 
 /// How many bytes of a symbol's name a text shows at most, since a file may have names of megabytes.
@@ -16,66 +14,6 @@ pub const TEXT_NAME: usize = 200;
 
 /// How many bytes of a symbol's name a picture shows at most.
 pub const PICTURE_NAME: usize = 40;
-
-fn is_hidden(byte: u8) -> bool
-    ensures { result ≡ spec.is_hidden byte }
-{
-    byte <= b' ' || byte > b'~'
-}
-
-fn add_hidden(text: &mut Vec<u8>, byte: u8) -> Result<(), NoMemory>
-    ensures { OnOk result (text.new.items ≡ text.old.items ++ (codes "\\x" ++ byte_digits byte)) }
-{
-    text.extend_from_slice(b"\\x")?;
-    text.extend_from_slice(&byte_digits(byte))?;
-    Ok(())
-}
-
-fn add_byte(text: &mut Vec<u8>, byte: u8) -> Result<(), NoMemory>
-    ensures { OnOk result (text.new.items ≡ text.old.items ++ spec.escaped_byte byte) }
-{
-    if is_hidden(byte) {
-        return add_hidden(text, byte);
-    }
-    if byte == b'\\' {
-        text.extend_from_slice(b"\\\\")?;
-    } else {
-        text.push(byte)?;
-    }
-    Ok(())
-}
-
-fn add_field_byte(text: &mut Vec<u8>, byte: u8) -> Result<(), NoMemory>
-    ensures { OnOk result (text.new.items ≡ text.old.items ++ spec.field_byte byte) }
-{
-    if is_hidden(byte) {
-        return add_hidden(text, byte);
-    }
-    text.push(byte)?;
-    Ok(())
-}
-
-/// A name from a file as people are shown it, in printable ASCII, so that it cannot steer a terminal.
-pub fn escaped(alloc: Global, name: &[u8]) -> Result<Vec<u8>, NoMemory>
-    ensures { IfOk result (λ text. text.items ≡ spec.escaped name.now) }
-{
-    let mut text = Vec::new(alloc);
-    for byte in name {
-        add_byte(&mut text, *byte)?;
-    }
-    Ok(text)
-}
-
-/// A field of a source line as a list has it: its file escapes backslashes itself.
-pub fn escaped_field(alloc: Global, field: &[u8]) -> Result<Vec<u8>, NoMemory>
-    ensures { IfOk result (λ text. text.items ≡ spec.escaped_field field.now) }
-{
-    let mut text = Vec::new(alloc);
-    for byte in field {
-        add_field_byte(&mut text, *byte)?;
-    }
-    Ok(text)
-}
 
 /// A name, or its first bytes up to a character's end, at most so many, and two dots.
 fn shown(alloc: Global, most: usize, name: &str) -> Result<String, NoMemory> {

@@ -1,8 +1,8 @@
 -- What the engine tells of all that was made, and why it was not.
 use Rattle.std.proofs.Common.{◌≡◌, ℕ, List, Option, Some, None, refl, sym, subst, true, false}
 use Rattle.std.specs.Prelude.{IfSome}
-use Rattle.rv_engines.specs.CommandFault as command
-use Rattle.rv_engines.specs.declared.run.fault.CommandFault.{CommandFault}
+use Rattle.rv_faults.specs.CommandFault as command
+use Rattle.rv_faults.specs.declared.command.CommandFault.{CommandFault}
 use Rattle.rv_hunt.proofs.OpenLemmas.{is_ok}
 use Rattle.rv_shown.specs.Asked.{Asked}
 use Rattle.rv_hunt.specs.engine.HuntFault as fault

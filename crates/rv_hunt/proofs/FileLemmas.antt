@@ -10,9 +10,9 @@ use Rattle.rv_shown.specs.Asked.{Asked}
 use Rattle.rv_hunt.specs.engine.HuntFault.{IsTold}
 use Rattle.rv_hunt.specs.engine.Hunting.{Files, Hunting, IsHuntingOf, expected_in, hunt_of, ignored_in, naming_in}
 use Rattle.rv_tables.specs.merge.Ignore.{aimed_in, naming_of}
-use Rattle.rv_engines.specs.SourceFile as source
-use Rattle.rv_engines.specs.SourceFile.{source_in}
-use Rattle.rv_engines.specs.declared.source_lines.SourceFault.{SourceFault}
+use Rattle.rv_faults.specs.SourceFile as source
+use Rattle.rv_faults.specs.SourceFile.{source_in}
+use Rattle.rv_faults.specs.declared.source_lines.SourceFault.{SourceFault}
 use Rattle.rv_hunt.specs.declared.engine.fault.HuntFault.{HuntFault}
 use Rattle.rv_hunt.specs.declared.engine.fault.HuntFault.TheVariants.{Command, Ignored, Expected, Aimed, Lines}
 use Rattle.rv_hunt.specs.internal.Opened.{IsOpenTold}

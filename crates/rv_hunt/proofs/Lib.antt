@@ -4,8 +4,5 @@ pub mod FileLemmas
 pub mod GivenLemmas
 pub mod MadeLemmas
 pub mod OpenLemmas
-pub mod OrderShowingLemmas
 pub mod PartedLemmas
-pub mod ReportLemmas
-pub mod ShowingLemmas
 pub mod TableLemmas

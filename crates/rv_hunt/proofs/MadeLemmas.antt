@@ -1,7 +1,7 @@
 -- What is made of a hunt.
 use Rattle.std.proofs.Common.{◌≡◌, ℕ, Bool, Option, Result, Ok, Err, IfOk, List, [], ◌∷◌, length, ap, subst, ◌∙◌, take, true, false}
 use Rattle.std.specs.Map.{keys_of}
-use Rattle.rv_engines.specs.SourceFile.{lines_miss}
+use Rattle.rv_faults.specs.SourceFile.{lines_miss}
 use Rattle.rv_explain.specs.Naming.{Naming}
 use Rattle.rv_campaign.specs.declared.pool.PoolFault.{PoolFault}
 use Rattle.rv_campaign.specs.declared.pool.PoolFault.TheVariants as pool
@@ -10,9 +10,9 @@ use Rattle.rv_hunt.specs.internal.MakeFault.{is_write, of_pool}
 use Rattle.rv_search.specs.Hunted.{IsNoted}
 use Rattle.rv_search.specs.RightEnds.{EndsSeen, has_wrong_end}
 use Rattle.rv_shown.specs.Warnings.{is_void}
-use Rattle.rv_shown.specs.HuntObject.{hunt_facts}
+use Rattle.rv_object.specs.HuntObject.{hunt_facts}
 use Rattle.rv_shown.specs.Outcome.{Outcome}
-use Rattle.rv_shown.specs.PageFacts.{page_facts}
+use Rattle.rv_page.specs.PageFacts.{page_facts}
 use Rattle.rv_tables.specs.ShownRows.{shown_rows}
 use Rattle.rv_shown.specs.ToldOrder.{AreInOrder}
 use Rattle.rv_shown.specs.declared.found.Found.{Found}
@@ -26,9 +26,9 @@ use Rattle.rv_tables.specs.declared.row.RaceRow.{RaceRow}
 use Rattle.rv_hunt.specs.engine.Hunting.{Hunting, IsMade, IsTable, Showing, Texts, found_in, ignored_by, naming_in, new_in, origin_of, outcome, shown_in, told_in}
 use Rattle.rv_tables.specs.merge.Known.{has_gone, new_races}
 use Rattle.rv_tables.specs.merge.Listing.{list_text}
-use Rattle.rv_hunt.specs.engine.OrderShown.{AreOrdersShown}
-use Rattle.rv_hunt.specs.engine.Shown.{AreShown}
-use Rattle.rv_hunt.specs.engine.StuckShown.{AreStuckShown}
+use Rattle.rv_remade.specs.OrderShown.{AreOrdersShown}
+use Rattle.rv_remade.specs.Shown.{AreShown}
+use Rattle.rv_remade.specs.StuckShown.{AreStuckShown}
 use Rattle.rv_shown.specs.declared.shown.ShownStuck.{ShownStuck}
 use Rattle.rv_engines.specs.declared.built.Built.{Built}
 use Rattle.rv_json.specs.Object.{Member}

@@ -6,14 +6,14 @@ use Rattle.rv_elf.specs.Contents.{Contents}
 use Rattle.rv_search.specs.Hunt.{Hunt}
 use Rattle.rv_memory.specs.Chain.{◌>>=◌}
 use Rattle.rv_engines.specs.Campaigns.{elements, listed, skipped}
-use Rattle.rv_engines.specs.CommandFault.{Refusal, Plain, NoThread, IsTold, is_thread, plainly, refusal}
-use Rattle.rv_engines.specs.Fault.{IsToldFault}
+use Rattle.rv_faults.specs.CommandFault.{Refusal, Plain, NoThread, IsTold, is_thread, plainly, refusal}
+use Rattle.rv_faults.specs.Fault.{IsToldFault}
 use Rattle.rv_engines.specs.Images.{image_of}
-use Rattle.rv_engines.specs.declared.fault.Fault.{Fault}
-use Rattle.rv_engines.specs.declared.fault.Fault.TheVariants.{Read, Write, NoMemory}
+use Rattle.rv_faults.specs.declared.fault.Fault.{Fault}
+use Rattle.rv_faults.specs.declared.fault.Fault.TheVariants.{Read, Write, NoMemory}
 use Rattle.rv_shown.specs.Asked.{Asked}
-use Rattle.rv_engines.specs.declared.run.fault.CommandFault.{CommandFault}
-use Rattle.rv_engines.specs.declared.run.fault.CommandFault.TheVariants as run
+use Rattle.rv_faults.specs.declared.command.CommandFault.{CommandFault}
+use Rattle.rv_faults.specs.declared.command.CommandFault.TheVariants as run
 use Rattle.rv_hunt.specs.engine.HuntFault.{is_plain_refusal}
 use Rattle.rv_hunt.specs.engine.Hunting.{hunt_of, sought_in}
 use Rattle.rv_hunt.specs.declared.engine.fault.HuntFault.{HuntFault}

@@ -3,24 +3,24 @@ use Rattle.std.proofs.Common.{◌≡◌, ℕ, List, Option, Some, None, Result, 
 use Rattle.std.specs.Borrow.{Bor}
 use Rattle.std.specs.Prelude.{IfSome, IsOkAnd, ◌||◌, filter, option_map}
 use Rattle.rv_elf.specs.Contents.{Contents}
-use Rattle.rv_engines.specs.CommandFault as command
-use Rattle.rv_engines.specs.Fault.{IsToldFault}
+use Rattle.rv_faults.specs.CommandFault as command
+use Rattle.rv_faults.specs.Fault.{IsToldFault}
 use Rattle.rv_engines.specs.Images.{image_of}
-use Rattle.rv_engines.specs.SourceFile.{lines_miss, source_in}
+use Rattle.rv_faults.specs.SourceFile.{lines_miss, source_in}
 use Rattle.rv_explain.specs.Naming.{Naming}
 use Rattle.rv_lines.specs.SourceLines.{SourceLine}
-use Rattle.rv_engines.specs.declared.fault.Fault.{Fault}
-use Rattle.rv_engines.specs.declared.fault.Fault.TheVariants as plain
-use Rattle.rv_engines.specs.declared.run.fault.CommandFault.{CommandFault}
-use Rattle.rv_engines.specs.declared.run.fault.CommandFault.TheVariants as fault
+use Rattle.rv_faults.specs.declared.fault.Fault.{Fault}
+use Rattle.rv_faults.specs.declared.fault.Fault.TheVariants as plain
+use Rattle.rv_faults.specs.declared.command.CommandFault.{CommandFault}
+use Rattle.rv_faults.specs.declared.command.CommandFault.TheVariants as fault
 use Rattle.rv_hunt.proofs.FileLemmas.{files_in}
 use Rattle.rv_hunt.proofs.OpenLemmas.{and_ok, is_ok, of_image, plainly_told}
 use Rattle.rv_hunt.specs.GivenRuns.{RunsGiven, given as runs_given, given_in, texts}
 use Rattle.rv_hunt.specs.declared.given.GivenRuns.{GivenRuns}
 use Rattle.rv_search.specs.Hunt.{Hunt}
-use Rattle.rv_shown.specs.HuntObject.{object_facts, table_sums}
+use Rattle.rv_object.specs.HuntObject.{object_facts, table_sums}
 use Rattle.rv_tables.specs.Origin.{image_digits, runs_of, words_in}
-use Rattle.rv_shown.specs.PageFacts.{table_facts}
+use Rattle.rv_page.specs.PageFacts.{table_facts}
 use Rattle.rv_shown.specs.ToldOrder.{AreInOrder}
 use Rattle.rv_hunt.specs.declared.engine.fault.HuntFault.TheVariants.{Command, Ignored, Expected, Aimed, Lines}
 use Rattle.rv_shown.specs.declared.found.Found.{Found}
@@ -37,12 +37,12 @@ use Rattle.rv_tables.specs.declared.orders.OrderRow.{OrderRow}
 use Rattle.rv_tables.specs.declared.row.RaceRow.{RaceRow}
 use Rattle.rv_shown.specs.Asked.{Asked}
 use Rattle.rv_hunt.specs.engine.Hunting.{Files, expected_in, found_in, ignored_in}
-use Rattle.rv_hunt.specs.engine.Shown.{AreShown}
+use Rattle.rv_remade.specs.Shown.{AreShown}
 use Rattle.rv_hunt.specs.engine.TableShown.{IsMade, IsOfRuns, IsShownOf, IsTold, TableShown, asked_by, facts_of, ignored_of, is_of_files, naming_in, table_in, told_of, unmet, unsaid, without_place}
 use Rattle.rv_campaign.specs.declared.pool.PoolFault.{PoolFault}
 use Rattle.rv_campaign.specs.declared.pool.PoolFault.TheVariants as pool
-use Rattle.rv_hunt.specs.declared.engine.folder.FolderFault.{FolderFault}
-use Rattle.rv_hunt.specs.declared.engine.folder.FolderFault.TheVariants as folder
+use Rattle.rv_remade.specs.declared.folder.FolderFault.{FolderFault}
+use Rattle.rv_remade.specs.declared.folder.FolderFault.TheVariants as folder
 use Rattle.rv_hunt.specs.declared.engine.remaking.RemakeFault.{RemakeFault}
 use Rattle.rv_hunt.specs.declared.engine.remaking.RemakeFault.TheVariants as remake
 use Rattle.rv_hunt.specs.internal.Opened.{hunt_by, hunt_with}

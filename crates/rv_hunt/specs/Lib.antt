@@ -1,4 +1,3 @@
 pub mod GivenRuns
-pub mod Remade
 pub mod engine
 pub mod internal

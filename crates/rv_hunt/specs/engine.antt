@@ -1,9 +1,5 @@
 -- What the engine of `hunt` makes: its text, its files and its page, and why it makes none.
-pub mod FolderFault
 pub mod HuntFault
 pub mod Hunting
 pub mod Late
-pub mod OrderShown
-pub mod Shown
-pub mod StuckShown
 pub mod TableShown

@@ -1,6 +1,4 @@
 -- What only private contracts cite: no reader has to believe it.
 pub mod MakeFault
 pub mod Opened
-pub mod OrderShowing
 pub mod Remaking
-pub mod Showing

@@ -1,5 +1,5 @@
 -- What a report counts as, where people read it.
-use Rattle.std.specs.Prelude.{ℕ, if◌then◌else◌, List}
+use Rattle.std.specs.Prelude.{ℕ, if◌then◌else◌, List, codes}
 use Rattle.rv_collide.specs.declared.ending.Ending.{Ending}
 use Rattle.rv_collide.specs.declared.ending.Verdict.{Verdict}
 use Rattle.rv_collide.specs.declared.ending.Verdict.TheVariants.{Hit, Changed, Quiet}
@@ -47,3 +47,13 @@ rank Flag = 3
 rank Ordered = 4
 rank Atomic = 5
 rank Named = 6
+
+-- the word of a class
+abbrev pub class_word : RaceClass → List ℕ
+class_word Kept = codes "kept"
+class_word Counter = codes "counter"
+class_word Unwatched = codes "unwatched"
+class_word Flag = codes "flag"
+class_word Ordered = codes "ordered"
+class_word Atomic = codes "atomic"
+class_word Named = codes "named"

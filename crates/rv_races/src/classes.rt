@@ -22,6 +22,21 @@ pub enum RaceClass {
     Named,
 }
 
+/// The word of a class.
+pub fn class_word(class: RaceClass) -> &'static [u8]
+    ensures { result.now ≡ spec.class_word class }
+{
+    match class {
+        RaceClass::Kept => b"kept",
+        RaceClass::Counter => b"counter",
+        RaceClass::Unwatched => b"unwatched",
+        RaceClass::Flag => b"flag",
+        RaceClass::Ordered => b"ordered",
+        RaceClass::Atomic => b"atomic",
+        RaceClass::Named => b"named",
+    }
+}
+
 /// The class of an ending: that of `classify`, or ordered or atomic where that is Kept and the ending is so.
 fn class_as(image: &Image, ranges: &NamedBytes, ending: &Ending) -> RaceClass
     ensures { result ≡ spec.class_as image.now ranges.now ending.now }

@@ -7,10 +7,9 @@
 pub mod code_seen;
 pub mod found;
 pub mod laws;
-pub mod object;
 mod onward;
 pub mod options;
-pub mod page;
+pub mod outcome;
 pub mod saying;
 pub mod shown;
 pub mod texts;

@@ -1,7 +1,7 @@
 //! The texts of what a hunt came to.
 use crate::onward::{push_gdb_line, push_keep_line, push_stuck_gdb_line};
 use crate::options::LineParts;
-use crate::page::parts::{Outcome, Tabled};
+use crate::outcome::{Outcome, Tabled};
 use crate::saying::index::push_index;
 use crate::saying::lines::{push_behind, push_counted, summary_line, tabled_line};
 use crate::saying::orders::shown_rows;
@@ -19,7 +19,7 @@ use rv_tables::row::RaceRow;
 use std::alloc::Global;
 
 /// The block of a race of that number, and how to go there.
-pub(crate) fn race_text(
+pub fn race_text(
     alloc: Global,
     line: &LineParts<'_>,
     symbols: &SymbolTable,
@@ -50,7 +50,7 @@ pub(crate) fn race_text(
 }
 
 /// The block of a stuck end of that number, and how to go there.
-pub(crate) fn stuck_end_text(
+pub fn stuck_end_text(
     alloc: Global,
     line: &LineParts<'_>,
     symbols: &SymbolTable,

@@ -3,13 +3,13 @@ use Rattle.std.specs.Prelude.{ℕ, Bool, true, false, Option, None, IsOkAnd, Lis
 use Rattle.rv_debug.specs.Placed.{Placed}
 use Rattle.rv_debug.specs.declared.fault.TalkFault.{TalkFault}
 use Rattle.rv_engines.specs.Debug.{IsTalkOver}
-use Rattle.rv_engines.specs.Fault.{fault_of_talk}
+use Rattle.rv_faults.specs.Fault.{fault_of_talk}
 use Rattle.rv_engines.specs.Replay.{IsReplayRefusal, run_of}
-use Rattle.rv_engines.specs.Sentences as sentences
-use Rattle.rv_engines.specs.declared.fault.Fault.{Fault}
-use Rattle.rv_engines.specs.declared.run.fault.CommandFault.{CommandFault}
-use Rattle.rv_engines.specs.declared.run.fault.CommandFault.TheVariants.{Plain}
-use Rattle.rv_engines.specs.declared.sentences.Paths.{Paths}
+use Rattle.rv_faults.specs.Sentences as sentences
+use Rattle.rv_faults.specs.declared.fault.Fault.{Fault}
+use Rattle.rv_faults.specs.declared.command.CommandFault.{CommandFault}
+use Rattle.rv_faults.specs.declared.command.CommandFault.TheVariants.{Plain}
+use Rattle.rv_faults.specs.declared.sentences.Paths.{Paths}
 use Rattle.rv_stub.specs.declared.fault.GdbFault.{GdbFault}
 use Rattle.rv_stub.specs.declared.fault.GdbFault.TheVariants.{Files, Talk}
 

@@ -3,7 +3,7 @@ ghost use Rattle.std.specs.Prelude.{◌≡◌, ◌||◌, true, IfErr, IfSome, On
 ghost use Rattle.std.specs.Io.KnownBytes.{Appends, Keeps};
 ghost use Rattle.rv_engines.specs.Debug as debug;
 ghost use Rattle.rv_debug.specs.Fault as packets;
-ghost use Rattle.rv_engines.specs.Fault as files;
+ghost use Rattle.rv_faults.specs.Fault as files;
 ghost use Rattle.rv_engines.specs.Replay.{IfKnown, run_of};
 ghost use Rattle.rv_memory.specs.Buffered as buffer;
 ghost use Rattle.rv_memory.specs.Flagged as flag;

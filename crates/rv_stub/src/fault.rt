@@ -4,9 +4,9 @@ ghost use Rattle.rv_stub.specs.GdbFault as spec;
 ghost use Rattle.rv_stub.specs.declared.fault.GdbFault.TheVariants as fault_is;
 
 use rv_debug::fault::TalkFault;
-use rv_engines::fault::Fault;
-use rv_engines::run::fault::CommandFault;
-use rv_engines::sentences::{FaultLine, Paths};
+use rv_faults::command::CommandFault;
+use rv_faults::fault::Fault;
+use rv_faults::sentences::{FaultLine, Paths};
 
 /// The image or the schedule is refused; or the talk over the run that they say is stopped.
 #[derive(Clone, Copy)]

@@ -1,3 +1,4 @@
+pub mod Escaped
 pub mod Naming
 pub mod SymbolLaws
 pub mod Symbols

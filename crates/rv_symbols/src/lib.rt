@@ -6,6 +6,7 @@
 
 pub use rv_lines::frames;
 
+pub mod escaped;
 pub mod laws;
 mod steps;
 pub mod symbol_table;

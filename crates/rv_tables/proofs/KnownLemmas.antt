@@ -1,7 +1,7 @@
 -- What is expected by a table is read alike.
 use Rattle.std.proofs.Common.{◌≡◌, ℕ, Bool, true, false, List, length, refl}
 use Rattle.std.specs.Prelude.{nat_lt, if◌then◌else◌, Ok, Err}
-use Rattle.rv_engines.specs.declared.fault.Fault.TheVariants.{TooLong}
+use Rattle.rv_faults.specs.declared.fault.Fault.TheVariants.{TooLong}
 use Rattle.rv_memory.specs.Chain.{◌>>=◌}
 use Rattle.rv_memory.specs.declared.flagged.TheConstants.{INPUT_LIMIT}
 use Rattle.rv_tables.specs.declared.merge.known.Known.TheVariants.{Table}

@@ -8,7 +8,7 @@ use Rattle.std.proofs.lemmas.Bool.{or_parts}
 use Rattle.std.proofs.lemmas.Bool.Decides.{nat_tests}
 use Rattle.std.proofs.lemmas.List.{map-append}
 use Rattle.std.proofs.lemmas.List.Sums.{fold-append}
-use Rattle.rv_explain.specs.Classes.{rank}
+use Rattle.rv_races.specs.Classes.{rank}
 use Rattle.rv_tables.specs.HuntLaws.{AreApart, OriginsAreJoined, PiecesAreMerged, RacesAreApart, TableIsKept, TwoAreMerged}
 use Rattle.rv_tables.specs.Origin.{joined_stretches, with_stretch}
 use Rattle.rv_tables.specs.Rows.{added, has_race, joined, merged, table_of}

@@ -6,7 +6,7 @@ use Rattle.std.proofs.lemmas.List.{append_assoc, append-nil}
 use Rattle.rv_memory.specs.Chain.{◌>>=◌}
 use Rattle.rv_memory.specs.Flagged.{device, has_failed}
 use Rattle.rv_memory.specs.declared.flagged.Flagged.{Flagged}
-use Rattle.rv_engines.specs.declared.fault.Fault.TheVariants as fault
+use Rattle.rv_faults.specs.declared.fault.Fault.TheVariants as fault
 use Rattle.rv_tables.specs.merge.FileFault.{UnlessDevice}
 use Rattle.rv_tables.specs.merge.Merge.{Files, Merge, IsTold, Table, bytes_of, expected_in, given_as, in_file, merge_of, tables_from, unexpected_in}
 use Rattle.rv_tables.specs.merge.TableFiles.{hunt_table}

@@ -15,7 +15,7 @@ use Rattle.rv_text.specs.Hexadecimal.{word_digits, WordIsReadBack, WordLacksSepa
 use Rattle.rv_text.specs.Lines.{has_line_feed, text_of_lines}
 use Rattle.rv_text.specs.Pieces.{pieces_of, Lacks, PiecesAreCut}
 use Rattle.rv_collide.specs.ScheduleRead.{address_of, words_of}
-use Rattle.rv_explain.specs.Blocks.{class_word}
+use Rattle.rv_races.specs.Classes.{class_word}
 use Rattle.rv_tables.proofs.ReadLemmas.{added_new, read_lines, rows_cut, rows_next, said_is, table_read, with_line_is}
 use Rattle.rv_tables.specs.HuntRead.{between, class_in, class_named, counts_in, pair_in, races_of_line, row_of_line, row_within, rows_in, rows_said, said_of, second_of, sized, values_in, with_line}
 use Rattle.rv_tables.specs.HuntReadLaws.{AreRows, IsRow, TablesAreReadBack, are_apart, said}

@@ -5,7 +5,7 @@ use Rattle.std.specs.Option.{option_map, option_map_or}
 use Rattle.std.specs.Prelude.{All, if◌then◌else◌, is_some, not, ◌==◌, ◌||◌}
 use Rattle.std.proofs.lemmas.List.{take_more}
 use Rattle.std.proofs.lemmas.List.Elements.{All-from_recursion}
-use Rattle.rv_explain.specs.Naming.{Naming}
+use Rattle.rv_symbols.specs.Naming.{Naming}
 use Rattle.rv_lines.specs.SourceLines.{SourceLine}
 use Rattle.rv_report.specs.declared.key.Key.{Key}
 use Rattle.rv_tables.specs.declared.merge.ignore.Line.{Line}

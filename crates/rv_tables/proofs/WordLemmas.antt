@@ -13,9 +13,9 @@ use Rattle.std.proofs.lemmas.List.Elements.{All-from_recursion, filter_map-appen
 use Rattle.std.proofs.lemmas.Map.Text.{btree_map_updates_str}
 use Rattle.std.proofs.lemmas.Slice.Eq.{bytes_eq-Decides}
 use Rattle.rv_elf.specs.Contents.{Contents, Named}
-use Rattle.rv_explain.specs.Names.{escaped, escaped_byte, escaped_field, field_byte, is_hidden}
-use Rattle.rv_explain.specs.Naming.{Naming}
-use Rattle.rv_explain.specs.Symbols.{symbol_of}
+use Rattle.rv_symbols.specs.Escaped.{escaped, escaped_byte, escaped_field, field_byte, is_hidden}
+use Rattle.rv_symbols.specs.Naming.{Naming}
+use Rattle.rv_symbols.specs.Symbols.{symbol_of}
 use Rattle.rv_text.specs.Hexadecimal.{byte_digits}
 use Rattle.rv_tables.specs.declared.merge.words.NamedSymbol.{NamedSymbol}
 use Rattle.rv_tables.specs.declared.merge.words.Words.{Words}

@@ -4,7 +4,7 @@ use Rattle.std.specs.Io.KnownBytes.{Appends}
 use Rattle.std.proofs.KnownBytes.{Appends-trans}
 use Rattle.std.proofs.lemmas.List.{map-append}
 use Rattle.rv_collide.specs.Texts.{values_text}
-use Rattle.rv_explain.specs.Blocks.{class_word}
+use Rattle.rv_races.specs.Classes.{class_word}
 use Rattle.rv_tables.specs.HuntText.{count_text, row_line, verdict_word}
 use Rattle.rv_tables.specs.declared.row.RaceRow.{RaceRow}
 use Rattle.rv_report.specs.TableText.{key_text}

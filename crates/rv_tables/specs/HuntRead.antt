@@ -3,7 +3,7 @@ use Rattle.std.specs.Prelude.{◌≡◌, ℕ, ◌+◌, ◌-◌, ◌%◌, ◌^◌
 use Rattle.std.specs.Option.{ok_or, option_map_or}
 use Rattle.std.specs.Str.{bytes_eq}
 use Rattle.rv_collide.specs.ScheduleRead.{address_of, is_over, named, words_of}
-use Rattle.rv_explain.specs.Blocks.{class_word}
+use Rattle.rv_races.specs.Classes.{class_word}
 use Rattle.rv_races.specs.declared.classes.RaceClass.{RaceClass}
 use Rattle.rv_races.specs.declared.classes.RaceClass.TheVariants.{Kept, Counter, Unwatched, Flag, Ordered, Atomic, Named}
 use Rattle.rv_tables.specs.HuntText.{verdict_word}

@@ -2,7 +2,7 @@
 use Rattle.std.specs.Prelude.{ℕ, Option, Some, None, List, ◌∷◌, ◌++◌, codes, map, length}
 use Rattle.std.specs.Fmt.{decimal}
 use Rattle.rv_collide.specs.Texts.{values_text}
-use Rattle.rv_explain.specs.Blocks.{class_word}
+use Rattle.rv_races.specs.Classes.{class_word}
 use Rattle.rv_tables.specs.declared.row.RaceRow.{RaceRow}
 use Rattle.rv_report.specs.TableText.{key_text, races_line}
 use Rattle.rv_report.specs.declared.key.Key.{Key}

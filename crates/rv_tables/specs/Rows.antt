@@ -1,7 +1,7 @@
 -- The rows of a hunt table, as a function of the whole list of rows that were added to it.
 use Rattle.std.specs.Prelude.{ℕ, ◌+◌, min, Bool, Option, Some, None, List, []}
 use Rattle.std.specs.List.{fold, list_any}
-use Rattle.rv_explain.specs.Classes.{rank}
+use Rattle.rv_races.specs.Classes.{rank}
 use Rattle.rv_tables.specs.Keyed.{added_by}
 use Rattle.rv_tables.specs.declared.row.PartReport.{PartReport}
 use Rattle.rv_hart.specs.declared.access.Access.{Access}

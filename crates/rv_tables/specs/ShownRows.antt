@@ -2,7 +2,7 @@
 use Rattle.std.specs.Prelude.{◌+◌, ◌==◌, ◌&&◌, ◌||◌, nat_lt, not, Bool, Option, Some, None, is_some, option_map, if◌then◌else◌, List, [], ◌∷◌, filter, filter_map, map}
 use Rattle.std.specs.List.{fold, list_any}
 use Rattle.rv_collide.specs.Counts.{saturated}
-use Rattle.rv_explain.specs.Classes.{rank}
+use Rattle.rv_races.specs.Classes.{rank}
 use Rattle.rv_tables.specs.Rows.{has_race}
 use Rattle.rv_tables.specs.declared.changed.ChangedKey.{ChangedKey}
 use Rattle.rv_tables.specs.declared.row.RaceRow.{RaceRow}

@@ -5,8 +5,8 @@ ghost use Rattle.rv_tables.specs.merge.Merge as merge;
 
 use crate::row::RaceRow;
 use crate::table::HuntTable;
-use rv_explain::block::RaceClass;
 use rv_memory::store::NoMemory;
+use rv_races::classes::RaceClass;
 use rv_report::key::Key;
 use std::alloc::Global;
 

@@ -4,10 +4,9 @@ ghost use Rattle.rv_tables.specs.Rows as spec;
 
 use crate::strongest;
 use rv_collide::ending::Verdict;
-use rv_explain::block::RaceClass;
-use rv_explain::classes::rank;
-use rv_explain::races::Report;
 use rv_hart::access::Access;
+use rv_races::classes::{RaceClass, rank};
+use rv_races::races::Report;
 use rv_report::key::Key;
 
 /// A report of a run: of its part of that number, before whose own entries there are so many of the run's walk. Part 0 is a

@@ -7,8 +7,8 @@ ghost use Rattle.rv_tables.specs.ShownRows as spec;
 
 use crate::changed::ChangedKey;
 use crate::row::RaceRow;
-use rv_explain::classes::rank;
 use rv_memory::store::NoMemory;
+use rv_races::classes::rank;
 use rv_report::key::Key;
 use std::alloc::Global;
 

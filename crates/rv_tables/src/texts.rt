@@ -1,15 +1,14 @@
 //! The text that a hunt table is shown in. It is written piece by piece and takes no memory.
 ghost use Rattle.std.specs.Prelude.{◌≡◌, ◌∷◌, [], ◌++◌, ◌||◌, codes, is_err, map, OnOk};
 ghost use Rattle.std.specs.Io.KnownBytes.{Appends};
-ghost use Rattle.rv_explain.specs.Blocks.{class_word};
+ghost use Rattle.rv_races.specs.Classes.{class_word};
 ghost use Rattle.rv_tables.specs.HuntText as spec;
 ghost use Rattle.rv_text.specs.Lines.{text_of_lines};
 
 use crate::row::RaceRow;
-use rv_explain::block::RaceClass;
-use rv_explain::blocks::class_word;
 use rv_memory::flagged::WriteFault;
 use rv_memory::output::{Output, put_pieces};
+use rv_races::classes::{RaceClass, class_word};
 use rv_report::key::Key;
 use rv_report::texts::{write_key, write_values};
 use rv_text::decimal::Decimal;

@@ -2,20 +2,20 @@
 use Rattle.std.specs.Prelude.{ℕ, ◌/◌, ◌%◌, Bool, true, false, if◌then◌else◌, Option, Some, None, option_map, List, [], ◌++◌, codes}
 use Rattle.std.specs.declared.io.ErrorKind.{ErrorKind}
 use Rattle.std.specs.declared.io.ErrorKind.TheVariants as kind
-use Rattle.rv_engines.specs.CommandFault.{refusal_output, status}
+use Rattle.rv_faults.specs.CommandFault.{refusal_output, status}
 use Rattle.rv_command.specs.declared.command.LineFault.{LineFault}
 use Rattle.rv_command.specs.declared.command.LineFault.TheVariants as fault
 use Rattle.rv_command.specs.Status.{code}
 use Rattle.rv_command.specs.declared.status.Status.TheVariants as exit
 use Rattle.rvcollide.specs.declared.failure.Failure.{Failure}
 use Rattle.rvcollide.specs.declared.failure.Failure.TheVariants.{Line, NotText, Told, Filed, OfFile, Found, Void}
-use Rattle.rv_engines.specs.declared.fault.Fault.{Fault}
-use Rattle.rv_engines.specs.declared.fault.Fault.TheVariants.{NoMemory, Read, Write}
-use Rattle.rv_engines.specs.declared.run.fault.CommandFault.{CommandFault}
-use Rattle.rv_engines.specs.declared.run.fault.CommandFault.TheVariants.{Plain}
-use Rattle.rv_engines.specs.declared.sentences.FaultLine.{FaultLine}
-use Rattle.rv_engines.specs.Sentences.{line_output}
-use Rattle.rv_engines.specs.Shown.{shown}
+use Rattle.rv_faults.specs.declared.fault.Fault.{Fault}
+use Rattle.rv_faults.specs.declared.fault.Fault.TheVariants.{NoMemory, Read, Write}
+use Rattle.rv_faults.specs.declared.command.CommandFault.{CommandFault}
+use Rattle.rv_faults.specs.declared.command.CommandFault.TheVariants.{Plain}
+use Rattle.rv_faults.specs.declared.sentences.FaultLine.{FaultLine}
+use Rattle.rv_faults.specs.Sentences.{line_output}
+use Rattle.rv_faults.specs.Shown.{shown}
 use Rattle.std.specs.Fmt.{decimal, radix_digits}
 use Rattle.rv_tables.specs.merge.FileFaultText as file
 use Rattle.rv_tables.specs.declared.merge.fault.FileFault.{FileFault}

@@ -5,9 +5,9 @@ ghost use Rattle.rvcollide.specs.Failure as spec;
 use crate::file_line::FileLine;
 use rv_command::command::LineFault;
 use rv_command::status::Status;
-use rv_engines::fault::Fault;
-use rv_engines::run::fault::CommandFault;
-use rv_engines::sentences::FaultLine;
+use rv_faults::command::CommandFault;
+use rv_faults::fault::Fault;
+use rv_faults::sentences::FaultLine;
 use std::alloc::AllocError;
 use std::{fmt, io};
 

@@ -4,8 +4,8 @@ ghost use Rattle.rvcollide.specs.Failure as spec;
 
 use crate::folder::Saved;
 use crate::system::SystemSaid;
-use rv_engines::fault::Fault;
-use rv_engines::shown::Shown;
+use rv_faults::fault::Fault;
+use rv_faults::shown::Shown;
 use rv_tables::merge::fault::{FileFault, sentence};
 use std::fmt;
 

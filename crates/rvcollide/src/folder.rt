@@ -1,11 +1,11 @@
 //! The folder of a hunt's schedules, on the system.
 ghost use Rattle.std.specs.Prelude.{◌≡◌, ◌||◌, ◌/◌, ◌%◌, Some};
-ghost use Rattle.rv_hunt.specs.engine.FolderFault.{fails_by_write, is_write};
+ghost use Rattle.rv_remade.specs.FolderFault.{fails_by_write, is_write};
 ghost use Rattle.rvcollide.specs.Failure.{address_digits, name_of, tail_of, word_of};
 
 use crate::files::write_all;
 use crate::system::{SystemFault, SystemSaid};
-use rv_hunt::engine::folder::{Beside, Folder, FolderFault};
+use rv_remade::folder::{Beside, Folder, FolderFault};
 use rv_report::key::Key;
 use rv_text::decimal::read_decimal;
 use rv_text::hexadecimal::read_word;

@@ -9,9 +9,9 @@ use crate::paths::{
 use crate::system::SystemSaid;
 use rv_command::arguments::ImagePath;
 use rv_command::command::hunt::HuntLine;
-use rv_engines::fault::Fault;
-use rv_engines::run::fault::CommandFault;
-use rv_engines::sentences::{FaultLine, Paths};
+use rv_faults::command::CommandFault;
+use rv_faults::fault::Fault;
+use rv_faults::sentences::{FaultLine, Paths};
 use rv_hunt::engine::fault::HuntFault;
 use rv_tables::merge::fault::FileFault;
 

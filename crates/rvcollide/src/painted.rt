@@ -5,8 +5,7 @@ ghost use Rattle.std.specs.Prelude.{◌≤◌, None, if◌then◌else◌, length
 ghost use Rattle.std.specs.Io.{WritesAtMost};
 ghost use Rattle.std.specs.Io.KnownBytes.{Keeps, WriteAppends};
 
-use rv_explain::block::RaceClass;
-use rv_explain::blocks::class_word;
+use rv_races::classes::{RaceClass, class_word};
 use std::alloc::{AllocError, Global};
 use std::io::{self, Write};
 

@@ -4,7 +4,7 @@ use crate::paths::{expect_path, ignore_path};
 use rv_command::arguments::{Aim, FolderPath, ImagePath};
 use rv_command::command::VERSION;
 use rv_command::command::hunt::{DEFAULT_SEED, HuntLine};
-use rv_engines::shown::Shown;
+use rv_faults::shown::Shown;
 use rv_plans::plans::Lengths;
 use rv_shown::options::{LineParts, SaidOptions};
 use std::alloc::{AllocError, Global};

@@ -3,7 +3,7 @@ ghost use Rattle.rv_command.specs.Notice as notice;
 use crate::command::exhibit::MOST_ENDING;
 use crate::command::hunt::MOST_CODE;
 use rv_collide::plan::{MOST_ARMS, MOST_PAUSE, MOST_STEPS};
-use rv_engines::shown::Shown;
+use rv_faults::shown::Shown;
 use std::fmt;
 
 /// An option whose value is a decimal number, and its range.

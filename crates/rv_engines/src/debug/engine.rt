@@ -6,12 +6,12 @@ ghost use Rattle.rv_memory.specs.Buffered as buffer;
 ghost use Rattle.rv_memory.specs.Flagged as flag;
 ghost use Rattle.rv_text.specs.Lines.{lines_of};
 ghost use Rattle.rv_engines.specs.Debug as spec;
-ghost use Rattle.rv_engines.specs.Fault.{fails_by, is_read, is_write};
+ghost use Rattle.rv_faults.specs.Fault.{fails_by, is_read, is_write};
 ghost use Rattle.rv_engines.specs.Replay.{IfKnown, run_of};
 
 use crate::debug::input::read_session;
-use crate::fault::Fault;
 use rv_debug::talk::talk;
+use rv_faults::fault::Fault;
 use rv_memory::buffered::Buffered;
 use rv_memory::flagged::Flagged;
 use std::alloc::Global;

@@ -5,15 +5,15 @@ ghost use Rattle.rv_collide.specs.Numbers.{numbers};
 ghost use Rattle.rv_collide.specs.Stored.{stored};
 ghost use Rattle.rv_debug.specs.Placed.{setting};
 ghost use Rattle.rv_memory.specs.Flagged as flag;
-ghost use Rattle.rv_engines.specs.Fault.{fails_by, is_read, is_write};
+ghost use Rattle.rv_faults.specs.Fault.{fails_by, is_read, is_write};
 ghost use Rattle.rv_engines.specs.Replay as spec;
 
-use crate::fault::Fault;
 use crate::image::read_digested;
 use crate::replay::input::read_entries;
 use rv_collide::plan::Plan;
 use rv_debug::session::Session;
 use rv_elf::Image;
+use rv_faults::fault::Fault;
 use rv_memory::flagged::Flagged;
 use std::alloc::Global;
 use std::io::Read;

@@ -5,13 +5,13 @@ ghost use Rattle.rv_memory.specs.Buffered as buffer;
 ghost use Rattle.rv_memory.specs.Flagged as flag;
 ghost use Rattle.rv_report.specs.ExhibitText.{exhibit_text};
 ghost use Rattle.rv_engines.specs.Exhibits as spec;
-ghost use Rattle.rv_engines.specs.Fault.{fails_by, is_read, is_write};
+ghost use Rattle.rv_faults.specs.Fault.{fails_by, is_read, is_write};
 ghost use Rattle.rv_engines.specs.Replay.{IfKnown, run_of};
-ghost use Rattle.rv_engines.specs.declared.fault.Fault.TheVariants as fault;
+ghost use Rattle.rv_faults.specs.declared.fault.Fault.TheVariants as fault;
 
-use crate::fault::Fault;
 use crate::image::read_image;
 use crate::replay::input::read_entries;
+use rv_faults::fault::Fault;
 use rv_memory::buffered::Buffered;
 use rv_memory::flagged::Flagged;
 use rv_report::exhibit::Exhibit;

@@ -2,9 +2,9 @@
 ghost use Rattle.std.specs.Prelude.{◌≡◌};
 ghost use Rattle.rv_engines.specs.Explains as spec;
 
-use crate::fault::Fault;
-use crate::run::fault::CommandFault;
-use crate::source_lines::SourceFault;
+use rv_faults::command::CommandFault;
+use rv_faults::fault::Fault;
+use rv_faults::source_lines::SourceFault;
 use rv_memory::store::NoMemory;
 
 /// Why `explain` writes nothing.

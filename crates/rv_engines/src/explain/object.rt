@@ -4,7 +4,6 @@ ghost use Rattle.rv_engines.specs.Explains.{IsAnObject};
 ghost use Rattle.rv_engines.specs.internal.ExplainObject as spec;
 
 use crate::explain::options::About;
-use crate::source_lines::MISS_WORDS;
 use rv_collide::ending::Verdict;
 use rv_explain::block::{Block, RaceClass};
 use rv_explain::object::head::{Head, head_members};
@@ -18,6 +17,7 @@ use rv_explain::order::{CopyText, OrderTrials, copies_of};
 use rv_explain::races::RunRaces;
 use rv_explain::stuck::StuckBlock;
 use rv_explain::symbol_table::SymbolTable;
+use rv_faults::source_lines::MISS_WORDS;
 use rv_json::object::Json;
 use rv_memory::store::NoMemory;
 use rv_report::key::key_of;

@@ -3,14 +3,14 @@ ghost use Rattle.std.specs.Prelude.{◌≡◌, ◌||◌, false, IfErr, OnOk, IsO
 ghost use Rattle.std.specs.Io.KnownBytes.{Appends, Keeps};
 ghost use Rattle.rv_memory.specs.Buffered as buffer;
 ghost use Rattle.rv_memory.specs.Flagged as flag;
-ghost use Rattle.rv_engines.specs.Fault.{fails_by, is_read, is_write};
+ghost use Rattle.rv_faults.specs.Fault.{fails_by, is_read, is_write};
 ghost use Rattle.rv_engines.specs.Replay as spec;
-ghost use Rattle.rv_engines.specs.declared.fault.Fault.TheVariants as fault;
+ghost use Rattle.rv_faults.specs.declared.fault.Fault.TheVariants as fault;
 
-use crate::fault::Fault;
 use crate::replay::input::read_run;
 use crate::replay::report::write_run;
 use rv_collide::collider::Collider;
+use rv_faults::fault::Fault;
 use rv_memory::buffered::Buffered;
 use rv_memory::flagged::Flagged;
 use rv_memory::flat::Flat;

@@ -3,16 +3,16 @@ ghost use Rattle.std.specs.Prelude.{◌≡◌, ◌||◌, false, Ok, IfOk, IfErr,
 ghost use Rattle.rv_collide.specs.Numbers.{numbers};
 ghost use Rattle.rv_collide.specs.ScheduleRead.{schedule_of};
 ghost use Rattle.rv_memory.specs.Flagged as flag;
-ghost use Rattle.rv_engines.specs.Fault.{IsToldFault, fails_by, is_read, is_write};
+ghost use Rattle.rv_faults.specs.Fault.{IsToldFault, fails_by, is_read, is_write};
 ghost use Rattle.rv_engines.specs.Replay as spec;
 
-use crate::fault::Fault;
 use crate::image::read_image;
 use rv_collide::collider::Collider;
 use rv_collide::entry::Entry;
 use rv_collide::plan::Plan;
 use rv_collide::replay::replay;
 use rv_collide::schedule::read_schedule;
+use rv_faults::fault::Fault;
 use rv_memory::flagged::Flagged;
 use rv_memory::flat::Flat;
 use std::alloc::Global;

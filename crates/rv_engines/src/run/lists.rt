@@ -3,10 +3,10 @@ ghost use Rattle.std.specs.Prelude.{◌≡◌, false, IfOk, IfErr, Ok, map, opti
 ghost use Rattle.rv_text.specs.Hexadecimal.{word_of};
 ghost use Rattle.rv_text.specs.Pieces.{pieces_of};
 ghost use Rattle.rv_engines.specs.Campaigns as spec;
-ghost use Rattle.rv_engines.specs.CommandFault.{IsTold, refusal, fails_by, is_read, is_write, is_thread};
+ghost use Rattle.rv_faults.specs.CommandFault.{IsTold, refusal, fails_by, is_read, is_write, is_thread};
 
-use crate::run::fault::CommandFault;
 use rv_elf::Image;
+use rv_faults::command::CommandFault;
 use rv_memory::store::NoMemory;
 use rv_prune::named_bytes::NamedBytes;
 use rv_prune::names::{NamesFault, ranges};

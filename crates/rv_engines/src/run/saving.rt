@@ -5,14 +5,14 @@ ghost use Rattle.rv_collide.specs.Grammar.{IsWritable, schedule_text};
 ghost use Rattle.rv_collide.specs.Numbers.{numbers};
 ghost use Rattle.rv_collide.specs.declared.collider.Finished.{Finished};
 ghost use Rattle.rv_engines.specs.Campaigns as spec;
-ghost use Rattle.rv_engines.specs.Fault.{fails_by, is_read, is_write};
+ghost use Rattle.rv_faults.specs.Fault.{fails_by, is_read, is_write};
 ghost use Rattle.rv_engines.specs.internal.Hunted.{hunt_of};
 
-use crate::fault::Fault;
 use crate::new_file::NewFile;
 use crate::run::hunting::Hunted;
 use rv_collide::collider::Finished;
 use rv_collide::schedule::write_schedule;
+use rv_faults::fault::Fault;
 use rv_memory::flagged::Flagged;
 use rv_memory::store::NoMemory;
 use std::alloc::Global;

@@ -5,16 +5,16 @@ ghost use Rattle.rv_collide.specs.Numbers.{numbers};
 ghost use Rattle.rv_memory.specs.Buffered as buffer;
 ghost use Rattle.rv_memory.specs.Flagged as flag;
 ghost use Rattle.rv_engines.specs.Campaigns.{IfWanted, passes};
-ghost use Rattle.rv_engines.specs.Fault.{fails_by, is_read, is_write};
+ghost use Rattle.rv_faults.specs.Fault.{fails_by, is_read, is_write};
 ghost use Rattle.rv_engines.specs.Images.{image_of};
 ghost use Rattle.rv_engines.specs.Threads as spec;
 
-use crate::fault::Fault;
 use crate::new_file::NewFile;
 use crate::run::saving::save_schedule;
 use crate::threads::running::run_image;
 use rv_collide::plan::Plan;
 use rv_collide::texts::write_finished;
+use rv_faults::fault::Fault;
 use rv_memory::buffered::Buffered;
 use rv_memory::flagged::Flagged;
 use std::alloc::Global;

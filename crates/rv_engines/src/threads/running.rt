@@ -4,15 +4,15 @@ ghost use Rattle.rv_collide.specs.Grammar.{IsWritable};
 ghost use Rattle.rv_collide.specs.Numbers.{numbers};
 ghost use Rattle.rv_locked.specs.Threaded.{IsThreaded};
 ghost use Rattle.rv_memory.specs.Flagged as flag;
-ghost use Rattle.rv_engines.specs.Fault.{fails_by, is_read, is_write};
+ghost use Rattle.rv_faults.specs.Fault.{fails_by, is_read, is_write};
 ghost use Rattle.rv_engines.specs.Images.{image_of};
 ghost use Rattle.rv_engines.specs.Threads as spec;
 
-use crate::fault::Fault;
 use crate::image::read_image;
 use rv_collide::collider::Finished;
 use rv_collide::plan::Plan;
 use rv_collide::schedule::laws::legal_is_writable;
+use rv_faults::fault::Fault;
 use rv_locked::gate::FreeGate;
 use rv_locked::threads::run_threads;
 use rv_memory::flagged::Flagged;

@@ -4,9 +4,9 @@ ghost use Rattle.std.specs.Io.KnownBytes.{Appends, Keeps};
 ghost use Rattle.rv_memory.specs.Buffered as buffer;
 ghost use Rattle.rv_memory.specs.Flagged as flag;
 ghost use Rattle.rv_engines.specs.Words as spec;
-ghost use Rattle.rv_engines.specs.Fault.{IsToldFault, fails_by, is_read, is_write};
+ghost use Rattle.rv_faults.specs.Fault.{IsToldFault, fails_by, is_read, is_write};
 
-use crate::fault::Fault;
+use rv_faults::fault::Fault;
 use rv_hart::machine::Machine;
 use rv_hart::texts::write_state;
 use rv_memory::buffered::Buffered;

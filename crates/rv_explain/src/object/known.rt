@@ -1,6 +1,6 @@
 //! How a list of races names a race: as `hunt --list` writes it and `--ignore` reads it.
-use crate::names::{escaped, escaped_field};
 use rv_memory::store::NoMemory;
+use rv_symbols::escaped::{escaped, escaped_field};
 use rv_symbols::symbol_table::SymbolTable;
 use rv_text::hexadecimal::{byte_digits, read_word, word_digits};
 use std::alloc::Global;

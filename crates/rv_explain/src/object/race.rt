@@ -1,6 +1,6 @@
 //! A race as JSON.
 ghost use Rattle.std.specs.Prelude.{◌≡◌, codes, option_map, IfOk};
-ghost use Rattle.rv_explain.specs.Blocks.{class_word};
+ghost use Rattle.rv_races.specs.Classes.{class_word};
 ghost use Rattle.rv_explain.specs.RaceObject as spec;
 
 use crate::block::{Block, RaceClass, Side};

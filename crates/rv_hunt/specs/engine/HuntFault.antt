@@ -2,12 +2,12 @@
 use Rattle.std.specs.Prelude.{◌≡◌, ℕ, Bool, true, false, Option, Result, Ok, Err, List, IfOk, IsOkAnd}
 use Rattle.std.specs.Result.{IsOk}
 use Rattle.rv_elf.specs.Contents.{Contents}
-use Rattle.rv_engines.specs.CommandFault as command
-use Rattle.rv_engines.specs.SourceFile as source
-use Rattle.rv_engines.specs.SourceFile.{source_in}
-use Rattle.rv_engines.specs.declared.fault.Fault.TheVariants as fault
-use Rattle.rv_engines.specs.declared.run.fault.CommandFault.{CommandFault}
-use Rattle.rv_engines.specs.declared.run.fault.CommandFault.TheVariants.{Plain, NoThread}
+use Rattle.rv_faults.specs.CommandFault as command
+use Rattle.rv_faults.specs.SourceFile as source
+use Rattle.rv_faults.specs.SourceFile.{source_in}
+use Rattle.rv_faults.specs.declared.fault.Fault.TheVariants as fault
+use Rattle.rv_faults.specs.declared.command.CommandFault.{CommandFault}
+use Rattle.rv_faults.specs.declared.command.CommandFault.TheVariants.{Plain, NoThread}
 use Rattle.rv_search.specs.Hunt.{Hunt}
 use Rattle.rv_shown.specs.Asked.{Asked}
 use Rattle.rv_hunt.specs.engine.Hunting.{Files, Hunting, IsHuntingOf, expected_in, hunt_of, ignored_in, sought_in}

@@ -5,13 +5,13 @@ use Rattle.std.specs.Option.{option_map_or}
 use Rattle.rv_elf.specs.Contents.{Contents}
 use Rattle.rv_explain.specs.Naming.{Naming}
 use Rattle.rv_lines.specs.SourceLines.{SourceLine}
-use Rattle.rv_shown.specs.HuntObject.{hunt_facts}
+use Rattle.rv_object.specs.HuntObject.{hunt_facts}
 use Rattle.rv_tables.specs.HuntText.{table_text}
 use Rattle.rv_search.specs.Hunt.{Hunt}
 use Rattle.rv_search.specs.Hunted.{IsHunted}
 use Rattle.rv_tables.specs.Origin.{Origin, image_digits, last_line, stretch_on}
 use Rattle.rv_shown.specs.Outcome.{Outcome}
-use Rattle.rv_shown.specs.PageFacts.{page_facts}
+use Rattle.rv_page.specs.PageFacts.{page_facts}
 use Rattle.rv_search.specs.RightEnds.{has_wrong_end, right_codes}
 use Rattle.rv_tables.specs.ShownRows.{shown_rows}
 use Rattle.rv_shown.specs.ToldOrder.{AreInOrder, benign, bugs}
@@ -23,14 +23,14 @@ use Rattle.rv_memory.specs.Chain.{◌>>=◌}
 use Rattle.rv_sample.specs.Sites.{sites}
 use Rattle.rv_engines.specs.Built.{built_of}
 use Rattle.rv_engines.specs.Campaigns.{elements, listed, skipped}
-use Rattle.rv_engines.specs.CommandFault.{Refusal, plainly}
+use Rattle.rv_faults.specs.CommandFault.{Refusal, plainly}
 use Rattle.rv_engines.specs.Images.{image_of}
-use Rattle.rv_engines.specs.SourceFile.{lines_miss, source_in}
+use Rattle.rv_faults.specs.SourceFile.{lines_miss, source_in}
 use Rattle.rv_engines.specs.declared.built.Built.{Built}
 use Rattle.rv_shown.specs.Asked.{Asked}
-use Rattle.rv_hunt.specs.engine.OrderShown.{AreOrdersShown}
-use Rattle.rv_hunt.specs.engine.Shown.{AreShown}
-use Rattle.rv_hunt.specs.engine.StuckShown.{AreStuckShown}
+use Rattle.rv_remade.specs.OrderShown.{AreOrdersShown}
+use Rattle.rv_remade.specs.Shown.{AreShown}
+use Rattle.rv_remade.specs.StuckShown.{AreStuckShown}
 use Rattle.rv_shown.specs.declared.shown.ShownStuck.{ShownStuck}
 use Rattle.rv_shown.specs.declared.shown.ShownOrder.{ShownOrder}
 use Rattle.rv_shown.specs.declared.shown.ShownRace.{ShownRace}

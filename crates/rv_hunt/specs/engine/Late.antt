@@ -4,14 +4,6 @@ use Rattle.rv_json.specs.Object.{IsObject, Member}
 use Rattle.rv_markup.specs.Markup.{IsDocument}
 use Rattle.rv_markup.specs.declared.markup.Fact.{Fact}
 
--- the folder's file of that number has these bytes, unless making a file has failed
-abbrev pub IfKept : {D : Type 0} → (D → Bool) → (D → ℕ → List ℕ → Type 0) → D → ℕ → List ℕ → Type 0
-IfKept has_failed Holds folder number bytes = has_failed folder ≡ false → Holds folder number bytes
-
--- the same where a folder is given
-abbrev pub IfSaved : {D : Type 0} → (D → Bool) → (D → ℕ → List ℕ → Type 0) → Option D → ℕ → List ℕ → Type 0
-IfSaved has_failed Holds folder number bytes = IfSome folder (λ made. IfKept has_failed Holds made number bytes)
-
 -- a page with these bytes is well formed and shows these facts
 pub record IsPage (Holds : List ℕ → Type 0) (facts : List Fact) : Type 0 where
   pub page : List ℕ

@@ -1,18 +1,18 @@
 -- What `show` makes of the bytes of an image and of a hunt's table.
 use Rattle.std.specs.Prelude.{◌≡◌, ◌⊎◌, ℕ, ◌+◌, ◌||◌, Bool, true, false, Option, Some, None, Result, Ok, Err, IsOkAnd, List, [], filter, length, map, take}
 use Rattle.rv_collide.specs.Counts.{saturated}
-use Rattle.rv_engines.specs.CommandFault as command
+use Rattle.rv_faults.specs.CommandFault as command
 use Rattle.rv_engines.specs.Images.{image_of}
 use Rattle.rv_elf.specs.Contents.{Contents}
-use Rattle.rv_engines.specs.SourceFile as source
-use Rattle.rv_engines.specs.SourceFile.{lines_miss, source_in}
+use Rattle.rv_faults.specs.SourceFile as source
+use Rattle.rv_faults.specs.SourceFile.{lines_miss, source_in}
 use Rattle.rv_explain.specs.Naming.{Naming}
 use Rattle.rv_lines.specs.SourceLines.{SourceLine}
 use Rattle.rv_hunt.specs.GivenRuns.{RunsGiven, given_in, mix_of, slots_of}
 use Rattle.rv_search.specs.Hunt.{Hunt}
-use Rattle.rv_shown.specs.HuntObject.{object_facts, table_sums}
+use Rattle.rv_object.specs.HuntObject.{object_facts, table_sums}
 use Rattle.rv_tables.specs.Origin.{Origin, image_digits, other_than, runs_of, words_in}
-use Rattle.rv_shown.specs.PageFacts.{table_facts}
+use Rattle.rv_page.specs.PageFacts.{table_facts}
 use Rattle.rv_shown.specs.ToldOrder.{AreInOrder}
 use Rattle.rv_hunt.specs.declared.engine.fault.HuntFault.{HuntFault}
 use Rattle.rv_hunt.specs.declared.engine.fault.HuntFault.TheVariants.{Command, Ignored, Expected, Aimed, Lines}
@@ -32,7 +32,7 @@ use Rattle.rv_tables.specs.declared.row.RaceRow.{RaceRow}
 use Rattle.rv_shown.specs.Asked.{Asked}
 use Rattle.rv_hunt.specs.engine.HuntFault as hunting
 use Rattle.rv_hunt.specs.engine.Hunting.{Files, expected_in, found_in, hunt_of, ignored_in}
-use Rattle.rv_hunt.specs.engine.Shown.{AreShown}
+use Rattle.rv_remade.specs.Shown.{AreShown}
 use Rattle.rv_tables.specs.merge.FileFault as file
 use Rattle.rv_tables.specs.merge.Ignore.{is_ignored, is_told, naming_of}
 use Rattle.rv_tables.specs.merge.Known.{has_gone, new_races}

@@ -2,11 +2,11 @@
 use Rattle.std.specs.Prelude.{Bool, true, false, Result, Ok, Err}
 use Rattle.rv_campaign.specs.declared.pool.PoolFault.{PoolFault}
 use Rattle.rv_campaign.specs.declared.pool.PoolFault.TheVariants as pool
-use Rattle.rv_engines.specs.declared.fault.Fault.TheVariants as fault
-use Rattle.rv_engines.specs.declared.run.fault.CommandFault.{CommandFault}
-use Rattle.rv_engines.specs.declared.run.fault.CommandFault.TheVariants as command
-use Rattle.rv_hunt.specs.declared.engine.folder.FolderFault.{FolderFault}
-use Rattle.rv_hunt.specs.declared.engine.folder.FolderFault.TheVariants as folder
+use Rattle.rv_faults.specs.declared.fault.Fault.TheVariants as fault
+use Rattle.rv_faults.specs.declared.command.CommandFault.{CommandFault}
+use Rattle.rv_faults.specs.declared.command.CommandFault.TheVariants as command
+use Rattle.rv_remade.specs.declared.folder.FolderFault.{FolderFault}
+use Rattle.rv_remade.specs.declared.folder.FolderFault.TheVariants as folder
 use Rattle.rv_hunt.specs.declared.engine.fault.MakeFault.{MakeFault}
 use Rattle.rv_hunt.specs.declared.engine.fault.MakeFault.TheVariants.{NoMemory, NoThread, Write}
 

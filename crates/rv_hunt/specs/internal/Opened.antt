@@ -3,8 +3,8 @@ use Rattle.std.specs.Prelude.{◌≡◌, ℕ, true, false, List, Result, Ok, IfO
 use Rattle.std.specs.Result.{IsOk}
 use Rattle.rv_elf.specs.Contents.{Contents}
 use Rattle.rv_engines.specs.Campaigns.{elements, listed, skipped}
-use Rattle.rv_engines.specs.CommandFault as command
-use Rattle.rv_engines.specs.CommandFault.{Refusal}
+use Rattle.rv_faults.specs.CommandFault as command
+use Rattle.rv_faults.specs.CommandFault.{Refusal}
 use Rattle.rv_search.specs.Hunt.{Hunt}
 use Rattle.rv_memory.specs.Chain.{◌>>=◌}
 use Rattle.rv_sample.specs.Sites.{sites}

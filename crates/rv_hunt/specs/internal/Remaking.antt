@@ -2,20 +2,20 @@
 use Rattle.std.specs.Prelude.{◌≡◌, ⊤, ◌⊎◌, ℕ, Option, Some, Result, Ok, List, length, IsOkAnd}
 use Rattle.rv_campaign.specs.declared.pool.PoolFault.{PoolFault}
 use Rattle.rv_elf.specs.Contents.{Contents}
-use Rattle.rv_engines.specs.SourceFile as source
-use Rattle.rv_engines.specs.SourceFile.{source_in}
+use Rattle.rv_faults.specs.SourceFile as source
+use Rattle.rv_faults.specs.SourceFile.{source_in}
 use Rattle.rv_tables.specs.merge.Ignore.{naming_of}
 use Rattle.rv_lines.specs.SourceLines.{SourceLine}
-use Rattle.rv_engines.specs.CommandFault as command
-use Rattle.rv_engines.specs.declared.fault.Fault.TheVariants as plain
-use Rattle.rv_engines.specs.declared.run.fault.CommandFault.{CommandFault}
-use Rattle.rv_engines.specs.declared.run.fault.CommandFault.TheVariants as fault
+use Rattle.rv_faults.specs.CommandFault as command
+use Rattle.rv_faults.specs.declared.fault.Fault.TheVariants as plain
+use Rattle.rv_faults.specs.declared.command.CommandFault.{CommandFault}
+use Rattle.rv_faults.specs.declared.command.CommandFault.TheVariants as fault
 use Rattle.rv_hunt.specs.GivenRuns.{RunsGiven, given_in}
 use Rattle.rv_search.specs.Hunt.{Hunt}
 use Rattle.rv_tables.specs.Origin.{words_in}
 use Rattle.rv_hunt.specs.declared.engine.fault.HuntFault.TheVariants.{Command, Ignored, Expected, Aimed, Lines}
 use Rattle.rv_hunt.specs.declared.engine.fault.MakeFault.{MakeFault}
-use Rattle.rv_hunt.specs.declared.engine.folder.FolderFault.{FolderFault}
+use Rattle.rv_remade.specs.declared.folder.FolderFault.{FolderFault}
 use Rattle.rv_hunt.specs.declared.engine.lists.Lists.{Lists}
 use Rattle.rv_hunt.specs.declared.engine.opening.Listed.{Listed}
 use Rattle.rv_hunt.specs.declared.engine.remaking.RemakeFault.{RemakeFault}

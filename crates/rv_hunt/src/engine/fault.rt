@@ -3,13 +3,13 @@ ghost use Rattle.std.specs.Prelude.{◌≡◌};
 ghost use Rattle.rv_hunt.specs.engine.HuntFault as spec;
 ghost use Rattle.rv_hunt.specs.internal.MakeFault as made;
 
-use crate::engine::folder::FolderFault;
 use rv_campaign::PoolFault;
-use rv_engines::fault::Fault;
-use rv_engines::run::fault::CommandFault;
-use rv_engines::source_lines::SourceFault;
+use rv_faults::command::CommandFault;
+use rv_faults::fault::Fault;
+use rv_faults::source_lines::SourceFault;
 use rv_memory::flagged::WriteFault;
 use rv_memory::store::NoMemory;
+use rv_remade::folder::FolderFault;
 use rv_tables::merge::fault::FileFault;
 
 /// Why `hunt` writes nothing, or not all.

@@ -1,10 +1,10 @@
 //! Races that are told the moment that they are met, while a hunt goes on.
 use rv_explain::block::RaceClass;
-use rv_explain::blocks::class_word;
 use rv_explain::classes::rank;
 use rv_explain::names::{function_text, variable_text};
 use rv_explain::symbol_table::SymbolTable;
 use rv_memory::store::NoMemory;
+use rv_races::classes::class_word;
 use rv_report::key::Key;
 use rv_search::hunt::Watch;
 use rv_search::hunted::Hunted;

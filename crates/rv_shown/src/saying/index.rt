@@ -2,11 +2,11 @@
 use crate::saying::lines::counted;
 use crate::saying::orders::order_word;
 use crate::saying::unexpected::{is_among, mark};
-use rv_explain::blocks::class_word;
 use rv_explain::names::name_text;
 use rv_explain::pieces::joined;
 use rv_explain::symbol_table::SymbolTable;
 use rv_memory::store::NoMemory;
+use rv_races::classes::class_word;
 use rv_report::key::Key;
 use rv_tables::orders::OrderTable;
 use rv_tables::row::RaceRow;
@@ -14,11 +14,7 @@ use rv_text::decimal::Decimal;
 use std::alloc::Global;
 
 /// The names of a race's instructions.
-pub(crate) fn names_of(
-    alloc: Global,
-    symbols: &SymbolTable,
-    key: &Key,
-) -> Result<Vec<u8>, NoMemory> {
+pub fn names_of(alloc: Global, symbols: &SymbolTable, key: &Key) -> Result<Vec<u8>, NoMemory> {
     let first = name_text(alloc, symbols, key.first)?;
     match key.second {
         Some(second) => {

@@ -4,7 +4,7 @@ ghost use Rattle.rv_shown.specs.Outcome as spec;
 ghost use Rattle.rv_shown.specs.declared.saying.lines.Seen.{Seen};
 
 use crate::code_seen::CodeSeen;
-use crate::page::parts::{Outcome, Tabled};
+use crate::outcome::{Outcome, Tabled};
 use crate::saying::order::{benign, bugs, of_class, reports_of, unwatched};
 use crate::saying::warnings::all_sampled;
 use rv_explain::block::RaceClass;
@@ -27,7 +27,7 @@ fn unwatched_words(alloc: Global, rows: &[(Key, RaceRow)]) -> Result<String, NoM
 }
 
 /// The first line.
-pub(crate) fn summary_line(alloc: Global, outcome: &Outcome) -> Result<String, NoMemory> {
+pub fn summary_line(alloc: Global, outcome: &Outcome) -> Result<String, NoMemory> {
     let saw = &outcome.saw.tally;
     let bugs = bugs(outcome.races);
     let benign = benign(outcome.races);
@@ -41,7 +41,7 @@ pub(crate) fn summary_line(alloc: Global, outcome: &Outcome) -> Result<String, N
 }
 
 /// The first line of what is told of a table.
-pub(crate) fn tabled_line(alloc: Global, tabled: &Tabled) -> Result<String, NoMemory> {
+pub fn tabled_line(alloc: Global, tabled: &Tabled) -> Result<String, NoMemory> {
     let bugs = bugs(tabled.rows);
     let benign = benign(tabled.rows);
     let apart = unwatched_words(alloc, tabled.rows)?;
@@ -53,7 +53,7 @@ pub(crate) fn tabled_line(alloc: Global, tabled: &Tabled) -> Result<String, NoMe
 }
 
 /// How many of a thing there are.
-pub(crate) fn counted(alloc: Global, number: u64, thing: &str) -> Result<String, NoMemory> {
+pub fn counted(alloc: Global, number: u64, thing: &str) -> Result<String, NoMemory> {
     let many = if number == 1 { "" } else { "s" };
     Ok(format!(in alloc; "{number} {thing}{many}")?)
 }
@@ -77,11 +77,11 @@ fn push_apart(
 
 /// A number of what was seen: what stands before its name in the line, its name, and what it counts.
 #[derive(Clone, Copy)]
-pub(crate) struct Seen {
-    pub(crate) before: &'static str,
-    pub(crate) name: &'static str,
-    pub(crate) number: u64,
-    pub(crate) meaning: &'static str,
+pub struct Seen {
+    pub before: &'static str,
+    pub name: &'static str,
+    pub number: u64,
+    pub meaning: &'static str,
 }
 
 fn number_seen(before: &'static str, name: &'static str, number: u64, meaning: &'static str) -> Seen
@@ -96,7 +96,7 @@ fn number_seen(before: &'static str, name: &'static str, number: u64, meaning: &
 }
 
 /// The sites, and of the sampled runs how the pauses ended, and the steps.
-pub(crate) fn sampled_numbers(sites: u64, saw: &Tally) -> [Seen; 9]
+pub fn sampled_numbers(sites: u64, saw: &Tally) -> [Seen; 9]
     ensures { map (λ (one : Seen). one.number) result ≡ spec.sampled_numbers sites saw.now }
 {
     let counts = saw.sampled();
@@ -154,7 +154,7 @@ pub(crate) fn sampled_numbers(sites: u64, saw: &Tally) -> [Seen; 9]
 }
 
 /// The walks, their probes, and what came of the near pairs.
-pub(crate) fn walk_numbers(saw: &Hunted) -> [Seen; 9]
+pub fn walk_numbers(saw: &Hunted) -> [Seen; 9]
     ensures { map (λ (one : Seen). one.number) result ≡ spec.walk_numbers saw.now }
 {
     let held = saw.near.how_many(&saw.table, Fate::Held);
@@ -214,7 +214,7 @@ pub(crate) fn walk_numbers(saw: &Hunted) -> [Seen; 9]
 }
 
 /// How many runs there were.
-pub(crate) fn runs_seen(saw: &Tally) -> Seen
+pub fn runs_seen(saw: &Tally) -> Seen
     ensures { result.number ≡ saw.now.runs }
 {
     number_seen("; ", "runs", saw.runs(), "whole runs of the program")

@@ -18,7 +18,7 @@ pub(crate) fn order_word(order: Order) -> &'static [u8] {
 }
 
 /// The counts of a race's trials.
-pub(crate) fn counts_of(row: &OrderRow) -> OrderCounts {
+pub fn counts_of(row: &OrderRow) -> OrderCounts {
     OrderCounts {
         trials: row.trials,
         ends: row.ends,
@@ -29,7 +29,7 @@ pub(crate) fn counts_of(row: &OrderRow) -> OrderCounts {
 }
 
 /// The two copies of the trial that is shown of a race, where there is one.
-pub(crate) fn shown_copies(
+pub fn shown_copies(
     alloc: Global,
     symbols: &SymbolTable,
     shown: &ShownOrder,

@@ -7,12 +7,12 @@ use rv_tables::row::RaceRow;
 use std::alloc::Global;
 
 /// Whether the race is one of these.
-pub(crate) fn is_among(unexpected: &[(Key, RaceRow)], key: &Key) -> bool {
+pub fn is_among(unexpected: &[(Key, RaceRow)], key: &Key) -> bool {
     unexpected.iter().any(|race| race.0 == *key)
 }
 
 /// The mark behind the class of a race.
-pub(crate) fn mark(is_new: bool) -> &'static str {
+pub fn mark(is_new: bool) -> &'static str {
     if is_new { ", new" } else { "" }
 }
 

@@ -2,10 +2,10 @@
 ghost use Rattle.std.specs.Prelude.{◌≡◌, IfOk};
 ghost use Rattle.rv_shown.specs.Warnings as spec;
 
-use crate::page::parts::{Outcome, Tabled};
+use crate::outcome::{Outcome, Tabled};
 use crate::saying::unexpected::push_unexpected;
-use rv_engines::source_lines::MISS_WORDS;
 use rv_explain::symbol_table::SymbolTable;
+use rv_faults::source_lines::MISS_WORDS;
 use rv_memory::store::NoMemory;
 use rv_plans::plans::Mix;
 use rv_search::ended::{Ways, ways_words};
@@ -65,7 +65,7 @@ const WARNINGS: [Warning; 14] = [
 ];
 
 /// Whether all runs are sampled ones.
-pub(crate) fn all_sampled(mix: Mix) -> bool
+pub fn all_sampled(mix: Mix) -> bool
     ensures { result ≡ spec.all_sampled mix }
 {
     match mix {
@@ -151,7 +151,7 @@ pub fn is_void(outcome: &Outcome) -> bool
 }
 
 /// Those of the warnings that hold of what a hunt came to.
-pub(crate) fn warnings_of(alloc: Global, outcome: &Outcome) -> Result<Vec<Warning>, NoMemory>
+pub fn warnings_of(alloc: Global, outcome: &Outcome) -> Result<Vec<Warning>, NoMemory>
     ensures { IfOk result (λ warnings. warnings.items ≡ spec.warnings_of outcome.now) }
 {
     let those = WARNINGS.iter().copied();
@@ -172,14 +172,14 @@ fn first_stop(alloc: Global, symbols: &SymbolTable, saw: &Hunted) -> Result<Stri
 }
 
 /// The words of the warning that a name has gone.
-pub(crate) fn gone_words(alloc: Global, line: u64) -> Result<String, NoMemory> {
+pub fn gone_words(alloc: Global, line: u64) -> Result<String, NoMemory> {
     Ok(format!(in alloc;
         "line {line} of the list of --expect names what the image lacks, and fits no race: was it renamed, or does it need --lines?"
     )?)
 }
 
 /// The words of a warning.
-pub(crate) fn warning_words(
+pub fn warning_words(
     alloc: Global,
     symbols: &SymbolTable,
     outcome: &Outcome,

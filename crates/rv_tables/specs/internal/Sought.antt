@@ -3,7 +3,7 @@ use Rattle.std.specs.Prelude.{◌≡◌, ⊤, ℕ, ◌<◌, Bool, true, false, �
 use Rattle.std.specs.List.{AllZip}
 use Rattle.std.specs.Option.{option_map_or}
 use Rattle.rv_elf.specs.Contents.{Contents}
-use Rattle.rv_explain.specs.Naming.{Naming}
+use Rattle.rv_symbols.specs.Naming.{Naming}
 use Rattle.rv_tables.specs.declared.merge.ignore.Line.{Line}
 use Rattle.rv_tables.specs.declared.merge.ignore.ListedLine.{ListedLine}
 use Rattle.rv_tables.specs.declared.merge.ignore.Names.{Names}

@@ -6,10 +6,10 @@ use Rattle.std.specs.List.{list_any}
 use Rattle.std.specs.Option.{option_and_then, option_map_or}
 use Rattle.std.specs.Ordering.{nat_cmp}
 use Rattle.rv_elf.specs.Contents.{Contents, Named}
-use Rattle.rv_explain.specs.Symbols.{symbol_of}
+use Rattle.rv_symbols.specs.Symbols.{symbol_of}
 use Rattle.rv_tables.specs.declared.merge.words.NamedSymbol.{NamedSymbol}
 use Rattle.rv_tables.specs.declared.merge.words.Words.{Words}
-use Rattle.rv_explain.specs.Naming.{Naming}
+use Rattle.rv_symbols.specs.Naming.{Naming}
 use Rattle.rv_tables.specs.merge.Ignore.{is_at_name, is_named, spelled, spelled_field}
 use Rattle.rv_lines.specs.SourceLines.{SourceFrame, SourceLine, known_function}
 

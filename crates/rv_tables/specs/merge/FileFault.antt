@@ -1,10 +1,10 @@
 -- Which fault may be told of a file of a hunt, and which device it says has failed.
 use Rattle.std.specs.Prelude.{◌≡◌, ⊤, Bool, false, Result, Ok, Err}
-use Rattle.rv_engines.specs.Fault as plain
-use Rattle.rv_engines.specs.declared.fault.Fault.{Fault}
-use Rattle.rv_engines.specs.declared.fault.Fault.TheVariants as fault
-use Rattle.rv_engines.specs.declared.source_lines.SourceFault.{SourceFault}
-use Rattle.rv_engines.specs.declared.source_lines.SourceFault.TheVariants as source
+use Rattle.rv_faults.specs.Fault as plain
+use Rattle.rv_faults.specs.declared.fault.Fault.{Fault}
+use Rattle.rv_faults.specs.declared.fault.Fault.TheVariants as fault
+use Rattle.rv_faults.specs.declared.source_lines.SourceFault.{SourceFault}
+use Rattle.rv_faults.specs.declared.source_lines.SourceFault.TheVariants as source
 use Rattle.rv_tables.specs.declared.fault.ReadFault.{ReadFault as TableReadFault}
 use Rattle.rv_tables.specs.declared.fault.ReadFault.TheVariants as table
 use Rattle.rv_tables.specs.declared.fault.TableFault.{TableFault}

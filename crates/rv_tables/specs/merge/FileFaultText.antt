@@ -1,8 +1,8 @@
 -- What is told of a file's fault, and the exit status.
 use Rattle.std.specs.Prelude.{ℕ, Option, Some, List, ◌++◌, codes}
 use Rattle.std.specs.Fmt.{decimal}
-use Rattle.rv_engines.specs.FaultText as plain
-use Rattle.rv_engines.specs.Sentences.{fault_sentence}
+use Rattle.rv_faults.specs.FaultText as plain
+use Rattle.rv_faults.specs.Sentences.{fault_sentence}
 use Rattle.rv_tables.specs.declared.fault.TableKind.{TableKind}
 use Rattle.rv_tables.specs.declared.fault.TableKind.TheVariants as table
 use Rattle.rv_tables.specs.declared.merge.fault.FileFault.{FileFault}

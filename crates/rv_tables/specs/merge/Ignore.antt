@@ -4,11 +4,11 @@ use Rattle.std.specs.List.{list_any, take_while}
 use Rattle.std.specs.Option.{option_map_or}
 use Rattle.std.specs.Str.{bytes_eq}
 use Rattle.rv_elf.specs.Contents.{Contents, Named}
-use Rattle.rv_explain.specs.Names.{escaped, escaped_field}
-use Rattle.rv_explain.specs.Naming.{Naming, by_symbols}
-use Rattle.rv_explain.specs.Symbols.{symbol_of}
+use Rattle.rv_symbols.specs.Escaped.{escaped, escaped_field}
+use Rattle.rv_symbols.specs.Naming.{Naming, by_symbols}
+use Rattle.rv_symbols.specs.Symbols.{symbol_of}
 use Rattle.rv_memory.specs.Chain.{◌>>=◌, want}
-use Rattle.rv_engines.specs.Words.{unless_long}
+use Rattle.rv_faults.specs.Fault.{unless_long}
 use Rattle.rv_tables.specs.merge.FileFault.{plainly, told_ignore}
 use Rattle.rv_lines.specs.SourceLines.{SourceFrame, SourceLine, frames_at, known_function}
 use Rattle.rv_tables.specs.declared.merge.fault.FileFault.{FileFault}

@@ -2,8 +2,8 @@
 use Rattle.std.specs.Prelude.{ℕ, Bool, true, false, not, ◌&&◌, if◌then◌else◌, Option, Some, None, is_some, Result, Ok, List, [], filter, slice_get}
 use Rattle.std.specs.Option.{unwrap_or}
 use Rattle.rv_collide.specs.ScheduleRead.{words_of}
-use Rattle.rv_explain.specs.Naming.{Naming}
-use Rattle.rv_engines.specs.Words.{unless_long}
+use Rattle.rv_symbols.specs.Naming.{Naming}
+use Rattle.rv_faults.specs.Fault.{unless_long}
 use Rattle.rv_tables.specs.Expected.{may_be_bug}
 use Rattle.rv_tables.specs.HuntRead.{races_in}
 use Rattle.rv_tables.specs.Rows.{has_race}

@@ -3,9 +3,9 @@ use Rattle.std.specs.Prelude.{ℕ, Bool, ◌&&◌, ◌==◌, if◌then◌else◌
 use Rattle.std.specs.Fmt.{decimal}
 use Rattle.std.specs.Option.{option_map_or, unwrap_or}
 use Rattle.rv_elf.specs.Contents.{Contents, Named}
-use Rattle.rv_explain.specs.Blocks.{class_word}
-use Rattle.rv_explain.specs.Naming.{Naming}
-use Rattle.rv_explain.specs.Symbols.{symbol_of}
+use Rattle.rv_races.specs.Classes.{class_word}
+use Rattle.rv_symbols.specs.Naming.{Naming}
+use Rattle.rv_symbols.specs.Symbols.{symbol_of}
 use Rattle.rv_tables.specs.merge.Ignore.{has_bytes, is_short, spelled, spelled_field}
 use Rattle.rv_tables.specs.declared.row.RaceRow.{RaceRow}
 use Rattle.rv_lines.specs.SourceLines.{SourceLine, frames_at, known_function}

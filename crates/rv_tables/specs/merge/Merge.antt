@@ -10,7 +10,7 @@ use Rattle.rv_tables.specs.declared.merge.whole.Whole.{Whole}
 use Rattle.rv_tables.specs.declared.origin_line.ReadTable.{ReadTable}
 use Rattle.rv_tables.specs.declared.row.RaceRow.{RaceRow}
 use Rattle.rv_memory.specs.Chain.{◌>>=◌}
-pub use Rattle.rv_engines.specs.SourceFile.{bytes_if}
+pub use Rattle.rv_faults.specs.SourceFile.{bytes_if}
 use Rattle.rv_memory.specs.Flagged.{device, has_failed}
 use Rattle.rv_memory.specs.declared.flagged.Flagged.{Flagged}
 use Rattle.rv_tables.specs.merge.FileFault.{UnlessDevice}

@@ -1,6 +1,6 @@
 -- The table of a file's bytes, or why they are refused.
 use Rattle.std.specs.Prelude.{ℕ, Result, List}
-use Rattle.rv_engines.specs.Words.{unless_long}
+use Rattle.rv_faults.specs.Fault.{unless_long}
 use Rattle.rv_tables.specs.OriginRead.{read_hunt, read_rows}
 use Rattle.rv_tables.specs.declared.origin_line.ReadTable.{ReadTable}
 use Rattle.rv_tables.specs.declared.row.RaceRow.{RaceRow}

@@ -4,10 +4,10 @@ ghost use Rattle.rv_tables.specs.merge.FileFault as spec;
 ghost use Rattle.rv_tables.specs.merge.FileFaultText as text;
 
 use crate::fault::{ReadFault as TableReadFault, TableFault, TableKind};
-use rv_engines::fault::Fault;
-use rv_engines::run::fault::CommandFault;
-use rv_engines::sentences;
-use rv_engines::source_lines::SourceFault;
+use rv_faults::command::CommandFault;
+use rv_faults::fault::Fault;
+use rv_faults::sentences;
+use rv_faults::source_lines::SourceFault;
 use rv_lines::fault::{LinesFault, LinesKind};
 use rv_memory::flagged::{ReadFault, WriteFault};
 use rv_memory::store::NoMemory;

@@ -23,11 +23,11 @@ use crate::merge::words::{
     named_symbols,
 };
 use rv_elf::Image;
-use rv_explain::symbol_table::SymbolTable;
 use rv_lines::lines::SourceLines;
 use rv_memory::flagged::{Flagged, INPUT_LIMIT, read_whole};
 use rv_memory::store::NoMemory;
 use rv_report::key::Key;
+use rv_symbols::symbol_table::SymbolTable;
 use rv_text::hexadecimal::read_word;
 use rv_text::pieces::Pieces;
 use std::alloc::Global;

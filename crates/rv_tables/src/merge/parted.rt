@@ -4,9 +4,9 @@ ghost use Rattle.rv_tables.specs.merge.Ignore as spec;
 
 use crate::merge::ignore::Ignores;
 use crate::row::RaceRow;
-use rv_explain::symbol_table::SymbolTable;
 use rv_memory::store::NoMemory;
 use rv_report::key::Key;
+use rv_symbols::symbol_table::SymbolTable;
 use std::alloc::Global;
 
 /// The rows whose races no line of an ignore list fits, and the others, each in the order of the table.

@@ -1,16 +1,16 @@
 //! The words of an ignore list by numbers, so that one pass over the symbols of an image finds those of every name.
 ghost use Rattle.std.specs.Prelude.{◌≡◌, ◌<◌, ◌++◌, Some, All, IfOk, IfSome, OnOk, length, filter, filter_map};
 ghost use Rattle.std.specs.Option.{option_to_list};
-ghost use Rattle.rv_explain.specs.Names.{escaped, escaped_byte, escaped_field, field_byte, is_hidden};
 ghost use Rattle.rv_tables.specs.merge.Ignore.{begins_comment, first_escaped, lines_of, says_other, spelled, spelled_field};
 ghost use Rattle.rv_tables.specs.internal.Words as spec;
 ghost use Rattle.rv_lines.specs.SourceLines.{frame_of};
 
 use rv_elf::{Image, Symbol};
-use rv_explain::symbol_table::SymbolTable;
 use rv_lines::frames::{Frame, Frames};
 use rv_lines::lines::SourceLines;
 use rv_memory::store::NoMemory;
+use rv_symbols::escaped::{write_escaped, write_escaped_field};
+use rv_symbols::symbol_table::SymbolTable;
 use rv_text::hexadecimal::{byte_digits, read_word};
 use std::alloc::{AllocError, Global};
 use std::collections::BTreeMap;
@@ -111,38 +111,6 @@ impl<'a> Words<'a> {
     }
 }
 
-fn is_hidden(byte: u8) -> bool
-    ensures { result ≡ is_hidden byte }
-{
-    byte <= b' ' || byte > b'~'
-}
-
-/// Adds a byte of a name, as `explain` shows it.
-fn add_byte(text: &mut Vec<u8>, byte: u8) -> Result<(), NoMemory>
-    ensures { OnOk result (text.new.items ≡ text.old.items ++ escaped_byte byte) }
-{
-    if is_hidden(byte) {
-        text.extend_from_slice(b"\\x")?;
-        text.extend_from_slice(&byte_digits(byte))?;
-    } else if byte == b'\\' {
-        text.extend_from_slice(b"\\\\")?;
-    } else {
-        text.push(byte)?;
-    }
-    Ok(())
-}
-
-/// Writes a name, as `explain` shows it, over a text.
-fn write_shown(text: &mut Vec<u8>, name: &[u8]) -> Result<(), NoMemory>
-    ensures { OnOk result (text.new.items ≡ escaped name.now) }
-{
-    text.clear();
-    for byte in name {
-        add_byte(text, *byte)?;
-    }
-    Ok(())
-}
-
 /// Whether a word begins a comment.
 pub(crate) fn begins_comment(word: &[u8]) -> bool
     ensures { result ≡ begins_comment word.now }
@@ -175,33 +143,9 @@ fn first_escaped(alloc: Global, word: &[u8]) -> Result<Vec<u8>, NoMemory>
 pub(crate) fn write_spelled(alloc: Global, text: &mut Vec<u8>, name: &[u8]) -> Result<(), NoMemory>
     ensures { OnOk result (text.new.items ≡ spelled name.now) }
 {
-    write_shown(text, name)?;
+    write_escaped(text, name)?;
     if says_other(text) {
         *text = first_escaped(alloc, text)?;
-    }
-    Ok(())
-}
-
-/// Writes a field of a source line, as it is shown, over a text.
-fn write_field(text: &mut Vec<u8>, field: &[u8]) -> Result<(), NoMemory>
-    ensures { OnOk result (text.new.items ≡ escaped_field field.now) }
-{
-    text.clear();
-    for byte in field {
-        add_field_byte(text, *byte)?;
-    }
-    Ok(())
-}
-
-/// Adds a byte of such a field, which has its backslashes escaped.
-fn add_field_byte(text: &mut Vec<u8>, byte: u8) -> Result<(), NoMemory>
-    ensures { OnOk result (text.new.items ≡ text.old.items ++ field_byte byte) }
-{
-    if is_hidden(byte) {
-        text.extend_from_slice(b"\\x")?;
-        text.extend_from_slice(&byte_digits(byte))?;
-    } else {
-        text.push(byte)?;
     }
     Ok(())
 }
@@ -215,7 +159,7 @@ pub(crate) fn write_spelled_field(
 ) -> Result<(), NoMemory>
     ensures { OnOk result (text.new.items ≡ spelled_field field.now) }
 {
-    write_field(text, field)?;
+    write_escaped_field(text, field)?;
     if says_other(text) {
         *text = first_escaped(alloc, text)?;
     }

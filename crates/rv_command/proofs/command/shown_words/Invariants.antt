@@ -2,7 +2,7 @@
 use Rattle.std.proofs.Common.{◌≡◌, take, map}
 use Rattle.std.specs.String.{string_bytes}
 use Rattle.rv_command.specs.Command.{texts}
-use Rattle.rv_engines.specs.Shown.{shown}
+use Rattle.rv_faults.specs.Shown.{shown}
 use Rattle.rv_command.proofs.command.shown_words.Given as goal
 
 abbrev pub invariant-loop-word : goal.invariant-loop-word

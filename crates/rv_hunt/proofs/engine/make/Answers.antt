@@ -1,10 +1,11 @@
 use Rattle.std.proofs.Common.{◌∙◌, ap, sym}
 use Rattle.std.specs.Prelude.{◌||◌, is_some}
-use Rattle.rv_engines.specs.CommandFault as command
+use Rattle.rv_faults.specs.CommandFault as command
 use Rattle.rv_hunt.proofs.EngineLemmas.{make_told, made_known, write_same}
 use Rattle.rv_shown.specs.Asked.{asked}
 use Rattle.rv_hunt.specs.engine.Hunting.{files_of, showing_of}
-use Rattle.rv_hunt.specs.engine.Late.{IfListed, IfPaged, IfSaved, IfWritten}
+use Rattle.rv_hunt.specs.engine.Late.{IfListed, IfPaged, IfWritten}
+use Rattle.rv_remade.specs.Saved.{IfSaved}
 use Rattle.rv_search.specs.RightEnds.{right_codes}
 use Rattle.rv_hunt.specs.internal.Opened.{hunt_in, hunting_with, texts_in}
 use Rattle.rv_hunt.proofs.engine.make.Goals as goal

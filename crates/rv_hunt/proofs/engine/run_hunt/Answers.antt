@@ -3,7 +3,8 @@ use Rattle.std.specs.Prelude.{◌||◌, is_some}
 use Rattle.rv_hunt.proofs.EngineLemmas.{told_known}
 use Rattle.rv_shown.specs.Asked.{asked}
 use Rattle.rv_hunt.specs.engine.Hunting.{files_of, showing_of}
-use Rattle.rv_hunt.specs.engine.Late.{IfListed, IfPaged, IfSaved, IfWritten}
+use Rattle.rv_hunt.specs.engine.Late.{IfListed, IfPaged, IfWritten}
+use Rattle.rv_remade.specs.Saved.{IfSaved}
 use Rattle.rv_hunt.specs.internal.Opened.{texts_in}
 use Rattle.rv_hunt.proofs.engine.run_hunt.Goals as goal
 

@@ -6,9 +6,9 @@ use Rattle.rv_memory.specs.Buffered as buffer
 use Rattle.rv_memory.specs.Flagged as flag
 use Rattle.rv_engines.specs.Asking.{asking}
 use Rattle.rv_engines.specs.Campaigns.{passes}
-use Rattle.rv_engines.specs.CommandFault.{refusal}
+use Rattle.rv_faults.specs.CommandFault.{refusal}
 use Rattle.rv_engines.specs.Explains.{is_read, is_write, of_fault}
-use Rattle.rv_engines.specs.SourceFile.{bytes_if}
+use Rattle.rv_faults.specs.SourceFile.{bytes_if}
 use Rattle.rv_engines.proofs.ExplainLemmas.{all_read, drawn_there, files_read, lines_read, missed, no_writer, object_there, races_refused, races_shown, refused_by, shown_by, told_command, told_lines, write_told}
 use Rattle.rv_engines.proofs.explain.engine.run_explain.Goals as goal
 

@@ -2,7 +2,7 @@ use Rattle.std.proofs.lemmas.Result.{err_from_is_err_and}
 use Rattle.rv_collide.specs.Stored.{stored}
 use Rattle.rv_memory.specs.Flagged as flag
 use Rattle.rv_engines.specs.Asking.{asking}
-use Rattle.rv_engines.specs.CommandFault.{refusal}
+use Rattle.rv_faults.specs.CommandFault.{refusal}
 use Rattle.rv_engines.proofs.ExplainLemmas.{files_refused, names_refused}
 use Rattle.rv_engines.proofs.explain.opening.open_run.Goals as goal
 

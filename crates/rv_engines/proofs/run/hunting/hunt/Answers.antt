@@ -2,7 +2,7 @@ use Rattle.std.proofs.Common.{refl, rules}
 use Rattle.std.proofs.lemmas.Result.{err_from_is_err_and}
 use Rattle.rv_memory.specs.Flagged as flag
 use Rattle.rv_engines.specs.Request.{request}
-use Rattle.rv_engines.specs.CommandFault.{refusal}
+use Rattle.rv_faults.specs.CommandFault.{refusal}
 use Rattle.rv_engines.specs.internal.Hunted.{IsReady}
 use Rattle.rv_engines.proofs.RunHunts.{campaign_known, image_refused, names_refused, numbers_refused, skip_refused}
 use Rattle.rv_engines.proofs.RunKept.{how_many, ready}

@@ -1,6 +1,7 @@
 use Rattle.std.specs.Prelude.{is_some}
 use Rattle.rv_hunt.proofs.TableLemmas.{table_made}
-use Rattle.rv_hunt.specs.engine.Late.{IfListed, IfPaged, IfSaved, IfWritten}
+use Rattle.rv_hunt.specs.engine.Late.{IfListed, IfPaged, IfWritten}
+use Rattle.rv_remade.specs.Saved.{IfSaved}
 use Rattle.rv_hunt.specs.internal.Remaking.{shown_by}
 use Rattle.rv_hunt.proofs.engine.show.made_of.Goals as goal
 

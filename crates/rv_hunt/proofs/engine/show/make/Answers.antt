@@ -1,7 +1,8 @@
 use Rattle.std.proofs.Common.{◌≡◌, List, ℕ, Ok}
 use Rattle.rv_memory.specs.Flagged.{device}
 use Rattle.rv_hunt.proofs.TableLemmas.{late_told, read_as, show_known, table_told}
-use Rattle.rv_hunt.specs.engine.Late.{IfListed, IfPaged, IfSaved, IfWritten}
+use Rattle.rv_hunt.specs.engine.Late.{IfListed, IfPaged, IfWritten}
+use Rattle.rv_remade.specs.Saved.{IfSaved}
 use Rattle.rv_hunt.specs.engine.TableShown.{table_in}
 use Rattle.rv_tables.specs.merge.FileFault as file
 use Rattle.rv_tables.specs.merge.Merge.{bytes_if}

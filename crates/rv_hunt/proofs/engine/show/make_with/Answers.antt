@@ -1,7 +1,8 @@
 use Rattle.rv_hunt.proofs.TableLemmas.{given_is, made_as_asked}
 use Rattle.rv_hunt.specs.GivenRuns.{given}
 use Rattle.rv_shown.specs.Asked.{asked}
-use Rattle.rv_hunt.specs.engine.Late.{IfListed, IfPaged, IfSaved, IfWritten}
+use Rattle.rv_hunt.specs.engine.Late.{IfListed, IfPaged, IfWritten}
+use Rattle.rv_remade.specs.Saved.{IfSaved}
 use Rattle.rv_tables.specs.merge.Merge.{bytes_if}
 use Rattle.rv_hunt.proofs.engine.show.make_with.Goals as goal
 

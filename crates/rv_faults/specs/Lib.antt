@@ -1,0 +1,6 @@
+pub mod CommandFault
+pub mod Fault
+pub mod FaultText
+pub mod Sentences
+pub mod Shown
+pub mod SourceFile

@@ -1,8 +1,0 @@
--- those of the races so far
-use Rattle.std.proofs.Common.{All}
-use Rattle.std.specs.Map.{keys_of}
-use Rattle.rv_hunt.specs.internal.OrderShowing.{IsWanted}
-use Rattle.rv_hunt.proofs.engine.orders.wanted_of.Given as goal
-
-abbrev pub invariant-loop-place : goal.invariant-loop-place
-invariant-loop-place l = All (IsWanted l.table (keys_of l.rows)) l.wanted.items

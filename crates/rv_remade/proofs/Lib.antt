@@ -1,0 +1,3 @@
+pub mod OrderShowingLemmas
+pub mod ReportLemmas
+pub mod ShowingLemmas

@@ -1,0 +1,9 @@
+use Rattle.std.proofs.Common.{◌∙◌, sym}
+use Rattle.rv_collide.specs.Numbers.{numbers}
+use Rattle.rv_remade.proofs.stuck_ends.of_probe.Goals as goal
+
+pub returns : goal.returns
+returns c =
+    let run = c.in_ok-whole.whole in
+    let is_whole = c.in_ok-whole.ensures c.args.probes.now (c.requires.probes.harts_are ∙ sym c.deref.ensures.value) c.in_ok-part.ensures.part in
+    c.legal_is_writable.ensures (record { start = c.args.probes.now.start; plan = numbers run.plan }) run.entries.items run.plan.in_range is_whole.legal

@@ -1,6 +1,0 @@
-use Rattle.std.proofs.Common.{arith}
-use Rattle.rv_shown.proofs.ObjectLemmas.{rows_step}
-use Rattle.rv_shown.proofs.object.races.all_races.Goals as goal
-
-pub loop-n-preserved : goal.loop-n-preserved
-loop-n-preserved c = rows_step c.args.told.now c.loop-n.n _ _ _ _ (omega arith) c.loop-n.invariant c.in_ok-json.ensures

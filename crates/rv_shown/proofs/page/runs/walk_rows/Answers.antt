@@ -1,5 +1,0 @@
-use Rattle.rv_shown.proofs.PageLemmas.{numbers_of_rows}
-use Rattle.rv_shown.proofs.page.runs.walk_rows.Goals as goal
-
-pub returns : goal.returns
-returns c = rw (numbers_of_rows c.walk_numbers.result c.args.page.facts, c.walk_numbers.ensures) at c.number_rows.ensures

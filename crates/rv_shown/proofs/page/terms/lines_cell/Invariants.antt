@@ -1,6 +1,0 @@
--- the cell is open
-use Rattle.std.proofs.Common.{◌≡◌, suc}
-use Rattle.rv_shown.proofs.page.terms.lines_cell.Given as goal
-
-abbrev pub invariant-loop-line : goal.invariant-loop-line
-invariant-loop-line l = l.page ≡ record l.fn.page { depth = suc l.fn.page.depth }
