@@ -64,7 +64,11 @@ fn links(page: Markup) -> Result<Markup, NoMemory>
 }
 
 /// What stands above the links of a page.
-pub(crate) fn begin_body(page: Markup, line: &LineParts<'_>, summary: &[u8]) -> Result<Markup, NoMemory>
+pub(crate) fn begin_body(
+    page: Markup,
+    line: &LineParts<'_>,
+    summary: &[u8],
+) -> Result<Markup, NoMemory>
     ensures { IfOk result (λ more. more ≡ record { depth = suc (suc page.depth); facts = page.facts }) }
 {
     let lang = Attribute {

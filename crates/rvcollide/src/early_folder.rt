@@ -1,8 +1,8 @@
 //! The schedules of a folder while a hunt goes on. Each is named by the addresses of its race, as the race's number isn't known yet.
-use crate::files::write_all;
-use crate::folder::Saved;
-use crate::kept_file::place;
 use rv_command::arguments::FolderPath;
+use rv_files::files::write_all;
+use rv_files::folder::Saved;
+use rv_files::kept_file::place;
 use rv_report::key::Key;
 use std::alloc::{AllocError, Global};
 use std::fs;

@@ -2,10 +2,10 @@
 ghost use Rattle.std.specs.Prelude.{◌≡◌, Some};
 ghost use Rattle.rvcollide.specs.Failure as spec;
 
-use crate::folder::Saved;
-use crate::system::SystemSaid;
 use rv_faults::fault::Fault;
 use rv_faults::shown::Shown;
+use rv_files::folder::Saved;
+use rv_files::system::SystemSaid;
 use rv_tables::merge::fault::{FileFault, sentence};
 use std::fmt;
 

@@ -1,17 +1,17 @@
 //! The lines of a hunt's faults, each with the file that is at fault.
 use crate::failure::Failure;
 use crate::file_line::{FileLine, FilePlace};
-use crate::folder::{Saved, ScheduleFolder};
 use crate::paths::{
     expect_path, folder_path, ignore_path, json_path, lines_path, list_path, page_path,
     table_to_path,
 };
-use crate::system::SystemSaid;
 use rv_command::arguments::ImagePath;
 use rv_command::command::hunt::HuntLine;
 use rv_faults::command::CommandFault;
 use rv_faults::fault::Fault;
 use rv_faults::sentences::{FaultLine, Paths};
+use rv_files::folder::{Saved, ScheduleFolder};
+use rv_files::system::SystemSaid;
 use rv_hunt::engine::fault::HuntFault;
 use rv_tables::merge::fault::FileFault;
 

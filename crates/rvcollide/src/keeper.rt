@@ -1,16 +1,16 @@
 //! Keeps on disk what a hunt has found so far: a hunt that is killed leaves the schedules of its races, a page, a list, a table and an object.
 use crate::early_folder::{EarlyFolder, folder_of};
-use crate::kept_file::{KeptFile, has_failed, is_replaced, replace, said_by};
 use crate::paths::{json_path, list_path, page_path, table_to_path};
-use crate::progress::Progress;
-use crate::system::SystemSaid;
 use rv_command::command::hunt::HuntLine;
 use rv_engines::new_file::NewFile;
+use rv_files::kept_file::{KeptFile, has_failed, is_replaced, replace, said_by};
+use rv_files::system::SystemSaid;
 use rv_memory::store::NoMemory;
 use rv_plans::limit::Limit;
 use rv_report::key::Key;
 use rv_search::hunt::{Draft, Watch};
 use rv_search::hunted::Hunted;
+use rv_terminal::progress::Progress;
 use std::alloc::Global;
 
 /// The paths of the texts that are made anew while the hunt goes on: of those that are wanted what is no device and no pipe.

@@ -1,22 +1,22 @@
 //! The engine of `merge` on the files of a line.
 ghost use Rattle.std.specs.Prelude.{◌≡◌, map, option_and_then, option_map};
 ghost use Rattle.rv_command.specs.declared.arguments.TablePath.{TablePath};
-ghost use Rattle.rvcollide.specs.Files.{path_of};
+ghost use Rattle.rv_files.specs.Files.{path_of};
 
-use crate::colors::Colors;
 use crate::failure::Failure;
 use crate::file_line::{FileLine, FilePlace};
-use crate::files::InputFile;
 use crate::hunting::said_of;
-use crate::painted::tell_painted;
-use crate::system::Stream;
 use rv_command::arguments::{TablePath, TablePaths};
 use rv_faults::command::CommandFault;
 use rv_faults::fault::Fault;
+use rv_files::files::InputFile;
+use rv_files::system::Stream;
 use rv_memory::buffered::Buffered;
 use rv_memory::flagged::Flagged;
 use rv_tables::merge::listing::plain_names;
 use rv_tables::merge::run_merge;
+use rv_terminal::colors::Colors;
+use rv_terminal::painted::tell_painted;
 
 /// What is told where a table doesn't say what it is of.
 const NOT_OF_ONE: &str =

@@ -1,20 +1,17 @@
 //! The engine of `show` on the files of a line, and what is told while it works.
-use crate::colors::Colors;
 use crate::failure::Failure;
-use crate::files::InputFile;
 use crate::hunt_failure::{Failed, Said, WRITE_FAULT, at_fault_in, failure_of, of_file};
 use crate::hunting::{
     checks_of, ending_of, file_if, folder_if, folder_said, made_if, said_of, workers_of,
 };
-use crate::kept_file::{has_failed, said_by};
-use crate::painted::Painted;
 use crate::paths::{expect_path, ignore_path, json_path, lines_path, list_path, page_path};
-use crate::progress::{Progress, Told};
 use crate::shown_line::ShownLine;
-use crate::system::{Stream, SystemSaid};
 use rv_command::arguments::{ImagePath, TablePath};
 use rv_command::command::hunt::{DEFAULT_BUDGET, DEFAULT_SEED, HuntLine};
 use rv_command::command::show::ShowLine;
+use rv_files::files::InputFile;
+use rv_files::kept_file::{has_failed, said_by};
+use rv_files::system::{Stream, SystemSaid};
 use rv_hunt::engine::inputs::Inputs;
 use rv_hunt::engine::remaking::WatchRuns;
 use rv_hunt::engine::show::{ShowFault, ShowOptions, run_show};
@@ -24,6 +21,9 @@ use rv_plans::limit::Limit;
 use rv_search::hunt::Watch;
 use rv_search::hunted::Hunted;
 use rv_shown::options::{LineParts, MOST_WORKERS};
+use rv_terminal::colors::Colors;
+use rv_terminal::painted::Painted;
+use rv_terminal::progress::{Progress, Told};
 use std::sync::Wait;
 use std::thread::Threads;
 

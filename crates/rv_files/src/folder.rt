@@ -1,7 +1,7 @@
 //! The folder of a hunt's schedules, on the system.
 ghost use Rattle.std.specs.Prelude.{◌≡◌, ◌||◌, ◌/◌, ◌%◌, Some};
 ghost use Rattle.rv_remade.specs.FolderFault.{fails_by_write, is_write};
-ghost use Rattle.rvcollide.specs.Failure.{address_digits, name_of, tail_of, word_of};
+ghost use Rattle.rv_files.specs.Saved.{address_digits, name_of, tail_of, word_of};
 
 use crate::files::write_all;
 use crate::system::{SystemFault, SystemSaid};

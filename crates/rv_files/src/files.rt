@@ -3,7 +3,7 @@ ghost use Rattle.std.specs.Prelude.{◌≡◌, ◌||◌, true, false, is_err, is
 ghost use Rattle.std.specs.Io.KnownBytes.{ReadConsumes};
 ghost use Rattle.std.specs.Io.{ReadsAtMost};
 ghost use Rattle.rv_memory.specs.Flagged as flag;
-ghost use Rattle.rvcollide.specs.Files.{failed_path, path_if};
+ghost use Rattle.rv_files.specs.Files.{failed_path, path_if};
 
 use crate::system::{Stream, SystemFault, SystemSaid, said_in};
 use rv_engines::new_file::NewFile;

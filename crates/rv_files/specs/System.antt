@@ -2,8 +2,8 @@
 use Rattle.std.specs.Prelude.{ℕ, Option, Some, None, List, codes}
 use Rattle.std.specs.declared.io.ErrorKind.{ErrorKind}
 use Rattle.std.specs.declared.io.ErrorKind.TheVariants as kind
-use Rattle.rvcollide.specs.declared.system.SystemSaid.{SystemSaid}
-use Rattle.rvcollide.specs.declared.system.SystemSaid.TheVariants.{Missing, Denied, IsFolder, NoFolder, ReadOnly, Full, TooLarge, Closed}
+use Rattle.rv_files.specs.declared.system.SystemSaid.{SystemSaid}
+use Rattle.rv_files.specs.declared.system.SystemSaid.TheVariants.{Missing, Denied, IsFolder, NoFolder, ReadOnly, Full, TooLarge, Closed}
 
 -- what of an error's kinds a user can mend
 abbrev pub said_of : ErrorKind → Option SystemSaid

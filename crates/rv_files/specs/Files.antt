@@ -1,6 +1,6 @@
 -- The path that a fault names where a file failed.
 use Rattle.std.specs.Prelude.{ℕ, Bool, nat_lt, if◌then◌else◌, Option, Some, None, option_and_then, List, length, slice_get}
-use Rattle.rvcollide.specs.declared.files.OutputFile.{OutputFile}
+use Rattle.rv_files.specs.declared.files.OutputFile.{OutputFile}
 
 abbrev pub path_if : Bool → List ℕ → Option (List ℕ)
 path_if failed path = if failed then Some path else None
