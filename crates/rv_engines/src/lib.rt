@@ -1,7 +1,7 @@
 //! The commands as engines over readers and writers.
 //!
 //! Each engine writes the text that `specs/` states of the bytes that it reads, and nothing else. What is made of
-//! paths and words stands in the program, and the tests of the engines in `rv_engine_tests`.
+//! paths and words stands in the program. Scripts try the engines in it.
 #![tactic(auto)]
 
 pub mod asm;
