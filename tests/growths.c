@@ -1,13 +1,12 @@
 // Preloaded by tests/growths. It counts the growths of a process, the calls that ask for memory, refuses the one whose number
 // is in GROWTH, and with GROWTH_ON all later ones too, and writes to the file at GROWTH_TOLD who asked for the first of them: the
-// program, or the library by its name. With GROWTH_MARKS it counts those alone that stand between the marks that rv_growths writes,
-// and at the second mark it writes to the file at GROWTH_THREADS how many threads there are.
+// program, or the library by its name. At the end it writes their number to the file at GROWTH_COUNT.
 #define _GNU_SOURCE
-#include <dirent.h>
 #include <dlfcn.h>
 #include <errno.h>
 #include <fcntl.h>
 #include <stdatomic.h>
+#include <stdio.h>
 #include <stdlib.h>
 #include <string.h>
 #include <sys/syscall.h>
@@ -19,11 +18,7 @@ void *__libc_calloc(size_t, size_t);
 void *__libc_realloc(void *, size_t);
 void *__libc_memalign(size_t, size_t);
 
-static const char BEGIN[] = "growths begin\n";
-static const char END[] = "growths end\n";
-
 static atomic_ulong growths;
-static atomic_int is_between;
 
 // Writes a text to a file of its own, where there is a path. It asks for no memory itself.
 static void tell(const char *path, const char *text) {
@@ -43,8 +38,9 @@ static void tell_caller(void *caller) {
 // Whether this growth is one to refuse.
 static int is_refused(void *caller) {
   const char *text = getenv("GROWTH");
-  if (!text || (getenv("GROWTH_MARKS") && !atomic_load(&is_between))) return 0;
-  unsigned long number = strtoul(text, NULL, 10), growth = atomic_fetch_add(&growths, 1) + 1;
+  unsigned long growth = atomic_fetch_add(&growths, 1) + 1;
+  if (!text) return 0;
+  unsigned long number = strtoul(text, NULL, 10);
   if (growth < number || (growth > number && !getenv("GROWTH_ON"))) return 0;
   if (growth == number) tell_caller(caller);
   errno = ENOMEM;
@@ -71,27 +67,10 @@ int posix_memalign(void **made, size_t alignment, size_t size) {
   return 0;
 }
 
-// How many threads the process has.
-static int threads(void) {
-  DIR *tasks = opendir("/proc/self/task");
-  if (!tasks) abort();
-  int count = 0;
-  for (struct dirent *task; (task = readdir(tasks));) count += task->d_name[0] != '.';
-  closedir(tasks);
-  return count;
-}
-
-// Tells whether there is one thread. One that was joined may be in the system's list for a moment longer.
-static void tell_threads(void) {
-  for (int tries = 0; tries < 1000 && threads() != 1; tries++) usleep(1000);
-  tell(getenv("GROWTH_THREADS"), threads() == 1 ? "one" : "more");
-}
-
-ssize_t write(int file, const void *bytes, size_t size) {
-  if (getenv("GROWTH_MARKS") && size == sizeof BEGIN - 1 && !memcmp(bytes, BEGIN, size)) atomic_store(&is_between, 1);
-  if (getenv("GROWTH_MARKS") && size == sizeof END - 1 && !memcmp(bytes, END, size)) {
-    atomic_store(&is_between, 0);
-    tell_threads();
-  }
-  return syscall(SYS_write, file, bytes, size);
+__attribute__((destructor)) static void tell_count(void) {
+  char text[32];
+  unsigned long count = atomic_load(&growths);
+  if (!getenv("GROWTH_COUNT")) return;
+  snprintf(text, sizeof text, "%lu", count);
+  tell(getenv("GROWTH_COUNT"), text);
 }

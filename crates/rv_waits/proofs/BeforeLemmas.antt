@@ -1,8 +1,7 @@
 -- A step that was watched by what was known before it.
-use Rattle.std.proofs.Common.{◌≡◌, ℕ, Bool, true, false, Option, Some, List, length, refl, sym, subst, ◌∙◌}
+use Rattle.std.proofs.Common.{◌≡◌, ℕ, Bool, true, false, Option, Some, List, length, refl, subst, ◌∙◌}
 use Rattle.std.specs.Prelude.{not, slice_get}
 use Rattle.rv_hart.specs.Locality.{at_conditional}
-use Rattle.rv_hart.specs.NextAccess.{next_access}
 use Rattle.rv_hart.specs.ReservationLaws.{SizesOfAccesses}
 use Rattle.rv_hart.specs.SomeHart.{SomeHart}
 use Rattle.rv_hart.specs.State.{State}
@@ -10,19 +9,15 @@ use Rattle.rv_hart.specs.Step.{step_of}
 use Rattle.rv_hart.specs.StepLaws.{OutputLaw}
 use Rattle.rv_hart.specs.declared.access.Access.{Access}
 use Rattle.rv_hart.specs.declared.access.Event.TheVariants.{Moved}
-use Rattle.rv_isa.specs.TableLaws.{FunctionsOfTheTable}
 use Rattle.rv_memory.specs.MemoryLaws.{StoreKeepsOtherBytes}
 use Rattle.rv_waits.specs.Before.{IsBefore, IsSight}
-use Rattle.rv_waits.specs.Round.{IsQuietStep}
 use Rattle.rv_waits.specs.declared.quiet.FourBytes.{FourBytes}
 use Rattle.rv_waits.specs.declared.watch.Anchor.{Anchor}
 use Rattle.rv_waits.specs.declared.watch.before.Before.{Before}
-use Rattle.rv_waits.specs.declared.watch.before.Sight.{Sight}
 use Rattle.rv_waits.specs.declared.watch.before.Sight.TheVariants as sight
 use Rattle.rv_waits.specs.internal.Four.{AreBytesFrom}
-use Rattle.rv_waits.specs.internal.MayWrite.{MayNotWrite}
 use Rattle.rv_waits.specs.internal.Moves.{IsMove, IsSetAt}
-use Rattle.rv_waits.proofs.MoveLemmas.{WritesNothing, left_memory, not_conditional}
+use Rattle.rv_waits.proofs.MoveLemmas.{WritesNothing, left_memory}
 use Rattle.rv_waits.proofs.QuietLemmas.{quiet_memory, quiet_output}
 
 -- of a step that printed nothing and left memory as it was: a quiet one where it is no SC
@@ -46,9 +41,6 @@ by_bytes keeps sizes law anchors s t h first bytes before access known e after p
     let it : IsSight anchors s h (sight.Bytes first bytes) = subst (IsSight anchors s h) e known.sight in
     let memory : t.memory ≡ s.memory = quiet_memory keeps sizes s t h first (Moved access) bytes step it.0 it.1 it.2 after in
     still law anchors s t h before.pc access step memory (printed ∙ known.printed) (λ set_at. it.0) known.at_pc
-
-pub reads_only : FunctionsOfTheTable → (s : State) (h : ℕ) → MayNotWrite s h → at_conditional s.memory (slice_get s.harts h) ≡ false
-reads_only table s h may = not_conditional table s h may.0 may.1 may.2
 
 pub not_so : (b : Bool) → not b ≡ true → b ≡ false
 not_so true e = cc

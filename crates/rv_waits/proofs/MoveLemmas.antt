@@ -1,7 +1,6 @@
--- A common step whose word writes nothing is a quiet one.
-use Rattle.std.proofs.Common.{◌≡◌, ℕ, ◌-◌, ◌%◌, Bool, true, false, cond, Option, Some, None, List, [], ◌++◌, refl, sym, ap, subst, ◌∙◌}
-use Rattle.std.specs.Prelude.{slice_get, IfSome, ◌==◌, ◌&&◌, bit_and, nat_lt, not}
-use Rattle.std.proofs.lemmas.List.{append-nil}
+-- A word that may not write is no SC's, and a step whose access writes nothing leaves memory as it was.
+use Rattle.std.proofs.Common.{◌≡◌, ℕ, ◌-◌, ◌%◌, Bool, true, false, cond, Option, Some, None, refl, sym, ap, subst, ◌∙◌}
+use Rattle.std.specs.Prelude.{slice_get, IfSome, ◌==◌, bit_and, nat_lt, not}
 use Rattle.std.proofs.lemmas.Nat.{and_assoc}
 use Rattle.rv_hart.specs.Act.{act, address, branch, environment_call, following, immediate, jump, source_1, source_2}
 use Rattle.rv_hart.specs.Arithmetic.{less_signed, plus}
@@ -9,12 +8,9 @@ use Rattle.rv_hart.specs.Fetched.{IsWordOf}
 use Rattle.rv_hart.specs.Locality.{at_conditional, is_conditional}
 use Rattle.rv_hart.specs.NextAccess.{accessed}
 use Rattle.rv_hart.specs.Registers.{get}
-use Rattle.rv_hart.specs.Refusals.{is_print, is_running_hart, prints}
-use Rattle.rv_hart.specs.SomeHart.{SomeHart}
-use Rattle.rv_hart.specs.State.{State, is_running}
-use Rattle.rv_hart.specs.Step.{step_of, access_of, action_at, action_at_word, allowed, fetched, loaded_by, memory_after, printed, reserves, tested, writes, written_by, write}
+use Rattle.rv_hart.specs.State.{State}
+use Rattle.rv_hart.specs.Step.{step_of, access_of, action_at, action_at_word, allowed, fetched, loaded_by, memory_after, reserves, tested, writes, written_by, write}
 use Rattle.rv_hart.specs.declared.access.Access.{Access}
-use Rattle.rv_hart.specs.declared.access.Event.{Event}
 use Rattle.rv_hart.specs.declared.access.Event.TheVariants.{Moved}
 use Rattle.rv_hart.specs.declared.action.Action.{Action}
 use Rattle.rv_hart.specs.declared.action.Action.TheVariants.{Trap, Set, Load, Store, Reserve, Conditional, Replace, Print, Exit}
@@ -33,10 +29,7 @@ use Rattle.rv_isa.specs.declared.op.Op.TheVariants.{Jal, Jalr, Beq, Bne, Blt, Bg
 use Rattle.rv_memory.specs.Memory.{Memory, load, load_permitted, permits}
 use Rattle.rv_memory.specs.declared.store.Need.{Need}
 use Rattle.rv_memory.specs.declared.store.Need.TheVariants as need
-use Rattle.rv_waits.specs.Round.{IsQuietStep}
-use Rattle.rv_waits.specs.declared.watch.Anchor.{Anchor}
 use Rattle.rv_waits.specs.internal.MayWrite.{may_write}
-use Rattle.rv_waits.specs.internal.Moves.{IsMove, IsSetAt}
 use Rattle.rv_waits.proofs.StepLemmas.{accessed_is, some_and, step_is}
 
 -- ---- a word that may not write is no SC's
@@ -143,39 +136,3 @@ left_memory s t h access step none =
     let made : access ≡ access_of w.0 action = ap accessed w.1.event ∙ accessed_is w.0 action in
     let nothing : written_by loaded w.0 action ≡ None = no_write loaded w.0 action (subst WritesNothing made none) in
     ap (λ (u : State). u.memory) w.1.after ∙ ap (memory_after s.memory) nothing
-
--- ---- a step that prints nothing leaves the output
-
-no_byte : (action : Action) → is_print action ≡ false → printed action ≡ []
-no_byte (Print byte) e = cc
-no_byte (Trap cause) e = refl
-no_byte (Set rd value next) e = refl
-no_byte (Load rd address size signed) e = refl
-no_byte (Store address size value) e = refl
-no_byte (Reserve rd address) e = refl
-no_byte (Conditional rd address value) e = refl
-no_byte (Replace rd address combine value) e = refl
-no_byte (Exit code) e = refl
-
-and_running : (running print : Bool) → running ≡ true → (running && print) ≡ false → print ≡ false
-and_running true print e f = f
-and_running false print e f = cc
-
-pub left_output : (s t : State) (h : ℕ) (event : Event) → step_of s h ≡ Some (event, t) → is_running_hart (slice_get s.harts h) ≡ true → prints s.memory (slice_get s.harts h) ≡ false → t.output ≡ s.output
-left_output s t h event step running silent =
-    let w = step_is s t h event step in
-    let hart : Hart = w.0 in
-    let runs : is_running hart.status ≡ true = ap is_running_hart (sym w.1.there) ∙ running in
-    let none : (is_running hart.status && is_print (action_at s.memory hart)) ≡ false = ap (prints s.memory) (sym w.1.there) ∙ silent in
-    let no : printed (action_at s.memory hart) ≡ [] = no_byte (action_at s.memory hart) (and_running (is_running hart.status) (is_print (action_at s.memory hart)) runs none) in
-    ap (λ (u : State). u.output) w.1.after ∙ ap (λ (bytes : List ℕ). s.output ++ bytes) no ∙ append-nil s.output
-
--- ---- a common step
-
-pub move_of : FunctionsOfTheTable → (anchors : List Anchor) (s t : State) (h pc word : ℕ) (access : Option Access) → step_of s h ≡ Some (Moved access, t) → WritesNothing access → is_running_hart (slice_get s.harts h) ≡ true → prints s.memory (slice_get s.harts h) ≡ false → IsWordOf s h word → (IsSetAt anchors h → may_write word ≡ false) → SomeHart (λ hart. pc ≡ hart.pc) s h → IsMove anchors s t h pc access
-move_of table anchors s t h pc word access step none running silent is_word not_set at_pc =
-    let memory : t.memory ≡ s.memory = left_memory s t h access step none in
-    let output : t.output ≡ s.output = left_output s t h (Moved access) step running silent in
-    let quiet : IsSetAt anchors h → IsQuietStep h s t = λ set_at.
-    record { moves = (access, step); memory = memory; output = output; no_sc = not_conditional table s h word is_word (not_set set_at) } in
-    record { step = step; memory = memory; quiet = quiet; at_pc = at_pc }

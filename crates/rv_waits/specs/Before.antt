@@ -7,7 +7,7 @@ use Rattle.rv_hart.specs.State.{State}
 use Rattle.rv_waits.specs.declared.watch.Anchor.{Anchor}
 use Rattle.rv_waits.specs.declared.watch.before.Before.{Before}
 use Rattle.rv_waits.specs.declared.watch.before.Sight.{Sight}
-use Rattle.rv_waits.specs.declared.watch.before.Sight.TheVariants.{Access, Conditional, Bytes}
+use Rattle.rv_waits.specs.declared.watch.before.Sight.TheVariants.{Access, Nothing, Bytes}
 use Rattle.rv_waits.specs.internal.Four.{AreBytesFrom}
 use Rattle.rv_waits.specs.internal.Moves.{IsSetAt}
 
@@ -15,7 +15,7 @@ use Rattle.rv_waits.specs.internal.Moves.{IsSetAt}
 -- are the bytes from where it would access memory.
 abbrev pub IsSight : List Anchor → State → ℕ → Sight → Type 0
 IsSight anchors s h Access = IsSetAt anchors h → at_conditional s.memory (slice_get s.harts h) ≡ false
-IsSight anchors s h Conditional = ⊤
+IsSight anchors s h Nothing = ⊤
 IsSight anchors s h (Bytes first bytes) =
     (at_conditional s.memory (slice_get s.harts h) ≡ false) × IfSome (next_access s h) (λ access. first ≡ access.first) × AreBytesFrom s.memory first bytes
 

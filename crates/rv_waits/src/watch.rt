@@ -8,10 +8,9 @@ ghost use Rattle.rv_waits.specs.Round.{IsRound};
 ghost use Rattle.rv_waits.specs.Touched.{covers};
 ghost use Rattle.rv_waits.specs.Touches.{Loads, Touches};
 ghost use Rattle.rv_waits.specs.internal.Anchored.{IsGoneOn, IsLooked, IsNew};
-ghost use Rattle.rv_waits.specs.internal.MayWrite.{may_write};
-ghost use Rattle.rv_waits.specs.internal.Moves.{IsMove, IsSetAt, WritesAmong};
+ghost use Rattle.rv_waits.specs.internal.Moves.{IsMove, WritesAmong};
 
-use crate::quiet::{Told, may_write, told_step};
+use crate::quiet::{Told, told_step};
 use crate::round::{Round, Seen, see};
 use crate::touched::{Range, meets, touched_at};
 use rv_hart::access::{Access, Common, Event, Noted};
@@ -19,7 +18,6 @@ use rv_hart::hart::Hart;
 use rv_hart::laws::{steps_are_local, what_no_step_does};
 use rv_hart::machine::{Machine, StepFault};
 use rv_hart::stops::NoStops;
-use rv_isa::laws::functions_of_the_table;
 use rv_memory::laws::store_keeps_the_rest;
 use rv_memory::store::{ByteStore, NoMemory};
 use std::alloc::Global;
@@ -102,7 +100,7 @@ impl Watch {
         self.step_apart(machine, h)
     }
 
-    /// The same where it is a common step that writes nothing, or one of a hart that rests; else nothing has changed.
+    /// The same where it is a common step; else nothing has changed.
     #[inline(always)]
     fn step_quick<S: ByteStore>(&mut self, machine: &mut Machine<S>, h: u8) -> Option<Event>
         requires hart { h < length machine.old.state.harts }
@@ -111,38 +109,23 @@ impl Watch {
         ensures watch { IsWatchOf self.new machine.new.state }
         ensures same { (result ≡ None) → machine.new ≡ machine.old }
     {
-        steps_are_local();
-        store_keeps_the_rest();
-        what_no_step_does();
-        functions_of_the_table();
         if !machine.runs(h) {
             return None;
         }
         let word = machine.fetched(h)?;
-        if self.may_lose_anchor(h, word) {
-            return None;
-        }
-        let pc = machine.pc(h);
+        let before = self.before_word(machine, h, word);
         let common = machine.step_quick::<0, NoStops>(h, word, &mut self.noted, &NoStops);
         if let Common::Silent = common {
-            self.go_on(machine, h, pc, None);
-            return Some(Event::Moved(None));
+            let event = Event::Moved(None);
+            self.saw(before, machine, h, event);
+            return Some(event);
         }
         if let Common::Accessed = common {
-            let access = self.noted.access;
-            self.accessed(machine, h, pc, access);
-            return Some(Event::Moved(Some(access)));
+            let event = Event::Moved(Some(self.noted.access));
+            self.saw(before, machine, h, event);
+            return Some(event);
         }
         None
-    }
-
-    /// Whether a hart has an anchor, and the word at its pc may write: then bytes have to be looked at.
-    #[inline(always)]
-    fn may_lose_anchor(&self, h: u8, word: u32) -> bool
-        requires { h < length self.now }
-        ensures { result ≡ false → IsSetAt self.now h → may_write word ≡ false }
-    {
-        self.anchors[h as usize].is_set && may_write(word)
     }
 
     /// The same, whatever the step is.
@@ -215,23 +198,6 @@ impl Watch {
             polls: anchor.seen.polls,
             touched: anchor.seen.touched,
         })
-    }
-
-    /// After a common step of a hart that made an access.
-    #[inline(always)]
-    fn accessed<S: ByteStore>(&mut self, machine: &Machine<S>, h: u8, pc: u32, access: Access)
-        requires anchor { h < length self.old }
-        requires hart { h < length machine.now.state.harts }
-        ensures { (before : State) → IsWatchOf self.old before
-            → step_of before h ≡ Some (Event.Moved (Some access), machine.now.state)
-            → (access.write ≡ false → IsMove self.old before machine.now.state h pc (Some access))
-            → IsWatchOf self.new machine.now.state }
-    {
-        if access.write {
-            self.look(h, access.first, access.size);
-        } else {
-            self.go_on(machine, h, pc, Some(access));
-        }
     }
 
     /// After a step of a hart that changed nothing.

@@ -18,6 +18,7 @@ use rv_collide::detector::Detector;
 use rv_collide::ending::Verdict;
 use rv_collide::list_laws::longer_lists;
 use rv_drive::driver_laws::open_pauses;
+use rv_hart::access::{Common, Event, Noted};
 use rv_memory::store::{ByteStore, NoMemory};
 use rv_sample::Generator;
 use rv_waits::laws::numbers_in_a_circle;
@@ -58,6 +59,8 @@ struct Prober<'a, S: ByteStore> {
     watch: Watch,
     held: Option<Held>,
     reached: Reached,
+    /// The access of the last common step, if it made one.
+    noted: Noted,
 }
 
 impl<'a, S: ByteStore> Model for Prober<'a, S> {
@@ -137,6 +140,7 @@ impl<'a, S: ByteStore> Prober<'a, S> {
             watch,
             held: None,
             reached: Reached::Never,
+            noted: Noted::nothing(),
         })
     }
 
@@ -332,6 +336,53 @@ impl<'a, S: ByteStore> Prober<'a, S> {
         ensures further { IsFurther self.old self.new }
         ensures longer { OnOk result (length self.old.core.entries < length self.new.core.entries) }
     {
+        if self.advance_quick(h) {
+            return Ok(());
+        }
+        self.advance_apart(h)
+    }
+
+    /// The same by a common step, if it is one; else nothing has changed.
+    #[inline(always)]
+    fn advance_quick(&mut self, h: u8) -> bool
+        requires ready { IsReady self.old h }
+        ensures further { IsFurther self.old self.new }
+        ensures longer { result ≡ true → length self.old.core.entries < length self.new.core.entries }
+        ensures same { result ≡ false → self.new ≡ self.old }
+    {
+        longer_lists();
+        open_pauses();
+        self.detector.facts();
+        let machine = self.detector.machine();
+        let Some(word) = machine.fetched(h) else {
+            return false;
+        };
+        let before = self.watch.before_word(machine, h, word);
+        let common = self.detector.step_noted(h, word, &mut self.noted);
+        if let Common::Silent = common {
+            self.detector.facts();
+            let event = Event::Moved(None);
+            self.watch.saw(before, self.detector.machine(), h, event);
+            count_down(&mut self.held);
+            return true;
+        }
+        if let Common::Accessed = common {
+            self.detector.facts();
+            let event = Event::Moved(Some(self.noted.access));
+            self.watch.saw(before, self.detector.machine(), h, event);
+            count_down(&mut self.held);
+            return true;
+        }
+        false
+    }
+
+    /// A turn of a hart, whatever it is.
+    #[inline(never)]
+    fn advance_apart(&mut self, h: u8) -> Result<(), NoMemory>
+        requires ready { IsReady self.old h }
+        ensures further { IsFurther self.old self.new }
+        ensures longer { OnOk result (length self.old.core.entries < length self.new.core.entries) }
+    {
         longer_lists();
         open_pauses();
         self.detector.facts();
@@ -340,7 +391,7 @@ impl<'a, S: ByteStore> Prober<'a, S> {
             Ok(Turned::Stepped(event)) => {
                 self.detector.facts();
                 self.watch.saw(before, self.detector.machine(), h, event);
-                self.held = one_less(self.held);
+                count_down(&mut self.held);
                 Ok(())
             }
             Ok(Turned::Paused(_)) => {
@@ -404,14 +455,11 @@ impl<'a, S: ByteStore> Prober<'a, S> {
 }
 
 /// One step of others less is left of a pause.
-fn one_less(held: Option<Held>) -> Option<Held>
-    ensures { result ≡ option_map (λ (it : Held). record it { left = it.left - 1 }) held }
+#[inline(always)]
+fn count_down(held: &mut Option<Held>)
+    ensures { held.new ≡ option_map (λ (it : Held). record it { left = it.left - 1 }) held.old }
 {
-    match held {
-        Some(held) => Some(Held {
-            hart: held.hart,
-            left: held.left.saturating_sub(1),
-        }),
-        None => None,
+    if let Some(held) = held {
+        held.left = held.left.saturating_sub(1);
     }
 }

@@ -5,6 +5,7 @@ ghost use Rattle.std.specs.FinSet as set;
 ghost use Rattle.rv_break.specs.Slots as slots;
 ghost use Rattle.rv_collide.specs.Detected as answer;
 ghost use Rattle.rv_collide.specs.Forced.{Turn, forced};
+ghost use Rattle.rv_collide.specs.declared.collider.Turned.TheVariants as turned;
 ghost use Rattle.rv_collide.specs.Next.{plain};
 ghost use Rattle.rv_collide.specs.Pause.{openings};
 ghost use Rattle.rv_collide.specs.Begun.{setting_of};
@@ -66,6 +67,34 @@ impl<S: ByteStore> Detector<S> {
             None => false,
             Some(word) => self.step_on::<0>(h, word, true, false),
         }
+    }
+
+    /// The step that a turn of a hart is, where it is a common one and its word was fetched. What it accessed is noted in the caller's place,
+    /// so that whoever watches each step need not ask what it was. Else nothing has changed: a hart is not paused by this.
+    #[inline(always)]
+    pub fn step_noted(&mut self, h: u8, word: u32, noted: &mut Noted) -> Common
+        requires hart { h < self.old.plan.harts }
+        requires word { answer.IsWord self.old h word }
+        ensures steps { IfSome (event_of_common result noted.new.access) (λ event. answer.Turns self.old self.new h (turned.Stepped event)) }
+        ensures same { (result ≡ Common.Untaken) → self.new ≡ self.old }
+    {
+        reservations_and_accesses();
+        what_no_step_does();
+        if !self.runs(h) {
+            return Common::Untaken;
+        }
+        if !self.goes_on(h) {
+            return Common::Untaken;
+        }
+        let common = common_step::<0, S>(&mut self.machine, &self.breaks, true, h, word, noted);
+        if let Common::Untaken = common {
+            return Common::Untaken;
+        }
+        let place = self.entries.len() as u32;
+        show_noted(&mut self.breaks, true, place, h, common, &noted.access);
+        self.steps += 1;
+        self.entries.push_reserved(Entry::Stepped(h));
+        common
     }
 
     /// Lets a hart that may take a turn make a common step. Where addresses may be armed or pauses open, its access is kept

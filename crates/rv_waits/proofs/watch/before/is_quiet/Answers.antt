@@ -1,4 +1,4 @@
-use Rattle.std.proofs.Common.{◌≡◌, length, sym, ◌∙◌}
+use Rattle.std.proofs.Common.{◌≡◌, length}
 use Rattle.rv_waits.proofs.BeforeLemmas.{by_access, by_bytes, not_so}
 use Rattle.rv_waits.proofs.watch.before.is_quiet.Goals as goal
 

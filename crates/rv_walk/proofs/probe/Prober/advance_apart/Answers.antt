@@ -8,7 +8,7 @@ use Rattle.rv_collide.specs.declared.entry.Entry.TheVariants.{Paused}
 use Rattle.rv_walk.specs.declared.probe.Held.{Held}
 use Rattle.rv_walk.specs.internal.Probing.{IsProbing, IsReady, Probing}
 use Rattle.rv_walk.proofs.ProbingLemmas.{holds_now, holds_on, less, stepped, with}
-use Rattle.rv_walk.proofs.probe.Prober.advance.Goals as goal
+use Rattle.rv_walk.proofs.probe.Prober.advance_apart.Goals as goal
 
 pub before-before-requires-clause-anchor : goal.before-before-requires-clause-anchor
 before-before-requires-clause-anchor g c =
@@ -47,7 +47,7 @@ invariant_of-self g c =
     let is : IsProbing (with p c.turn.new.self (option_map less p.held)) c.saw.new.self =
     stepped c.longer_lists.ensures.stay c.open_pauses.ensures p c.self.inside.watch c.saw.new.self c.turn.new.self c.args.h c.in-Ok-Stepped.event s u c.self.invariant ready (subst (Turns p.core c.turn.new.self c.args.h) c.in-Ok-Stepped.field-0-is c.in-Ok-Stepped.ensures.ok) c.machine.ensures c.machine-in-Ok-Stepped.ensures
     (λ step. c.saw.ensures s (c.self.invariant.watched s c.machine.ensures) c.before-before.ensures step) in
-    subst (λ (o : Option Held). IsProbing (with p c.turn.new.self o) c.saw.new.self) (sym c.one_less-self-inside.ensures) is
+    subst (λ (o : Option Held). IsProbing (with p c.turn.new.self o) c.saw.new.self) (sym c.count_down.ensures) is
 
 pub invariant_of-self-then-is_none : goal.invariant_of-self-then-is_none
 invariant_of-self-then-is_none g c =
