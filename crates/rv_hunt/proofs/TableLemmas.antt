@@ -31,14 +31,12 @@ use Rattle.rv_hunt.specs.declared.engine.show.ShowFault.TheVariants.{Table, Hunt
 use Rattle.rv_shown.specs.declared.shown.ShownRace.{ShownRace}
 use Rattle.rv_hunt.specs.declared.engine.tabled.ShownTable.{ShownTable}
 use Rattle.rv_tables.specs.declared.merge.fault.FileFault.{FileFault}
-use Rattle.rv_tables.specs.declared.merge.ignore.Line.{Line}
-use Rattle.rv_tables.specs.declared.merge.known.Known.{Known}
 use Rattle.rv_tables.specs.declared.orders.OrderRow.{OrderRow}
 use Rattle.rv_tables.specs.declared.row.RaceRow.{RaceRow}
 use Rattle.rv_shown.specs.Asked.{Asked}
-use Rattle.rv_hunt.specs.engine.Hunting.{Files, expected_in, found_in, ignored_in}
+use Rattle.rv_hunt.specs.engine.Hunting.{expected_in, found_in, ignored_in}
 use Rattle.rv_remade.specs.Shown.{AreShown}
-use Rattle.rv_hunt.specs.engine.TableShown.{IsMade, IsOfRuns, IsShownOf, IsTold, TableShown, asked_by, facts_of, ignored_of, is_of_files, naming_in, table_in, told_of, unmet, unsaid, without_place}
+use Rattle.rv_hunt.specs.engine.TableShown.{IsMade, IsShownOf, IsTold, TableShown, asked_by, ignored_of, is_of_files, naming_in, table_in, told_of, unmet, unsaid, without_place}
 use Rattle.rv_campaign.specs.declared.pool.PoolFault.{PoolFault}
 use Rattle.rv_campaign.specs.declared.pool.PoolFault.TheVariants as pool
 use Rattle.rv_remade.specs.declared.folder.FolderFault.{FolderFault}

@@ -2,4 +2,5 @@
 pub mod HuntFault
 pub mod Hunting
 pub mod Late
+pub mod Outputs
 pub mod TableShown

@@ -10,6 +10,7 @@ ghost use Rattle.rv_shown.specs.Asked.{AreLegal, asked};
 ghost use Rattle.rv_hunt.specs.engine.HuntFault.{IsTold, fails_by, is_of_files, is_read, is_write};
 ghost use Rattle.rv_hunt.specs.engine.Hunting as spec;
 ghost use Rattle.rv_hunt.specs.engine.Late.{IfListed, IfPaged, IfWritten};
+ghost use Rattle.rv_hunt.specs.engine.Outputs.{AreUntouched, AreWantedAlike, one_failed};
 ghost use Rattle.rv_remade.specs.Saved.{IfSaved};
 ghost use Rattle.rv_search.specs.RightEnds.{right_codes};
 ghost use Rattle.rv_hunt.specs.internal.Opened.{hunt_in, hunting_with, texts_in};
@@ -19,6 +20,7 @@ use crate::engine::inputs::Inputs;
 use crate::engine::lists::{Lists, read_ignored, read_known};
 use crate::engine::making::{Made, make_hunt};
 use crate::engine::opening::{Opened, open};
+use crate::engine::outputs::Outputs;
 use rv_engines::new_file::NewFile;
 use rv_faults::source_lines::read_source_if;
 use rv_memory::buffered::Buffered;
@@ -40,8 +42,10 @@ mod lists;
 mod making;
 mod meetings;
 mod opening;
+pub mod outputs;
 pub mod remaking;
 pub mod show;
+mod survey;
 mod table_text;
 mod tabled;
 
@@ -109,41 +113,30 @@ fn make<'a, T: Threads + Wait + Sync, R: Read, D: Folder, F: NewFile, P: Watch>(
     alloc: Global,
     options: &HuntOptions<'a, '_>,
     inputs: &mut Inputs<R>,
-    folder: &mut Option<D>,
-    page: &mut Option<F>,
-    list: &mut Option<F>,
-    json: &mut Option<F>,
+    outputs: &mut Outputs<D, F>,
     watch: &mut P,
 ) -> Result<Made, HuntFault<'a>>
     requires { AreLegal options.now }
     ensures made { IfOk result (λ made. IfSome (spec.files_of R.remaining inputs.old) (λ files.
         (hunting : spec.Hunting) × spec.IsHuntingOf (asked options.now) files hunting
-        × spec.IsMade (spec.showing_of options.now (is_some folder.old) (is_some page.old || is_some json.old)) hunting
-        (IfSaved D.has_failed D.Holds folder.new) (IfPaged F.has_failed F.Holds page.new) (IfListed F.has_failed F.Holds list.new) (IfWritten F.has_failed F.Holds json.new)
+        × spec.IsMade (spec.showing_of options.now (is_some outputs.old.folder) (is_some outputs.old.page || is_some outputs.old.json)) hunting
+        (IfSaved D.has_failed D.Holds outputs.new.folder) (IfPaged F.has_failed F.Holds outputs.new.page) (IfListed F.has_failed F.Holds outputs.new.list) (IfWritten F.has_failed F.Holds outputs.new.json)
         made.found (texts_in made))) }
-    ensures wanted { (is_some folder.new ≡ is_some folder.old) × (is_some page.new ≡ is_some page.old) × (is_some list.new ≡ is_some list.old) × (is_some json.new ≡ is_some json.old) }
+    ensures wanted { AreWantedAlike outputs.old outputs.new }
     ensures refused { IfErr result (λ fault. IfSome (spec.files_of R.remaining inputs.old) (λ files.
         IsTold (asked options.now) files fault)) }
-    ensures no_schedules { IfErr result (λ fault. is_of_files fault ≡ true
-        → passes D.is_used folder.new ≡ passes D.is_used folder.old) }
-    ensures no_page { IfErr result (λ fault. is_of_files fault ≡ true
-        → passes F.is_made page.new ≡ passes F.is_made page.old) }
-    ensures no_list { IfErr result (λ fault. is_of_files fault ≡ true
-        → passes F.is_made list.new ≡ passes F.is_made list.old) }
-    ensures no_json { IfErr result (λ fault. is_of_files fault ≡ true
-        → passes F.is_made json.new ≡ passes F.is_made json.old) }
+    ensures untouched { IfErr result (λ fault. is_of_files fault ≡ true
+        → AreUntouched D.is_used F.is_made outputs.old outputs.new) }
     ensures readers { spec.any_failed inputs.new ≡ (spec.any_failed inputs.old || fails_by is_read result) }
     ensures files { fails_by is_write result ≡ true
-        → (passes D.has_failed folder.new || passes F.has_failed page.new || passes F.has_failed list.new || passes F.has_failed json.new) ≡ true }
+        → one_failed D.has_failed F.has_failed outputs.new ≡ true }
 {
     let read = match read(alloc, options, inputs) {
         Ok(read) => read,
         Err(fault) => return Err(fault),
     };
     let (opened, lists) = &read;
-    let made = make_hunt(
-        rt, alloc, options, opened, lists, folder, page, list, json, watch,
-    );
+    let made = make_hunt(rt, alloc, options, opened, lists, outputs, watch);
     // Let go here, once for both outcomes.
     drop(read);
     match made {
@@ -170,10 +163,7 @@ pub fn run_hunt<
     alloc: Global,
     options: &HuntOptions<'a, '_>,
     inputs: &mut Inputs<R>,
-    folder: &mut Option<D>,
-    page: &mut Option<F>,
-    list: &mut Option<F>,
-    json: &mut Option<F>,
+    outputs: &mut Outputs<D, F>,
     writer: &mut Buffered<W>,
     notes: &mut Buffered<E>,
     watch: &mut P,
@@ -181,25 +171,19 @@ pub fn run_hunt<
     requires { AreLegal options.now }
     ensures told { IfOk result (λ found. IfSome (spec.files_of R.remaining inputs.old) (λ files.
         (hunting : spec.Hunting) × spec.IsHuntingOf (asked options.now) files hunting
-        × spec.IsTold (spec.showing_of options.now (is_some folder.old) (is_some page.old || is_some json.old)) hunting found
+        × spec.IsTold (spec.showing_of options.now (is_some outputs.old.folder) (is_some outputs.old.page || is_some outputs.old.json)) hunting found
         (Appends (buffer.written W.contents writer.old) (buffer.sent W.contents writer.new))
         (Appends (buffer.written E.contents notes.old) (buffer.sent E.contents notes.new))
-        (IfSaved D.has_failed D.Holds folder.new) (IfPaged F.has_failed F.Holds page.new) (IfListed F.has_failed F.Holds list.new) (IfWritten F.has_failed F.Holds json.new))) }
-    ensures wanted { (is_some folder.new ≡ is_some folder.old) × (is_some page.new ≡ is_some page.old) × (is_some list.new ≡ is_some list.old) × (is_some json.new ≡ is_some json.old) }
+        (IfSaved D.has_failed D.Holds outputs.new.folder) (IfPaged F.has_failed F.Holds outputs.new.page) (IfListed F.has_failed F.Holds outputs.new.list) (IfWritten F.has_failed F.Holds outputs.new.json))) }
+    ensures wanted { AreWantedAlike outputs.old outputs.new }
     ensures refused { IfErr result (λ fault. IfSome (spec.files_of R.remaining inputs.old) (λ files.
         IsTold (asked options.now) files fault)) }
     ensures nothing { IfErr result (λ fault. is_write fault ≡ false
         → Keeps (buffer.sent W.contents writer.old) (buffer.sent W.contents writer.new)) }
     ensures no_notes { IfErr result (λ fault. is_write fault ≡ false
         → Keeps (buffer.sent E.contents notes.old) (buffer.sent E.contents notes.new)) }
-    ensures no_schedules { IfErr result (λ fault. is_of_files fault ≡ true
-        → passes D.is_used folder.new ≡ passes D.is_used folder.old) }
-    ensures no_page { IfErr result (λ fault. is_of_files fault ≡ true
-        → passes F.is_made page.new ≡ passes F.is_made page.old) }
-    ensures no_list { IfErr result (λ fault. is_of_files fault ≡ true
-        → passes F.is_made list.new ≡ passes F.is_made list.old) }
-    ensures no_json { IfErr result (λ fault. is_of_files fault ≡ true
-        → passes F.is_made json.new ≡ passes F.is_made json.old) }
+    ensures untouched { IfErr result (λ fault. is_of_files fault ≡ true
+        → AreUntouched D.is_used F.is_made outputs.old outputs.new) }
     ensures first { buffer.has_failed notes.old ≡ false → buffer.has_failed notes.new ≡ true
         → Keeps (buffer.sent W.contents writer.old) (buffer.sent W.contents writer.new) }
     ensures looked { fails_by is_write result ≡ true
@@ -207,13 +191,13 @@ pub fn run_hunt<
         → Keeps (buffer.sent W.contents writer.old) (buffer.sent W.contents writer.new) }
     ensures readers { spec.any_failed inputs.new ≡ (spec.any_failed inputs.old || fails_by is_read result) }
     ensures writers { fails_by is_write result ≡ true
-        → ((passes D.has_failed folder.new || passes F.has_failed page.new || passes F.has_failed list.new || passes F.has_failed json.new)
+        → (one_failed D.has_failed F.has_failed outputs.new
         || (buffer.has_failed notes.new || buffer.has_failed writer.new)) ≡ true }
     ensures streams { (buffer.has_failed notes.old || buffer.has_failed writer.old) ≡ false
         → (buffer.has_failed notes.new || buffer.has_failed writer.new) ≡ true
         → fails_by is_write result ≡ true }
 {
-    let made = match make(rt, alloc, options, inputs, folder, page, list, json, watch) {
+    let made = match make(rt, alloc, options, inputs, outputs, watch) {
         Ok(made) => made,
         Err(fault) => return Err(fault),
     };

@@ -5,25 +5,20 @@ ghost use Rattle.rvcollide.specs.Ending as spec;
 ghost use Rattle.rvcollide.specs.Hunt as asked;
 
 use crate::failure::Failure;
-use crate::hunt_failure::{AtFault, Failed, Said, WRITE_FAULT, at_fault_in, failure_of};
+use crate::hunt_failure::{AtFault, WRITE_FAULT, failure_of};
+use crate::hunt_files::{Beside, HuntFiles};
 use crate::keeper::Keeper;
-use crate::paths::{expect_path, ignore_path, json_path, lines_path, list_path, page_path};
 use crate::shown_line::ShownLine;
 use rv_collide::plan::DEFAULT_SLOTS;
-use rv_command::arguments::{FolderPath, ImagePath};
+use rv_command::arguments::ImagePath;
 use rv_command::command::hunt::HuntLine;
 use rv_faults::command::CommandFault;
 use rv_faults::fault::Fault;
-use rv_files::files::InputFile;
-use rv_files::folder::ScheduleFolder;
-use rv_files::kept_file::{KeptFile, has_failed, said_by};
-use rv_files::system::{Stream, SystemSaid};
+use rv_files::system::Stream;
 use rv_hunt::engine::fault::HuntFault;
-use rv_hunt::engine::inputs::Inputs;
 use rv_hunt::engine::run_hunt;
 use rv_hunt::given::SLOTS;
 use rv_memory::buffered::Buffered;
-use rv_memory::flagged::Flagged;
 use rv_plans::plans::{Mix, Plans};
 use rv_search::aim::Sides;
 use rv_search::hunt::Watch;
@@ -146,43 +141,6 @@ pub fn ending_of<'a>(line: &HuntLine, found: Found) -> Result<(), Failure<'a>>
     }
 }
 
-/// The file of a path, where one is given. It is opened when it is first read.
-pub fn file_if<'a>(
-    rt: &'a HostRuntime,
-    path: Option<&'a str>,
-) -> Option<Flagged<InputFile<'a, HostRuntime>>> {
-    let path = path?;
-    Some(Flagged::new(InputFile::new(rt, path)))
-}
-
-/// The folder of a path, where one is given.
-pub fn folder_if<'a>(
-    rt: &'a HostRuntime,
-    path: Option<FolderPath<'a>>,
-) -> Option<ScheduleFolder<'a>> {
-    let path = path?;
-    Some(ScheduleFolder::new(rt, path.0))
-}
-
-/// The file that is made at a path, where one is given.
-pub fn made_if<'a>(rt: &'a HostRuntime, path: Option<&'a str>) -> Option<KeptFile<'a>> {
-    let path = path?;
-    Some(KeptFile::new(rt, path))
-}
-
-/// What the system said of a file, where one is given.
-pub fn said_of(file: Option<Flagged<InputFile<'_, HostRuntime>>>) -> Option<SystemSaid> {
-    let file = file?;
-    file.into_inner().said()
-}
-
-pub fn folder_said(folder: &Option<ScheduleFolder<'_>>) -> Option<SystemSaid> {
-    match folder {
-        Some(folder) => folder.said(),
-        None => None,
-    }
-}
-
 /// Whether a hunt came to its end, so that each race that is shown in full has a schedule: then only a text can't have been written.
 fn is_over(hunted: &Result<Found, HuntFault<'_>>) -> bool {
     match hunted {
@@ -219,16 +177,7 @@ fn hunt_by<'a>(
         return Err(Failure::Line);
     };
     let alloc = rt.alloc();
-    let mut inputs = Inputs {
-        image: Flagged::new(InputFile::new(rt, image.0)),
-        lines: file_if(rt, lines_path(line.lines)),
-        ignored: file_if(rt, ignore_path(line.ignore)),
-        expected: file_if(rt, expect_path(line.expect)),
-    };
-    let mut folder = folder_if(rt, line.save_to);
-    let mut page = made_if(rt, page_path(line.page));
-    let mut list = made_if(rt, list_path(line.list));
-    let mut json = made_if(rt, json_path(line.json));
+    let mut files = HuntFiles::of(rt, image, line);
     // A table is for tools.
     let paints = colors.output && !line.shows_table;
     let output = Painted::new(alloc, rt.stdout(), paints);
@@ -241,42 +190,18 @@ fn hunt_by<'a>(
         threads,
         alloc,
         &options,
-        &mut inputs,
-        &mut folder,
-        &mut page,
-        &mut list,
-        &mut json,
+        &mut files.inputs,
+        &mut files.outputs,
         &mut writer,
         &mut notes,
         &mut keeper,
     );
     keeper.ends();
-    let Inputs {
-        image: image_file,
-        lines,
-        ignored,
-        expected,
-    } = inputs;
-    let failed = Failed {
-        image: image_file.failed(),
-        folder: at_fault_in(&folder),
-        page: has_failed(&page),
-        list: has_failed(&list),
-        table: keeper.table_failed(),
-        json: has_failed(&json),
-        said: Said {
-            image: image_file.into_inner().said(),
-            lines: said_of(lines),
-            ignored: said_of(ignored),
-            expected: said_of(expected),
-            folder: folder_said(&folder),
-            page: said_by(&page),
-            list: said_by(&list),
-            table: keeper.table_said(),
-            json: said_by(&json),
-            output: writer.into_inner().said(),
-        },
-    };
+    let failed = files.failed(Beside {
+        has_failed: keeper.table_failed(),
+        table: keeper.table_said(),
+        output: writer.into_inner().said(),
+    });
     if is_over(&hunted) && matches!(failed.folder, AtFault::Nothing) {
         keeper.take_away();
     }

@@ -10,6 +10,7 @@ mod early_folder;
 pub mod failure;
 pub mod file_line;
 pub mod hunt_failure;
+mod hunt_files;
 mod hunting;
 mod keeper;
 mod merging;
@@ -19,7 +20,8 @@ mod shown_line;
 
 use crate::failure::Failure;
 use crate::hunt_failure::{filed, filed_line, of_file};
-use crate::hunting::{file_if, hunt_file, said_of as file_said};
+use crate::hunt_files::{file_if, said_of as file_said};
+use crate::hunting::hunt_file;
 use crate::merging::merge_files;
 use crate::paths::{json_path, lines_path};
 use crate::showing::show_file;

@@ -5,7 +5,7 @@ ghost use Rattle.rv_files.specs.Files.{path_of};
 
 use crate::failure::Failure;
 use crate::file_line::{FileLine, FilePlace};
-use crate::hunting::said_of;
+use crate::hunt_files::said_of;
 use rv_command::arguments::{TablePath, TablePaths};
 use rv_faults::command::CommandFault;
 use rv_faults::fault::Fault;

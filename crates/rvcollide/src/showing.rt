@@ -1,18 +1,14 @@
 //! The engine of `show` on the files of a line, and what is told while it works.
 use crate::failure::Failure;
-use crate::hunt_failure::{Failed, Said, WRITE_FAULT, at_fault_in, failure_of, of_file};
-use crate::hunting::{
-    checks_of, ending_of, file_if, folder_if, folder_said, made_if, said_of, workers_of,
-};
-use crate::paths::{expect_path, ignore_path, json_path, lines_path, list_path, page_path};
+use crate::hunt_failure::{Failed, WRITE_FAULT, failure_of, of_file};
+use crate::hunt_files::{Beside, HuntFiles};
+use crate::hunting::{checks_of, ending_of, workers_of};
 use crate::shown_line::ShownLine;
 use rv_command::arguments::{ImagePath, TablePath};
 use rv_command::command::hunt::{DEFAULT_BUDGET, DEFAULT_SEED, HuntLine};
 use rv_command::command::show::ShowLine;
 use rv_files::files::InputFile;
-use rv_files::kept_file::{has_failed, said_by};
 use rv_files::system::{Stream, SystemSaid};
-use rv_hunt::engine::inputs::Inputs;
 use rv_hunt::engine::remaking::WatchRuns;
 use rv_hunt::engine::show::{ShowFault, ShowOptions, run_show};
 use rv_memory::buffered::Buffered;
@@ -135,17 +131,8 @@ fn show_by<'a>(
     if MOST_WORKERS < options.workers {
         return Err(Failure::Line);
     }
-    let mut inputs = Inputs {
-        image: Flagged::new(InputFile::new(rt, image.0)),
-        lines: file_if(rt, lines_path(line.lines)),
-        ignored: file_if(rt, ignore_path(line.ignore)),
-        expected: file_if(rt, expect_path(line.expect)),
-    };
+    let mut files = HuntFiles::of(rt, image, line);
     let mut rows = Flagged::new(InputFile::new(rt, table.0));
-    let mut folder = folder_if(rt, line.save_to);
-    let mut page = made_if(rt, page_path(line.page));
-    let mut list = made_if(rt, list_path(line.list));
-    let mut json = made_if(rt, json_path(line.json));
     let output = Painted::new(alloc, rt.stdout(), colors.output);
     let mut writer = Buffered::new(alloc, Stream::new(output));
     let mut notes = Buffered::new(alloc, Painted::new(alloc, rt.stderr(), colors.errors));
@@ -155,43 +142,19 @@ fn show_by<'a>(
         threads,
         alloc,
         &options,
-        &mut inputs,
+        &mut files.inputs,
         &mut rows,
-        &mut folder,
-        &mut page,
-        &mut list,
-        &mut json,
+        &mut files.outputs,
         &mut writer,
         &mut notes,
         &mut progress,
     );
     progress.ends();
-    let Inputs {
-        image: image_file,
-        lines,
-        ignored,
-        expected,
-    } = inputs;
-    let failed = Failed {
-        image: image_file.failed(),
-        folder: at_fault_in(&folder),
-        page: has_failed(&page),
-        list: has_failed(&list),
-        table: false,
-        json: has_failed(&json),
-        said: Said {
-            image: image_file.into_inner().said(),
-            lines: said_of(lines),
-            ignored: said_of(ignored),
-            expected: said_of(expected),
-            folder: folder_said(&folder),
-            page: said_by(&page),
-            list: said_by(&list),
-            table: None,
-            json: said_by(&json),
-            output: writer.into_inner().said(),
-        },
-    };
+    let failed = files.failed(Beside {
+        has_failed: false,
+        table: None,
+        output: writer.into_inner().said(),
+    });
     match shown {
         // What a file's fault left is written by now.
         Ok(_) if failed.has_file() => Err(failure_of(image, line, failed, WRITE_FAULT)),

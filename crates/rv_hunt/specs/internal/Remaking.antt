@@ -1,12 +1,11 @@
 -- What `show` has of its files before runs are made again, and why it goes no further.
-use Rattle.std.specs.Prelude.{◌≡◌, ⊤, ◌⊎◌, ℕ, Option, Some, Result, Ok, List, length, IsOkAnd}
+use Rattle.std.specs.Prelude.{◌≡◌, ⊤, ◌⊎◌, ℕ, Option, Some, Ok, List, length, IsOkAnd}
 use Rattle.rv_campaign.specs.declared.pool.PoolFault.{PoolFault}
 use Rattle.rv_elf.specs.Contents.{Contents}
 use Rattle.rv_faults.specs.SourceFile as source
 use Rattle.rv_faults.specs.SourceFile.{source_in}
 use Rattle.rv_tables.specs.merge.Ignore.{naming_of}
 use Rattle.rv_lines.specs.SourceLines.{SourceLine}
-use Rattle.rv_faults.specs.CommandFault as command
 use Rattle.rv_faults.specs.declared.fault.Fault.TheVariants as plain
 use Rattle.rv_faults.specs.declared.command.CommandFault.{CommandFault}
 use Rattle.rv_faults.specs.declared.command.CommandFault.TheVariants as fault

@@ -6,6 +6,7 @@ ghost use Rattle.rv_shown.specs.Asked.{AreLegal, asked};
 ghost use Rattle.rv_remade.specs.FolderFault as looking;
 ghost use Rattle.rv_hunt.specs.engine.Hunting as spec;
 ghost use Rattle.rv_hunt.specs.engine.Late.{IfListed, IfPaged, IfWritten};
+ghost use Rattle.rv_hunt.specs.engine.Outputs.{AreWantedAlike, one_failed};
 ghost use Rattle.rv_remade.specs.Saved.{IfSaved};
 ghost use Rattle.rv_tables.specs.merge.Ignore.{naming_of};
 ghost use Rattle.rv_tables.specs.merge.Listing.{list_text};
@@ -20,13 +21,14 @@ use crate::engine::fault::MakeFault;
 use crate::engine::keeping::{Given, hunted};
 use crate::engine::lists::Lists;
 use crate::engine::opening::Opened;
+use crate::engine::outputs::Outputs;
+use crate::engine::survey::surveyed;
 use crate::engine::table_text::{heading_of, stretch_of, table_of};
 use rv_campaign::PoolFault;
 use rv_engines::new_file::NewFile;
 use rv_explain::symbol_table::SymbolTable;
 use rv_faults::fault::Fault;
 use rv_faults::source_lines::lines_miss;
-use rv_lines::lines::SourceLines;
 use rv_memory::flagged::WriteFault;
 use rv_memory::store::NoMemory;
 use rv_object::object::{Beside, object_text};
@@ -37,8 +39,6 @@ use rv_remade::orders::shown_orders;
 use rv_remade::shown::InFull;
 use rv_remade::stuck_ends::stuck_ends;
 use rv_report::key::Key;
-use rv_sample::Sampler;
-use rv_search::aim::Aim;
 use rv_search::end_runs::RightCodes;
 use rv_search::hunt::{Hunt, Watch};
 use rv_search::hunted::Hunted;
@@ -57,8 +57,6 @@ use rv_tables::merge::parted::{Parted, part_rows};
 use rv_tables::origin::{Heading, Stretch};
 use rv_tables::row::RaceRow;
 use rv_tables::shown_rows::shown_rows;
-use rv_walk::code::Code;
-use rv_walk::sites::Sites;
 use std::alloc::Global;
 use std::sync::Wait;
 use std::thread::Threads;
@@ -253,31 +251,37 @@ fn made_of<R: Threads + Wait, D: Folder, F: NewFile, P: Watch>(
     rt: &R,
     alloc: Global,
     hunt: &Hunt,
-    options: &HuntOptions<'_, '_>,
-    lists: &Lists,
-    digits: &[u8],
-    digest: &str,
-    symbols: &SymbolTable,
+    given: Given<'_, '_, '_, '_>,
     saw: &Hunted,
     noted: &Noted,
-    folder: &mut Option<D>,
-    page: &mut Option<F>,
-    list: &mut Option<F>,
-    json: &mut Option<F>,
+    outputs: &mut Outputs<D, F>,
     watch: &mut P,
 ) -> Result<Made, PoolFault>
-    requires legal { AreLegal options.now }
-    requires symbols { symbols.now ≡ naming_of hunt.now.source.image lists.now.source }
+    requires legal { AreLegal given.options.now }
+    requires symbols { given.symbols.now ≡ naming_of hunt.now.source.image given.lists.now.source }
     requires noted { IsNoted hunt.now saw.now noted.now.ends }
     ensures made { IfOk result (λ made. spec.IsMade
-        (spec.showing_of options.now (is_some folder.old) (is_some page.old || is_some json.old)) (hunting_with hunt.now digits.now noted.now.ends.right lists.now)
-        (IfSaved D.has_failed D.Holds folder.new) (IfPaged F.has_failed F.Holds page.new)
-        (IfListed F.has_failed F.Holds list.new) (IfWritten F.has_failed F.Holds json.new) made.found (texts_in made)) }
-    ensures wanted { (is_some folder.new ≡ is_some folder.old) × (is_some page.new ≡ is_some page.old) × (is_some list.new ≡ is_some list.old) × (is_some json.new ≡ is_some json.old) }
+        (spec.showing_of given.entry.options.now (is_some outputs.old.folder) (is_some outputs.old.page || is_some outputs.old.json)) (hunting_with hunt.now given.entry.digits.now noted.now.ends.right given.entry.lists.now)
+        (IfSaved D.has_failed D.Holds outputs.new.folder) (IfPaged F.has_failed F.Holds outputs.new.page)
+        (IfListed F.has_failed F.Holds outputs.new.list) (IfWritten F.has_failed F.Holds outputs.new.json) made.found (texts_in made)) }
+    ensures wanted { AreWantedAlike outputs.old outputs.new }
 {
+    let Given {
+        options,
+        lists,
+        digits,
+        digest,
+        symbols,
+    } = given;
     let code = code_seen(alloc, symbols, hunt.code, &noted.words)?;
-    let stuck = stuck_ends(alloc, hunt, symbols, &noted.stuck, folder)?;
-    save_ends(alloc, hunt, saw.tally.ended(), &noted.ends, folder)?;
+    let stuck = stuck_ends(alloc, hunt, symbols, &noted.stuck, &mut outputs.folder)?;
+    save_ends(
+        alloc,
+        hunt,
+        saw.tally.ended(),
+        &noted.ends,
+        &mut outputs.folder,
+    )?;
     let parted = parted_rows(alloc, hunt, symbols, lists, saw)?;
     let races = shown_of(alloc, saw, &parted.told)?;
     let told = told_rows(alloc, symbols, &saw.orders, &races)?;
@@ -299,8 +303,8 @@ fn made_of<R: Threads + Wait, D: Folder, F: NewFile, P: Watch>(
     };
     let most = full_of(
         options.shows,
-        folder.is_some(),
-        shows_blocks(page, json),
+        outputs.folder.is_some(),
+        shows_blocks(&outputs.page, &outputs.json),
         options.blocks,
     );
     let full = InFull {
@@ -308,8 +312,15 @@ fn made_of<R: Threads + Wait, D: Folder, F: NewFile, P: Watch>(
         symbols,
         rows: first_of(&told, most),
     };
-    let orders = shown_orders(rt, alloc, &full, options.workers, &saw.orders, folder)?;
-    let shown = full.show(rt, alloc, options.workers, folder, watch)?;
+    let orders = shown_orders(
+        rt,
+        alloc,
+        &full,
+        options.workers,
+        &saw.orders,
+        &mut outputs.folder,
+    )?;
+    let shown = full.show(rt, alloc, options.workers, &mut outputs.folder, watch)?;
     let heading = heading_of(hunt, &options.line, digits);
     let stretch = stretch_of(hunt, saw);
     let (text, notes) = texts_of(
@@ -336,10 +347,17 @@ fn made_of<R: Threads + Wait, D: Folder, F: NewFile, P: Watch>(
         options,
         first: u64::from(options.first),
         digest,
-        status: Some(status_of(folder, options.checks, found)),
+        status: Some(status_of(&outputs.folder, options.checks, found)),
     };
     make_json(
-        alloc, symbols, &outcome, &beside, &told, &shown, &orders, json,
+        alloc,
+        symbols,
+        &outcome,
+        &beside,
+        &told,
+        &shown,
+        &orders,
+        &mut outputs.json,
     )?;
     make_page(
         alloc,
@@ -349,24 +367,10 @@ fn made_of<R: Threads + Wait, D: Folder, F: NewFile, P: Watch>(
         &told,
         &shown,
         &orders,
-        page,
+        &mut outputs.page,
     )?;
-    make_list(alloc, symbols, &parted.told, list)?;
+    make_list(alloc, symbols, &parted.told, &mut outputs.list)?;
     Ok(Made { found, text, notes })
-}
-
-/// The symbols, with the source lines where they are given.
-pub(crate) fn with_source<'a>(
-    symbols: SymbolTable<'a>,
-    source: &'a Option<SourceLines>,
-) -> SymbolTable<'a>
-    requires { symbols.lines ≡ [] }
-    ensures { result ≡ naming_of symbols.entry.image source.entry.now }
-{
-    match source {
-        Some(lines) => symbols.with_lines(lines),
-        None => symbols,
-    }
 }
 
 /// Looks at the folder, where one is given.
@@ -401,73 +405,36 @@ pub(crate) fn make_hunt<T: Threads + Wait + Sync, P: Watch, D: Folder, F: NewFil
     options: &HuntOptions<'_, '_>,
     opened: &Opened,
     lists: &Lists,
-    folder: &mut Option<D>,
-    page: &mut Option<F>,
-    list: &mut Option<F>,
-    json: &mut Option<F>,
+    outputs: &mut Outputs<D, F>,
     watch: &mut P,
 ) -> Result<Made, MakeFault>
     requires { AreLegal options.now }
     ensures made { IfOk result (λ made. spec.IsMade
-        (spec.showing_of options.now (is_some folder.old) (is_some page.old || is_some json.old))
+        (spec.showing_of options.now (is_some outputs.old.folder) (is_some outputs.old.page || is_some outputs.old.json))
         (hunting_with (hunt_in (asked options.now) opened.now) opened.now.digits.items (right_codes (asked options.now).right) lists.now)
-        (IfSaved D.has_failed D.Holds folder.new) (IfPaged F.has_failed F.Holds page.new)
-        (IfListed F.has_failed F.Holds list.new) (IfWritten F.has_failed F.Holds json.new) made.found (texts_in made)) }
-    ensures wanted { (is_some folder.new ≡ is_some folder.old) × (is_some page.new ≡ is_some page.old) × (is_some list.new ≡ is_some list.old) × (is_some json.new ≡ is_some json.old) }
+        (IfSaved D.has_failed D.Holds outputs.new.folder) (IfPaged F.has_failed F.Holds outputs.new.page)
+        (IfListed F.has_failed F.Holds outputs.new.list) (IfWritten F.has_failed F.Holds outputs.new.json) made.found (texts_in made)) }
+    ensures wanted { AreWantedAlike outputs.old outputs.new }
     ensures failed { fails_by_write result ≡ true
-        → (passes D.has_failed folder.new || passes F.has_failed page.new || passes F.has_failed list.new || passes F.has_failed json.new) ≡ true }
+        → one_failed D.has_failed F.has_failed outputs.new ≡ true }
 {
-    look(folder)?;
-    look_at_file(page)?;
-    look_at_file(list)?;
-    look_at_file(json)?;
-    let sampler = Sampler::sites(alloc, &opened.image, &opened.lists.excluded)?;
-    let sites = Sites::of(alloc, &sampler)?;
-    let code = Code::of(alloc, &opened.image)?;
-    let symbols = SymbolTable::new(alloc, &opened.image)?;
-    let aim = Aim::of(alloc, options.aim, &symbols, &code)?;
-    let symbols = with_source(symbols, &lists.source);
+    look(&mut outputs.folder)?;
+    look_at_file(&mut outputs.page)?;
+    look_at_file(&mut outputs.list)?;
+    look_at_file(&mut outputs.json)?;
+    let survey = surveyed(alloc, &opened.image, options, &opened.lists, &lists.source)?;
     let right = RightCodes::of(alloc, options.right)?;
-    let mut noted = Noted::none(alloc, code.len(), right)?;
-    let hunt = Hunt {
-        image: &opened.image,
-        seed: options.seed,
-        sampler: &sampler,
-        sites: &sites,
-        code: &code,
-        plans: &options.plans,
-        ranges: &opened.lists.ranges,
-        idle: &opened.lists.idle,
-        aim: &aim,
-        first: options.first,
-        limit: options.limit,
-        orders: options.orders,
-    };
+    let mut noted = Noted::none(alloc, survey.code.len(), right)?;
+    let hunt = survey.hunt(&opened.image, options, &opened.lists);
     let given = Given {
         options,
         lists,
         digits: &opened.digits,
         digest: opened.digest.as_str(),
-        symbols: &symbols,
+        symbols: &survey.symbols,
     };
     let saw = hunted(rt, alloc, &hunt, given, &mut noted, watch)?;
-    let made = made_of(
-        rt,
-        alloc,
-        &hunt,
-        options,
-        lists,
-        &opened.digits,
-        opened.digest.as_str(),
-        &symbols,
-        &saw,
-        &noted,
-        folder,
-        page,
-        list,
-        json,
-        watch,
-    );
+    let made = made_of(rt, alloc, &hunt, given, &saw, &noted, outputs, watch);
     // It has many parts, which are let go by one call.
     drop(saw);
     match made {

@@ -14,6 +14,7 @@ ghost use Rattle.rv_hunt.specs.declared.engine.tabled.ShownTable.{ShownTable};
 ghost use Rattle.rv_shown.specs.Asked.{asked as asked_for};
 ghost use Rattle.rv_hunt.specs.engine.Hunting.{expected_in, files_of, ignored_in};
 ghost use Rattle.rv_hunt.specs.engine.Late.{IfListed, IfPaged, IfWritten};
+ghost use Rattle.rv_hunt.specs.engine.Outputs.{AreUntouched};
 ghost use Rattle.rv_remade.specs.Saved.{IfSaved};
 ghost use Rattle.rv_hunt.specs.engine.TableShown as spec;
 ghost use Rattle.rv_hunt.specs.engine.TableShown.{without_place};
@@ -26,10 +27,12 @@ ghost use Rattle.rv_hunt.specs.internal.Remaking as internal;
 use crate::engine::fault::{HuntFault, MakeFault};
 use crate::engine::inputs::Inputs;
 use crate::engine::lists::{Lists, read_aim, read_ignored, read_known};
-use crate::engine::making::{Made, first_of, found_in, look, look_at_file, status_of, with_source};
+use crate::engine::making::{Made, first_of, found_in, look, look_at_file, status_of};
 use crate::engine::opening::{FileRead, Listed, read_file, read_lists};
+use crate::engine::outputs::Outputs;
 use crate::engine::publish;
 use crate::engine::remaking::{RemakeFault, WatchRuns, remade_rows};
+use crate::engine::survey::surveyed;
 use crate::engine::tabled::{ShownTable, read_shown, shape_fault};
 use crate::given::{GivenRuns, given_in};
 use rv_campaign::PoolFault;
@@ -50,8 +53,6 @@ use rv_remade::folder::{Folder, FolderFault};
 use rv_remade::orders::shown_orders;
 use rv_remade::shown::InFull;
 use rv_report::key::Key;
-use rv_sample::Sampler;
-use rv_search::aim::Aim;
 use rv_search::hunt::{Hunt, Watch};
 use rv_shown::found::{Checks, Found};
 use rv_shown::options::{HuntOptions, LineParts, SaidOptions, Shows};
@@ -67,8 +68,6 @@ use rv_tables::merge::listing::list_of;
 use rv_tables::merge::parted::part_rows;
 use rv_tables::orders::OrderTable;
 use rv_tables::row::RaceRow;
-use rv_walk::code::Code;
-use rv_walk::sites::Sites;
 use std::alloc::Global;
 use std::io::{Read, Write};
 use std::sync::Wait;
@@ -269,18 +268,15 @@ fn made_of<T: Threads + Wait, D: Folder, F: NewFile, P: Watch>(
     symbols: &SymbolTable,
     table: &ShownTable,
     rows: &[(Key, RaceRow)],
-    folder: &mut Option<D>,
-    page: &mut Option<F>,
-    list: &mut Option<F>,
-    json: &mut Option<F>,
+    outputs: &mut Outputs<D, F>,
     watch: &mut P,
 ) -> Result<Made, PoolFault>
     requires workers { beside.now.options.now.workers ≤ 16 }
     requires symbols { symbols.now ≡ naming_of hunt.now.source.image lists.now.source }
     requires rows { map without_place rows.now ≡ map without_place table.now.rows }
     ensures { IfOk result (λ made. spec.IsMade (internal.shown_by hunt.now lists.now) beside.now.options.now.blocks table.now
-        (IfSaved D.has_failed D.Holds folder.new) (IfPaged F.has_failed F.Holds page.new)
-        (IfListed F.has_failed F.Holds list.new) (IfWritten F.has_failed F.Holds json.new) made.found) }
+        (IfSaved D.has_failed D.Holds outputs.new.folder) (IfPaged F.has_failed F.Holds outputs.new.page)
+        (IfListed F.has_failed F.Holds outputs.new.list) (IfWritten F.has_failed F.Holds outputs.new.json) made.found) }
 {
     let options = beside.options;
     let parted = part_rows(alloc, symbols, &lists.ignored, rows)?;
@@ -300,8 +296,15 @@ fn made_of<T: Threads + Wait, D: Folder, F: NewFile, P: Watch>(
         symbols,
         rows: first_of(&told, options.blocks as usize),
     };
-    let orders = shown_orders(rt, alloc, &full, options.workers, &untried, folder)?;
-    let shown = full.show(rt, alloc, options.workers, folder, watch)?;
+    let orders = shown_orders(
+        rt,
+        alloc,
+        &full,
+        options.workers,
+        &untried,
+        &mut outputs.folder,
+    )?;
+    let shown = full.show(rt, alloc, options.workers, &mut outputs.folder, watch)?;
     let line = &options.line;
     let text = tabled_text(alloc, line, symbols, &tabled, &told, &shown, &orders)?;
     let notes = tabled_notes(alloc, symbols, &tabled)?;
@@ -309,7 +312,7 @@ fn made_of<T: Threads + Wait, D: Folder, F: NewFile, P: Watch>(
     // What wants memory comes before the first file.
     let listed = list_of(alloc, symbols, &parted.told)?;
     let beside = Beside {
-        status: Some(status_of(folder, options.checks, found)),
+        status: Some(status_of(&outputs.folder, options.checks, found)),
         ..*beside
     };
     let races = Races {
@@ -319,9 +322,18 @@ fn made_of<T: Threads + Wait, D: Folder, F: NewFile, P: Watch>(
         tried: &untried,
         new: &unexpected,
     };
-    make_object(alloc, symbols, &tabled, &beside, &races, json)?;
-    make_page(alloc, line, symbols, &tabled, &told, &shown, &orders, page)?;
-    put_list(list, &listed);
+    make_object(alloc, symbols, &tabled, &beside, &races, &mut outputs.json)?;
+    make_page(
+        alloc,
+        line,
+        symbols,
+        &tabled,
+        &told,
+        &shown,
+        &orders,
+        &mut outputs.page,
+    )?;
+    put_list(&mut outputs.list, &listed);
     Ok(Made { found, text, notes })
 }
 
@@ -385,50 +397,23 @@ fn make_rows<T: Threads + Wait, D: Folder, F: NewFile, P: Watch + WatchRuns>(
     listed: &Listed,
     lists: &Lists,
     table: &ShownTable,
-    folder: &mut Option<D>,
-    page: &mut Option<F>,
-    list: &mut Option<F>,
-    json: &mut Option<F>,
+    outputs: &mut Outputs<D, F>,
     watch: &mut P,
 ) -> Result<Made, ShowFault>
     requires { asked.now.workers ≤ 16 }
     ensures made { IfOk result (λ made. spec.IsMade (internal.shown_with (asked_for asked.now) file.now.image listed.now lists.now)
-        asked.now.blocks table.now (IfSaved D.has_failed D.Holds folder.new) (IfPaged F.has_failed F.Holds page.new)
-        (IfListed F.has_failed F.Holds list.new) (IfWritten F.has_failed F.Holds json.new) made.found) }
+        asked.now.blocks table.now (IfSaved D.has_failed D.Holds outputs.new.folder) (IfPaged F.has_failed F.Holds outputs.new.page)
+        (IfListed F.has_failed F.Holds outputs.new.list) (IfWritten F.has_failed F.Holds outputs.new.json) made.found) }
     ensures err { IfErr result internal.IsRunFault }
-    ensures no_schedules { IfErr result (λ fault. spec.is_of_files fault ≡ true
-        → passes D.is_used folder.new ≡ passes D.is_used folder.old) }
-    ensures no_page { IfErr result (λ fault. spec.is_of_files fault ≡ true
-        → passes F.is_made page.new ≡ passes F.is_made page.old) }
-    ensures no_list { IfErr result (λ fault. spec.is_of_files fault ≡ true
-        → passes F.is_made list.new ≡ passes F.is_made list.old) }
-    ensures no_object { IfErr result (λ fault. spec.is_of_files fault ≡ true
-        → passes F.is_made json.new ≡ passes F.is_made json.old) }
+    ensures untouched { IfErr result (λ fault. spec.is_of_files fault ≡ true
+        → AreUntouched D.is_used F.is_made outputs.old outputs.new) }
 {
-    look(folder)?;
-    look_at_file(page)?;
-    look_at_file(list)?;
-    look_at_file(json)?;
-    let sampler = Sampler::sites(alloc, &file.image, &listed.excluded)?;
-    let sites = Sites::of(alloc, &sampler)?;
-    let code = Code::of(alloc, &file.image)?;
-    let symbols = SymbolTable::new(alloc, &file.image)?;
-    let aim = Aim::of(alloc, asked.aim, &symbols, &code)?;
-    let symbols = with_source(symbols, &lists.source);
-    let hunt = Hunt {
-        image: &file.image,
-        seed: asked.seed,
-        sampler: &sampler,
-        sites: &sites,
-        code: &code,
-        plans: &asked.plans,
-        ranges: &listed.ranges,
-        idle: &listed.idle,
-        aim: &aim,
-        first: asked.first,
-        limit: asked.limit,
-        orders: false,
-    };
+    look(&mut outputs.folder)?;
+    look_at_file(&mut outputs.page)?;
+    look_at_file(&mut outputs.list)?;
+    look_at_file(&mut outputs.json)?;
+    let survey = surveyed(alloc, &file.image, asked, listed, &lists.source)?;
+    let hunt = survey.hunt(&file.image, asked, listed);
     let rows = remade_rows(rt, alloc, &hunt, &table.rows, asked.workers, watch)?;
     let beside = Beside {
         command: "show",
@@ -438,7 +423,16 @@ fn make_rows<T: Threads + Wait, D: Folder, F: NewFile, P: Watch + WatchRuns>(
         status: None,
     };
     Ok(made_of(
-        rt, alloc, &hunt, &beside, lists, &symbols, table, &rows, folder, page, list, json, watch,
+        rt,
+        alloc,
+        &hunt,
+        &beside,
+        lists,
+        &survey.symbols,
+        table,
+        &rows,
+        outputs,
+        watch,
     )?)
 }
 
@@ -450,10 +444,7 @@ fn make_with<T: Threads + Wait, R: Read, D: Folder, F: NewFile, P: Watch + Watch
     inputs: &mut Inputs<R>,
     file: &FileRead,
     table: &ShownTable,
-    folder: &mut Option<D>,
-    page: &mut Option<F>,
-    list: &mut Option<F>,
-    json: &mut Option<F>,
+    outputs: &mut Outputs<D, F>,
     watch: &mut P,
 ) -> Result<Made, ShowFault>
     requires { options.now.workers ≤ 16 }
@@ -461,20 +452,14 @@ fn make_with<T: Threads + Wait, R: Read, D: Folder, F: NewFile, P: Watch + Watch
         IfSome (bytes_if R.remaining inputs.old.ignored) (λ ignored.
         IfSome (bytes_if R.remaining inputs.old.expected) (λ expected. (shown : spec.TableShown)
         × internal.IsShownBy file.now.image lines ignored expected table.now shown
-        × spec.IsMade shown options.now.blocks table.now (IfSaved D.has_failed D.Holds folder.new) (IfPaged F.has_failed F.Holds page.new)
-        (IfListed F.has_failed F.Holds list.new) (IfWritten F.has_failed F.Holds json.new) made.found)))) }
+        × spec.IsMade shown options.now.blocks table.now (IfSaved D.has_failed D.Holds outputs.new.folder) (IfPaged F.has_failed F.Holds outputs.new.page)
+        (IfListed F.has_failed F.Holds outputs.new.list) (IfWritten F.has_failed F.Holds outputs.new.json) made.found)))) }
     ensures err { IfErr result (λ fault. IfSome (bytes_if R.remaining inputs.old.lines) (λ lines.
         IfSome (bytes_if R.remaining inputs.old.ignored) (λ ignored.
         IfSome (bytes_if R.remaining inputs.old.expected) (λ expected.
         internal.IsLateTold table.now file.now.image lines ignored expected fault)))) }
-    ensures no_schedules { IfErr result (λ fault. spec.is_of_files fault ≡ true
-        → passes D.is_used folder.new ≡ passes D.is_used folder.old) }
-    ensures no_page { IfErr result (λ fault. spec.is_of_files fault ≡ true
-        → passes F.is_made page.new ≡ passes F.is_made page.old) }
-    ensures no_list { IfErr result (λ fault. spec.is_of_files fault ≡ true
-        → passes F.is_made list.new ≡ passes F.is_made list.old) }
-    ensures no_object { IfErr result (λ fault. spec.is_of_files fault ≡ true
-        → passes F.is_made json.new ≡ passes F.is_made json.old) }
+    ensures untouched { IfErr result (λ fault. spec.is_of_files fault ≡ true
+        → AreUntouched D.is_used F.is_made outputs.old outputs.new) }
 {
     let words = table.origin.given_words(alloc)?;
     let Some(given) = given_in(&words) else {
@@ -486,7 +471,7 @@ fn make_with<T: Threads + Wait, R: Read, D: Folder, F: NewFile, P: Watch + Watch
     let listed = read_its_lists(alloc, &asked, file, table)?;
     let lists = read_files(alloc, &asked, file, table, inputs)?;
     match make_rows(
-        rt, alloc, &asked, file, &listed, &lists, table, folder, page, list, json, watch,
+        rt, alloc, &asked, file, &listed, &lists, table, outputs, watch,
     ) {
         Ok(made) => Ok(made),
         Err(fault) => Err(fault),
@@ -500,29 +485,20 @@ fn make<T: Threads + Wait, R: Read, D: Folder, F: NewFile, P: Watch + WatchRuns>
     options: &ShowOptions<'_>,
     inputs: &mut Inputs<R>,
     table: &mut Flagged<R>,
-    folder: &mut Option<D>,
-    page: &mut Option<F>,
-    list: &mut Option<F>,
-    json: &mut Option<F>,
+    outputs: &mut Outputs<D, F>,
     watch: &mut P,
 ) -> Result<Made, ShowFault>
     requires { options.now.workers ≤ 16 }
     ensures made { IfOk result (λ made. IfSome (files_of R.remaining inputs.old) (λ files.
         IfSome (R.remaining (device table.old)) (λ bytes. (read : ShownTable) × (shown : spec.TableShown)
         × spec.IsShownOf options.now.line.version.now files bytes read shown
-        × spec.IsMade shown options.now.blocks read (IfSaved D.has_failed D.Holds folder.new) (IfPaged F.has_failed F.Holds page.new)
-        (IfListed F.has_failed F.Holds list.new) (IfWritten F.has_failed F.Holds json.new) made.found))) }
+        × spec.IsMade shown options.now.blocks read (IfSaved D.has_failed D.Holds outputs.new.folder) (IfPaged F.has_failed F.Holds outputs.new.page)
+        (IfListed F.has_failed F.Holds outputs.new.list) (IfWritten F.has_failed F.Holds outputs.new.json) made.found))) }
     ensures refused { IfErr result (λ fault. IfSome (files_of R.remaining inputs.old) (λ files.
         IfSome (R.remaining (device table.old)) (λ bytes.
         spec.IsTold options.now.line.version.now files bytes fault))) }
-    ensures no_schedules { IfErr result (λ fault. spec.is_of_files fault ≡ true
-        → passes D.is_used folder.new ≡ passes D.is_used folder.old) }
-    ensures no_page { IfErr result (λ fault. spec.is_of_files fault ≡ true
-        → passes F.is_made page.new ≡ passes F.is_made page.old) }
-    ensures no_list { IfErr result (λ fault. spec.is_of_files fault ≡ true
-        → passes F.is_made list.new ≡ passes F.is_made list.old) }
-    ensures no_object { IfErr result (λ fault. spec.is_of_files fault ≡ true
-        → passes F.is_made json.new ≡ passes F.is_made json.old) }
+    ensures untouched { IfErr result (λ fault. spec.is_of_files fault ≡ true
+        → AreUntouched D.is_used F.is_made outputs.old outputs.new) }
 {
     let file = match read_file(alloc, &mut inputs.image) {
         Ok(file) => file,
@@ -533,9 +509,7 @@ fn make<T: Threads + Wait, R: Read, D: Folder, F: NewFile, P: Watch + WatchRuns>
         Ok(table) => table,
         Err(fault) => return Err(ShowFault::Table(fault)),
     };
-    match make_with(
-        rt, alloc, options, inputs, &file, &table, folder, page, list, json, watch,
-    ) {
+    match make_with(rt, alloc, options, inputs, &file, &table, outputs, watch) {
         Ok(made) => Ok(made),
         Err(fault) => Err(fault),
     }
@@ -559,10 +533,7 @@ pub fn run_show<
     options: &ShowOptions<'_>,
     inputs: &mut Inputs<R>,
     table: &mut Flagged<R>,
-    folder: &mut Option<D>,
-    page: &mut Option<F>,
-    list: &mut Option<F>,
-    json: &mut Option<F>,
+    outputs: &mut Outputs<D, F>,
     writer: &mut Buffered<W>,
     notes: &mut Buffered<E>,
     watch: &mut P,
@@ -571,8 +542,8 @@ pub fn run_show<
     ensures told { IfOk result (λ found. IfSome (files_of R.remaining inputs.old) (λ files.
         IfSome (R.remaining (device table.old)) (λ bytes. (read : ShownTable) × (shown : spec.TableShown)
         × spec.IsShownOf options.now.line.version.now files bytes read shown
-        × spec.IsMade shown options.now.blocks read (IfSaved D.has_failed D.Holds folder.new) (IfPaged F.has_failed F.Holds page.new)
-        (IfListed F.has_failed F.Holds list.new) (IfWritten F.has_failed F.Holds json.new) found))) }
+        × spec.IsMade shown options.now.blocks read (IfSaved D.has_failed D.Holds outputs.new.folder) (IfPaged F.has_failed F.Holds outputs.new.page)
+        (IfListed F.has_failed F.Holds outputs.new.list) (IfWritten F.has_failed F.Holds outputs.new.json) found))) }
     ensures refused { IfErr result (λ fault. IfSome (files_of R.remaining inputs.old) (λ files.
         IfSome (R.remaining (device table.old)) (λ bytes.
         spec.IsTold options.now.line.version.now files bytes fault))) }
@@ -580,18 +551,10 @@ pub fn run_show<
         → Keeps (buffer.sent W.contents writer.old) (buffer.sent W.contents writer.new)) }
     ensures no_notes { IfErr result (λ fault. spec.is_write fault ≡ false
         → Keeps (buffer.sent E.contents notes.old) (buffer.sent E.contents notes.new)) }
-    ensures no_schedules { IfErr result (λ fault. spec.is_of_files fault ≡ true
-        → passes D.is_used folder.new ≡ passes D.is_used folder.old) }
-    ensures no_page { IfErr result (λ fault. spec.is_of_files fault ≡ true
-        → passes F.is_made page.new ≡ passes F.is_made page.old) }
-    ensures no_list { IfErr result (λ fault. spec.is_of_files fault ≡ true
-        → passes F.is_made list.new ≡ passes F.is_made list.old) }
-    ensures no_object { IfErr result (λ fault. spec.is_of_files fault ≡ true
-        → passes F.is_made json.new ≡ passes F.is_made json.old) }
+    ensures untouched { IfErr result (λ fault. spec.is_of_files fault ≡ true
+        → AreUntouched D.is_used F.is_made outputs.old outputs.new) }
 {
-    let made = make(
-        rt, alloc, options, inputs, table, folder, page, list, json, watch,
-    )?;
+    let made = make(rt, alloc, options, inputs, table, outputs, watch)?;
     watch.ends();
     publish(&made, writer, notes)?;
     Ok(made.found)

@@ -20,6 +20,6 @@ returns-in-Err-made-clause-files g c =
 
 pub returns-in-Ok-made-clause-made : goal.returns-in-Ok-made-clause-made
 returns-in-Ok-made-clause-made g c =
-    made_known (files_of g.R.Read.remaining c.args.inputs.now) (asked c.args.options.now) (showing_of c.args.options.now (is_some c.args.folder.now) (is_some c.args.page.now || is_some c.args.json.now)) (hunting_with (hunt_in (asked c.args.options.now) c.in-Ok.read.0) c.in-Ok.read.0.digits.items (right_codes (asked c.args.options.now).right) c.in-Ok.read.1)
-    (IfSaved g.D.Folder.has_failed g.D.Folder.Holds c.make_hunt-made.new.folder) (IfPaged g.F.NewFile.has_failed g.F.NewFile.Holds c.make_hunt-made.new.page) (IfListed g.F.NewFile.has_failed g.F.NewFile.Holds c.make_hunt-made.new.list) (IfWritten g.F.NewFile.has_failed g.F.NewFile.Holds c.make_hunt-made.new.json)
+    made_known (files_of g.R.Read.remaining c.args.inputs.now) (asked c.args.options.now) (showing_of c.args.options.now (is_some c.args.outputs.now.folder) (is_some c.args.outputs.now.page || is_some c.args.outputs.now.json)) (hunting_with (hunt_in (asked c.args.options.now) c.in-Ok.read.0) c.in-Ok.read.0.digits.items (right_codes (asked c.args.options.now).right) c.in-Ok.read.1)
+    (IfSaved g.D.Folder.has_failed g.D.Folder.Holds c.make_hunt-made.new.outputs.folder) (IfPaged g.F.NewFile.has_failed g.F.NewFile.Holds c.make_hunt-made.new.outputs.page) (IfListed g.F.NewFile.has_failed g.F.NewFile.Holds c.make_hunt-made.new.outputs.list) (IfWritten g.F.NewFile.has_failed g.F.NewFile.Holds c.make_hunt-made.new.outputs.json)
     c.in-Ok-made.made.found (texts_in c.in-Ok-made.made) c.in-Ok.ensures.ok c.in-Ok-made.ensures.made

@@ -10,8 +10,8 @@ use Rattle.rv_hunt.proofs.engine.run_hunt.Goals as goal
 
 pub returns-in-Ok-publish-clause-told : goal.returns-in-Ok-publish-clause-told
 returns-in-Ok-publish-clause-told g c =
-    told_known (files_of g.R.Read.remaining c.args.inputs.now) (asked c.args.options.now) (showing_of c.args.options.now (is_some c.args.folder.now) (is_some c.args.page.now || is_some c.args.json.now)) _ _
-    (IfSaved g.D.Folder.has_failed g.D.Folder.Holds c.make.new.folder) (IfPaged g.F.NewFile.has_failed g.F.NewFile.Holds c.make.new.page) (IfListed g.F.NewFile.has_failed g.F.NewFile.Holds c.make.new.list) (IfWritten g.F.NewFile.has_failed g.F.NewFile.Holds c.make.new.json)
+    told_known (files_of g.R.Read.remaining c.args.inputs.now) (asked c.args.options.now) (showing_of c.args.options.now (is_some c.args.outputs.now.folder) (is_some c.args.outputs.now.page || is_some c.args.outputs.now.json)) _ _
+    (IfSaved g.D.Folder.has_failed g.D.Folder.Holds c.make.new.outputs.folder) (IfPaged g.F.NewFile.has_failed g.F.NewFile.Holds c.make.new.outputs.page) (IfListed g.F.NewFile.has_failed g.F.NewFile.Holds c.make.new.outputs.list) (IfWritten g.F.NewFile.has_failed g.F.NewFile.Holds c.make.new.outputs.json)
     c.in-Ok.made.found (texts_in c.in-Ok.made) c.in-Ok.ensures.made c.in-Ok-publish.ensures.text c.in-Ok-publish.ensures.notes
 
 pub returns-in-Err-clause-writers : goal.returns-in-Err-clause-writers
