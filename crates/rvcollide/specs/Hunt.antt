@@ -1,5 +1,5 @@
 -- What a line of `hunt` asks the engine for.
-use Rattle.std.specs.Prelude.{ℕ, ◌≡◌, Bool, not, option_map, unwrap_or, is_some, if◌then◌else◌}
+use Rattle.std.specs.Prelude.{ℕ, ◌≡◌, not, option_map, unwrap_or, is_some, if◌then◌else◌}
 use Rattle.rv_collide.specs.declared.plan.TheConstants.{DEFAULT_SLOTS}
 use Rattle.rv_command.specs.HuntLine.{sides}
 use Rattle.rv_command.specs.declared.command.hunt.HuntLine.{HuntLine}

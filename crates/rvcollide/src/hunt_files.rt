@@ -11,13 +11,6 @@ use rv_hunt::engine::inputs::Inputs;
 use rv_hunt::engine::outputs::Outputs;
 use rv_memory::flagged::Flagged;
 
-/// The files of a line. Each is opened when it is first read or made.
-#[derive(Drop)]
-pub struct HuntFiles<'a> {
-    pub inputs: Inputs<InputFile<'a, HostRuntime>>,
-    pub outputs: Outputs<ScheduleFolder<'a>, KeptFile<'a>>,
-}
-
 /// Whether the file of the table has failed, and what the system said of it and of the standard output.
 #[derive(Clone, Copy)]
 pub struct Beside {
@@ -26,59 +19,70 @@ pub struct Beside {
     pub output: Option<SystemSaid>,
 }
 
-impl<'a> HuntFiles<'a> {
-    /// Those that a line names.
-    pub fn of(rt: &'a HostRuntime, image: ImagePath<'a>, line: &HuntLine<'a>) -> HuntFiles<'a> {
-        HuntFiles {
-            inputs: Inputs {
-                image: Flagged::new(InputFile::new(rt, image.0)),
-                lines: file_if(rt, lines_path(line.lines)),
-                ignored: file_if(rt, ignore_path(line.ignore)),
-                expected: file_if(rt, expect_path(line.expect)),
-            },
-            outputs: Outputs {
-                folder: folder_if(rt, line.save_to),
-                page: made_if(rt, page_path(line.page)),
-                list: made_if(rt, list_path(line.list)),
-                json: made_if(rt, json_path(line.json)),
-            },
-        }
+/// The files that a line reads. Each is opened when it is first read.
+pub fn inputs_of<'a>(
+    rt: &'a HostRuntime,
+    image: ImagePath<'a>,
+    line: &HuntLine<'a>,
+) -> Inputs<InputFile<'a, HostRuntime>> {
+    Inputs {
+        image: Flagged::new(InputFile::new(rt, image.0)),
+        lines: file_if(rt, lines_path(line.lines)),
+        ignored: file_if(rt, ignore_path(line.ignore)),
+        expected: file_if(rt, expect_path(line.expect)),
     }
+}
 
-    /// Which of them have failed, and what the system said of each.
-    pub fn failed(self, beside: Beside) -> Failed {
-        let Inputs {
-            image,
-            lines,
-            ignored,
-            expected,
-        } = self.inputs;
-        let Outputs {
-            folder,
-            page,
-            list,
-            json,
-        } = self.outputs;
-        Failed {
-            image: image.failed(),
-            folder: at_fault_in(&folder),
-            page: has_failed(&page),
-            list: has_failed(&list),
-            table: beside.has_failed,
-            json: has_failed(&json),
-            said: Said {
-                image: image.into_inner().said(),
-                lines: said_of(lines),
-                ignored: said_of(ignored),
-                expected: said_of(expected),
-                folder: folder_said(&folder),
-                page: said_by(&page),
-                list: said_by(&list),
-                table: beside.table,
-                json: said_by(&json),
-                output: beside.output,
-            },
-        }
+/// Those that it makes.
+pub fn outputs_of<'a>(
+    rt: &'a HostRuntime,
+    line: &HuntLine<'a>,
+) -> Outputs<ScheduleFolder<'a>, KeptFile<'a>> {
+    Outputs {
+        folder: folder_if(rt, line.save_to),
+        page: made_if(rt, page_path(line.page)),
+        list: made_if(rt, list_path(line.list)),
+        json: made_if(rt, json_path(line.json)),
+    }
+}
+
+/// Which of them have failed, and what the system said of each.
+pub fn failed_of(
+    inputs: Inputs<InputFile<'_, HostRuntime>>,
+    outputs: Outputs<ScheduleFolder<'_>, KeptFile<'_>>,
+    beside: Beside,
+) -> Failed {
+    let Inputs {
+        image,
+        lines,
+        ignored,
+        expected,
+    } = inputs;
+    let Outputs {
+        folder,
+        page,
+        list,
+        json,
+    } = outputs;
+    Failed {
+        image: image.failed(),
+        folder: at_fault_in(&folder),
+        page: has_failed(&page),
+        list: has_failed(&list),
+        table: beside.has_failed,
+        json: has_failed(&json),
+        said: Said {
+            image: image.into_inner().said(),
+            lines: said_of(lines),
+            ignored: said_of(ignored),
+            expected: said_of(expected),
+            folder: folder_said(&folder),
+            page: said_by(&page),
+            list: said_by(&list),
+            table: beside.table,
+            json: said_by(&json),
+            output: beside.output,
+        },
     }
 }
 

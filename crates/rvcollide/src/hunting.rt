@@ -6,7 +6,7 @@ ghost use Rattle.rvcollide.specs.Hunt as asked;
 
 use crate::failure::Failure;
 use crate::hunt_failure::{AtFault, WRITE_FAULT, failure_of};
-use crate::hunt_files::{Beside, HuntFiles};
+use crate::hunt_files::{Beside, failed_of, inputs_of, outputs_of};
 use crate::keeper::Keeper;
 use crate::shown_line::ShownLine;
 use rv_collide::plan::DEFAULT_SLOTS;
@@ -177,7 +177,8 @@ fn hunt_by<'a>(
         return Err(Failure::Line);
     };
     let alloc = rt.alloc();
-    let mut files = HuntFiles::of(rt, image, line);
+    let mut inputs = inputs_of(rt, image, line);
+    let mut outputs = outputs_of(rt, line);
     // A table is for tools.
     let paints = colors.output && !line.shows_table;
     let output = Painted::new(alloc, rt.stdout(), paints);
@@ -190,18 +191,19 @@ fn hunt_by<'a>(
         threads,
         alloc,
         &options,
-        &mut files.inputs,
-        &mut files.outputs,
+        &mut inputs,
+        &mut outputs,
         &mut writer,
         &mut notes,
         &mut keeper,
     );
     keeper.ends();
-    let failed = files.failed(Beside {
+    let beside = Beside {
         has_failed: keeper.table_failed(),
         table: keeper.table_said(),
         output: writer.into_inner().said(),
-    });
+    };
+    let failed = failed_of(inputs, outputs, beside);
     if is_over(&hunted) && matches!(failed.folder, AtFault::Nothing) {
         keeper.take_away();
     }

@@ -1,7 +1,7 @@
 //! The engine of `show` on the files of a line, and what is told while it works.
 use crate::failure::Failure;
 use crate::hunt_failure::{Failed, WRITE_FAULT, failure_of, of_file};
-use crate::hunt_files::{Beside, HuntFiles};
+use crate::hunt_files::{Beside, failed_of, inputs_of, outputs_of};
 use crate::hunting::{checks_of, ending_of, workers_of};
 use crate::shown_line::ShownLine;
 use rv_command::arguments::{ImagePath, TablePath};
@@ -82,7 +82,7 @@ fn hunt_line<'a>(line: &ShowLine<'a>) -> HuntLine<'a> {
 
 /// Runs the engine of `show` on the files of a line.
 pub fn show_file<'a>(
-    rt: &HostRuntime,
+    rt: &'a HostRuntime,
     threads: &(impl Threads + Wait + Sync),
     words: &[&str],
     image: ImagePath<'a>,
@@ -113,7 +113,7 @@ fn show_failure<'a>(
 
 /// The same, with what the text tells of the line.
 fn show_by<'a>(
-    rt: &HostRuntime,
+    rt: &'a HostRuntime,
     threads: &(impl Threads + Wait + Sync),
     image: ImagePath<'a>,
     table: TablePath<'a>,
@@ -131,7 +131,8 @@ fn show_by<'a>(
     if MOST_WORKERS < options.workers {
         return Err(Failure::Line);
     }
-    let mut files = HuntFiles::of(rt, image, line);
+    let mut inputs = inputs_of(rt, image, line);
+    let mut outputs = outputs_of(rt, line);
     let mut rows = Flagged::new(InputFile::new(rt, table.0));
     let output = Painted::new(alloc, rt.stdout(), colors.output);
     let mut writer = Buffered::new(alloc, Stream::new(output));
@@ -142,19 +143,20 @@ fn show_by<'a>(
         threads,
         alloc,
         &options,
-        &mut files.inputs,
+        &mut inputs,
         &mut rows,
-        &mut files.outputs,
+        &mut outputs,
         &mut writer,
         &mut notes,
         &mut progress,
     );
     progress.ends();
-    let failed = files.failed(Beside {
+    let beside = Beside {
         has_failed: false,
         table: None,
         output: writer.into_inner().said(),
-    });
+    };
+    let failed = failed_of(inputs, outputs, beside);
     match shown {
         // What a file's fault left is written by now.
         Ok(_) if failed.has_file() => Err(failure_of(image, line, failed, WRITE_FAULT)),
