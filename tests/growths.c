@@ -1,12 +1,11 @@
 // Preloaded by tests/growths. It counts the growths of a process, the calls that ask for memory, refuses the one whose number
 // is in GROWTH, and with GROWTH_ON all later ones too, and writes to the file at GROWTH_TOLD who asked for the first of them: the
-// program, or the library by its name. At the end it writes their number to the file at GROWTH_COUNT.
+// program, or the library by its name. To the file at GROWTH_COUNT it adds a byte for each, as a program may end without telling a library.
 #define _GNU_SOURCE
 #include <dlfcn.h>
 #include <errno.h>
 #include <fcntl.h>
 #include <stdatomic.h>
-#include <stdio.h>
 #include <stdlib.h>
 #include <string.h>
 #include <sys/syscall.h>
@@ -20,9 +19,9 @@ void *__libc_memalign(size_t, size_t);
 
 static atomic_ulong growths;
 
-// Writes a text to a file of its own, where there is a path. It asks for no memory itself.
-static void tell(const char *path, const char *text) {
-  int file = path ? open(path, O_WRONLY | O_CREAT | O_TRUNC | O_CLOEXEC, 0600) : -1;
+// Writes a text to a file of its own, or behind what it has, where there is a path. It asks for no memory itself.
+static void tell(const char *path, int how, const char *text) {
+  int file = path ? open(path, O_WRONLY | O_CREAT | how | O_CLOEXEC, 0600) : -1;
   if (file < 0 || syscall(SYS_write, file, text, strlen(text)) < 0) abort();
   close(file);
 }
@@ -32,13 +31,14 @@ static void tell_caller(void *caller) {
   Dl_info from;
   const char *name = dladdr(caller, &from) && from.dli_fname ? from.dli_fname : "?";
   const char *slash = strrchr(name, '/');
-  tell(getenv("GROWTH_TOLD"), slash ? slash + 1 : name);
+  tell(getenv("GROWTH_TOLD"), O_TRUNC, slash ? slash + 1 : name);
 }
 
 // Whether this growth is one to refuse.
 static int is_refused(void *caller) {
   const char *text = getenv("GROWTH");
   unsigned long growth = atomic_fetch_add(&growths, 1) + 1;
+  if (getenv("GROWTH_COUNT")) tell(getenv("GROWTH_COUNT"), O_APPEND, ".");
   if (!text) return 0;
   unsigned long number = strtoul(text, NULL, 10);
   if (growth < number || (growth > number && !getenv("GROWTH_ON"))) return 0;
@@ -65,12 +65,4 @@ int posix_memalign(void **made, size_t alignment, size_t size) {
   if (!block) return ENOMEM;
   *made = block;
   return 0;
-}
-
-__attribute__((destructor)) static void tell_count(void) {
-  char text[32];
-  unsigned long count = atomic_load(&growths);
-  if (!getenv("GROWTH_COUNT")) return;
-  snprintf(text, sizeof text, "%lu", count);
-  tell(getenv("GROWTH_COUNT"), text);
 }

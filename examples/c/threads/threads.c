@@ -491,6 +491,12 @@ struct __lock __lock___libc_recursive_mutex = {PTHREAD_RECURSIVE_MUTEX_INITIALIZ
 void __retarget_lock_acquire_recursive(struct __lock *lock) { pthread_mutex_lock(&lock->mutex); }
 void __retarget_lock_release_recursive(struct __lock *lock) { pthread_mutex_unlock(&lock->mutex); }
 
+/* Each file that a program opens asks for a lock. All have that of the library. */
+void __retarget_lock_init(struct __lock **lock) { *lock = &__lock___libc_recursive_mutex; }
+void __retarget_lock_close(struct __lock *lock) { (void)lock; }
+void __retarget_lock_acquire(struct __lock *lock) { __retarget_lock_acquire_recursive(lock); }
+void __retarget_lock_release(struct __lock *lock) { __retarget_lock_release_recursive(lock); }
+
 int gettimeofday(struct timeval *now, void *zone)
 {
     struct timespec time;
